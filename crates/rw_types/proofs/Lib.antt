@@ -1,0 +1,7 @@
+pub mod JudgeLemmas
+pub mod KnownLemmas
+pub mod OrderLemmas
+pub mod TextLemmas
+pub mod WordLaws
+pub mod WordReads
+mod WordRows

@@ -1,0 +1,95 @@
+-- Labels, and when a list of them is a label set (the data model of Prometheus; Remote-Write 1.0, "Labels").
+use Rattle.std.specs.Prelude.{◌≡◌, ℕ, ◌+◌, List, [], ◌∷◌, length, sum_by, codes, Bool, true, false, not, ◌&&◌, ◌||◌, ◌==◌, nat_lt, Option, None, Some, String, string_bytes, Vec, if◌then◌else◌}
+use Rattle.std.specs.Char.{is_ascii_alphabetic, is_ascii_alphanumeric}
+use Rattle.std.specs.Cmp.Lexicographic.{slice_cmp}
+use Rattle.std.specs.List.{list_all}
+use Rattle.std.specs.Ordering.{nat_cmp, is_lt}
+use Rattle.std.specs.Str.{bytes_eq, is_utf8}
+use Rattle.std.specs.declared.alloc.Global.{Global}
+use Rattle.rw_types.specs.declared.label_fault.LabelFault.{LabelFault}
+use Rattle.rw_types.specs.declared.label_fault.LabelFault.TheVariants.{NotUtf8, EmptyName, BadName, EmptyValue, NotSorted, TooMany, TooLong}
+
+-- a label's name and value
+abbrev pub Label : Type 0
+Label = List ℕ × List ℕ
+
+abbrev pub Labels : Type 0
+Labels = List (List ℕ × List ℕ)
+
+-- the label that two byte strings are, and the one that two texts are
+abbrev pub bytes_label : Vec ℕ Global × Vec ℕ Global → Label
+bytes_label l = (l.0.items, l.1.items)
+
+abbrev pub text_label : String Global × String Global → Label
+text_label l = (string_bytes l.0, string_bytes l.1)
+
+-- a text that is not empty, whose first byte passes one test and whose further bytes pass another
+abbrev pub is_word_of : (ℕ → Bool) → (ℕ → Bool) → List ℕ → Bool
+is_word_of begins continues [] = false
+is_word_of begins continues (b ∷ bs) = begins b && list_all continues bs
+
+-- `[a-zA-Z_]` and `[a-zA-Z0-9_]`
+abbrev pub begins_label_name : ℕ → Bool
+begins_label_name b = is_ascii_alphabetic b || b == 95
+
+abbrev pub continues_label_name : ℕ → Bool
+continues_label_name b = is_ascii_alphanumeric b || b == 95
+
+-- `[a-zA-Z_:]` and `[a-zA-Z0-9_:]`
+abbrev pub begins_metric_name : ℕ → Bool
+begins_metric_name b = begins_label_name b || b == 58
+
+abbrev pub continues_metric_name : ℕ → Bool
+continues_metric_name b = continues_label_name b || b == 58
+
+-- a label name: `[a-zA-Z_][a-zA-Z0-9_]*`
+abbrev pub is_label_name : List ℕ → Bool
+is_label_name name = is_word_of begins_label_name continues_label_name name
+
+-- a metric name: `[a-zA-Z_:][a-zA-Z0-9_:]*`
+abbrev pub is_metric_name : List ℕ → Bool
+is_metric_name name = is_word_of begins_metric_name continues_metric_name name
+
+-- name and value are UTF-8
+abbrev pub is_text : Label → Bool
+is_text l = is_utf8 l.0 && is_utf8 l.1
+
+-- the name is a label name, and the value of `__name__` a metric name
+abbrev pub is_well_named : Label → Bool
+is_well_named l = is_label_name l.0 && (not (bytes_eq l.0 (codes "__name__")) || is_metric_name l.1)
+
+abbrev pub is_filled : List ℕ → Bool
+is_filled [] = false
+is_filled (b ∷ bs) = true
+
+-- the name of a label comes before that of the next one in byte order
+abbrev pub rise : Label → Label → Bool
+rise l m = is_lt (slice_cmp nat_cmp l.0 m.0)
+
+-- all names rise, so none stands twice
+abbrev pub is_sorted : Labels → Bool
+is_sorted [] = true
+is_sorted (l ∷ []) = true
+is_sorted (l ∷ m ∷ ls) = rise l m && is_sorted (m ∷ ls)
+
+-- the bytes of a name and its value, and of all of them
+abbrev pub label_len : Label → ℕ
+label_len l = length l.0 + length l.1
+
+abbrev pub text_len : Labels → ℕ
+text_len ls = sum_by label_len ls
+
+-- the first of these that is wrong with the labels; they are a label set where nothing is
+abbrev pub label_fault : Labels → Option LabelFault
+label_fault ls =
+    if not (list_all is_text ls) then Some NotUtf8
+    else if not (list_all (λ l. is_filled l.0) ls) then Some EmptyName
+    else if not (list_all is_well_named ls) then Some BadName
+    else if not (list_all (λ l. is_filled l.1) ls) then Some EmptyValue
+    else if not (is_sorted ls) then Some NotSorted
+    else if nat_lt 64 (length ls) then Some TooMany
+    else if nat_lt 16384 (text_len ls) then Some TooLong
+    else None
+
+abbrev pub IsLabelSet : Labels → Type 0
+IsLabelSet ls = label_fault ls ≡ None

@@ -1,0 +1,4 @@
+pub mod LabelOrder
+pub mod Labels
+pub mod Memory
+pub mod Words

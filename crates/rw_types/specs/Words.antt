@@ -1,0 +1,18 @@
+-- The 64-bit words of whole numbers (IEEE 754 binary64), from -2^53 to 2^53.
+use Rattle.std.specs.Prelude.{ℕ, ◌+◌, ◌-◌, ◌*◌, ◌^◌, ℤ, nat_abs, int_lt, pos, Option, Some, None, nat_le, ◌==◌, if◌then◌else◌}
+use Rattle.std.specs.Int.Count.{count_leading_zeros}
+
+-- the place of the highest bit of a number that is not 0
+abbrev pub highest_bit : ℕ → ℕ
+highest_bit n = 63 - count_leading_zeros 64 n
+
+-- exponent and fraction of a number that is not 0
+abbrev pub magnitude_word : ℕ → ℕ
+magnitude_word n = let k = highest_bit n in (1023 + k) * 2 ^ 52 + (n - 2 ^ k) * 2 ^ (52 - k)
+
+-- the word of a whole number (IEEE 754, binary64), which is exact up to 2 ^ 53
+unfoldable pub word_of_int : ℤ → Option ℕ
+word_of_int m =
+    if nat_abs m == 0 then Some 0
+    else if nat_le (nat_abs m) (2 ^ 53) then Some ((if int_lt m (pos 0) then 2 ^ 63 else 0) + magnitude_word (nat_abs m))
+    else None

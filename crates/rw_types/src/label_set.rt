@@ -1,0 +1,153 @@
+//! Label sets, which are what a series is.
+
+ghost use Rattle.std.specs.Prelude.{◌≡◌, ◌↔◌, IfOk, IfErr, IfSome, MatchOption, map, true, string_bytes};
+ghost use Rattle.std.specs.Str.{is_utf8};
+ghost use Rattle.std.specs.List.{list_all};
+ghost use Rattle.std.specs.Ordering.{is_eq};
+ghost use Rattle.rw_types.specs.LabelOrder.{labels_cmp};
+ghost use Rattle.rw_types.specs.Labels.{Labels, IsLabelSet, bytes_label, text_label, is_text, label_fault};
+ghost use Rattle.rw_types.specs.declared.label_fault.LabelFault.TheVariants.{OutOfMemory};
+
+use crate::judge::fault_of;
+use crate::label_fault::LabelFault;
+use crate::raw_labels::RawLabels;
+use std::alloc::{AllocError, Global};
+use std::cmp::Ordering;
+use std::marker::Model;
+
+/// Labels that name one series: sorted by name, none twice, none empty, well named and within the limits.
+/// Contracts see the list of (name, value), and two label sets are equal where these lists are.
+#[derive(Debug, Drop)]
+pub struct LabelSet {
+    labels: Vec<(String, String)>,
+}
+
+impl Model for LabelSet {
+    ghost use Rattle.std.specs.Prelude.{ℕ, List, map};
+    ghost use Rattle.rw_types.specs.Labels.{IsLabelSet, text_label};
+
+    ghost Value = { List (List ℕ × List ℕ) };
+
+    ghost view = { λ s. map text_label s.labels.items };
+
+    ghost invariant = { λ s. IsLabelSet (map text_label s.labels.items) };
+}
+
+/// The bytes as a text.
+fn text_of(alloc: Global, bytes: &[u8]) -> Result<String, AllocError>
+    requires { is_utf8 bytes.now ≡ true }
+    ensures { IfOk result (λ t. string_bytes t ≡ bytes.now) }
+{
+    match str::from_utf8(bytes) {
+        Ok(text) => String::from_str(alloc, text),
+        Err(_) => unreachable!(),
+    }
+}
+
+/// A label as texts.
+fn label_texts(alloc: Global, label: &(Vec<u8>, Vec<u8>)) -> Result<(String, String), AllocError>
+    requires { is_text (bytes_label label.now) ≡ true }
+    ensures { IfOk result (λ t. text_label t ≡ bytes_label label.now) }
+{
+    Ok((text_of(alloc, &label.0)?, text_of(alloc, &label.1)?))
+}
+
+/// Labels as texts.
+fn texts_of(
+    alloc: Global,
+    labels: &[(Vec<u8>, Vec<u8>)],
+) -> Result<Vec<(String, String)>, AllocError>
+    requires { list_all (λ l. is_text (bytes_label l)) labels.now ≡ true }
+    ensures { IfOk result (λ v. map text_label v.items ≡ map bytes_label labels.now) }
+{
+    let mut texts = Vec::with_capacity(alloc, labels.len())?;
+    for label in labels {
+        texts.push(label_texts(alloc, label)?)?;
+    }
+    Ok(texts)
+}
+
+impl LabelSet {
+    /// The label set of these labels, or the first fault that keeps them from being one. A fault of the labels is found before memory is taken.
+    pub fn check(alloc: Global, labels: &RawLabels) -> Result<LabelSet, LabelFault>
+        ensures ok { IfOk result (λ s. (s ≡ labels.now) × IsLabelSet labels.now) }
+        ensures err { IfErr result (λ f. MatchOption (label_fault labels.now) (f ≡ OutOfMemory) (λ fault. f ≡ fault)) }
+    {
+        let labels = labels.as_slice();
+        if let Some(fault) = fault_of(labels) {
+            return Err(fault);
+        }
+        Ok(LabelSet {
+            labels: texts_of(alloc, labels)?,
+        })
+    }
+
+    /// The labels as (name, value), in the order of their names.
+    pub fn as_slice(&self) -> &[(String, String)]
+        ensures labels { map text_label result.now ≡ self.now }
+        ensures label_set { IsLabelSet self.now }
+    {
+        self.labels.as_slice()
+    }
+}
+
+impl PartialEq for LabelSet {
+    ghost use Rattle.rw_types.specs.LabelOrder.{labels_eq};
+    ghost use Rattle.rw_types.specs.LabelOrder.{labels_cmp-total};
+    ghost use Rattle.std.proofs.lemmas.Cmp.{eq_by_cmp_equiv};
+    ghost use Rattle.std.specs.Cmp.{partial_equiv_from_equiv};
+
+    ghost eq = { labels_eq };
+
+    ghost laws = { partial_equiv_from_equiv (eq_by_cmp_equiv labels_cmp-total) };
+
+    fn eq(&self, other: &LabelSet) -> bool {
+        self.cmp(other).is_eq()
+    }
+}
+
+impl Eq for LabelSet {
+    ghost use Rattle.rw_types.specs.LabelOrder.{labels_cmp-total};
+    ghost use Rattle.std.proofs.lemmas.Cmp.{eq_by_cmp_equiv};
+
+    ghost laws = { eq_by_cmp_equiv labels_cmp-total };
+}
+
+impl PartialOrd for LabelSet {
+    ghost use Rattle.rw_types.specs.LabelOrder.{labels_cmp};
+    ghost use Rattle.rw_types.specs.LabelOrder.{labels_cmp-total};
+    ghost use Rattle.std.proofs.Common.{refl};
+    ghost use Rattle.std.specs.Ordering.{as_partial_cmp};
+    ghost use Rattle.std.specs.Cmp.{partial_order_from_agreeing_total};
+
+    ghost partial_cmp = { as_partial_cmp labels_cmp };
+
+    ghost laws = { partial_order_from_agreeing_total labels_cmp labels_cmp-total (λ _ _. refl) (λ _ _. refl) };
+
+    fn partial_cmp(&self, other: &LabelSet) -> Option<Ordering> {
+        Some(self.cmp(other))
+    }
+}
+
+impl Ord for LabelSet {
+    ghost use Rattle.rw_types.specs.LabelOrder.{labels_cmp};
+    ghost use Rattle.rw_types.specs.LabelOrder.{labels_cmp-total};
+    ghost use Rattle.std.proofs.Common.{refl};
+
+    ghost cmp = { labels_cmp };
+
+    ghost total = { labels_cmp-total };
+
+    ghost matches_partial_cmp = { λ _ _. refl };
+
+    ghost matches_eq = { λ _ _. refl };
+
+    fn cmp(&self, other: &LabelSet) -> Ordering {
+        self.labels.cmp(&other.labels)
+    }
+}
+
+/// Two lists of labels are the same exactly where the order of label sets does not tell them apart.
+pub fn equal_where_same()
+    ensures { (a b : Labels) → (is_eq (labels_cmp a b) ≡ true) ↔ (a ≡ b) }
+{}
