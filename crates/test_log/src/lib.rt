@@ -2,6 +2,8 @@
 #![tactic(auto)]
 
 #[cfg(test)]
+mod codes;
+#[cfg(test)]
 mod devices;
 #[cfg(test)]
 mod histories;

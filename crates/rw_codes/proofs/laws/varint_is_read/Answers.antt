@@ -1,0 +1,6 @@
+use Rattle.rw_codes.proofs.VarintLaws.{varint_again}
+use Rattle.rw_codes.proofs.RecordLaws.{zig_fits}
+use Rattle.rw_codes.proofs.laws.varint_is_read.Goals as goal
+
+pub returns : goal.returns
+returns c = λ z rest fits. varint_again z rest (zig_fits z fits)

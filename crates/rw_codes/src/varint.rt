@@ -1,0 +1,153 @@
+//! Base-128 varints and the ZigZag map (Protocol Buffers encoding).
+
+ghost use Rattle.std.specs.Prelude.{◌≡◌, ◌<◌, ◌≤◌, ◌+◌, ◌++◌, length, drop, IfOk, IfErr, OnOk, OnErr, Ok, Err};
+ghost use Rattle.std.specs.Vec.{vec_len, vec_capacity};
+ghost use Rattle.rw_codes.specs.Varint.{uvarint, read_uvarint, varint, read_varint, zig_zag, un_zig_zag};
+
+use crate::code_fault::CodeFault;
+use std::alloc::AllocError;
+
+/// The ZigZag number of a signed one.
+#[inline]
+fn zig_zag_number(z: i64) -> u64
+    ensures { result ≡ zig_zag z }
+{
+    let magnitude = z.unsigned_abs();
+    if z < 0 {
+        2 * (magnitude - 1) + 1
+    } else {
+        2 * magnitude
+    }
+}
+
+/// The signed number of a ZigZag one.
+#[inline]
+fn signed_number(n: u64) -> i64
+    ensures { result ≡ un_zig_zag n }
+{
+    let half = (n / 2) as i64;
+    if n % 2 == 0 { half } else { -1 - half }
+}
+
+/// How many bytes the shortest form of the number takes.
+fn uvarint_len(n: u64) -> usize
+    ensures { result ≡ length (uvarint n) }
+{
+    let mut rest = n;
+    let mut len = 1;
+    while rest >= 128 {
+        rest /= 128;
+        len += 1;
+    }
+    len
+}
+
+/// Makes room for the shortest form of the number.
+fn reserve_for(out: &mut Vec<u8>, n: u64) -> Result<(), AllocError>
+    ensures items { out.new.items ≡ out.old.items }
+    ensures ok { OnOk result (vec_len out.new + length (uvarint n) ≤ vec_capacity out.new) }
+    ensures full { OnErr result (vec_capacity out.old < vec_len out.old + length (uvarint n)) }
+{
+    // ten bytes are enough for any number
+    if out.capacity() - out.len() >= 10 {
+        return Ok(());
+    }
+    out.reserve(uvarint_len(n))
+}
+
+/// `put_uvarint` for a number of any length.
+#[inline(never)]
+fn put_groups(out: &mut Vec<u8>, n: u64) -> Result<(), AllocError>
+    ensures ok { OnOk result (out.new.items ≡ out.old.items ++ uvarint n) }
+    ensures err { OnErr result (out.new.items ≡ out.old.items) }
+    ensures full { OnErr result (vec_capacity out.old < vec_len out.old + length (uvarint n)) }
+{
+    reserve_for(out, n)?;
+    let mut rest = n;
+    while rest >= 128 {
+        out.push_reserved(128 + (rest % 128) as u8);
+        rest /= 128;
+    }
+    out.push_reserved(rest as u8);
+    Ok(())
+}
+
+/// Writes the shortest form of the number at the end ("Base 128 Varints"). Memory is refused only where the vector has no room for it.
+#[inline]
+pub fn put_uvarint(out: &mut Vec<u8>, n: u64) -> Result<(), AllocError>
+    ensures ok { OnOk result (out.new.items ≡ out.old.items ++ uvarint n) }
+    ensures err { OnErr result (out.new.items ≡ out.old.items) }
+    ensures full { OnErr result (vec_capacity out.old < vec_len out.old + length (uvarint n)) }
+{
+    if n < 128 {
+        out.push(n as u8)?;
+        return Ok(());
+    }
+    put_groups(out, n)
+}
+
+/// `get_uvarint` for a number of any length.
+#[inline(never)]
+fn get_groups(bytes: &[u8]) -> Result<(u64, usize), CodeFault>
+    ensures ok { IfOk result (λ x. read_uvarint bytes.now ≡ Ok (x.0, drop x.1 bytes.now)) }
+    ensures some { IfOk result (λ x. 1 ≤ x.1) }
+    ensures within { IfOk result (λ x. x.1 ≤ length bytes.now) }
+    ensures err { IfErr result (λ e. read_uvarint bytes.now ≡ Err e) }
+{
+    let mut value: u64 = 0;
+    let mut weight: u64 = 1;
+    for (i, b) in bytes.iter().enumerate() {
+        if i == 9 {
+            if *b > 1 {
+                return Err(CodeFault::TooBig);
+            }
+            return Ok((value + weight * *b as u64, 10));
+        }
+        if *b < 128 {
+            return Ok((value + weight * *b as u64, i + 1));
+        }
+        value += weight * (*b - 128) as u64;
+        weight *= 128;
+    }
+    Err(CodeFault::Short)
+}
+
+/// Reads the number at the front, and how many bytes it takes: one to ten, also where fewer would do ("Base 128 Varints").
+// Most numbers of a log take one byte or two, so these are read where the call stands.
+#[inline]
+pub fn get_uvarint(bytes: &[u8]) -> Result<(u64, usize), CodeFault>
+    ensures ok { IfOk result (λ x. read_uvarint bytes.now ≡ Ok (x.0, drop x.1 bytes.now)) }
+    ensures some { IfOk result (λ x. 1 ≤ x.1) }
+    ensures within { IfOk result (λ x. x.1 ≤ length bytes.now) }
+    ensures err { IfErr result (λ e. read_uvarint bytes.now ≡ Err e) }
+{
+    if bytes.len() > 0 && bytes[0] < 128 {
+        return Ok((bytes[0] as u64, 1));
+    }
+    if bytes.len() > 1 && bytes[1] < 128 {
+        return Ok(((bytes[0] - 128) as u64 + 128 * bytes[1] as u64, 2));
+    }
+    get_groups(bytes)
+}
+
+/// Writes the shortest form of the signed number at the end ("Signed Integers", ZigZag). Memory is refused as by `put_uvarint`.
+#[inline]
+pub fn put_varint(out: &mut Vec<u8>, z: i64) -> Result<(), AllocError>
+    ensures ok { OnOk result (out.new.items ≡ out.old.items ++ varint z) }
+    ensures err { OnErr result (out.new.items ≡ out.old.items) }
+    ensures full { OnErr result (vec_capacity out.old < vec_len out.old + length (varint z)) }
+{
+    put_uvarint(out, zig_zag_number(z))
+}
+
+/// Reads the signed number at the front, and how many bytes it takes ("Signed Integers", ZigZag). It refuses what `get_uvarint` refuses.
+#[inline]
+pub fn get_varint(bytes: &[u8]) -> Result<(i64, usize), CodeFault>
+    ensures ok { IfOk result (λ x. read_varint bytes.now ≡ Ok (x.0, drop x.1 bytes.now)) }
+    ensures some { IfOk result (λ x. 1 ≤ x.1) }
+    ensures within { IfOk result (λ x. x.1 ≤ length bytes.now) }
+    ensures err { IfErr result (λ e. read_varint bytes.now ≡ Err e) }
+{
+    let (n, len) = get_uvarint(bytes)?;
+    Ok((signed_number(n), len))
+}
