@@ -1,3 +1,4 @@
+pub mod Digits
 pub mod VarintLaws
 pub mod CrcLaws
 pub mod CrcTables

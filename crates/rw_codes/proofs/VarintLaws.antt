@@ -116,58 +116,6 @@ un_zig_zag_again n = elim (eqb_tells (n % 2) 0) [
 pub varint_again : (z : ℤ) (rest : List ℕ) → zig_zag z < 2 ^ 64 → read_varint (varint z ++ rest) ≡ Ok (z, rest)
 varint_again z rest h = rw (uvarint_again (zig_zag z) rest h) (ap (λ (x : ℤ). Ok (x, rest)) (zig_zag_again z))
 
--- ---- the writer's loop
-
--- it doesn't matter how many groups are allowed, if these are enough
-groups_more : (k n : ℕ) → n < 2 * 128 ^ k → groups k n ≡ groups (suc k) n
-unfolding groups
-groups_more zero n h = let t : ltb n 128 ≡ true = lt-ltb n 128 (omega arith) in rw t refl
-groups_more (suc k) n h = elim (cases_lt n 128) [
-  | inl l ↦ (let t : ltb n 128 ≡ true = lt-ltb n 128 l in rw t refl)
-  | inr g ↦
-      (let t : ltb n 128 ≡ false = le-ltb n 128 g in
-      let b : n / 128 < 2 * 128 ^ k = omega (arith, power k) in
-      rw t (ap (λ (l : List ℕ). (128 + n % 128) ∷ l) (groups_more k (n / 128) b)))
-]
-
--- the last byte, and one that goes on
-pub uvarint-last : (n : ℕ) → n < 128 → uvarint n ≡ n ∷ []
-unfolding groups
-uvarint-last n h = let t : ltb n 128 ≡ true = lt-ltb n 128 h in rw t refl
-
-pub uvarint-more : (n : ℕ) → 128 ≤ n → n < 2 ^ 64 → uvarint n ≡ (128 + n % 128) ∷ uvarint (n / 128)
-unfolding groups
-uvarint-more n g h =
-    let t : ltb n 128 ≡ false = le-ltb n 128 g in
-    let e : groups 8 (n / 128) ≡ groups 9 (n / 128) = groups_more 8 (n / 128) (omega arith) in
-    rw t (ap (λ (l : List ℕ). (128 + n % 128) ∷ l) e)
-
--- one more byte of a number that goes on
-pub put_more : (items : List ℕ) (n b : ℕ) (all : List ℕ) → 128 ≤ n → n < 2 ^ 64 → b ≡ 128 + n % 128 → items ++ uvarint n ≡ all
-    → (items ++ b ∷ []) ++ uvarint (n / 128) ≡ all
-put_more items n b all g h e s = rw (append_assoc, e) (ap (λ (l : List ℕ). items ++ l) (sym (uvarint-more n g h)) ∙ s)
-
-pub put_last : (items : List ℕ) (n b : ℕ) (all : List ℕ) → n < 128 → b ≡ n → items ++ uvarint n ≡ all → items ++ b ∷ [] ≡ all
-put_last items n b all h e s = rw e (ap (λ (l : List ℕ). items ++ l) (sym (uvarint-last n h)) ∙ s)
-
--- how many bytes
-pub uvarint-length-last : (n : ℕ) → n < 128 → length (uvarint n) ≡ 1
-uvarint-length-last n h = ap length (uvarint-last n h)
-
-pub uvarint-length-more : (n : ℕ) → 128 ≤ n → n < 2 ^ 64 → length (uvarint n) ≡ suc (length (uvarint (n / 128)))
-uvarint-length-more n g h = ap length (uvarint-more n g h)
-
-groups-short : (k n : ℕ) → length (groups k n) ≤ k + 1
-unfolding groups
-groups-short zero n = omega arith
-groups-short (suc k) n = elim (cases_lt n 128) [
-  | inl l ↦ (let t : ltb n 128 ≡ true = lt-ltb n 128 l in rw t (omega arith))
-  | inr g ↦ (let t : ltb n 128 ≡ false = le-ltb n 128 g in rw t (omega (arith, groups-short k (n / 128))))
-]
-
-pub uvarint-short : (n : ℕ) → length (uvarint n) ≤ 10
-uvarint-short n = groups-short 9 n
-
 -- what is so in any case, is so where memory runs out
 pub also_on_err : {A E : Type 0} (P : Type 0) (r : Result A E) → P → OnErr r P
 also_on_err P (Ok x) p = tt

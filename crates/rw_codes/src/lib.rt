@@ -11,4 +11,4 @@ mod varint;
 pub use code_fault::CodeFault;
 pub use crc::crc32c;
 pub use tail_fault::TailFault;
-pub use varint::{get_uvarint, get_varint, put_uvarint, put_varint};
+pub use varint::{get_uvarint, get_varint, push_uvarint, put_uvarint, put_varint, uvarint_len};

@@ -29,17 +29,30 @@ fn signed_number(n: u64) -> i64
     if n % 2 == 0 { half } else { -1 - half }
 }
 
-/// How many bytes the shortest form of the number takes.
-fn uvarint_len(n: u64) -> usize
-    ensures { result ≡ length (uvarint n) }
+/// How many bytes the shortest form of the number takes: one to ten.
+#[inline]
+pub fn uvarint_len(n: u64) -> usize
+    ensures exact { result ≡ length (uvarint n) }
+    ensures bound { result ≤ 10 }
+{
+    if n < 128 {
+        return 1;
+    }
+    1 + ((63 - n.leading_zeros()) / 7) as usize
+}
+
+/// Writes the shortest form of the number at the end, where there is room for it ("Base 128 Varints").
+pub fn push_uvarint(out: &mut Vec<u8>, n: u64)
+    requires room { vec_len out.old + length (uvarint n) ≤ vec_capacity out.old }
+    ensures items { out.new.items ≡ out.old.items ++ uvarint n }
+    ensures capacity { vec_capacity out.new ≡ vec_capacity out.old }
 {
     let mut rest = n;
-    let mut len = 1;
     while rest >= 128 {
+        out.push_reserved(128 + (rest % 128) as u8);
         rest /= 128;
-        len += 1;
     }
-    len
+    out.push_reserved(rest as u8);
 }
 
 /// Makes room for the shortest form of the number.
@@ -63,12 +76,7 @@ fn put_groups(out: &mut Vec<u8>, n: u64) -> Result<(), AllocError>
     ensures full { OnErr result (vec_capacity out.old < vec_len out.old + length (uvarint n)) }
 {
     reserve_for(out, n)?;
-    let mut rest = n;
-    while rest >= 128 {
-        out.push_reserved(128 + (rest % 128) as u8);
-        rest /= 128;
-    }
-    out.push_reserved(rest as u8);
+    push_uvarint(out, n);
     Ok(())
 }
 

@@ -1,15 +1,9 @@
-use Rattle.std.proofs.Common.{arith}
-use Rattle.rw_codes.proofs.VarintLaws.{uvarint-length-last, uvarint-length-more, uvarint-short}
+use Rattle.std.proofs.Common.{sym, refl, arith}
+use Rattle.rw_codes.proofs.Digits.{uvarint_length, uvarint_length_one}
 use Rattle.rw_codes.proofs.varint.uvarint_len.Goals as goal
 
-pub overflow_add-len : goal.overflow_add-len
-overflow_add-len c = omega (arith, uvarint-short c.args.n)
+pub returns-then-n-lt128-clause-exact : goal.returns-then-n-lt128-clause-exact
+returns-then-n-lt128-clause-exact c = uvarint_length_one c.args.n c.if-n-lt128.true
 
-pub loop-rest-preserved : goal.loop-rest-preserved
-loop-rest-preserved c = record {
-  counted = omega (arith, uvarint-length-more c.loop-rest.rest c.loop-rest-test.true c.loop-rest.invariant.bound);
-  bound = omega arith;
-}
-
-pub returns : goal.returns
-returns c = omega (arith, uvarint-length-last c.loop-rest.rest c.loop-rest-test.false)
+pub returns-clause-exact : goal.returns-clause-exact
+returns-clause-exact c = sym (uvarint_length c.args.n _ (omega arith) (omega arith) refl)

@@ -1,0 +1,14 @@
+pub mod Results
+pub mod Varints
+pub mod Fitting
+pub mod Validity
+pub mod Loop
+pub mod TextReads
+pub mod Grammar
+pub mod Meanings
+pub mod Spelled
+pub mod Decoded
+pub mod LittleEnd
+pub mod Counts
+pub mod Faulty
+pub mod FaultyAgain

@@ -1,0 +1,9 @@
+pub mod Message
+pub mod Texts
+pub mod Canon
+pub mod Fields
+pub mod Spells
+pub mod Read
+pub mod View
+pub mod Valid
+pub mod Faults

@@ -1,0 +1,8 @@
+-- Series of the program, without where they lie in memory.
+use Rattle.std.specs.Prelude.{List, map, String}
+use Rattle.std.specs.Global.{Global}
+use Rattle.rw_types.specs.Labels.{text_label}
+use Rattle.rw_write_request.specs.Message.{Sample, TimeSeries}
+
+abbrev pub series_of : List (String Global × String Global) → List Sample → TimeSeries
+series_of labels samples = record { labels = map text_label labels; samples = samples }

@@ -1,0 +1,54 @@
+//! Why a message could not be read.
+
+ghost use Rattle.std.specs.Prelude.{◌≡◌};
+ghost use Rattle.rw_write_request.specs.Read.{varint_fault};
+ghost use Rattle.rw_write_request.specs.declared.fault.WireFault.TheVariants.{OutOfMemory};
+
+use rw_codes::CodeFault;
+use std::alloc::{AllocError, AllocFailed};
+
+/// What is wrong with the bytes: the first fault in reading order.
+#[derive(Clone, Copy, Debug, PartialEq, Eq)]
+pub enum WireFault {
+    /// No fault of the bytes: memory ran out.
+    OutOfMemory = 0,
+    /// A varint, a length or a fixed number passes the end of its message.
+    Truncated = 1,
+    /// A varint has over 64 bits or more than ten bytes.
+    VarintTooBig = 2,
+    /// A known field has another wire type.
+    WrongWire = 3,
+    /// The wire type is 3, 4, 6 or 7.
+    BadWire = 4,
+    /// The field number is 0.
+    FieldZero = 5,
+    /// A string is not UTF-8.
+    NotUtf8 = 6,
+}
+
+impl From<AllocError> for WireFault {
+    ghost from_gives = { λ _ e. e ≡ OutOfMemory };
+
+    fn from(_e: AllocError) -> WireFault {
+        WireFault::OutOfMemory
+    }
+}
+
+impl<T: Drop> From<AllocFailed<T>> for WireFault {
+    ghost from_gives = { λ _ e. e ≡ OutOfMemory };
+
+    fn from(_e: AllocFailed<T>) -> WireFault {
+        WireFault::OutOfMemory
+    }
+}
+
+impl From<CodeFault> for WireFault {
+    ghost from_gives = { λ f e. e ≡ varint_fault f };
+
+    fn from(f: CodeFault) -> WireFault {
+        match f {
+            CodeFault::Short => WireFault::Truncated,
+            CodeFault::TooBig => WireFault::VarintTooBig,
+        }
+    }
+}

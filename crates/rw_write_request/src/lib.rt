@@ -1,0 +1,21 @@
+//! Messages of Remote-Write 1.0 in the wire format of Protocol Buffers ("Encoding"): timestamps are milliseconds since the
+//! Unix epoch, and values are the 64-bit words of doubles, which nobody interprets.
+#![tactic(auto)]
+
+mod fault;
+mod kind;
+mod laws;
+mod lengths;
+mod message;
+mod reading;
+mod writing;
+
+pub use fault::WireFault;
+pub use laws::{
+    canonical_is_a_spelling, canonical_is_read, faults_are_first, one_message, reads_spellings,
+    sample_field_is_short, series_in_parts,
+};
+pub use lengths::{bytes_field_len, encoded_len, label_field_len};
+pub use message::{Message, Series};
+pub use reading::decode;
+pub use writing::{encode, put_label_field, put_sample_field, put_series_front};

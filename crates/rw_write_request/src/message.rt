@@ -1,0 +1,34 @@
+//! Messages as the program holds them, which contracts see as plain data.
+
+use rw_types::Word;
+use std::marker::Model;
+
+/// Labels, and samples in order.
+#[derive(Debug, Drop)]
+pub struct Series {
+    pub labels: Vec<(String, String)>,
+    pub samples: Vec<(Word, i64)>,
+}
+
+impl Model for Series {
+    ghost use Rattle.rw_write_request.specs.Message.{TimeSeries};
+    ghost use Rattle.rw_write_request.specs.Texts.{series_of};
+
+    ghost Value = { TimeSeries };
+
+    ghost view = { λ s. series_of s.labels.items s.samples.items };
+}
+
+/// A write request: its series in order.
+#[derive(Debug, Drop)]
+pub struct Message {
+    pub series: Vec<Series>,
+}
+
+impl Model for Message {
+    ghost use Rattle.rw_write_request.specs.Message.{WriteRequest};
+
+    ghost Value = { WriteRequest };
+
+    ghost view = { λ m. m.series.items };
+}

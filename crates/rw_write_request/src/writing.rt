@@ -1,0 +1,170 @@
+//! The canonical spelling of a message, written into room that was made before.
+
+ghost use Rattle.std.specs.Prelude.{◌≡◌, ◌≤◌, ◌<◌, ◌+◌, ◌^◌, ◌++◌, length, map, IfOk};
+ghost use Rattle.std.specs.Vec.{vec_len, vec_capacity};
+ghost use Rattle.std.specs.List.{AllByRecursion};
+ghost use Rattle.rw_codes.specs.Varint.{uvarint};
+ghost use Rattle.rw_types.specs.Labels.{text_label};
+ghost use Rattle.rw_write_request.specs.Canon.{tag, string_field, fixed64_field, int64_field, label_field, label_fields, sample_field, sample_fields, series_field, canon};
+ghost use Rattle.rw_write_request.specs.Valid.{IsLabel, IsSample, IsSeries};
+ghost use Rattle.rw_write_request.specs.Spells.{Spells};
+
+use crate::lengths::{encoded_len, label_len, sample_len, series_len};
+use crate::message::{Message, Series};
+use rw_codes::push_uvarint;
+use rw_types::Word;
+use std::alloc::{AllocError, Global};
+
+fn put_bytes(out: &mut Vec<u8>, bytes: &[u8])
+    requires room { vec_len out.old + length bytes.now ≤ vec_capacity out.old }
+    ensures items { out.new.items ≡ out.old.items ++ bytes.now }
+    ensures capacity { vec_capacity out.old ≤ vec_capacity out.new }
+{
+    out.extend_from_slice(bytes).unwrap();
+}
+
+/// The front of a field that holds so many bytes: its tag and its length.
+fn put_field_front(out: &mut Vec<u8>, number: u8, len: usize)
+    requires number { number < 16 }
+    requires room { vec_len out.old + 1 + length (uvarint len) ≤ vec_capacity out.old }
+    ensures items { out.new.items ≡ out.old.items ++ tag number 2 ++ uvarint len }
+    ensures capacity { vec_capacity out.old ≤ vec_capacity out.new }
+{
+    out.push_reserved(number * 8 + 2);
+    push_uvarint(out, len as u64);
+}
+
+fn put_string_field(out: &mut Vec<u8>, number: u8, text: &str)
+    requires number { number < 16 }
+    requires room { vec_len out.old + length (string_field number text.now) ≤ vec_capacity out.old }
+    ensures items { out.new.items ≡ out.old.items ++ string_field number text.now }
+    ensures capacity { vec_capacity out.old ≤ vec_capacity out.new }
+{
+    if !text.is_empty() {
+        put_field_front(out, number, text.len());
+        put_bytes(out, text.as_bytes());
+    }
+}
+
+/// Writes a label's field of its series at the end. This takes no memory.
+#[tactic(auto, unfolding(crate::specs::Canon::label_field, crate::specs::Canon::label))]
+pub fn put_label_field(out: &mut Vec<u8>, name: &str, value: &str)
+    requires room { vec_len out.old + length (label_field (name.now, value.now)) ≤ vec_capacity out.old }
+    ensures items { out.new.items ≡ out.old.items ++ label_field (name.now, value.now) }
+    ensures capacity { vec_capacity out.old ≤ vec_capacity out.new }
+{
+    let len = label_len(name, value).unwrap();
+    put_field_front(out, 1, len);
+    put_string_field(out, 1, name);
+    put_string_field(out, 2, value);
+}
+
+#[tactic(auto, unfolding(crate::specs::Canon::fixed64_field))]
+fn put_word(out: &mut Vec<u8>, word: Word)
+    requires room { vec_len out.old + length (fixed64_field 1 word) ≤ vec_capacity out.old }
+    ensures items { out.new.items ≡ out.old.items ++ fixed64_field 1 word }
+    ensures fits { word < 2 ^ 64 }
+    ensures capacity { vec_capacity out.old ≤ vec_capacity out.new }
+{
+    if word.0 != 0 {
+        out.push_reserved(0x09);
+        put_bytes(out, &word.0.to_le_bytes());
+    }
+}
+
+#[tactic(auto, unfolding(crate::specs::Canon::int64_field))]
+fn put_timestamp(out: &mut Vec<u8>, timestamp: i64)
+    requires room { vec_len out.old + length (int64_field 2 timestamp) ≤ vec_capacity out.old }
+    ensures items { out.new.items ≡ out.old.items ++ int64_field 2 timestamp }
+    ensures capacity { vec_capacity out.old ≤ vec_capacity out.new }
+{
+    let bits = timestamp.cast_unsigned();
+    if bits != 0 {
+        out.push_reserved(0x10);
+        push_uvarint(out, bits);
+    }
+}
+
+/// Writes a sample's field of its series at the end: at most 22 bytes. This takes no memory.
+#[tactic(auto, unfolding(crate::specs::Canon::sample_field, crate::specs::Canon::sample))]
+pub fn put_sample_field(out: &mut Vec<u8>, word: Word, timestamp: i64)
+    requires room { vec_len out.old + length (sample_field (word, timestamp)) ≤ vec_capacity out.old }
+    ensures items { out.new.items ≡ out.old.items ++ sample_field (word, timestamp) }
+    ensures fits { word < 2 ^ 64 }
+    ensures capacity { vec_capacity out.old ≤ vec_capacity out.new }
+{
+    put_field_front(out, 2, sample_len(word, timestamp));
+    put_word(out, word);
+    put_timestamp(out, timestamp);
+}
+
+/// Writes what stands before the labels' and the samples' fields of a series, which take so many bytes in all.
+/// This takes no memory.
+pub fn put_series_front(out: &mut Vec<u8>, len: usize)
+    requires room { vec_len out.old + 1 + length (uvarint len) ≤ vec_capacity out.old }
+    ensures items { out.new.items ≡ out.old.items ++ tag 1 2 ++ uvarint len }
+    ensures capacity { vec_capacity out.old ≤ vec_capacity out.new }
+{
+    put_field_front(out, 1, len);
+}
+
+fn put_label_fields(out: &mut Vec<u8>, labels: &[(String, String)])
+    requires room { vec_len out.old + length (label_fields (map text_label labels.now)) ≤ vec_capacity out.old }
+    ensures items { out.new.items ≡ out.old.items ++ label_fields (map text_label labels.now) }
+    ensures texts { AllByRecursion IsLabel (map text_label labels.now) }
+    ensures capacity { vec_capacity out.old ≤ vec_capacity out.new }
+{
+    for (name, value) in labels {
+        put_label_field(out, name, value);
+    }
+}
+
+fn put_sample_fields(out: &mut Vec<u8>, samples: &[(Word, i64)])
+    requires room { vec_len out.old + length (sample_fields samples.now) ≤ vec_capacity out.old }
+    ensures items { out.new.items ≡ out.old.items ++ sample_fields samples.now }
+    ensures words { AllByRecursion IsSample samples.now }
+    ensures capacity { vec_capacity out.old ≤ vec_capacity out.new }
+{
+    for (word, timestamp) in samples {
+        put_sample_field(out, *word, *timestamp);
+    }
+}
+
+#[tactic(auto, unfolding(crate::specs::Canon::series_field, crate::specs::Canon::series))]
+fn put_series_field(out: &mut Vec<u8>, s: &Series)
+    requires room { vec_len out.old + length (series_field s.now) ≤ vec_capacity out.old }
+    ensures items { out.new.items ≡ out.old.items ++ series_field s.now }
+    ensures valid { IsSeries s.now }
+    ensures capacity { vec_capacity out.old ≤ vec_capacity out.new }
+{
+    let len = series_len(s).unwrap();
+    put_series_front(out, len);
+    put_label_fields(out, &s.labels);
+    put_sample_fields(out, &s.samples);
+}
+
+fn put_all_series(out: &mut Vec<u8>, list: &[Series])
+    requires room { vec_len out.old + length (canon list.now) ≤ vec_capacity out.old }
+    ensures items { out.new.items ≡ out.old.items ++ canon list.now }
+    ensures valid { AllByRecursion IsSeries list.now }
+    ensures capacity { vec_capacity out.old ≤ vec_capacity out.new }
+{
+    for s in list {
+        put_series_field(out, s);
+    }
+}
+
+/// The canonical spelling of a message, in one buffer of exactly its length. Memory is refused for that buffer alone, or
+/// where the length does not fit 64 bits.
+pub fn encode(alloc: Global, message: &Message) -> Result<Vec<u8>, AllocError>
+    ensures canonical { IfOk result (λ v. v.items ≡ canon message.now) }
+    // A reader finds the message again.
+    ensures again { IfOk result (λ v. Spells v.items message.now) }
+{
+    let Some(len) = encoded_len(message) else {
+        return Err(AllocError);
+    };
+    let mut out = Vec::with_capacity(alloc, len)?;
+    put_all_series(&mut out, &message.series);
+    Ok(out)
+}
