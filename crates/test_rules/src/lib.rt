@@ -1,0 +1,5 @@
+//! Tests of the rules by which series are kept.
+#![tactic(auto)]
+
+#[cfg(test)]
+mod rules;
