@@ -1,4 +1,4 @@
-//! Tests of the lowest layer: histories, words, labels, devices and the codes of a log.
+//! Tests of the lowest layer: histories, words, labels, devices, the codes of a log, its reader and its writer.
 #![tactic(auto)]
 
 #[cfg(test)]
@@ -10,4 +10,8 @@ mod histories;
 #[cfg(test)]
 mod labels;
 #[cfg(test)]
+mod tail;
+#[cfg(test)]
 mod words;
+#[cfg(test)]
+mod writer;

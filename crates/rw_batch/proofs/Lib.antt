@@ -1,0 +1,4 @@
+pub mod GroupsLemmas
+pub mod LabelLemmas
+pub mod MessageLemmas
+pub mod NumberLemmas

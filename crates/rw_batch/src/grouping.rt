@@ -1,0 +1,143 @@
+//! Samples that are grouped by label set as they come.
+
+ghost use Rattle.std.specs.Prelude.{◌≡◌, ◌↔◌, ◌∷◌, [], ◌++◌, ◌==◌, false, length, map, IfOk, OnOk, OnErr, IsTrue};
+ghost use Rattle.std.specs.List.{IsDistinct, list_any};
+ghost use Rattle.rw_types.specs.Labels.{text_label};
+ghost use Rattle.rw_types.specs.LabelOrder.{labels_eq};
+ghost use Rattle.rw_batch.specs.Grouping.{with_sample, labels_of};
+ghost use Rattle.rw_batch.specs.Groups.{StandsFor, with_number};
+
+use indexmap::IndexSet;
+use rw_types::{LabelSet, Word};
+use rw_write_request::{Message, Series};
+use std::alloc::{AllocError, Global};
+use std::marker::Model;
+
+/// Samples grouped by label set: a message that grows sample by sample.
+///
+/// A sample comes with the number of its series, by which the series is found without a comparison of labels.
+#[derive(Debug, Drop)]
+pub struct Grouping {
+    numbers: IndexSet<u64>,
+    series: Vec<Series>,
+}
+
+impl Model for Grouping {
+    ghost use Rattle.std.specs.Prelude.{◌≡◌, length};
+    ghost use Rattle.std.specs.List.{IsDistinct};
+    ghost use Rattle.rw_types.specs.LabelOrder.{labels_eq};
+    ghost use Rattle.rw_batch.specs.Grouping.{labels_of};
+    ghost use Rattle.rw_batch.specs.Groups.{Groups};
+
+    ghost Value = { Groups };
+
+    ghost view = { λ g. record { numbers = g.numbers.keys; series = g.series.items } };
+
+    ghost invariant = { λ g. (length g.numbers.keys ≡ length g.series.items) × IsDistinct labels_eq (labels_of g.series.items) };
+}
+
+/// A copy of labels.
+fn copy_of(alloc: Global, labels: &[(String, String)]) -> Result<Vec<(String, String)>, AllocError>
+    ensures { IfOk result (λ v. map text_label v.items ≡ map text_label labels.now) }
+{
+    let mut copy = Vec::with_capacity(alloc, labels.len())?;
+    for (name, value) in labels {
+        copy.push((name.clone()?, value.clone()?))?;
+    }
+    Ok(copy)
+}
+
+/// A series with one sample.
+fn series_of(alloc: Global, labels: &LabelSet, sample: (Word, i64)) -> Result<Series, AllocError>
+    ensures { IfOk result (λ s. s ≡ record { labels = labels.now; samples = sample ∷ [] }) }
+{
+    let labels = copy_of(alloc, labels.as_slice())?;
+    let mut samples = Vec::new(alloc);
+    samples.push(sample)?;
+    Ok(Series { labels, samples })
+}
+
+/// Puts a sample behind those of a series.
+fn push_sample(series: &mut Series, sample: (Word, i64)) -> Result<(), AllocError>
+    ensures ok { OnOk result (series.new ≡ record { labels = series.old.labels; samples = series.old.samples ++ sample ∷ [] }) }
+    ensures labels { series.new.labels ≡ series.old.labels }
+    ensures err { OnErr result (series.new ≡ series.old) }
+{
+    series.samples.push(sample)?;
+    Ok(())
+}
+
+impl Grouping {
+    /// No samples yet.
+    pub fn new(alloc: Global) -> Grouping
+        ensures { result ≡ record { numbers = []; series = [] } }
+    {
+        Grouping {
+            numbers: IndexSet::new(alloc),
+            series: Vec::new(alloc),
+        }
+    }
+
+    /// How many series there are.
+    pub fn len(&self) -> usize
+        ensures len { result ≡ length self.now.series }
+        ensures numbers { result ≡ length self.now.numbers }
+        ensures distinct { IsDistinct labels_eq (labels_of self.now.series) }
+    {
+        self.series.len()
+    }
+
+    /// Whether there is no sample yet.
+    pub fn is_empty(&self) -> bool
+        ensures { IsTrue result ↔ (self.now.series ≡ []) }
+    {
+        self.series.is_empty()
+    }
+
+    /// Groups one more sample, at the time `t` in milliseconds since the Unix epoch. Its labels are copied where its series is new.
+    pub fn add(
+        &mut self,
+        number: u64,
+        labels: &LabelSet,
+        t: i64,
+        word: Word,
+    ) -> Result<(), AllocError>
+        requires { StandsFor number labels.now self.old }
+        ensures series { OnOk result (self.new.series ≡ with_sample labels.now (word, t) self.old.series) }
+        ensures numbers { OnOk result (self.new.numbers ≡ with_number number self.old.numbers) }
+        ensures err { OnErr result (self.new ≡ self.old) }
+    {
+        match self.numbers.get_index_of(&number) {
+            Some(place) => push_sample(&mut self.series[place], (word, t)),
+            None => self.open(number, labels, (word, t)),
+        }
+    }
+
+    /// Opens a series with its first sample.
+    fn open(
+        &mut self,
+        number: u64,
+        labels: &LabelSet,
+        sample: (Word, i64),
+    ) -> Result<(), AllocError>
+        requires unknown { list_any (λ m. number == m) self.old.numbers ≡ false }
+        requires fits { StandsFor number labels.now self.old }
+        ensures series { OnOk result (self.new.series ≡ with_sample labels.now sample self.old.series) }
+        ensures numbers { OnOk result (self.new.numbers ≡ with_number number self.old.numbers) }
+        ensures err { OnErr result (self.new ≡ self.old) }
+    {
+        let series = series_of(*self.series.allocator(), labels, sample)?;
+        self.series.reserve(1)?;
+        self.numbers.insert(number)?;
+        self.series.push(series)?;
+        Ok(())
+    }
+
+    /// The message that holds the samples.
+    pub fn into_message(self) -> Message
+        ensures { result ≡ self.series }
+    {
+        let Grouping { numbers: _, series } = self;
+        Message { series }
+    }
+}

@@ -1,0 +1,179 @@
+-- A reader that is told more, and one that answers.
+use Rattle.std.proofs.Common.{◌≡◌, ℕ, ◌+◌, ◌≤◌, List, [], ◌∷◌, ◌++◌, length, Option, Some, None, Result, Ok, Err, Bool, true, false, nat_lt, ltb, refl, sym, ap, ◌∙◌, arith, append_assoc, append-nil, length-append, lt-ltb, le-ltb, subst}
+use Rattle.std.specs.Prelude.{slice_get, if◌then◌else◌}
+use Rattle.rw_types.specs.declared.entry.Entry.{Entry}
+use Rattle.rw_codes.specs.declared.tail_fault.TailFault.{TailFault}
+use Rattle.rw_codes.specs.declared.tail_fault.TailFault.TheVariants.{OutOfMemory, BadType, BadLength, BadCrc, Compressed, NonzeroPadding, Sequence, BadRecord, TornSegment}
+use Rattle.rw_codes.specs.Segments.{Reading, Stop, between, inside, at_fault, stopped}
+use Rattle.rw_codes.specs.Pieces.{Piece, bytes, page_size, reading, entries, skipped, fault, fault_at}
+use Rattle.rw_codes.proofs.Growing.{reading-append, reading-cut}
+use Rattle.rw_codes.specs.Laws.{Extends}
+use Rattle.rw_codes.proofs.Tailing.{read_on, read_on-start}
+use Rattle.rw_wal_tail.specs.declared.reader.Reader.{Reader}
+use Rattle.rw_wal_tail.specs.Held.{Held, waiting}
+use Rattle.rw_wal_tail.specs.Still.{after, still, from_here, open_data, NoFault}
+use Rattle.rw_wal_tail.specs.Steps.{still_read, waiting_of, IsOfLog, IsReader, IsUnfed, Same, Ends}
+use Rattle.rw_wal_tail.specs.Fed.{Fed, Follows, CutsDoNotMatter, next_of, answered, end_of}
+use Rattle.rw_wal_tail.proofs.StepLaws.{known_as}
+use Rattle.rw_wal_tail.proofs.StillLaws.{still_waits}
+use Rattle.rw_wal_tail.proofs.WaitingLaws.{none_waiting}
+
+after_none : (r : Reading) → r ≡ after [] 0 r
+after_none r = let z : r.skipped ≡ 0 + r.skipped = omega arith in ap (λ (m : ℕ). record { entries = r.entries; skipped = m; stop = r.stop }) z
+
+still_start : (d : List ℕ) (later : List Piece) → read_on page_size page_size None [] later ≡ after [] 0 (still [] 0 None page_size false d [] [] later)
+unfolding still
+still_start d later = after_none (read_on page_size page_size None [] later) ∙ after_none _
+
+pub follows_start : (r : Reader) → IsReader r → IsUnfed r → Follows [] [] r
+unfolding reading
+follows_start r i u =
+    let rest : r.input.rest ≡ [] = ap (λ (h : Held). h.rest) u.input in
+    let w : waiting_of r ≡ [] = ap (λ (h : Held). waiting h.later h.ended) u.input in
+    record { reader = i; reads = λ later. rw (u.left, u.is_open, u.ready, u.passed, u.fault, rest, w) (read_on-start page_size [] later ∙ still_start r.begun.items later) }
+
+give_one : (given es : List Entry) (e : Entry) (n : ℕ) (f : Option TailFault) (left : ℕ) (o : Bool) (d rest : List ℕ) (w later : List Piece)
+    → after given 0 (still (e ∷ es) n f left o d rest w later) ≡ after (given ++ e ∷ []) 0 (still es n f left o d rest w later)
+unfolding still
+give_one given es e n f left o d rest w later =
+    let x = from_here f left (open_data o d) rest (w ++ later) in
+    ap (λ (l : List Entry). record { entries = l; skipped = 0 + (n + x.skipped); stop = x.stop }) (sym (append_assoc given (e ∷ []) (es ++ x.entries)))
+
+module _ (ps : List Piece) (given : List Entry) (old new : Reader) (f : Follows ps given old) where
+  pub follows_same : Same old new → Follows ps given new
+  follows_same s = record { reader = s.reader; reads = λ later. f.reads later ∙ ap (after given 0) (s.still_same later) }
+
+  pub follows_given : (e : Entry) → old.ready.items ≡ e ∷ new.ready.items → new ≡ record old { ready = new.ready } → Follows ps (given ++ e ∷ []) new
+  follows_given e r q =
+      let i : new.input ≡ old.input = ap (λ (x : Reader). x.input) q in
+      let l : new.left ≡ old.left = ap (λ (x : Reader). x.left) q in
+      let z : new.zeros ≡ old.zeros = ap (λ (x : Reader). x.zeros) q in
+      let o : new.is_open ≡ old.is_open = ap (λ (x : Reader). x.is_open) q in
+      let d : new.begun.items ≡ old.begun.items = ap (λ (x : Reader). x.begun.items) q in
+      let p : new.passed ≡ old.passed = ap (λ (x : Reader). x.passed) q in
+      let t : new.fault ≡ old.fault = ap (λ (x : Reader). x.fault) q in
+      record {
+        reader = record { page = omega (arith, l, f.reader.page); count = omega (arith, p, f.reader.count); fault = subst IsOfLog (sym t) f.reader.fault; zeros = known_as old new l z (ap (λ (h : Held). h.rest) i) f.reader.zeros };
+        reads = λ later.
+            let g = give_one given new.ready.items e old.passed old.fault old.left old.is_open old.begun.items old.input.rest (waiting_of old) later in
+            let rest : new.input.rest ≡ old.input.rest = ap (λ (h : Held). h.rest) i in
+            let w : waiting_of new ≡ waiting_of old = ap (λ (h : Held). waiting h.later h.ended) i in
+            let a = f.reads later in
+            cc;
+      }
+
+-- ---- the answers
+
+got_after : (given more : List Entry) (e : Entry) → slice_get (given ++ e ∷ more) (length given) ≡ Some e
+got_after [] more e = refl
+got_after (x ∷ xs) more e = got_after xs more e
+
+next_front : (given more xs : List Entry) (e : Entry) (z : Result (Option Entry) TailFault) → xs ≡ given ++ e ∷ more
+    → (if nat_lt (length given) (length xs) then Ok (slice_get xs (length given)) else z) ≡ Ok (Some e)
+next_front given more xs e z q =
+    let t : ltb (length given) (length (given ++ e ∷ more)) ≡ true = lt-ltb (length given) (length (given ++ e ∷ more)) (omega (arith, length-append given (e ∷ more))) in
+    rw (q, t) (ap Ok (got_after given more e))
+
+next_end : (given xs : List Entry) (z : Result (Option Entry) TailFault) → xs ≡ given → (if nat_lt (length given) (length xs) then Ok (slice_get xs (length given)) else z) ≡ z
+next_end given xs z q =
+    let t : ltb (length given) (length given) ≡ false = le-ltb (length given) (length given) (omega arith) in
+    rw (q, t) refl
+
+module _ (ps : List Piece) (given : List Entry) where
+  end_entries : (n : ℕ) (s : Stop) → reading page_size ps ≡ after given 0 (after [] n (stopped s)) → next_of ps (length given) ≡ end_of (fault_at s)
+  unfolding next_of
+  end_entries n s q =
+      let e : entries ps ≡ given = ap (λ (r : Reading). r.entries) q ∙ append-nil given in
+      next_end given (entries ps) (end_of (fault ps)) e ∙ ap (λ (r : Reading). end_of (fault_at r.stop)) q
+
+  end_skipped : (n : ℕ) (s : Stop) → reading page_size ps ≡ after given 0 (after [] n (stopped s)) → skipped ps ≡ n
+  end_skipped n s q = let e : skipped ps ≡ 0 + (n + 0) = ap (λ (r : Reading). r.skipped) q in omega (arith, e)
+
+no_fault_at : (s : Stop) → NoFault s → fault_at s ≡ None
+no_fault_at between n = refl
+no_fault_at inside n = refl
+no_fault_at (at_fault f) n = absurd n
+
+still_failed : (n left : ℕ) (o : Bool) (d rest : List ℕ) (w : List Piece) (x : TailFault) → still [] n (Some x) left o d rest w [] ≡ after [] n (stopped (at_fault x))
+unfolding still
+still_failed n left o d rest w x = refl
+
+module _ (ps : List Piece) (given : List Entry) (r : Reader) (f : Follows ps given r) where
+  all_read : reading page_size ps ≡ after given 0 (still_read r [])
+  all_read = ap (reading page_size) (sym (append-nil ps)) ∙ f.reads []
+
+  pub given_within : length given ≤ length (entries ps)
+  given_within =
+      let e : entries ps ≡ given ++ (still_read r []).entries = ap (λ (x : Reading). x.entries) all_read in
+      omega (arith, ap length e, length-append given (still_read r []).entries)
+
+  pub gives_entry : (e : Entry) (es : List Entry) → r.ready.items ≡ e ∷ es → next_of ps (length given) ≡ Ok (Some e)
+  unfolding next_of still
+  gives_entry e es q =
+      let x = from_here r.fault r.left (open_data r.is_open r.begun.items) r.input.rest (waiting_of r ++ []) in
+      let a : entries ps ≡ given ++ (e ∷ (es ++ x.entries)) = ap (λ (y : Reading). y.entries) all_read ∙ ap (λ (l : List Entry). given ++ (l ++ x.entries)) q in
+      next_front given (es ++ x.entries) (entries ps) e (end_of (fault ps)) a
+
+  ends_at : Ends r → (s : Stop) × (reading page_size ps ≡ after given 0 (after [] r.passed (stopped s))) × NoFault s
+  ends_at e =
+      let w : waiting_of r ≡ [] = none_waiting r.input.later r.input.ended e.none_waits in
+      let none : r.ready.items ≡ [] = e.can_step.none_ready in
+      let z = still_waits r.left e.can_step.reader.page r.input.rest r.ready.items r.passed r.is_open r.begun.items e.ends in
+      let q : r.fault ≡ None = e.can_step.no_fault in
+      let b : still_read r [] ≡ after [] r.passed (stopped z.0) = (let zz = z.1 in cc) in
+      (z.0, all_read ∙ ap (after given 0) b, z.2)
+
+  fails_at : (x : TailFault) → r.fault ≡ Some x → r.ready.items ≡ [] → reading page_size ps ≡ after given 0 (after [] r.passed (stopped (at_fault x)))
+  fails_at x e n =
+      let z = still_failed r.passed r.left r.is_open r.begun.items r.input.rest (waiting_of r) x in
+      let b : still_read r [] ≡ after [] r.passed (stopped (at_fault x)) = cc in
+      all_read ∙ ap (after given 0) b
+
+  pub gives_none : Ends r → next_of ps (length given) ≡ Ok None
+  gives_none e = let x = ends_at e in end_entries ps given r.passed x.0 x.1 ∙ ap end_of (no_fault_at x.0 x.2)
+
+  pub passes_none : Ends r → skipped ps ≡ r.passed
+  passes_none e = let x = ends_at e in end_skipped ps given r.passed x.0 x.1
+
+  pub gives_fault : (x : TailFault) → r.fault ≡ Some x → r.ready.items ≡ [] → next_of ps (length given) ≡ Err x
+  gives_fault x e n = end_entries ps given r.passed (at_fault x) (fails_at x e n)
+
+  pub passes_fault : (x : TailFault) → r.fault ≡ Some x → r.ready.items ≡ [] → skipped ps ≡ r.passed
+  passes_fault x e n = end_skipped ps given r.passed (at_fault x) (fails_at x e n)
+
+-- what a reader is after a fault
+answered_fault : (t : Fed) (f : TailFault) → IsOfLog (Some f) → answered t (Err f) ≡ record t { skipped = skipped t.pieces }
+unfolding answered
+answered_fault t OutOfMemory h = absurd h
+answered_fault t BadType h = refl
+answered_fault t BadLength h = refl
+answered_fault t BadCrc h = refl
+answered_fault t Compressed h = refl
+answered_fault t NonzeroPadding h = refl
+answered_fault t Sequence h = refl
+answered_fault t BadRecord h = refl
+answered_fault t TornSegment h = refl
+
+module _ (ps : List Piece) (t : Fed) (count : ℕ) where
+  -- what is asked of a reader, in the words of its fields
+  pub asked : (given : List Entry) (n : ℕ) → record { pieces = ps; given = count; skipped = n } ≡ t → count ≡ length given → next_of t.pieces t.given ≡ next_of ps (length given)
+  asked given n v c = sym (ap (λ (x : Fed). next_of x.pieces x.given) v) ∙ ap (next_of ps) c
+
+  counted_as : (n m : ℕ) → record { pieces = ps; given = count; skipped = n } ≡ t → skipped ps ≡ m → record { pieces = ps; given = count; skipped = m } ≡ record t { skipped = skipped t.pieces }
+  counted_as n m v s = ap (λ (k : ℕ). record { pieces = ps; given = count; skipped = k }) (sym s) ∙ ap (λ (x : Fed). record x { skipped = skipped x.pieces }) v
+
+  pub counted_none : (n m : ℕ) → record { pieces = ps; given = count; skipped = n } ≡ t → skipped ps ≡ m → record { pieces = ps; given = count; skipped = m } ≡ answered t (Ok None)
+  unfolding answered
+  counted_none n m v s = counted_as n m v s
+
+  pub counted_fault : (n m : ℕ) (f : TailFault) → IsOfLog (Some f) → record { pieces = ps; given = count; skipped = n } ≡ t → skipped ps ≡ m → record { pieces = ps; given = count; skipped = m } ≡ answered t (Err f)
+  counted_fault n m f l v s = counted_as n m v s ∙ sym (answered_fault t f l)
+
+-- ---- more pieces
+
+pub goes_on : (ps all more : List Piece) → all ≡ ps ++ more → Extends (reading page_size ps) (reading page_size all)
+goes_on ps all more e = subst (λ (l : List Piece). Extends (reading page_size ps) (reading page_size l)) (sym e) (reading-append page_size ps more (omega arith))
+
+pub cuts_do_not_matter : (ps all : List Piece) (b : List ℕ) → all ≡ ps ++ bytes b ∷ [] → CutsDoNotMatter ps all b
+cuts_do_not_matter ps all b e front a q =
+    ap (reading page_size) (e ∙ ap (λ (l : List Piece). l ++ bytes b ∷ []) q ∙ append_assoc front (bytes a ∷ []) (bytes b ∷ [])) ∙ reading-cut page_size front a b []

@@ -1,0 +1,7 @@
+mod ItemLaws
+mod FoundLaws
+mod HeldLaws
+mod StillLaws
+mod WaitingLaws
+mod StepLaws
+mod FedLaws

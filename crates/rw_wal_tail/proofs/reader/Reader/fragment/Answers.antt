@@ -1,0 +1,35 @@
+use Rattle.std.proofs.Common.{◌∙◌, ap}
+use Rattle.rw_codes.specs.declared.tail_fault.TailFault.TheVariants.{Sequence}
+use Rattle.rw_wal_tail.specs.declared.reader.Reader.{Reader}
+use Rattle.rw_wal_tail.specs.Found.{kind_of}
+use Rattle.rw_wal_tail.specs.Still.{IsInner, IsBegin}
+use Rattle.rw_wal_tail.proofs.StepLaws.{Failing, bad_open, bad_closed}
+use Rattle.rw_wal_tail.proofs.reader.Reader.fragment.Goals as goal
+
+pub returns-in-Full-clause-same : goal.returns-in-Full-clause-same
+returns-in-Full-clause-same c =
+    let e = c.fail.ensures.new in
+    let i : IsBegin (kind_of c.args.kind) = rw c.in-Full.is tt in
+    let a : Failing c.args.self.now c.fail.new.self Sequence = record { input = ap (λ (r : Reader). r.input) e; left = ap (λ (r : Reader). r.left) e; zeros = ap (λ (r : Reader). r.zeros) e; ready = ap (λ (r : Reader). r.ready.items) e ∙ c.requires.can_step.none_ready; passed = ap (λ (r : Reader). r.passed) e; fault = ap (λ (r : Reader). r.fault) e; of_log = tt } in
+    bad_open c.args.self.now c.fail.new.self c.args.len (kind_of c.args.kind) c.requires i c.if-self.true a
+
+pub returns-in-First-clause-same : goal.returns-in-First-clause-same
+returns-in-First-clause-same c =
+    let e = c.fail-in-First.ensures.new in
+    let i : IsBegin (kind_of c.args.kind) = rw c.in-First.is tt in
+    let a : Failing c.args.self.now c.fail-in-First.new.self Sequence = record { input = ap (λ (r : Reader). r.input) e; left = ap (λ (r : Reader). r.left) e; zeros = ap (λ (r : Reader). r.zeros) e; ready = ap (λ (r : Reader). r.ready.items) e ∙ c.requires.can_step.none_ready; passed = ap (λ (r : Reader). r.passed) e; fault = ap (λ (r : Reader). r.fault) e; of_log = tt } in
+    bad_open c.args.self.now c.fail-in-First.new.self c.args.len (kind_of c.args.kind) c.requires i c.if-self.true a
+
+pub returns-in-Middle-kind-clause-same : goal.returns-in-Middle-kind-clause-same
+returns-in-Middle-kind-clause-same c =
+    let e = c.fail-in-Middle-kind.ensures.new in
+    let i : IsInner (kind_of c.args.kind) = rw c.in-Middle-kind.is tt in
+    let a : Failing c.args.self.now c.fail-in-Middle-kind.new.self Sequence = record { input = ap (λ (r : Reader). r.input) e; left = ap (λ (r : Reader). r.left) e; zeros = ap (λ (r : Reader). r.zeros) e; ready = ap (λ (r : Reader). r.ready.items) e ∙ c.requires.can_step.none_ready; passed = ap (λ (r : Reader). r.passed) e; fault = ap (λ (r : Reader). r.fault) e; of_log = tt } in
+    bad_closed c.args.self.now c.fail-in-Middle-kind.new.self c.args.len (kind_of c.args.kind) c.requires i c.if-self.false a
+
+pub returns-in-Last-kind-clause-same : goal.returns-in-Last-kind-clause-same
+returns-in-Last-kind-clause-same c =
+    let e = c.fail-in-Last-kind.ensures.new in
+    let i : IsInner (kind_of c.args.kind) = rw c.in-Last-kind.is tt in
+    let a : Failing c.args.self.now c.fail-in-Last-kind.new.self Sequence = record { input = ap (λ (r : Reader). r.input) e; left = ap (λ (r : Reader). r.left) e; zeros = ap (λ (r : Reader). r.zeros) e; ready = ap (λ (r : Reader). r.ready.items) e ∙ c.requires.can_step.none_ready; passed = ap (λ (r : Reader). r.passed) e; fault = ap (λ (r : Reader). r.fault) e; of_log = tt } in
+    bad_closed c.args.self.now c.fail-in-Last-kind.new.self c.args.len (kind_of c.args.kind) c.requires i c.if-self.false a

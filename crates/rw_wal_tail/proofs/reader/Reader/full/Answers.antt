@@ -1,0 +1,22 @@
+use Rattle.std.proofs.Common.{◌∙◌, true, false, ap, sym, arith, Some, take, drop}
+use Rattle.rw_codes.specs.declared.tail_fault.TailFault.TheVariants.{BadRecord}
+use Rattle.rw_wal_tail.specs.declared.reader.Reader.{Reader}
+use Rattle.rw_wal_tail.proofs.StepLaws.{Advanced, Failing, data_of, read_as, same_full, bad_full}
+use Rattle.rw_wal_tail.proofs.reader.Reader.full.Goals as goal
+
+pub returns-then-not-branch-clause-same : goal.returns-then-not-branch-clause-same
+returns-then-not-branch-clause-same c =
+    let e = c.fail.ensures.new in
+    let d = data_of c.args.len c.args.self.now.input.rest c.rest.result.now c.fragment_data-data.result.now c.fragment_data-data.ensures c.rest.ensures in
+    let r = read_as c.fragment_data-data.result.now (take c.args.len (drop 7 c.args.self.now.input.rest)) c.args.self.now.passed c.read_whole.new.ready.items c.read_whole.new.passed c.in_ok-read_whole.field-0 false d c.if-not-branch.true c.in_ok-read_whole.ensures.ok in
+    let a : Failing c.args.self.now c.fail.new.self BadRecord = record { input = ap (λ (r : Reader). r.input) e; left = ap (λ (r : Reader). r.left) e; zeros = ap (λ (r : Reader). r.zeros) e; ready = ap (λ (r : Reader). r.ready.items) e ∙ r.1; passed = ap (λ (r : Reader). r.passed) e ∙ r.2; fault = ap (λ (r : Reader). r.fault) e; of_log = tt } in
+    bad_full c.args.self.now c.fail.new.self c.args.len c.requires a r.0
+
+pub returns-clause-same : goal.returns-clause-same
+returns-clause-same c =
+    let e = c.advance.ensures in
+    let d = data_of c.args.len c.args.self.now.input.rest c.rest.result.now c.fragment_data-data.result.now c.fragment_data-data.ensures c.rest.ensures in
+    let r = read_as c.fragment_data-data.result.now (take c.args.len (drop 7 c.args.self.now.input.rest)) c.args.self.now.passed c.read_whole.new.ready.items c.read_whole.new.passed c.in_ok-read_whole.field-0 true d c.if-not-branch.false c.in_ok-read_whole.ensures.ok in
+    let a : Advanced c.args.self.now c.advance.new.self c.args.len = record { input = ap (λ (r : Reader). r.input) e; left = ap (λ (r : Reader). r.left) e; zeros = ap (λ (r : Reader). r.zeros) e; fault = ap (λ (r : Reader). r.fault) e } in
+    same_full c.args.self.now c.advance.new.self c.args.len a (omega (arith, ap (λ (r : Reader). r.passed) e, c.read_whole.ensures.count)) (ap (λ (r : Reader). r.is_open) e ∙ c.requires.in_order) c.requires
+    (r.0 ∙ ap (λ (x : Reader). Some x.ready.items) (sym e), ap (λ (x : Reader). x.passed) e ∙ r.1)

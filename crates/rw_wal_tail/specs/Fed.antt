@@ -1,0 +1,62 @@
+-- What was fed to a reader, and what it answers.
+use Rattle.std.specs.Prelude.{◌≡◌, ℕ, ◌+◌, ◌<◌, ◌^◌, List, [], ◌∷◌, ◌++◌, length, Option, Some, None, Result, Ok, Err, slice_get, nat_lt, if◌then◌else◌}
+use Rattle.rw_types.specs.declared.entry.Entry.{Entry}
+use Rattle.rw_codes.specs.Pieces as pieces
+use Rattle.rw_codes.specs.Pieces.{page_size, reading, entries, skipped, fault}
+use Rattle.rw_codes.specs.declared.tail_fault.TailFault.{TailFault}
+use Rattle.rw_codes.specs.declared.tail_fault.TailFault.TheVariants.{OutOfMemory}
+use Rattle.rw_wal_tail.specs.declared.piece.Piece.{Piece}
+use Rattle.rw_wal_tail.specs.declared.piece.Piece.TheVariants as piece
+use Rattle.rw_wal_tail.specs.declared.piece.Told.{Told}
+use Rattle.rw_wal_tail.specs.declared.piece.Told.TheVariants as told
+use Rattle.rw_wal_tail.specs.declared.reader.Reader.{Reader}
+use Rattle.rw_wal_tail.specs.Still.{after}
+use Rattle.rw_wal_tail.specs.Steps.{IsReader, still_read}
+
+-- the pieces that were fed, the number of entries that were given, and the number of records that were passed over
+pub record Fed : Type 0 where
+  pub pieces : List pieces.Piece
+  pub given : ℕ
+  -- when `next_entry` last found no entry
+  pub skipped : ℕ
+
+-- what stands at the end of the entries
+abbrev pub end_of : Option TailFault → Result (Option Entry) TailFault
+end_of None = Ok None
+end_of (Some f) = Err f
+
+-- the entry after n entries of the pieces, or the fault that follows them
+unfoldable pub next_of : List pieces.Piece → ℕ → Result (Option Entry) TailFault
+next_of ps n = if nat_lt n (length (entries ps)) then Ok (slice_get (entries ps) n) else end_of (fault ps)
+
+-- what a reader is after an answer: want of memory changes nothing
+unfoldable pub answered : Fed → Result (Option Entry) TailFault → Fed
+answered t (Ok (Some e)) = record t { given = t.given + 1 }
+answered t (Ok None) = record t { skipped = skipped t.pieces }
+answered t (Err OutOfMemory) = t
+answered t (Err f) = record t { skipped = skipped t.pieces }
+
+-- it does not matter how bytes are cut: two pieces of bytes are read as one
+abbrev pub CutsDoNotMatter : List pieces.Piece → List pieces.Piece → List ℕ → Type 0
+CutsDoNotMatter earlier all b =
+    (front : List pieces.Piece) (a : List ℕ) → earlier ≡ front ++ pieces.bytes a ∷ [] → reading page_size all ≡ reading page_size (front ++ pieces.bytes (a ++ b) ∷ [])
+
+-- a piece, as the grammar has it
+abbrev pub piece_of : Piece → pieces.Piece
+piece_of (piece.Bytes b) = pieces.bytes b.items
+piece_of piece.NextSegment = pieces.next_segment
+
+abbrev pub told_of : Told → pieces.Piece
+told_of (told.Bytes b) = pieces.bytes b
+told_of told.NextSegment = pieces.next_segment
+
+-- whatever comes later, the reading is what was given and then what the reader still reads
+pub record Follows (ps : List pieces.Piece) (given : List Entry) (r : Reader) : Type 0 where
+  pub reader : IsReader r
+  pub reads : (later : List pieces.Piece) → reading page_size (ps ++ later) ≡ after given 0 (still_read r later)
+
+-- the same of a reader that has counted
+pub record IsTail (r : Reader) (ps : List pieces.Piece) (given : List Entry) (count : ℕ) : Type 0 where
+  pub follows : Follows ps given r
+  pub counted : count ≡ length given
+  pub bound : count < 2 ^ 60

@@ -1,0 +1,6 @@
+pub mod Unread
+pub mod Found
+pub mod Held
+pub mod Still
+pub mod Steps
+pub mod Fed

@@ -1,0 +1,112 @@
+-- What a step of a reader may do.
+use Rattle.std.specs.Prelude.{◌≡◌, ℕ, ◌+◌, ◌<◌, ◌≤◌, ◌^◌, List, [], ◌∷◌, length, drop, take, Option, Some, None, Bool, true, false, ◌⊎◌}
+use Rattle.rw_types.specs.declared.entry.Entry.{Entry}
+use Rattle.rw_codes.specs.Records.{record_entries}
+use Rattle.rw_codes.specs.Segments as grammar
+use Rattle.rw_codes.specs.Segments.{full, first, middle, last, nothing, begun, fragment, item_at, Reading}
+use Rattle.rw_codes.specs.Pieces.{Piece, page_size}
+use Rattle.rw_codes.specs.declared.tail_fault.TailFault.{TailFault}
+use Rattle.rw_codes.specs.declared.tail_fault.TailFault.TheVariants.{OutOfMemory}
+use Rattle.rw_wal_tail.specs.declared.reader.Reader.{Reader}
+use Rattle.rw_wal_tail.specs.declared.reader.Step.{Step}
+use Rattle.rw_wal_tail.specs.declared.reader.Step.TheVariants.{More, Waits, Failed}
+use Rattle.rw_wal_tail.specs.Found.{KnownZeros}
+use Rattle.rw_wal_tail.specs.Held.{waiting, held_weight, has_ended}
+use Rattle.rw_wal_tail.specs.Still.{still, skip_of}
+
+abbrev pub waiting_of : Reader → List Piece
+waiting_of r = waiting r.input.later r.input.ended
+
+-- what the reader still reads
+abbrev pub still_read : Reader → List Piece → Reading
+still_read r later = still r.ready.items r.passed r.fault r.left r.is_open r.begun.items r.input.rest (waiting_of r) later
+
+-- a fault of the log, if any
+abbrev pub IsOfLog : Option TailFault → Type 0
+IsOfLog (Some OutOfMemory) = ⊥
+IsOfLog _ = Unit {0}
+
+pub record IsReader (r : Reader) : Type 0 where
+  pub page : 0 < r.left
+  pub count : r.passed < 2 ^ 60
+  pub fault : IsOfLog r.fault
+  pub zeros : KnownZeros r.left r.zeros r.input.rest
+
+-- nothing that is still read changes
+pub record Same (old new : Reader) : Type 0 where
+  pub reader : IsReader new
+  pub still_same : (later : List Piece) → still_read old later ≡ still_read new later
+
+-- one more piece is still read
+pub record Takes (piece : Piece) (old new : Reader) : Type 0 where
+  pub reader : IsReader new
+  pub still_more : (later : List Piece) → still_read old (piece ∷ later) ≡ still_read new later
+
+-- a reader with nothing ready and no fault
+pub record CanStep (r : Reader) : Type 0 where
+  pub reader : IsReader r
+  pub none_ready : r.ready.items ≡ []
+  pub no_fault : r.fault ≡ None
+
+-- what has come of the segment at hand ends here, inside a record or fragment or not
+pub record PausesAt (is_inside : Bool) (r : Reader) : Type 0 where
+  pub can_step : CanStep r
+  pub ends : ((item_at r.left r.input.rest ≡ begun) × (is_inside ≡ true)) ⊎ ((item_at r.left r.input.rest ≡ nothing) × (is_inside ≡ r.is_open))
+
+-- what has come ends here
+pub record Ends (r : Reader) : Type 0 where
+  pub can_step : CanStep r
+  pub ends : (item_at r.left r.input.rest ≡ nothing) ⊎ (item_at r.left r.input.rest ≡ begun)
+  pub none_waits : has_ended r.input.later r.input.ended ≡ false
+
+abbrev pub weight : Reader → ℕ
+weight r = held_weight r.input
+
+abbrev pub Stepped : Step → Reader → Reader → Type 0
+Stepped More old new = weight new < weight old
+Stepped Waits old new = Ends new
+Stepped (Failed f) old new = (new.fault ≡ Some f) × (new.ready.items ≡ [])
+
+abbrev pub goes_on : grammar.Kind → Bool
+goes_on full = false
+goes_on first = false
+goes_on middle = true
+goes_on last = true
+
+-- a fragment of this kind stands there, with so many bytes
+pub record FoundFragment (kind : grammar.Kind) (n : ℕ) (r : Reader) : Type 0 where
+  pub can_step : CanStep r
+  pub whole : 7 + n ≤ length r.input.rest
+  pub in_page : 7 + n ≤ r.left
+  pub found : item_at r.left r.input.rest ≡ fragment kind (take n (drop 7 r.input.rest))
+
+-- the same, and it goes on with what is open
+pub record FoundAt (kind : grammar.Kind) (n : ℕ) (r : Reader) : Type 0 where
+  pub can_step : CanStep r
+  pub whole : 7 + n ≤ length r.input.rest
+  pub in_page : 7 + n ≤ r.left
+  pub found : item_at r.left r.input.rest ≡ fragment kind (take n (drop 7 r.input.rest))
+  pub in_order : r.is_open ≡ goes_on kind
+
+-- a whole record is read into the queue, or is not of its form
+abbrev pub IsRead : List ℕ → ℕ → List Entry → ℕ → Bool → Type 0
+IsRead d passed ready passed' true = (record_entries d ≡ Some ready) × (passed' ≡ passed + skip_of d)
+IsRead d passed ready passed' false = (record_entries d ≡ None) × (ready ≡ []) × (passed' ≡ passed)
+
+abbrev pub is_failed_by : TailFault → Reader → Reader
+is_failed_by f r = record r { fault = Some f }
+
+-- a reader that nothing was fed to
+pub record IsUnfed (r : Reader) : Type 0 where
+  pub input : r.input ≡ record { rest = []; later = []; ended = false }
+  pub left : r.left ≡ page_size
+  pub is_open : r.is_open ≡ false
+  pub ready : r.ready.items ≡ []
+  pub passed : r.passed ≡ 0
+  pub fault : r.fault ≡ None
+
+-- what a reader came to: an entry is ready, or what has come ends, or there is a fault
+abbrev pub Ran : Step → Reader → Type 0
+Ran More r = 0 < length r.ready.items
+Ran Waits r = Ends r
+Ran (Failed f) r = (r.fault ≡ Some f) × (r.ready.items ≡ [])

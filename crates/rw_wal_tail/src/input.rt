@@ -1,0 +1,132 @@
+//! The bytes that are not read yet.
+
+ghost use Rattle.std.specs.Prelude.{◌≡◌, ◌≤◌, ◌<◌, ◌+◌, [], true, false, length, drop, take, map, OnOk, OnErr};
+ghost use Rattle.rw_wal_tail.specs.Held.{has_ended, begun_with, extend_last, fed};
+
+use std::alloc::{AllocError, Global};
+use std::collections::VecDeque;
+use std::marker::Model;
+
+/// The rest of the segment at hand, and what has come of the segments after it.
+#[derive(Drop)]
+pub(crate) struct Input {
+    buffer: Vec<u8>,
+    /// Where the rest begins in the buffer.
+    at: usize,
+    later: VecDeque<Vec<u8>>,
+    ended: bool,
+}
+
+impl Model for Input {
+    ghost use Rattle.std.specs.Prelude.{◌≤◌, drop, length, map};
+    ghost use Rattle.rw_wal_tail.specs.Held.{Held};
+
+    ghost Value = { Held };
+
+    ghost view = { λ i. record { rest = drop i.at i.buffer.items; later = map (λ v. v.items) i.later.items; ended = i.ended } };
+
+    ghost invariant = { λ i. i.at ≤ length i.buffer.items };
+}
+
+/// Lets the first bytes go.
+fn remove_front(buffer: &mut Vec<u8>, count: usize)
+    requires { count ≤ length buffer.old.items }
+    ensures { buffer.new.items ≡ drop count buffer.old.items }
+{
+    buffer.drain(..count);
+}
+
+/// Adds to the last segment.
+fn extend_last_segment(later: &mut VecDeque<Vec<u8>>, piece: &[u8]) -> Result<(), AllocError>
+    requires { 0 < length later.old.items }
+    ensures ok { OnOk result (map (λ v. v.items) later.new.items ≡ extend_last piece.now (map (λ v. v.items) later.old.items)) }
+    ensures err { OnErr result (map (λ v. v.items) later.new.items ≡ map (λ v. v.items) later.old.items) }
+{
+    let last = later.len() - 1;
+    later[last].extend_from_slice(piece)
+}
+
+impl Input {
+    pub(crate) fn new(alloc: Global) -> Input
+        ensures { result ≡ record { rest = []; later = []; ended = false } }
+    {
+        Input {
+            buffer: Vec::new(alloc),
+            at: 0,
+            later: VecDeque::new(alloc),
+            ended: false,
+        }
+    }
+
+    /// What is left of the segment at hand.
+    pub(crate) fn rest(&self) -> &[u8]
+        ensures { result.now ≡ self.now.rest }
+    {
+        &self.buffer[self.at..]
+    }
+
+    /// Leaves so many bytes behind.
+    pub(crate) fn pass(&mut self, count: usize)
+        requires { count ≤ length self.old.rest }
+        ensures { self.new ≡ record self.old { rest = drop count self.old.rest } }
+    {
+        self.at += count;
+    }
+
+    /// Whether the segment at hand has ended.
+    pub(crate) fn has_ended(&self) -> bool
+        ensures { result ≡ has_ended self.now.later self.now.ended }
+    {
+        self.ended || !self.later.is_empty()
+    }
+
+    /// Begins the next segment.
+    pub(crate) fn begin_segment(&mut self)
+        requires { has_ended self.old.later self.old.ended ≡ true }
+        ensures { self.new ≡ begun_with self.old.later self.old.ended }
+    {
+        self.at = 0;
+        match self.later.pop_front() {
+            Some(segment) => self.buffer = segment,
+            None => {
+                self.buffer.clear();
+                self.ended = false;
+            }
+        }
+    }
+
+    /// The last segment has ended. Where it had ended before, the one between them is empty, and no two ends need to be told apart.
+    pub(crate) fn end_segment(&mut self)
+        ensures { self.new ≡ record self.old { ended = true } }
+    {
+        self.ended = true;
+    }
+
+    /// Moves what is not read to the front, once that is no more than what was read: so each byte that is read pays for one that is moved.
+    fn compact(&mut self)
+        ensures { self.new ≡ self.old }
+    {
+        if self.at >= self.buffer.len() - self.at {
+            remove_front(&mut self.buffer, self.at);
+            self.at = 0;
+        }
+    }
+
+    /// More bytes of the last segment.
+    pub(crate) fn feed(&mut self, piece: &[u8]) -> Result<(), AllocError>
+        ensures ok { OnOk result (self.new ≡ fed piece.now self.old) }
+        ensures err { OnErr result (self.new ≡ self.old) }
+    {
+        if self.ended {
+            let alloc = *self.buffer.allocator();
+            self.later.push_back(piece.to_vec(alloc)?)?;
+            self.ended = false;
+            Ok(())
+        } else if self.later.is_empty() {
+            self.compact();
+            self.buffer.extend_from_slice(piece)
+        } else {
+            extend_last_segment(&mut self.later, piece)
+        }
+    }
+}

@@ -1,0 +1,115 @@
+//! What stands at a fragment's place.
+
+ghost use Rattle.std.specs.Prelude.{◌≡◌, ◌==◌, drop};
+ghost use Rattle.std.specs.List.{list_all};
+ghost use Rattle.rw_codes.specs.Segments.{zeros_at, data_at, fragment_at, item_at};
+ghost use Rattle.rw_wal_tail.specs.Found.{kind_of, item_of, wrong_type_of, KnownZeros, Fits, FragmentFits, DataFits};
+
+use byteorder::{BigEndian, ByteOrder};
+use rw_codes::{TailFault, crc32c};
+
+/// The type of a fragment.
+#[derive(Clone, Copy, Debug, PartialEq, Eq, Drop)]
+pub(crate) enum Kind {
+    Full,
+    First,
+    Middle,
+    Last,
+}
+
+/// What stands there. The data of a fragment are so many bytes after its header.
+#[derive(Clone, Copy, Debug, PartialEq, Eq, Drop)]
+pub(crate) enum Found {
+    Nothing,
+    Begun,
+    Zeros,
+    Fragment(Kind, usize),
+    Wrong(TailFault),
+}
+
+fn are_zero(bytes: &[u8]) -> bool
+    ensures { result ≡ list_all (λ b. b == 0) bytes.now }
+{
+    bytes.iter().all(|b| *b == 0)
+}
+
+/// The zeros of a page's end, of which the first are known.
+fn zeros(left: usize, known: usize, bytes: &[u8]) -> Found
+    requires { KnownZeros left known bytes.now }
+    ensures item { zeros_at left bytes.now ≡ item_of (drop 7 bytes.now) result }
+    ensures fits { Fits left bytes.now result }
+{
+    let end = bytes.len().min(left);
+    if !are_zero(&bytes[known..end]) {
+        Found::Wrong(TailFault::NonzeroPadding)
+    } else if bytes.len() < left {
+        Found::Nothing
+    } else {
+        Found::Zeros
+    }
+}
+
+/// The fault of a type byte that no fragment has.
+fn wrong_type(b: u8) -> TailFault
+    ensures { result ≡ wrong_type_of b }
+{
+    if b >= 8 && b < 32 {
+        TailFault::Compressed
+    } else {
+        TailFault::BadType
+    }
+}
+
+/// The data after a header.
+fn data(kind: Kind, left: usize, len: u16, crc: u32, rest: &[u8]) -> Found
+    ensures item { data_at (kind_of kind) left len crc rest.now ≡ item_of rest.now result }
+    ensures fits { DataFits left rest.now result }
+{
+    let len = len as usize;
+    if left < 7 + len {
+        return Found::Wrong(TailFault::BadLength);
+    }
+    if rest.len() < len {
+        return Found::Begun;
+    }
+    if crc32c(&rest[..len]) != crc {
+        return Found::Wrong(TailFault::BadCrc);
+    }
+    Found::Fragment(kind, len)
+}
+
+/// The fragment after its type byte.
+fn fragment(kind: Kind, left: usize, bytes: &[u8]) -> Found
+    ensures item { fragment_at (kind_of kind) left bytes.now ≡ item_of (drop 6 bytes.now) result }
+    ensures fits { FragmentFits left bytes.now result }
+{
+    if bytes.len() < 6 {
+        return Found::Begun;
+    }
+    let len = BigEndian::read_u16(bytes);
+    let crc = BigEndian::read_u32(&bytes[2..]);
+    data(kind, left, len, crc, &bytes[6..])
+}
+
+/// The item at the front of the bytes, with so many bytes left in its page. Of zeros there, the first are known.
+pub(crate) fn item(left: usize, known: usize, bytes: &[u8]) -> Found
+    requires { KnownZeros left known bytes.now }
+    ensures item { item_at left bytes.now ≡ item_of (drop 7 bytes.now) result }
+    ensures fits { Fits left bytes.now result }
+{
+    if bytes.is_empty() {
+        return Found::Nothing;
+    }
+    let kind = bytes[0];
+    if left < 7 || kind == 0 {
+        return zeros(left, known, bytes);
+    }
+    let rest = &bytes[1..];
+    match kind {
+        1 => fragment(Kind::Full, left, rest),
+        2 => fragment(Kind::First, left, rest),
+        3 => fragment(Kind::Middle, left, rest),
+        4 => fragment(Kind::Last, left, rest),
+        _ => Found::Wrong(wrong_type(kind)),
+    }
+}

@@ -1,0 +1,318 @@
+//! The steps of a reader.
+
+ghost use Rattle.std.specs.Prelude.{◌≡◌, ◌+◌, ◌<◌, ◌≤◌, ◌^◌, [], ◌∷◌, length, drop, take, MatchResult, IfOk, OnOk, OnErr};
+ghost use Rattle.rw_codes.specs.Records as grammar;
+ghost use Rattle.rw_codes.specs.Segments.{left_after, full, first, middle, last};
+ghost use Rattle.rw_codes.specs.Pieces.{page_size, bytes, next_segment};
+ghost use Rattle.rw_wal_tail.specs.declared.reader.Step.TheVariants.{Failed};
+ghost use Rattle.rw_wal_tail.specs.Found.{kind_of};
+ghost use Rattle.rw_wal_tail.specs.Steps.{Same, Takes, Stepped, PausesAt, FoundAt, FoundFragment, IsReader, IsUnfed, IsRead, Ran, is_failed_by};
+
+use crate::input::Input;
+use crate::item::{Found, Kind, item};
+use crate::record::{Unread, read_record};
+use rw_codes::TailFault;
+use rw_types::Entry;
+use std::alloc::{AllocError, Global};
+use std::collections::VecDeque;
+
+/// The bytes of a page (wal.md).
+const PAGE: usize = 32768;
+
+/// No count reaches this. Where it would, memory is said to have run out.
+pub(crate) const COUNT_END: u64 = 1 << 60;
+
+/// Bytes that are not read yet, the record that is open, and entries that are not given yet.
+#[derive(Drop)]
+pub(crate) struct Reader {
+    pub(crate) alloc: Global,
+    pub(crate) input: Input,
+    /// The bytes that are left of the page.
+    pub(crate) left: usize,
+    /// How many of the bytes at the front were seen to be zeros of the page's end.
+    pub(crate) zeros: usize,
+    /// The data so far of the record that is open.
+    pub(crate) begun: Vec<u8>,
+    pub(crate) is_open: bool,
+    pub(crate) ready: VecDeque<Entry>,
+    /// How many records were passed over.
+    pub(crate) passed: u64,
+    pub(crate) fault: Option<TailFault>,
+}
+
+/// What a step came to.
+#[derive(Clone, Copy, Debug, PartialEq, Eq)]
+pub(crate) enum Step {
+    More,
+    /// What has come ends.
+    Waits,
+    Failed(TailFault),
+}
+
+/// Whether a record is passed over.
+fn is_skipped(bytes: &[u8]) -> bool
+    ensures { result ≡ grammar.is_skipped bytes.now }
+{
+    bytes.is_empty() || !(bytes[0] == 1 || bytes[0] == 2)
+}
+
+/// The data of the fragment at the front.
+fn fragment_data(bytes: &[u8], len: usize) -> &[u8]
+    requires { 7 + len ≤ length bytes.now }
+    ensures { result.now ≡ take len (drop 7 bytes.now) }
+{
+    let data = &bytes[7..];
+    &data[..len]
+}
+
+/// Reads a whole record into the queue; false where it is not of its form.
+fn read_whole(
+    alloc: Global,
+    bytes: &[u8],
+    ready: &mut VecDeque<Entry>,
+    passed: &mut u64,
+) -> Result<bool, AllocError>
+    requires { passed.old < 2 ^ 60 }
+    ensures ok { IfOk result (λ b. IsRead bytes.now passed.old ready.new.items passed.new b) }
+    ensures err { OnErr result ((ready.new.items ≡ []) × (passed.new ≡ passed.old)) }
+    ensures count { passed.new < 2 ^ 60 }
+{
+    match read_record(alloc, bytes, ready) {
+        Ok(()) => {}
+        Err(Unread::BadForm) => {
+            ready.clear();
+            return Ok(false);
+        }
+        Err(Unread::OutOfMemory) => {
+            ready.clear();
+            return Err(AllocError);
+        }
+    }
+    if is_skipped(bytes) {
+        if *passed + 1 == COUNT_END {
+            ready.clear();
+            return Err(AllocError);
+        }
+        *passed += 1;
+    }
+    Ok(true)
+}
+
+impl Reader {
+    pub(crate) fn new(alloc: Global) -> Reader
+        ensures reader { IsReader result }
+        ensures unfed { IsUnfed result }
+    {
+        Reader {
+            alloc,
+            input: Input::new(alloc),
+            left: PAGE,
+            zeros: 0,
+            begun: Vec::new(alloc),
+            is_open: false,
+            ready: VecDeque::new(alloc),
+            passed: 0,
+            fault: None,
+        }
+    }
+
+    /// More bytes of the segment that came last. After a fault they are let go, since nothing more is read.
+    pub(crate) fn feed(&mut self, piece: &[u8]) -> Result<(), AllocError>
+        requires { IsReader self.old }
+        ensures ok { OnOk result (Takes (bytes piece.now) self.old self.new) }
+        ensures err { OnErr result (Same self.old self.new) }
+    {
+        if let Some(_) = self.fault {
+            return Ok(());
+        }
+        self.input.feed(piece)
+    }
+
+    /// The end of the segment that came last.
+    pub(crate) fn next_segment(&mut self)
+        requires { IsReader self.old }
+        ensures { Takes next_segment self.old self.new }
+    {
+        self.input.end_segment();
+    }
+
+    /// Leaves a fragment behind.
+    fn advance(&mut self, len: usize)
+        requires whole { 7 + len ≤ length self.old.input.rest }
+        requires in_page { 7 + len ≤ self.old.left }
+        ensures { self.new ≡ record self.old { input = record self.old.input { rest = drop (7 + len) self.old.input.rest }; left = left_after page_size self.old.left (7 + len); zeros = 0 } }
+    {
+        let left = self.left;
+        let size = 7 + len;
+        self.input.pass(size);
+        self.left = if size < left { left - size } else { PAGE };
+        self.zeros = 0;
+    }
+
+    fn fail(&mut self, fault: TailFault) -> Step
+        ensures new { self.new ≡ is_failed_by fault self.old }
+        ensures step { result ≡ Failed fault }
+    {
+        self.fault = Some(fault);
+        Step::Failed(fault)
+    }
+
+    /// The first fragment of a record.
+    fn first(&mut self, len: usize) -> Result<Step, AllocError>
+        requires { FoundAt first len self.old }
+        ensures same { Same self.old self.new }
+        ensures stepped { MatchResult result (λ s. Stepped s self.old self.new) (λ _. self.new.ready.items ≡ []) }
+    {
+        self.begun.clear();
+        self.begun
+            .extend_from_slice(fragment_data(self.input.rest(), len))?;
+        self.is_open = true;
+        self.advance(len);
+        Ok(Step::More)
+    }
+
+    /// A fragment in the midst of a record.
+    fn middle(&mut self, len: usize) -> Result<Step, AllocError>
+        requires { FoundAt middle len self.old }
+        ensures same { Same self.old self.new }
+        ensures stepped { MatchResult result (λ s. Stepped s self.old self.new) (λ _. self.new.ready.items ≡ []) }
+    {
+        self.begun
+            .extend_from_slice(fragment_data(self.input.rest(), len))?;
+        self.advance(len);
+        Ok(Step::More)
+    }
+
+    /// A record in one fragment.
+    fn full(&mut self, len: usize) -> Result<Step, AllocError>
+        requires { FoundAt full len self.old }
+        ensures same { Same self.old self.new }
+        ensures stepped { MatchResult result (λ s. Stepped s self.old self.new) (λ _. self.new.ready.items ≡ []) }
+    {
+        let data = fragment_data(self.input.rest(), len);
+        if !read_whole(self.alloc, data, &mut self.ready, &mut self.passed)? {
+            return Ok(self.fail(TailFault::BadRecord));
+        }
+        self.advance(len);
+        Ok(Step::More)
+    }
+
+    /// The last fragment of a record.
+    fn last(&mut self, len: usize) -> Result<Step, AllocError>
+        requires { FoundAt last len self.old }
+        ensures same { Same self.old self.new }
+        ensures stepped { MatchResult result (λ s. Stepped s self.old self.new) (λ _. self.new.ready.items ≡ []) }
+    {
+        let before = self.begun.len();
+        self.begun
+            .extend_from_slice(fragment_data(self.input.rest(), len))?;
+        match read_whole(
+            self.alloc,
+            self.begun.as_slice(),
+            &mut self.ready,
+            &mut self.passed,
+        ) {
+            Ok(true) => {}
+            Ok(false) => return Ok(self.fail(TailFault::BadRecord)),
+            Err(e) => {
+                self.begun.truncate(before);
+                return Err(e);
+            }
+        }
+        self.is_open = false;
+        self.advance(len);
+        Ok(Step::More)
+    }
+
+    /// The fragment at the front.
+    fn fragment(&mut self, kind: Kind, len: usize) -> Result<Step, AllocError>
+        requires { FoundFragment (kind_of kind) len self.old }
+        ensures same { Same self.old self.new }
+        ensures stepped { MatchResult result (λ s. Stepped s self.old self.new) (λ _. self.new.ready.items ≡ []) }
+    {
+        if self.is_open {
+            match kind {
+                Kind::Full => Ok(self.fail(TailFault::Sequence)),
+                Kind::First => Ok(self.fail(TailFault::Sequence)),
+                Kind::Middle => self.middle(len),
+                Kind::Last => self.last(len),
+            }
+        } else {
+            match kind {
+                Kind::Full => self.full(len),
+                Kind::First => self.first(len),
+                Kind::Middle => Ok(self.fail(TailFault::Sequence)),
+                Kind::Last => Ok(self.fail(TailFault::Sequence)),
+            }
+        }
+    }
+
+    /// The end of what has come of the segment at hand.
+    fn pause(&mut self, is_inside: bool) -> Step
+        requires { PausesAt is_inside self.old }
+        ensures same { Same self.old self.new }
+        ensures stepped { Stepped result self.old self.new }
+    {
+        if !self.input.has_ended() {
+            return Step::Waits;
+        }
+        if is_inside {
+            return self.fail(TailFault::TornSegment);
+        }
+        self.input.begin_segment();
+        self.left = PAGE;
+        self.zeros = 0;
+        Step::More
+    }
+
+    /// Reads what stands at the front.
+    fn step(&mut self) -> Result<Step, AllocError>
+        requires reader { IsReader self.old }
+        requires none_ready { self.old.ready.items ≡ [] }
+        ensures same { Same self.old self.new }
+        ensures stepped { MatchResult result (λ s. Stepped s self.old self.new) (λ _. self.new.ready.items ≡ []) }
+    {
+        if let Some(fault) = self.fault {
+            return Ok(Step::Failed(fault));
+        }
+        match item(self.left, self.zeros, self.input.rest()) {
+            Found::Nothing => {
+                self.zeros = self.input.rest().len();
+                Ok(self.pause(self.is_open))
+            }
+            Found::Begun => Ok(self.pause(true)),
+            Found::Zeros => {
+                self.input.pass(self.left);
+                self.left = PAGE;
+                self.zeros = 0;
+                Ok(Step::More)
+            }
+            Found::Fragment(kind, len) => self.fragment(kind, len),
+            Found::Wrong(fault) => Ok(self.fail(fault)),
+        }
+    }
+
+    /// Reads on until an entry is ready or there is none.
+    pub(crate) fn run(&mut self) -> Result<Step, AllocError>
+        requires { IsReader self.old }
+        ensures same { Same self.old self.new }
+        ensures ran { IfOk result (λ s. Ran s self.new) }
+    {
+        while self.ready.is_empty() {
+            match self.step()? {
+                Step::More => {}
+                end => return Ok(end),
+            }
+        }
+        Ok(Step::More)
+    }
+
+    /// Takes the entry that is ready.
+    pub(crate) fn take_entry(&mut self) -> Entry
+        requires { 0 < length self.old.ready.items }
+        ensures taken { self.old.ready.items ≡ result ∷ self.new.ready.items }
+        ensures rest { self.new ≡ record self.old { ready = self.new.ready } }
+    {
+        self.ready.pop_front().unwrap()
+    }
+}

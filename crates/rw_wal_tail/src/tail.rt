@@ -1,0 +1,122 @@
+//! A reader of a log that grows.
+
+ghost use Rattle.std.specs.Prelude.{◌≡◌, ◌⊎◌, ◌≤◌, ◌<◌, ◌^◌, [], ◌∷◌, ◌++◌, length, Err, OnOk, OnErr};
+ghost use Rattle.rw_codes.specs.Laws.{Extends};
+ghost use Rattle.rw_codes.specs.Pieces.{bytes, next_segment, entries, page_size, reading};
+ghost use Rattle.rw_codes.specs.declared.tail_fault.TailFault.TheVariants.{OutOfMemory};
+ghost use Rattle.rw_wal_tail.specs.Fed.{next_of, answered, CutsDoNotMatter};
+
+use crate::piece::Told;
+use crate::reader::{COUNT_END, Reader, Step};
+use rw_codes::TailFault;
+use rw_history::History;
+use rw_types::Entry;
+use std::alloc::{AllocError, Global};
+use std::marker::Model;
+
+/// Follows a Prometheus write-ahead log (wal.md) that comes in pieces, and gives its entries.
+///
+/// It holds what it was fed and has not read yet, and one record. Contracts see the pieces that it was fed,
+/// how many entries it has given, and how many records it had passed over when it last found no entry.
+#[derive(Drop)]
+pub struct Tail {
+    reader: Reader,
+    pieces: History<Told>,
+    given: History<Entry>,
+    count: u64,
+    skipped: u64,
+}
+
+impl Model for Tail {
+    ghost use Rattle.std.specs.Prelude.{map};
+    ghost use Rattle.rw_wal_tail.specs.Fed.{Fed};
+
+    ghost Value = { Fed };
+
+    ghost use Rattle.rw_wal_tail.specs.Fed.{told_of, IsTail};
+
+    ghost view = { λ t. record { pieces = map told_of t.pieces; given = t.count; skipped = t.skipped } };
+
+    ghost invariant = { λ t. IsTail t.reader (map told_of t.pieces) t.given t.count };
+}
+
+impl Tail {
+    /// A reader at the start of a segment. This takes no memory.
+    pub fn new(alloc: Global) -> Tail
+        ensures { result ≡ record { pieces = []; given = 0; skipped = 0 } }
+    {
+        Tail {
+            reader: Reader::new(alloc),
+            pieces: History::new(),
+            given: History::new(),
+            count: 0,
+            skipped: 0,
+        }
+    }
+
+    /// More bytes of the segment at hand. They may be cut anywhere.
+    pub fn feed(&mut self, piece: &[u8]) -> Result<(), AllocError>
+        ensures ok { OnOk result (self.new ≡ record self.old { pieces = self.old.pieces ++ bytes piece.now ∷ [] }) }
+        ensures err { OnErr result (self.new ≡ self.old) }
+        ensures goes_on { OnOk result (Extends (reading page_size self.old.pieces) (reading page_size self.new.pieces)) }
+        ensures cut_anywhere { OnOk result (CutsDoNotMatter self.old.pieces self.new.pieces piece.now) }
+    {
+        self.reader.feed(piece)?;
+        self.pieces.push(&Told::Bytes(History::of(piece)));
+        Ok(())
+    }
+
+    /// The segment at hand has ended, and the next one begins. This takes no memory.
+    pub fn next_segment(&mut self)
+        ensures next { self.new ≡ record self.old { pieces = self.old.pieces ++ next_segment ∷ [] } }
+        ensures goes_on { Extends (reading page_size self.old.pieces) (reading page_size self.new.pieces) }
+    {
+        self.reader.next_segment();
+        self.pieces.push(&Told::NextSegment);
+    }
+
+    /// The next entry; none where what was fed ends before another one. A fault is answered after all entries before it, and then again by each later call.
+    ///
+    /// After `OutOfMemory` the same call may be made again. It is also answered where a count would reach 2^60.
+    pub fn next_entry(&mut self) -> Result<Option<Entry>, TailFault>
+        ensures answer { (result ≡ Err OutOfMemory) ⊎ (result ≡ next_of self.old.pieces self.old.given) }
+        ensures after { self.new ≡ answered self.old result }
+    {
+        match self.reader.run() {
+            Err(AllocError) => Err(TailFault::OutOfMemory),
+            Ok(Step::Waits) => {
+                self.skipped = self.reader.passed;
+                Ok(None)
+            }
+            Ok(Step::Failed(fault)) => {
+                self.skipped = self.reader.passed;
+                Err(fault)
+            }
+            Ok(Step::More) => {
+                if self.count + 1 == COUNT_END {
+                    return Err(TailFault::OutOfMemory);
+                }
+                let entry = self.reader.take_entry();
+                self.given.push(&entry);
+                self.count += 1;
+                Ok(Some(entry))
+            }
+        }
+    }
+
+    /// The number of entries that were given.
+    pub fn entries_read(&self) -> u64
+        ensures count { result ≡ self.now.given }
+        ensures within { result ≤ length (entries self.now.pieces) }
+        ensures small { result < 2 ^ 60 }
+    {
+        self.count
+    }
+
+    /// The number of records that were passed over, since they are empty or of another type, up to where `next_entry` last found no entry.
+    pub fn skipped(&self) -> u64
+        ensures { result ≡ self.now.skipped }
+    {
+        self.skipped
+    }
+}

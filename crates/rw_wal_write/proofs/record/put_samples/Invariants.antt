@@ -1,0 +1,6 @@
+use Rattle.std.proofs.Common.{◌≡◌, ◌++◌, flat_map, take}
+use Rattle.rw_codes.specs.Records.{sample_bytes}
+use Rattle.rw_wal_write.proofs.record.put_samples.Given as goal
+
+abbrev pub invariant-loop-sample : goal.invariant-loop-sample
+invariant-loop-sample l = l.out.items ≡ l.fn.out.items ++ flat_map (sample_bytes l.base l.start) (take l.sample-index l.samples)

@@ -1,0 +1,133 @@
+//! The fragments of records (wal.md, "Segment encoding").
+
+ghost use Rattle.std.specs.Prelude.{◌≡◌, ◌++◌, ◌+◌, ◌-◌, ◌%◌, ◌^◌, ◌<◌, ◌≤◌, length, IfOk, if◌then◌else◌};
+ghost use Rattle.rw_codes.specs.Segments.{full, first, middle, last};
+ghost use Rattle.rw_codes.specs.Pieces.{page_size};
+ghost use Rattle.rw_codes.specs.Writing.{type_byte, frame, padding, log_bytes};
+ghost use Rattle.rw_wal_write.specs.Fragments.{kind_of};
+ghost use Rattle.rw_wal_write.specs.Sinks.{Takes};
+
+use byteorder::{BigEndian, ByteOrder};
+use rw_codes::crc32c;
+use rw_types::{Failed, Sink, write_all};
+
+/// A page has 32 KiB, and no fragment crosses its end.
+pub const PAGE_BYTES: usize = 32 * 1024;
+
+/// The bytes of a fragment before its data: type, length, CRC.
+pub const HEADER_BYTES: usize = 7;
+
+/// Where fewer bytes than a header's are left in a page, they are zeros.
+static ZEROS: [u8; 6] = [0; 6];
+
+/// Which part of a record a fragment is.
+#[derive(Clone, Copy)]
+enum FragmentType {
+    Full = 1,
+    First = 2,
+    Middle = 3,
+    Last = 4,
+}
+
+impl FragmentType {
+    /// The type of a fragment, by whether it goes on with a record and whether it ends one.
+    fn of(goes_on: bool, ends: bool) -> FragmentType
+        ensures { kind_of result ≡ (if goes_on then (if ends then last else middle) else (if ends then full else first)) }
+    {
+        match (goes_on, ends) {
+            (false, true) => FragmentType::Full,
+            (false, false) => FragmentType::First,
+            (true, false) => FragmentType::Middle,
+            (true, true) => FragmentType::Last,
+        }
+    }
+
+    fn to_byte(self) -> u8
+        ensures { result ≡ type_byte (kind_of self) }
+    {
+        self as u8
+    }
+}
+
+/// What stands before the data of a fragment.
+#[tactic(auto, unfolding(rw_codes::specs::Writing::frame))]
+fn header(kind: FragmentType, part: &[u8]) -> [u8; HEADER_BYTES]
+    requires { length part.now < 2 ^ 16 }
+    ensures { result ++ part.now ≡ frame (kind_of kind) part.now }
+{
+    let mut bytes = [kind.to_byte(); HEADER_BYTES];
+    BigEndian::write_u16(&mut bytes[1..], part.len() as u16);
+    BigEndian::write_u32(&mut bytes[3..], crc32c(part));
+    bytes
+}
+
+/// Writes one fragment.
+fn put_fragment<W: Sink>(sink: &mut W, kind: FragmentType, part: &[u8]) -> Result<(), Failed>
+    requires { length part.now < 2 ^ 16 }
+    ensures { Takes W.contents W.has_failed W.room sink.old sink.new (frame (kind_of kind) part.now) result }
+{
+    write_all(sink, &header(kind, part))?;
+    write_all(sink, part)
+}
+
+/// Fills the rest of a page with zeros, where no header has room there, and answers how many.
+fn put_padding<W: Sink>(sink: &mut W, left: usize) -> Result<usize, Failed>
+    ensures bytes { Takes W.contents W.has_failed W.room sink.old sink.new (padding left) result }
+    ensures len { IfOk result (λ n. n ≡ length (padding left)) }
+{
+    if left >= HEADER_BYTES {
+        return Ok(0);
+    }
+    write_all(sink, &ZEROS[..left])?;
+    Ok(left)
+}
+
+/// How many bytes of a record a fragment at this offset has room for.
+fn room_in_page(offset: usize) -> usize
+    requires { 7 ≤ page_size - offset % page_size }
+    ensures { result ≡ page_size - offset % page_size - 7 }
+{
+    PAGE_BYTES - offset % PAGE_BYTES - HEADER_BYTES
+}
+
+/// Writes the last fragment of a record and the zeros after it, where no further fragment has room in the page, and answers how many bytes they are.
+fn put_last<W: Sink>(
+    sink: &mut W,
+    kind: FragmentType,
+    part: &[u8],
+    room: usize,
+) -> Result<usize, Failed>
+    requires short { length part.now ≤ room }
+    requires page { room < 2 ^ 15 }
+    ensures bytes { Takes W.contents W.has_failed W.room sink.old sink.new (frame (kind_of kind) part.now ++ padding (room - length part.now)) result }
+    ensures len { IfOk result (λ n. n ≡ length (frame (kind_of kind) part.now ++ padding (room - length part.now))) }
+{
+    put_fragment(sink, kind, part)?;
+    let zeros = put_padding(sink, room - part.len())?;
+    Ok(HEADER_BYTES + part.len() + zeros)
+}
+
+/// Writes a record at an offset as fragments, each the greatest that fits its page, and answers the offset after them.
+pub fn put_record<W: Sink>(sink: &mut W, offset: usize, rec: &[u8]) -> Result<usize, Failed>
+    requires some { 0 < length rec.now }
+    requires place { 7 ≤ page_size - offset % page_size }
+    requires fits { offset + length (log_bytes page_size offset rec.now) ≤ 2 ^ 32 }
+    ensures bytes { Takes W.contents W.has_failed W.room sink.old sink.new (log_bytes page_size offset rec.now) result }
+    ensures end { IfOk result (λ end. end ≡ offset + length (log_bytes page_size offset rec.now)) }
+{
+    let mut at = offset;
+    let mut rest = rec;
+    let mut goes_on = false;
+    loop {
+        let room = room_in_page(at);
+        if rest.len() <= room {
+            let len = put_last(sink, FragmentType::of(goes_on, true), rest, room)?;
+            return Ok(at + len);
+        }
+        let (part, later) = rest.split_at(room);
+        put_fragment(sink, FragmentType::of(goes_on, false), part)?;
+        at += HEADER_BYTES + part.len();
+        rest = later;
+        goes_on = true;
+    }
+}

@@ -1,0 +1,5 @@
+//! Tests of the messages of batches.
+#![tactic(auto)]
+
+#[cfg(test)]
+mod grouping;
