@@ -1,0 +1,2 @@
+pub mod Backoff
+pub mod Judgements

@@ -1,0 +1,5 @@
+//! Tests of the sender's parts.
+#![tactic(auto)]
+
+#[cfg(test)]
+mod retries;
