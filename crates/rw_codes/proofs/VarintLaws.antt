@@ -1,5 +1,5 @@
 -- What is written as a varint is read again, and the ZigZag map is undone. The steps of both loops.
-use Rattle.std.proofs.Common.{◌≡◌, ℕ, zero, suc, ◌+◌, ◌-◌, ◌*◌, ◌/◌, ◌%◌, ◌^◌, ◌<◌, ◌≤◌, ℤ, pos, negsuc, List, [], ◌∷◌, ◌++◌, length, drop, get_or, Ok, Err, true, false, ltb, eqb, refl, ap, ◌∙◌, subst, inl, inr, arith, lt-ltb, le-ltb, sym, OnErr, eq-eqb, ne_eqb, div-add-mod', pow-suc, mul_comm, append_assoc, Result, ◌≢◌, add-one, drop-cons, drop_of_length-le, lit<}
+use Rattle.std.proofs.Common.{◌≡◌, ℕ, zero, suc, ◌+◌, ◌-◌, ◌*◌, ◌/◌, ◌%◌, ◌^◌, ◌<◌, ◌≤◌, ℤ, pos, negsuc, List, [], ◌∷◌, ◌++◌, length, drop, get_or, Ok, Err, true, false, ltb, eqb, refl, ap, ◌∙◌, subst, inl, inr, arith, lt-ltb, le-ltb, OnErr, eq-eqb, ne_eqb, div-add-mod', pow-suc, mul_comm, Result, ◌≢◌, add-one, drop-cons, drop_of_length-le, lit<}
 use Rattle.std.proofs.Math.Nat.{pow-le-pow_right, mul-le-mul_left}
 use Rattle.std.proofs.lemmas.Bool.{cases_lt}
 use Rattle.std.proofs.lemmas.Bool.Decides.{eqb_tells}
