@@ -1,0 +1,4 @@
+pub mod LabelledLemmas
+pub mod LabellingLemmas
+pub mod NumberingLemmas
+pub mod TailReads

@@ -1,0 +1,5 @@
+//! Tests of the program's engines.
+#![tactic(auto)]
+
+#[cfg(test)]
+mod bodies;
