@@ -2,4 +2,6 @@
 #![tactic(auto)]
 
 #[cfg(test)]
+mod reshards;
+#[cfg(test)]
 mod retries;

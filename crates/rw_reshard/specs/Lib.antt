@@ -1,0 +1,3 @@
+pub mod Fleets
+pub mod Lends
+pub mod Wanted

@@ -1,0 +1,217 @@
+//! The shards of one epoch, and the way to the next.
+
+ghost use Rattle.std.specs.Prelude.{◌≡◌, ◌↔◌, ◌≤◌, ◌<◌, ◌+◌, [], true, false, length, IfOk, IfErr, OnOk, OnErr};
+ghost use Rattle.std.specs.Borrow.{sem};
+ghost use Rattle.std.specs.List.{list_all};
+ghost use Rattle.rw_reshard.specs.Lends.{lends_shards};
+ghost use Rattle.rw_reshard.specs.Fleets.{Shards, AreNew, AreAllNew, GoOn, GoesOn};
+ghost use Rattle.rw_reshard.specs.declared.fleet.NextFault.TheVariants.{NotDrained};
+
+use crate::shard::{Make, Shard};
+use crate::stage::{Draining, Running, Stage};
+use std::alloc::{AllocError, Global};
+use std::marker::{Model, PhantomData};
+
+/// Why there is no next epoch yet.
+#[derive(Clone, Copy, Debug, PartialEq, Eq)]
+pub enum NextFault {
+    /// Memory ran out, or there were 2^64 - 1 epochs.
+    OutOfMemory,
+    /// A shard has not ended, or has a sample that is not resolved.
+    NotDrained,
+}
+
+/// The shards of one epoch. `G` is `Running` or `Draining`.
+#[derive(Drop)]
+pub struct Fleet<S, G: Stage> {
+    alloc: Global,
+    epoch: u64,
+    running: Vec<S>,
+    wanted: u32,
+    made: Vec<S>,
+    stage: PhantomData<G>,
+}
+
+impl<S, G: Stage> Model for Fleet<S, G> {
+    ghost use Rattle.std.specs.Prelude.{length};
+    ghost use Rattle.rw_reshard.specs.Fleets.{Shards};
+
+    ghost Value = { Shards S };
+
+    ghost view = { λ f. record { epoch = f.epoch; running = f.running.items; wanted = f.wanted; made = f.made.items } };
+
+    ghost invariant = { λ f. G.allows (length f.made.items) f.wanted };
+}
+
+/// Makes the next shard, behind those that there are.
+fn make_shard<M: Make>(make: &mut M, epoch: u64, shards: &mut Vec<M::S>) -> Result<(), AllocError>
+    requires within { length shards.old.items < 1000 }
+    requires fresh { AreNew M.is_new epoch shards.old.items }
+    ensures len { OnOk result (length shards.new.items ≡ 1 + length shards.old.items) }
+    ensures fresh { AreNew M.is_new epoch shards.new.items }
+    ensures goes_on { GoOn shards.old.items shards.new.items }
+    ensures err { OnErr result (shards.new.items ≡ shards.old.items) }
+{
+    shards.reserve(1)?;
+    let shard = make.make(epoch, shards.len() as u32)?;
+    shards.push_reserved(shard);
+    Ok(())
+}
+
+/// Makes shards, up to the number that is wanted, behind those that there are.
+fn make_shards<M: Make>(
+    make: &mut M,
+    epoch: u64,
+    wanted: u32,
+    shards: &mut Vec<M::S>,
+) -> Result<(), AllocError>
+    requires most { wanted ≤ 1000 }
+    requires within { length shards.old.items ≤ wanted }
+    requires fresh { AreNew M.is_new epoch shards.old.items }
+    ensures all { OnOk result (length shards.new.items ≡ wanted) }
+    ensures fresh { AreNew M.is_new epoch shards.new.items }
+    ensures within { length shards.new.items ≤ wanted }
+    ensures goes_on { GoOn shards.old.items shards.new.items }
+{
+    while shards.len() < wanted as usize {
+        make_shard(make, epoch, shards)?;
+    }
+    Ok(())
+}
+
+/// Whether all shards are drained.
+fn all_drained<S: Shard>(shards: &[S]) -> bool
+    ensures { result ≡ list_all S.is_drained shards.now }
+{
+    shards.iter().all(|shard| shard.drained())
+}
+
+impl<S, G: Stage> Fleet<S, G> {
+    /// The shards, in the order of their numbers.
+    pub fn shards_mut(&mut self) -> &mut [S]
+        ensures* writes_back { sem 𝓛 (lends_shards S.row G.row G.Stage self.entry result) }
+        ensures shards { result.now ≡ self.old.running }
+    {
+        self.running.as_mut_slice()
+    }
+
+    /// The shards, and those that a refused `next` made.
+    pub fn into_shards(self) -> (Vec<S>, Vec<S>)
+        ensures running { result.0.items ≡ self.running }
+        ensures made { result.1.items ≡ self.made }
+    {
+        let Fleet {
+            alloc: _,
+            epoch: _,
+            running,
+            wanted: _,
+            made,
+            stage: _,
+        } = self;
+        (running, made)
+    }
+}
+
+impl<S: Shard> Fleet<S, Running> {
+    /// The `n` shards of epoch 0. Where memory runs out, those that were made come back.
+    pub fn first<M: Make<S = S>>(
+        alloc: Global,
+        n: u32,
+        make: &mut M,
+    ) -> Result<Fleet<S, Running>, (Vec<S>, AllocError)>
+        requires some { 1 ≤ n }
+        requires most { n ≤ 1000 }
+        ensures ok { IfOk result (λ f. (f.epoch ≡ 0) × (f.made ≡ []) × AreAllNew M.is_new 0 n f.running) }
+        ensures err { IfErr result (λ e. AreNew M.is_new 0 e.0.items) }
+    {
+        let mut running = Vec::new(alloc);
+        if let Err(refused) = make_shards(make, 0, n, &mut running) {
+            return Err((running, refused));
+        }
+        Ok(Fleet {
+            alloc,
+            epoch: 0,
+            running,
+            wanted: n,
+            made: Vec::new(alloc),
+            stage: PhantomData,
+        })
+    }
+
+    /// From here on the shards work off what they have, until there are `n` new ones.
+    pub fn begin(self, n: u32) -> Fleet<S, Draining>
+        requires some { 1 ≤ n }
+        requires most { n ≤ 1000 }
+        ensures { result ≡ record self { wanted = n } }
+    {
+        let Fleet {
+            alloc,
+            epoch,
+            running,
+            wanted: _,
+            made,
+            stage: _,
+        } = self;
+        Fleet {
+            alloc,
+            epoch,
+            running,
+            wanted: n,
+            made,
+            stage: PhantomData,
+        }
+    }
+}
+
+impl<S: Shard> Fleet<S, Draining> {
+    /// The next epoch's shards, in place of the old ones, which come too. No new shard is made before all old ones are drained.
+    /// Where memory runs out, the shards that were made so far are kept, and the next call goes on from there.
+    pub fn next<M: Make<S = S>>(
+        self,
+        make: &mut M,
+    ) -> Result<(Fleet<S, Running>, Vec<S>), (Fleet<S, Draining>, NextFault)>
+        requires { AreNew M.is_new (1 + self.epoch) self.made }
+        ensures drained { IfOk result (λ r. list_all S.is_drained self.running ≡ true) }
+        ensures old { IfOk result (λ r. r.1.items ≡ self.running) }
+        ensures begun { IfOk result (λ r. (r.0.epoch ≡ 1 + self.epoch) × (r.0.made ≡ [])) }
+        ensures all { IfOk result (λ r. AreAllNew M.is_new (1 + self.epoch) self.wanted r.0.running × GoOn self.made r.0.running) }
+        ensures not_drained { IfErr result (λ e. (e.1 ≡ NotDrained) ↔ (list_all S.is_drained self.running ≡ false)) }
+        ensures kept { IfErr result (λ e. e.1 ≡ NotDrained → e.0 ≡ self) }
+        ensures goes_on { IfErr result (λ e. GoesOn M.is_new self e.0) }
+    {
+        if !all_drained(&self.running) {
+            return Err((self, NextFault::NotDrained));
+        }
+        let Fleet {
+            alloc,
+            epoch,
+            running,
+            wanted,
+            mut made,
+            stage,
+        } = self;
+        let next = match epoch.checked_add(1) {
+            Some(next) if make_shards(make, next, wanted, &mut made).is_ok() => next,
+            _ => return Err((
+                Fleet {
+                    alloc,
+                    epoch,
+                    running,
+                    wanted,
+                    made,
+                    stage,
+                },
+                NextFault::OutOfMemory,
+            )),
+        };
+        let fleet = Fleet {
+            alloc,
+            epoch: next,
+            running: made,
+            wanted,
+            made: Vec::new(alloc),
+            stage: PhantomData,
+        };
+        Ok((fleet, running))
+    }
+}

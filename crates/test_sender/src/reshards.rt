@@ -1,0 +1,82 @@
+//! How many shards are wanted, and the way from one epoch to the next.
+
+use rw_reshard::{Fleet, Make, NextFault, Shard, want};
+use std::alloc::AllocError;
+
+#[derive(Debug, Drop)]
+struct Part {
+    epoch: u64,
+    shard: u32,
+    done: bool,
+}
+
+impl Shard for Part {
+    ghost is_drained = { λ p. p.done };
+
+    fn drained(&self) -> bool {
+        self.done
+    }
+}
+
+/// Makes so many parts, and then no more.
+#[derive(Drop)]
+struct Maker {
+    left: u32,
+}
+
+impl Make for Maker {
+    type S = Part;
+
+    ghost use Rattle.std.specs.Prelude.{◌≡◌};
+
+    ghost is_new = { λ epoch shard p. (p.epoch ≡ epoch) × (p.shard ≡ shard) };
+
+    fn make(&mut self, epoch: u64, shard: u32) -> Result<Part, AllocError> {
+        if self.left == 0 {
+            return Err(AllocError);
+        }
+        self.left -= 1;
+        Ok(Part {
+            epoch,
+            shard,
+            done: false,
+        })
+    }
+}
+
+#[test]
+fn wanted_shards(rt: HostRuntime) {
+    assert_eq!(rt; want(2, 100, 50, 0, 1, 50), 4);
+    assert_eq!(rt; want(10, 110, 100, 0, 1, 50), 10);
+    assert_eq!(rt; want(4, 0, 0, 9, 1, 50), 4);
+    assert_eq!(rt; want(4, 10, 40, 0, 1, 50), 1);
+    assert_eq!(rt; want(60, 0, 0, 0, 1, 50), 50);
+    assert_eq!(rt; want(1, 0, 1, u64::MAX, 1, 1000), 1000);
+}
+
+#[test]
+fn next_epoch(rt: HostRuntime) {
+    let Ok(fleet) = Fleet::first(rt.alloc(), 2, &mut Maker { left: 2 }) else {
+        panic!(rt; "another answer");
+    };
+    let mut maker = Maker { left: 1 };
+    let Err((mut fleet, fault)) = fleet.begin(3).next(&mut maker) else {
+        panic!(rt; "another answer");
+    };
+    assert_eq!(rt; (fault, maker.left), (NextFault::NotDrained, 1));
+    for part in fleet.shards_mut() {
+        part.done = true;
+    }
+    let Err((fleet, fault)) = fleet.next(&mut maker) else {
+        panic!(rt; "another answer");
+    };
+    assert_eq!(rt; fault, NextFault::OutOfMemory);
+    let Ok((fleet, old)) = fleet.next(&mut Maker { left: 2 }) else {
+        panic!(rt; "another answer");
+    };
+    assert_eq!(rt; old.len(), 2);
+    let (parts, made) = fleet.into_shards();
+    assert_eq!(rt; made.len(), 0);
+    let all = parts.iter().map(|p| (p.epoch, p.shard));
+    assert!(rt; all.eq([(1, 0), (1, 1), (1, 2)]));
+}
