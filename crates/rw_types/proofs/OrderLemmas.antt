@@ -1,37 +1,11 @@
 -- The order of label sets tells apart all lists that are not the same.
-use Rattle.std.proofs.Common.{◌≡◌, List, [], ◌∷◌, true, refl, ap, ap₂, sym, ◌∙◌}
-use Rattle.std.proofs.lemmas.Map.Lookups.{CmpEqualImpliesEq, exact_bytes, exact_pairs}
-use Rattle.std.specs.Cmp.{tied_itself, Equal-is}
-use Rattle.std.specs.Cmp.Lexicographic.{slice_cmp}
-use Rattle.std.specs.Ordering.{nat_cmp, ordering_then, is_eq}
-use Rattle.std.specs.declared.cmp.Ordering.{Ordering}
-use Rattle.std.specs.declared.cmp.Ordering.TheVariants.{Less, Equal, Greater}
+use Rattle.std.proofs.Common.{◌≡◌, true, ap, sym, ◌∙◌}
+use Rattle.std.specs.Cmp.{tied_itself}
+use Rattle.std.specs.Ordering.{is_eq}
 use Rattle.rw_types.specs.Labels.{Labels}
-use Rattle.rw_types.specs.LabelOrder.{label_cmp, labels_cmp, labels_cmp-total}
+use Rattle.rw_types.specs.LabelOrder.{labels_cmp, labels_cmp-total}
+pub use Rattle.rw_types.specs.LabelOrder.{exact_labels, same_if_equal}
 
-both_equal : (o p : Ordering) → ordering_then o p ≡ Equal → (o ≡ Equal) × (p ≡ Equal)
-both_equal Less p e = absurd cc
-both_equal Equal p e = (refl, e)
-both_equal Greater p e = absurd cc
-
-exact_lists : {A : Type 0} (R : A → A → Ordering) → CmpEqualImpliesEq R → (xs ys : List A) → slice_cmp R xs ys ≡ Equal → xs ≡ ys
-exact_lists R exact [] [] e = refl
-exact_lists R exact [] (y ∷ ys) e = absurd cc
-exact_lists R exact (x ∷ xs) [] e = absurd cc
-exact_lists R exact (x ∷ xs) (y ∷ ys) e =
-    let both = both_equal (R x y) (slice_cmp R xs ys) e in
-    ap₂ (λ a b. a ∷ b) (exact x y both.0) (exact_lists R exact xs ys both.1)
-
-exact_label : CmpEqualImpliesEq label_cmp
-exact_label = exact_pairs (slice_cmp nat_cmp) (slice_cmp nat_cmp) exact_bytes exact_bytes
-
--- what it does not tell apart is the same
-pub exact_labels : CmpEqualImpliesEq labels_cmp
-exact_labels = exact_lists label_cmp exact_label
-
--- and the same is not told apart
+-- the same is not told apart
 pub equal_if_same : (a b : Labels) → a ≡ b → is_eq (labels_cmp a b) ≡ true
 equal_if_same a b e = ap (λ x. is_eq (labels_cmp a x)) (sym e) ∙ ap is_eq (tied_itself labels_cmp-total a)
-
-pub same_if_equal : (a b : Labels) → is_eq (labels_cmp a b) ≡ true → a ≡ b
-same_if_equal a b e = exact_labels a b ((Equal-is (labels_cmp a b)).0 e)

@@ -72,7 +72,7 @@ small_none m w e (inr h) = elim (reads_word m w e) [
   | inr r ↦ absurd (omega (arith, r.exponent, r.top.small))
 ]
 
-size_at : (n w j s a : ℕ) → Reads w n → j ≡ highest_bit n → s ≡ 1 * 2 ^ j → (j < 53 → a ≡ w % 2 ^ 52 / 2 ^ (52 - j)) → (53 ≤ j → a ≡ 0) → n ≡ s + a
+pub size_at : (n w j s a : ℕ) → Reads w n → j ≡ highest_bit n → s ≡ 1 * 2 ^ j → (j < 53 → a ≡ w % 2 ^ 52 / 2 ^ (52 - j)) → (53 ≤ j → a ≡ 0) → n ≡ s + a
 size_at n w j s a r e f g h =
     let p : 2 ^ j ≡ 2 ^ highest_bit n = ap (λ (x : ℕ). 2 ^ x) e in
     elim (cases_lt j 53) [

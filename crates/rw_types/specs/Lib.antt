@@ -1,4 +1,6 @@
+pub mod Hashing
 pub mod LabelOrder
 pub mod Labels
 pub mod Memory
+pub mod Requests
 pub mod Words

@@ -1,5 +1,5 @@
 -- The 64-bit words of whole numbers (IEEE 754 binary64), from -2^53 to 2^53.
-use Rattle.std.specs.Prelude.{ℕ, ◌+◌, ◌-◌, ◌*◌, ◌^◌, ℤ, nat_abs, int_lt, pos, Option, Some, None, nat_le, ◌==◌, if◌then◌else◌}
+use Rattle.std.specs.Prelude.{ℕ, ◌+◌, ◌-◌, ◌*◌, ◌/◌, ◌%◌, ◌^◌, ℤ, nat_abs, int_lt, pos, neg_ℤ, Option, Some, None, Bool, false, nat_le, ◌==◌, if◌then◌else◌}
 use Rattle.std.specs.Int.Count.{count_leading_zeros}
 
 -- the place of the highest bit of a number that is not 0
@@ -15,4 +15,23 @@ unfoldable pub word_of_int : ℤ → Option ℕ
 word_of_int m =
     if nat_abs m == 0 then Some 0
     else if nat_le (nat_abs m) (2 ^ 53) then Some ((if int_lt m (pos 0) then 2 ^ 63 else 0) + magnitude_word (nat_abs m))
+    else None
+
+-- the size that a word has where it is that of a whole number: its highest bit and the fraction below it
+abbrev pub size_of_word : ℕ → ℕ
+size_of_word w =
+    if w == 0 then 0
+    else let k = w / 2 ^ 52 % 2048 - 1023 in 2 ^ k + w % 2 ^ 52 / 2 ^ (52 - k)
+
+-- whether a whole number has a word, and it is this one
+abbrev pub has_word : Option ℕ → ℕ → Bool
+has_word None w = false
+has_word (Some v) w = v == w
+
+-- the whole number from -2^53 to 2^53 whose word this is, if there is one
+unfoldable pub int_of_word : ℕ → Option ℤ
+int_of_word w =
+    let size = pos (size_of_word w) in
+    if has_word (word_of_int size) w then Some size
+    else if has_word (word_of_int (neg_ℤ size)) w then Some (neg_ℤ size)
     else None

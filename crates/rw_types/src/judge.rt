@@ -2,16 +2,10 @@
 
 ghost use Rattle.std.specs.Prelude.{◌≡◌, map, nat_lt, sum_by};
 ghost use Rattle.std.specs.List.{list_all};
-ghost use Rattle.std.specs.Str.{is_utf8};
-ghost use Rattle.rw_types.specs.Labels.{bytes_label, begins_label_name, continues_label_name, begins_metric_name, continues_metric_name, is_label_name, is_metric_name, is_text, is_well_named, is_filled, rise, is_sorted, label_len, label_fault};
+ghost use Rattle.rw_types.specs.Labels.{begins_label_name, continues_label_name, begins_metric_name, continues_metric_name, is_label_name, is_metric_name, is_text, is_well_named, is_filled, rise, is_sorted, label_len, label_fault};
 
+use crate::label_bytes::LabelBytes;
 use crate::label_fault::{LabelFault, MAX_LABEL_BYTES, MAX_LABELS};
-
-fn is_utf8_text(bytes: &[u8]) -> bool
-    ensures { result ≡ is_utf8 bytes.now }
-{
-    str::from_utf8(bytes).is_ok()
-}
 
 fn is_filled(bytes: &[u8]) -> bool
     ensures { result ≡ is_filled bytes.now }
@@ -64,7 +58,8 @@ fn is_label_name(name: &[u8]) -> bool
     }
 }
 
-fn is_metric_name(name: &[u8]) -> bool
+/// Whether the name could be that of a metric: `[a-zA-Z_:][a-zA-Z0-9_:]*`.
+pub fn is_metric_name(name: &[u8]) -> bool
     ensures { result ≡ is_metric_name name.now }
 {
     match name.split_first() {
@@ -73,52 +68,46 @@ fn is_metric_name(name: &[u8]) -> bool
     }
 }
 
-fn is_well_named(label: &(Vec<u8>, Vec<u8>)) -> bool
-    ensures { result ≡ is_well_named (bytes_label label.now) }
+fn is_well_named<L: LabelBytes>(label: &L) -> bool
+    ensures { result ≡ is_well_named (L.shown label.now) }
 {
-    is_label_name(&label.0)
-        && (label.0.as_slice() != b"__name__".as_slice() || is_metric_name(&label.1))
+    is_label_name(label.name())
+        && (label.name() != b"__name__".as_slice() || is_metric_name(label.value()))
 }
 
-fn is_text(label: &(Vec<u8>, Vec<u8>)) -> bool
-    ensures { result ≡ is_text (bytes_label label.now) }
+fn are_texts<L: LabelBytes>(labels: &[L]) -> bool
+    ensures { result ≡ list_all (λ l. is_text (L.shown l)) labels.now }
 {
-    is_utf8_text(&label.0) && is_utf8_text(&label.1)
+    labels.iter().all(|l| l.is_text())
 }
 
-fn are_texts(labels: &[(Vec<u8>, Vec<u8>)]) -> bool
-    ensures { result ≡ list_all (λ l. is_text (bytes_label l)) labels.now }
+fn have_names<L: LabelBytes>(labels: &[L]) -> bool
+    ensures { result ≡ list_all (λ l. is_filled (L.shown l).0) labels.now }
 {
-    labels.iter().all(|l| is_text(l))
+    labels.iter().all(|l| is_filled(l.name()))
 }
 
-fn have_names(labels: &[(Vec<u8>, Vec<u8>)]) -> bool
-    ensures { result ≡ list_all (λ l. is_filled (bytes_label l).0) labels.now }
-{
-    labels.iter().all(|l| is_filled(&l.0))
-}
-
-fn are_well_named(labels: &[(Vec<u8>, Vec<u8>)]) -> bool
-    ensures { result ≡ list_all (λ l. is_well_named (bytes_label l)) labels.now }
+fn are_well_named<L: LabelBytes>(labels: &[L]) -> bool
+    ensures { result ≡ list_all (λ l. is_well_named (L.shown l)) labels.now }
 {
     labels.iter().all(|l| is_well_named(l))
 }
 
-fn have_values(labels: &[(Vec<u8>, Vec<u8>)]) -> bool
-    ensures { result ≡ list_all (λ l. is_filled (bytes_label l).1) labels.now }
+fn have_values<L: LabelBytes>(labels: &[L]) -> bool
+    ensures { result ≡ list_all (λ l. is_filled (L.shown l).1) labels.now }
 {
-    labels.iter().all(|l| is_filled(&l.1))
+    labels.iter().all(|l| is_filled(l.value()))
 }
 
 /// Whether the name of a label comes before that of the next one in byte order.
-fn rise(label: &(Vec<u8>, Vec<u8>), next: &(Vec<u8>, Vec<u8>)) -> bool
-    ensures { result ≡ rise (bytes_label label.now) (bytes_label next.now) }
+fn rise<L: LabelBytes>(label: &L, next: &L) -> bool
+    ensures { result ≡ rise (L.shown label.now) (L.shown next.now) }
 {
-    label.0.as_slice().cmp(next.0.as_slice()).is_lt()
+    label.name().cmp(next.name()).is_lt()
 }
 
-fn are_sorted(labels: &[(Vec<u8>, Vec<u8>)]) -> bool
-    ensures { result ≡ is_sorted (map bytes_label labels.now) }
+fn are_sorted<L: LabelBytes>(labels: &[L]) -> bool
+    ensures { result ≡ is_sorted (map L.shown labels.now) }
 {
     for i in 1..labels.len() {
         if !rise(&labels[i - 1], &labels[i]) {
@@ -128,13 +117,13 @@ fn are_sorted(labels: &[(Vec<u8>, Vec<u8>)]) -> bool
     true
 }
 
-/// Whether names and values have more bytes together than a label set may have.
-fn are_too_long(labels: &[(Vec<u8>, Vec<u8>)]) -> bool
-    ensures { result ≡ nat_lt 16384 (sum_by (λ l. label_len (bytes_label l)) labels.now) }
+/// Whether names and values have more than so many bytes together.
+pub(crate) fn are_longer_than<L: LabelBytes>(labels: &[L], most: usize) -> bool
+    ensures { result ≡ nat_lt most (sum_by (λ l. label_len (L.shown l)) labels.now) }
 {
-    let mut left = MAX_LABEL_BYTES;
+    let mut left = most;
     for label in labels {
-        let len = label.0.len() + label.1.len();
+        let len = label.name().len() + label.value().len();
         if len > left {
             return true;
         }
@@ -144,8 +133,8 @@ fn are_too_long(labels: &[(Vec<u8>, Vec<u8>)]) -> bool
 }
 
 /// What is wrong with the labels, if anything is.
-pub(crate) fn fault_of(labels: &[(Vec<u8>, Vec<u8>)]) -> Option<LabelFault>
-    ensures { result ≡ label_fault (map bytes_label labels.now) }
+pub(crate) fn fault_of<L: LabelBytes>(labels: &[L]) -> Option<LabelFault>
+    ensures { result ≡ label_fault (map L.shown labels.now) }
 {
     if !are_texts(labels) {
         return Some(LabelFault::NotUtf8);
@@ -165,7 +154,7 @@ pub(crate) fn fault_of(labels: &[(Vec<u8>, Vec<u8>)]) -> Option<LabelFault>
     if labels.len() > MAX_LABELS {
         return Some(LabelFault::TooMany);
     }
-    if are_too_long(labels) {
+    if are_longer_than(labels, MAX_LABEL_BYTES) {
         return Some(LabelFault::TooLong);
     }
     None

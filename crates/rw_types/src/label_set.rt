@@ -1,18 +1,19 @@
 //! Label sets, which are what a series is.
 
-ghost use Rattle.std.specs.Prelude.{◌≡◌, ◌↔◌, IfOk, IfErr, IfSome, MatchOption, map, true, string_bytes};
+ghost use Rattle.std.specs.Prelude.{◌≡◌, ◌↔◌, IfOk, IfErr, IfSome, MatchOption, OnOk, map, take, true, string_bytes, length, vec_len, nat_lt, ◌||◌, ◌++◌, ◌≤◌, []};
 ghost use Rattle.std.specs.Str.{is_utf8};
 ghost use Rattle.std.specs.List.{list_all};
 ghost use Rattle.std.specs.Ordering.{is_eq};
 ghost use Rattle.rw_types.specs.LabelOrder.{labels_cmp};
-ghost use Rattle.rw_types.specs.Labels.{Labels, IsLabelSet, bytes_label, text_label, is_text, label_fault};
+ghost use Rattle.rw_types.specs.Labels.{Labels, IsLabelSet, bytes_label, text_label, is_text, text_len, label_fault};
 ghost use Rattle.rw_types.specs.declared.label_fault.LabelFault.TheVariants.{OutOfMemory};
 
-use crate::judge::fault_of;
+use crate::judge::{are_longer_than, fault_of};
 use crate::label_fault::LabelFault;
 use crate::raw_labels::RawLabels;
 use std::alloc::{AllocError, Global};
 use std::cmp::Ordering;
+use std::hash::{Hash, Hasher};
 use std::marker::Model;
 
 /// Labels that name one series: sorted by name, none twice, none empty, well named and within the limits.
@@ -67,7 +68,103 @@ fn texts_of(
     Ok(texts)
 }
 
+/// Writes a text over another one, into the room that this has.
+fn overwrite(text: &mut String, new: &str) -> Result<(), AllocError>
+    ensures { OnOk result (string_bytes text.new ≡ new.now) }
+{
+    text.clear();
+    text.push_str(new)
+}
+
+/// Writes a label over another one.
+fn overwrite_label(label: &mut (String, String), new: &(String, String)) -> Result<(), AllocError>
+    ensures { OnOk result (text_label label.new ≡ text_label new.now) }
+{
+    overwrite(&mut label.0, &new.0)?;
+    overwrite(&mut label.1, &new.1)
+}
+
+/// Writes the first of the new labels over those that there are.
+fn overwrite_first(
+    labels: &mut Vec<(String, String)>,
+    new: &[(String, String)],
+) -> Result<(), AllocError>
+    requires { vec_len labels.old ≤ length new.now }
+    ensures len { vec_len labels.new ≡ vec_len labels.old }
+    ensures ok { OnOk result (map text_label labels.new.items ≡ map text_label (take (vec_len labels.new) new.now)) }
+{
+    for i in 0..labels.len() {
+        overwrite_label(&mut labels[i], &new[i])?;
+    }
+    Ok(())
+}
+
+/// A copy of a label.
+fn copy_of(label: &(String, String)) -> Result<(String, String), AllocError>
+    ensures { IfOk result (λ l. text_label l ≡ text_label label.now) }
+{
+    Ok((label.0.clone()?, label.1.clone()?))
+}
+
+/// Copies the labels behind those that there are.
+fn append_copies(
+    labels: &mut Vec<(String, String)>,
+    new: &[(String, String)],
+) -> Result<(), AllocError>
+    ensures { OnOk result (map text_label labels.new.items ≡ map text_label labels.old.items ++ map text_label new.now) }
+{
+    labels.reserve_exact(new.len())?;
+    for label in new {
+        labels.push(copy_of(label)?)?;
+    }
+    Ok(())
+}
+
+/// Makes the labels the same as the new ones, in the room that they have as far as it goes.
+fn replace_all(
+    labels: &mut Vec<(String, String)>,
+    new: &[(String, String)],
+) -> Result<(), AllocError>
+    ensures { OnOk result (map text_label labels.new.items ≡ map text_label new.now) }
+{
+    labels.truncate(new.len());
+    overwrite_first(labels, new)?;
+    append_copies(labels, &new[labels.len()..])
+}
+
 impl LabelSet {
+    /// The label set without labels. This takes no memory.
+    pub fn empty(alloc: Global) -> LabelSet
+        ensures { result ≡ [] }
+    {
+        LabelSet {
+            labels: Vec::new(alloc),
+        }
+    }
+
+    /// Becomes the label set of these labels, in the room that it has as far as it goes. It stays where the labels have a fault, which is
+    /// found before memory is taken, and it is empty after memory ran out.
+    pub fn assign(&mut self, labels: &[(String, String)]) -> Result<(), LabelFault>
+        ensures ok { OnOk result ((self.new ≡ map text_label labels.now) × IsLabelSet (map text_label labels.now)) }
+        ensures err { IfErr result (λ f. MatchOption (label_fault (map text_label labels.now)) ((f ≡ OutOfMemory) × (self.new ≡ [])) (λ fault. (f ≡ fault) × (self.new ≡ self.old))) }
+    {
+        if let Some(fault) = fault_of(labels) {
+            return Err(fault);
+        }
+        if replace_all(&mut self.labels, labels).is_err() {
+            self.labels.clear();
+            return Err(LabelFault::OutOfMemory);
+        }
+        Ok(())
+    }
+
+    /// Whether there are more than so many labels, or more than so many bytes of names and values together.
+    pub fn is_over(&self, max_labels: usize, max_bytes: usize) -> bool
+        ensures { result ≡ (nat_lt max_labels (length self.now) || nat_lt max_bytes (text_len self.now)) }
+    {
+        self.labels.len() > max_labels || are_longer_than(self.labels.as_slice(), max_bytes)
+    }
+
     /// The label set of these labels, or the first fault that keeps them from being one. A fault of the labels is found before memory is taken.
     pub fn check(alloc: Global, labels: &RawLabels) -> Result<LabelSet, LabelFault>
         ensures ok { IfOk result (λ s. (s ≡ labels.now) × IsLabelSet labels.now) }
@@ -144,6 +241,18 @@ impl Ord for LabelSet {
 
     fn cmp(&self, other: &LabelSet) -> Ordering {
         self.labels.cmp(&other.labels)
+    }
+}
+
+impl Hash for LabelSet {
+    ghost use Rattle.rw_types.specs.Hashing.{labels_input, same_input};
+
+    ghost hash_input = { labels_input };
+
+    ghost respects_eq = { same_input };
+
+    fn hash<H: Hasher>(&self, state: &mut H) {
+        self.as_slice().hash(state);
     }
 }
 

@@ -1,25 +1,31 @@
 //! Words, labels, entries, places and devices: what the crates of the shipper and of the receiving head have in common.
 #![tactic(auto)]
 
+mod bounded;
 mod device;
 mod entry;
 mod judge;
+mod label_bytes;
 mod label_fault;
 mod label_set;
 mod place;
 mod raw_labels;
+mod request_text;
 mod room;
 mod slice;
 mod standard;
 mod transfer;
 mod word;
 
+pub use bounded::Bounded;
 pub use device::{Failed, Sink, Source};
 pub use entry::Entry;
+pub use judge::is_metric_name;
 pub use label_fault::{LabelFault, MAX_LABEL_BYTES, MAX_LABELS};
 pub use label_set::LabelSet;
 pub use place::Place;
 pub use raw_labels::RawLabels;
+pub use request_text::{HostName, RequestPath};
 pub use room::Room;
 pub use standard::Std;
 pub use transfer::{ReadFault, read_to_end, write_all};

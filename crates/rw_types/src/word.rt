@@ -1,7 +1,7 @@
 //! The 64-bit words of values, which are never interpreted but as whole numbers.
 
 ghost use Rattle.std.specs.Prelude.{◌≡◌, ◌<◌, ◌≤◌, ◌^◌, ◌*◌, ℤ, IfSome, IfNone, Some, unsigned_abs, IsTrue, ◌↔◌};
-ghost use Rattle.rw_types.specs.Words.{word_of_int, magnitude_word};
+ghost use Rattle.rw_types.specs.Words.{word_of_int, magnitude_word, int_of_word};
 
 use std::marker::Model;
 
@@ -89,6 +89,7 @@ impl Word {
     pub fn as_int(self) -> Option<i64>
         ensures some { IfSome result (λ m. word_of_int m ≡ Some self) }
         ensures none { IfNone result ((m : ℤ) → word_of_int m ≡ Some self → ⊥) }
+        ensures value { result ≡ int_of_word self }
     {
         let size = size_in(self.0) as i64;
         if self.is_word_of(size) {

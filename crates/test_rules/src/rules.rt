@@ -1,40 +1,13 @@
 //! Which rules there can be, and which label sets they keep.
 
-use rw_relabel::{Action, DEFAULT_PATTERN, DEFAULT_SEPARATOR, Rule, RuleFault, Rules};
-use rw_types::{LabelSet, RawLabels};
-use std::alloc::{AllocError, Global};
+use crate::making::{Config, raw_labels, rule, rules};
+use rw_relabel::{Action, DEFAULT_PATTERN, DEFAULT_SEPARATOR, RuleFault};
+use rw_types::LabelSet;
+use std::alloc::Global;
 use std::test::Fail;
 
-/// Source labels, separator and pattern.
-type Config<'a> = (&'a [&'a str], &'a str, &'a str);
-
-fn rule(alloc: Global, action: Action, config: Config<'_>) -> Result<Rule, RuleFault> {
-    let (names, separator, pattern) = config;
-    let mut source_labels = Vec::with_capacity(alloc, names.len())?;
-    for name in names {
-        source_labels
-            .push(String::from_str(alloc, name)?)
-            .map_err(AllocError::from)?;
-    }
-    let separator = String::from_str(alloc, separator)?;
-    let pattern = String::from_str(alloc, pattern)?;
-    Rule::build(alloc, action, source_labels, separator, pattern)
-}
-
-fn rules(alloc: Global, configs: &[(Action, Config<'_>)]) -> Result<Rules, Fail> {
-    let mut rules = Vec::new(alloc);
-    for (action, config) in configs {
-        rules.push(rule(alloc, *action, *config)?)?;
-    }
-    Ok(Rules::new(rules))
-}
-
 fn label_set(alloc: Global, labels: &[(&str, &str)]) -> Result<LabelSet, Fail> {
-    let mut raw = RawLabels::new(alloc);
-    for (name, value) in labels {
-        raw.push(name.as_bytes(), value.as_bytes())?;
-    }
-    Ok(LabelSet::check(alloc, &raw)?)
+    Ok(LabelSet::check(alloc, &raw_labels(alloc, labels)?)?)
 }
 
 /// The fault of a rule. Want of memory is none of them and ends the test.

@@ -1,0 +1,40 @@
+-- What is known of a reference after some entries of a log.
+use Rattle.std.specs.Prelude.{ℕ, List, length, filter, Bool, true, false, Option, Some, None, if◌then◌else◌}
+use Rattle.rw_types.specs.Labels.{Labels, label_fault}
+use Rattle.rw_types.specs.declared.entry.Entry.{Entry}
+use Rattle.rw_types.specs.declared.entry.Entry.TheVariants.{Def, Sample}
+use Rattle.rw_types.specs.declared.label_fault.LabelFault.{LabelFault}
+use Rattle.rw_codes.specs.Series.{labels_of}
+use Rattle.rw_relabel.specs.Rules.{RuleConfig, keeps}
+
+-- nothing, labels that are no label set, a label set that the rules drop, or one that they keep
+pub data Standing : Type 0 where
+  Unknown : Standing
+  Bad : (fault : LabelFault) → Standing
+  Filtered : Standing
+  Kept : (labels : List (List ℕ × List ℕ)) → Standing
+
+-- a label set goes by the rules
+abbrev pub standing_of_set : Bool → Labels → Standing
+standing_of_set is_kept l = if is_kept then Kept l else Filtered
+
+abbrev pub standing_by : List RuleConfig → Labels → Option LabelFault → Standing
+standing_by rules l None = standing_of_set (keeps rules l) l
+standing_by rules l (Some fault) = Bad fault
+
+-- the labels are judged before the rules are asked
+abbrev pub standing_of : List RuleConfig → Option Labels → Standing
+standing_of rules None = Unknown
+standing_of rules (Some l) = standing_by rules l (label_fault l)
+
+-- what is known of a reference: the last definition of it among these entries, judged
+unfoldable pub known : List RuleConfig → List Entry → ℕ → Standing
+known rules entries reference = standing_of rules (labels_of entries reference (length entries))
+
+abbrev pub is_definition : Entry → Bool
+is_definition (Def reference labels) = true
+is_definition (Sample reference t word) = false
+
+-- the definitions among entries
+abbrev pub definitions_of : List Entry → List Entry
+definitions_of entries = filter is_definition entries

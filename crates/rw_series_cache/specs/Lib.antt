@@ -1,0 +1,5 @@
+pub mod Cached
+pub mod Found
+pub mod Known
+pub mod Numbers
+pub mod Points

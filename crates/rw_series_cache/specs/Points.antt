@@ -1,0 +1,22 @@
+-- The samples of a series in a log.
+use Rattle.std.specs.Prelude.{ℕ, ℤ, List, [], Bool, ◌&&◌, filter, nat_lt, is_none}
+use Rattle.rw_types.specs.Labels.{Labels, label_fault}
+use Rattle.rw_types.specs.declared.entry.Entry.{Entry}
+use Rattle.rw_codes.specs.Series.{samples_after, kept}
+use Rattle.rw_relabel.specs.Rules.{RuleConfig, keeps}
+
+-- the samples, as (position, timestamp, word), whose reference stands for these labels where they stand
+abbrev pub points : List Entry → Labels → List (ℕ × ℤ × ℕ)
+points entries l = samples_after l [] entries
+
+-- the labels are a label set that the rules keep
+abbrev pub is_kept : List RuleConfig → Labels → Bool
+is_kept rules l = is_none (label_fault l) && keeps rules l
+
+-- the samples of a series that the rules keep; other labels have none
+abbrev pub kept_points : List RuleConfig → List Entry → Labels → List (ℕ × ℤ × ℕ)
+kept_points rules entries l = kept (is_kept rules) entries l
+
+-- those at positions below `end`
+abbrev pub kept_points_below : List RuleConfig → List Entry → Labels → ℕ → List (ℕ × ℤ × ℕ)
+kept_points_below rules entries l end = filter (λ p. nat_lt p.0 end) (kept_points rules entries l)

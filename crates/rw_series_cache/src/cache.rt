@@ -1,0 +1,87 @@
+//! The series of the references of a log.
+
+ghost use Rattle.std.specs.Prelude.{◌≡◌, ◌∷◌, ◌++◌, [], List, length, OnOk, OnErr};
+ghost use Rattle.rw_types.specs.declared.entry.Entry.{Entry};
+ghost use Rattle.rw_series_cache.specs.Known.{definitions_of};
+ghost use Rattle.rw_series_cache.specs.Numbers.{series_of};
+ghost use Rattle.rw_series_cache.specs.Found.{Answers};
+
+use crate::known::Known;
+use crate::label_sets::LabelSets;
+use crate::verdict::Verdict;
+use rw_history::History;
+use rw_relabel::Rules;
+use rw_types::{Entry, RawLabels};
+use std::alloc::{AllocError, Global};
+use std::collections::HashMap;
+use std::marker::Model;
+
+/// What the definitions of a log say of its references. Contracts see the rules and the definitions taken so far.
+#[derive(Drop)]
+pub struct Cache {
+    taken: History<Entry>,
+    sets: LabelSets,
+    verdicts: HashMap<u64, Verdict>,
+}
+
+impl Model for Cache {
+    ghost use Rattle.std.specs.Prelude.{nat_eq};
+    ghost use Rattle.std.specs.HashMap.{get};
+    ghost use Rattle.rw_series_cache.specs.Cached.{Taken, IsCache};
+
+    ghost Value = { Taken };
+
+    ghost view = { λ c. record { rules = c.sets.rules; definitions = c.taken } };
+
+    ghost invariant = { λ c. IsCache c.sets.rules c.taken (get nat_eq c.verdicts) c.sets.series };
+}
+
+impl Cache {
+    /// A cache that has taken no definition. This takes no memory.
+    pub fn new(alloc: Global, rules: Rules) -> Cache
+        ensures { result ≡ record { rules = rules; definitions = [] } }
+    {
+        Cache {
+            taken: History::new(),
+            sets: LabelSets::new(alloc, rules),
+            verdicts: HashMap::new(alloc),
+        }
+    }
+
+    /// Takes the next definition of a log. A label set that was defined before is not stored again, and the rules are not
+    /// asked of it again.
+    pub fn define(&mut self, reference: u64, labels: RawLabels) -> Result<(), AllocError>
+        ensures ok { OnOk result (self.new ≡ record self.old { definitions = self.old.definitions ++ Entry.Def reference labels ∷ [] }) }
+        ensures err { OnErr result (self.new ≡ self.old) }
+    {
+        // This room is all that the reference takes: once a label set has its number, nothing is refused any more.
+        self.verdicts.reserve(1)?;
+        let verdict = self.sets.judge(&labels)?;
+        self.verdicts.insert(reference, verdict)?;
+        self.taken.push(&Entry::Def { reference, labels });
+        Ok(())
+    }
+
+    /// What is known of a reference.
+    pub fn look(&self, reference: u64) -> Known<'_>
+        ensures answer { Answers self.now.rules self.now.definitions reference result }
+
+        // What is known after some entries of a log is what its definitions say: the samples among them change nothing.
+        ensures log { (entries : List Entry) → definitions_of entries ≡ self.now.definitions
+            → Answers self.now.rules entries reference result }
+    {
+        match self.verdicts.get(&reference) {
+            None => Known::Unknown,
+            Some(Verdict::Bad(fault)) => Known::Bad(*fault),
+            Some(Verdict::Filtered) => Known::Filtered,
+            Some(Verdict::Kept(number)) => Known::Kept(*number as u64, self.sets.get(*number)),
+        }
+    }
+
+    /// How many series the rules keep.
+    pub fn series_count(&self) -> usize
+        ensures { result ≡ length (series_of self.now.rules self.now.definitions) }
+    {
+        self.sets.len()
+    }
+}

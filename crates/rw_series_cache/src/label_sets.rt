@@ -1,0 +1,101 @@
+//! Label sets, judged by the rules.
+
+ghost use Rattle.std.specs.Prelude.{◌≡◌, ◌<◌, [], length, Some, slice_get, IfOk, OnErr};
+ghost use Rattle.std.specs.Arc.{arc_value};
+ghost use Rattle.rw_types.specs.Labels.{IsLabelSet};
+ghost use Rattle.rw_series_cache.specs.Cached.{Judges};
+
+use crate::verdict::Verdict;
+use indexmap::IndexSet;
+use rw_relabel::Rules;
+use rw_types::{LabelFault, LabelSet, RawLabels};
+use std::alloc::{AllocError, Global};
+use std::collections::HashSet;
+use std::marker::Model;
+use std::sync::Arc;
+
+/// The rules, and the label sets that they were asked of, each once. Contracts see the rules and the kept label sets,
+/// in the order in which they came.
+#[derive(Drop)]
+pub(crate) struct LabelSets {
+    alloc: Global,
+    rules: Rules,
+    kept: IndexSet<Arc<LabelSet>>,
+    dropped: HashSet<Arc<LabelSet>>,
+}
+
+impl Model for LabelSets {
+    ghost use Rattle.std.specs.Prelude.{map, true, false};
+    ghost use Rattle.std.specs.Arc.{arc_value};
+    ghost use Rattle.rw_series_cache.specs.Cached.{Judged, AllJudged};
+
+    ghost Value = { Judged };
+
+    ghost view = { λ s. record { rules = s.rules; series = map arc_value s.kept.keys } };
+
+    ghost invariant = { λ s. AllJudged s.rules true s.kept.keys × AllJudged s.rules false s.dropped.keys };
+}
+
+impl LabelSets {
+    pub(crate) fn new(alloc: Global, rules: Rules) -> LabelSets
+        ensures { result ≡ record { rules = rules; series = [] } }
+    {
+        LabelSets {
+            alloc,
+            rules,
+            kept: IndexSet::new(alloc),
+            dropped: HashSet::new(alloc),
+        }
+    }
+
+    /// What becomes of the labels. A label set that was judged before is not asked of the rules again.
+    pub(crate) fn judge(&mut self, labels: &RawLabels) -> Result<Verdict, AllocError>
+        ensures ok { IfOk result (λ v. Judges self.old self.new labels.now v) }
+        ensures err { OnErr result (self.new ≡ self.old) }
+    {
+        match LabelSet::check(self.alloc, labels) {
+            Ok(set) => self.judge_set(set),
+            Err(LabelFault::OutOfMemory) => Err(AllocError),
+            Err(fault) => Ok(Verdict::Bad(fault)),
+        }
+    }
+
+    fn judge_set(&mut self, set: LabelSet) -> Result<Verdict, AllocError>
+        requires { IsLabelSet set }
+        ensures ok { IfOk result (λ v. Judges self.old self.new set v) }
+        ensures err { OnErr result (self.new ≡ self.old) }
+    {
+        let set = Arc::new(self.alloc, set)?;
+        if let Some(number) = self.kept.get_index_of(&set) {
+            return Ok(Verdict::Kept(number));
+        }
+        if self.dropped.contains(&set) {
+            return Ok(Verdict::Filtered);
+        }
+        if self.rules.keeps(&set)? {
+            let (number, _) = self.kept.insert_full(set)?;
+            Ok(Verdict::Kept(number))
+        } else {
+            self.dropped.insert(set)?;
+            Ok(Verdict::Filtered)
+        }
+    }
+
+    /// The series of a number.
+    pub(crate) fn get(&self, number: usize) -> &Arc<LabelSet>
+        requires within { number < length self.now.series }
+        ensures { slice_get self.now.series number ≡ Some (arc_value result.now) }
+    {
+        match self.kept.get_index(number) {
+            Some(set) => set,
+            None => unreachable!(),
+        }
+    }
+
+    /// How many series there are.
+    pub(crate) fn len(&self) -> usize
+        ensures { result ≡ length self.now.series }
+    {
+        self.kept.len()
+    }
+}

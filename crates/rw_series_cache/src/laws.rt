@@ -1,0 +1,54 @@
+//! Laws of what the entries of a log say of its series, for the crates that keep a cache beside a log.
+
+ghost use Rattle.std.specs.Prelude.{◌≡◌, ◌≢◌, ◌++◌, ◌∷◌, [], ℕ, ℤ, List, length, take};
+ghost use Rattle.rw_types.specs.Labels.{Labels};
+ghost use Rattle.rw_types.specs.declared.entry.Entry.{Entry};
+ghost use Rattle.rw_types.specs.declared.entry.Entry.TheVariants.{Def, Sample};
+ghost use Rattle.rw_codes.specs.Series.{labels_of};
+ghost use Rattle.rw_relabel.specs.Rules.{RuleConfig};
+ghost use Rattle.rw_series_cache.specs.Known.{Kept, standing_of, known, definitions_of};
+ghost use Rattle.rw_series_cache.specs.Numbers.{series_of, HasNumber};
+ghost use Rattle.rw_series_cache.specs.Points.{kept_points, kept_points_below};
+
+/// Samples change nothing of what is known.
+pub fn samples_define_nothing()
+    ensures known { (rules : List RuleConfig) (entries : List Entry) (reference : ℕ)
+        → known rules (definitions_of entries) reference ≡ known rules entries reference }
+    ensures series { (rules : List RuleConfig) (entries : List Entry) → series_of rules (definitions_of entries) ≡ series_of rules entries }
+    ensures definition { (entries : List Entry) (reference : ℕ) (labels : Labels)
+        → definitions_of (entries ++ Def reference labels ∷ []) ≡ definitions_of entries ++ Def reference labels ∷ [] }
+    ensures sample { (entries : List Entry) (reference : ℕ) (t : ℤ) (word : ℕ)
+        → definitions_of (entries ++ Sample reference t word ∷ []) ≡ definitions_of entries }
+{}
+
+/// What is known below a position goes by the labels there.
+pub fn known_at_a_position()
+    ensures { (rules : List RuleConfig) (entries : List Entry) (reference position : ℕ)
+        → known rules (take position entries) reference ≡ standing_of rules (labels_of entries reference position) }
+{}
+
+/// A reference that stands for a kept label set stands for a series, and a series keeps its number as more entries come.
+pub fn numbers_stay()
+    ensures numbered { (rules : List RuleConfig) (entries : List Entry) (reference : ℕ) (labels : Labels)
+        → known rules entries reference ≡ Kept labels → (number : ℕ) × HasNumber (series_of rules entries) labels number }
+    ensures stay { (rules : List RuleConfig) (entries more : List Entry) (labels : Labels) (number : ℕ)
+        → HasNumber (series_of rules entries) labels number → HasNumber (series_of rules (entries ++ more)) labels number }
+{}
+
+/// A sample is one of the series for which its reference stands, where the rules keep it, and of no other.
+pub fn points_entry_by_entry()
+    ensures definition { (rules : List RuleConfig) (entries : List Entry) (labels other : Labels) (reference : ℕ)
+        → kept_points rules (entries ++ Def reference other ∷ []) labels ≡ kept_points rules entries labels }
+    ensures kept { (rules : List RuleConfig) (entries : List Entry) (labels : Labels) (reference : ℕ) (t : ℤ) (word : ℕ)
+        → known rules entries reference ≡ Kept labels
+        → kept_points rules (entries ++ Sample reference t word ∷ []) labels ≡ kept_points rules entries labels ++ (length entries, t, word) ∷ [] }
+    ensures other { (rules : List RuleConfig) (entries : List Entry) (labels : Labels) (reference : ℕ) (t : ℤ) (word : ℕ)
+        → known rules entries reference ≢ Kept labels
+        → kept_points rules (entries ++ Sample reference t word ∷ []) labels ≡ kept_points rules entries labels }
+{}
+
+/// The samples of a series below a position are those of the entries below it.
+pub fn points_below_a_position()
+    ensures { (rules : List RuleConfig) (entries : List Entry) (labels : Labels) (end : ℕ)
+        → kept_points_below rules entries labels end ≡ kept_points rules (take end entries) labels }
+{}

@@ -1,0 +1,18 @@
+//! Which series the references of a log stand for, which of them the rules keep, and their numbers.
+//!
+//! A series is its label set and not its reference. The last definition of a reference counts, and a kept label set is
+//! numbered when it is first kept.
+#![tactic(auto)]
+
+mod cache;
+mod known;
+mod label_sets;
+mod laws;
+mod verdict;
+
+pub use cache::Cache;
+pub use known::Known;
+pub use laws::{
+    known_at_a_position, numbers_stay, points_below_a_position, points_entry_by_entry,
+    samples_define_nothing,
+};

@@ -1,0 +1,176 @@
+//! The host and the path of the requests that carry messages.
+
+ghost use Rattle.std.specs.Prelude.{◌≡◌, ◌==◌, ◌&&◌, nat_le, length, Some, None, true, codes, IfOk, string_bytes, if◌then◌else◌};
+ghost use Rattle.std.specs.List.{list_all};
+ghost use Rattle.rw_types.specs.Labels.{is_word_of};
+ghost use Rattle.rw_types.specs.Requests.{is_host_byte, is_path_byte, is_host_name, is_request_path};
+
+use std::alloc::{AllocError, Global};
+use std::marker::Model;
+
+/// The most bytes of a host name, and of a path.
+const MAX_BYTES: usize = 255;
+
+/// The host that requests name, as their field `Host` has it, with a port or without. Contracts see its bytes.
+#[derive(Debug, Drop)]
+pub struct HostName {
+    text: String,
+}
+
+impl Model for HostName {
+    ghost use Rattle.std.specs.Prelude.{◌≡◌, ℕ, List, true, string_bytes};
+    ghost use Rattle.rw_types.specs.Requests.{is_host_name};
+
+    ghost Value = { List ℕ };
+
+    ghost view = { λ h. string_bytes h.text };
+
+    ghost invariant = { λ h. is_host_name (string_bytes h.text) ≡ true };
+}
+
+/// The path that requests name, with its query if it has one. Contracts see its bytes.
+#[derive(Debug, Drop)]
+pub struct RequestPath {
+    text: String,
+}
+
+impl Model for RequestPath {
+    ghost use Rattle.std.specs.Prelude.{◌≡◌, ℕ, List, true, string_bytes};
+    ghost use Rattle.rw_types.specs.Requests.{is_request_path};
+
+    ghost Value = { List ℕ };
+
+    ghost view = { λ p. string_bytes p.text };
+
+    ghost invariant = { λ p. is_request_path (string_bytes p.text) ≡ true };
+}
+
+fn is_host_byte(b: u8) -> bool
+    ensures { result ≡ is_host_byte b }
+{
+    b.is_ascii_graphic()
+}
+
+fn is_path_byte(b: u8) -> bool
+    ensures { result ≡ is_path_byte b }
+{
+    b.is_ascii_alphanumeric()
+        || matches!(
+            b,
+            b'/' | b'-' | b'.' | b'_' | b'~' | b'%' | b'?' | b'=' | b'&'
+        )
+}
+
+fn are_host_bytes(bytes: &[u8]) -> bool
+    ensures { result ≡ list_all is_host_byte bytes.now }
+{
+    bytes.iter().all(|b| is_host_byte(*b))
+}
+
+fn are_path_bytes(bytes: &[u8]) -> bool
+    ensures { result ≡ list_all is_path_byte bytes.now }
+{
+    bytes.iter().all(|b| is_path_byte(*b))
+}
+
+fn is_host_text(text: &[u8]) -> bool
+    ensures { result ≡ is_word_of is_host_byte is_host_byte text.now }
+{
+    match text.split_first() {
+        Some((first, rest)) => is_host_byte(*first) && are_host_bytes(rest),
+        None => false,
+    }
+}
+
+fn is_path_text(text: &[u8]) -> bool
+    ensures { result ≡ is_word_of (λ b. b == 47) is_path_byte text.now }
+{
+    match text.split_first() {
+        Some((first, rest)) => *first == b'/' && are_path_bytes(rest),
+        None => false,
+    }
+}
+
+fn is_host_name(text: &[u8]) -> bool
+    ensures { result ≡ is_host_name text.now }
+{
+    is_host_text(text) && text.len() <= MAX_BYTES
+}
+
+fn is_request_path(text: &[u8]) -> bool
+    ensures { result ≡ is_request_path text.now }
+{
+    is_path_text(text) && text.len() <= MAX_BYTES
+}
+
+impl HostName {
+    /// Whether the text has 1 to 255 bytes, each of `!` to `~`.
+    pub fn is_host(text: &str) -> bool
+        ensures { result ≡ is_host_name text.now }
+    {
+        is_host_name(text.as_bytes())
+    }
+
+    /// The host of this text, where it is one. This takes no memory.
+    pub fn check(text: String) -> Option<HostName>
+        ensures { result ≡ (if is_host_name (string_bytes text) then Some (string_bytes text) else None) }
+    {
+        if HostName::is_host(text.as_str()) {
+            Some(HostName { text })
+        } else {
+            None
+        }
+    }
+
+    /// Port 9090 of this machine, where Prometheus listens by default.
+    pub fn local_prometheus(alloc: Global) -> Result<HostName, AllocError>
+        ensures { IfOk result (λ h. h ≡ codes "localhost:9090") }
+    {
+        Ok(HostName {
+            text: String::from_str(alloc, "localhost:9090")?,
+        })
+    }
+
+    pub fn as_str(&self) -> &str
+        ensures text { result.now ≡ self.now }
+        ensures host { is_host_name result.now ≡ true }
+    {
+        self.text.as_str()
+    }
+}
+
+impl RequestPath {
+    /// Whether the text has 1 to 255 bytes, of which the first is `/` and each other one an ASCII letter, an ASCII digit or one of `/-._~%?=&`.
+    pub fn is_path(text: &str) -> bool
+        ensures { result ≡ is_request_path text.now }
+    {
+        is_request_path(text.as_bytes())
+    }
+
+    /// The path of this text, where it is one. This takes no memory.
+    pub fn check(text: String) -> Option<RequestPath>
+        ensures { result ≡ (if is_request_path (string_bytes text) then Some (string_bytes text) else None) }
+    {
+        if RequestPath::is_path(text.as_str()) {
+            Some(RequestPath { text })
+        } else {
+            None
+        }
+    }
+
+    /// The path at which Prometheus' receivers take messages (Remote-Write 1.0, "Protocol").
+    pub fn api_v1_write(alloc: Global) -> Result<RequestPath, AllocError>
+        ensures { IfOk result (λ p. p ≡ codes "/api/v1/write") }
+    {
+        Ok(RequestPath {
+            text: String::from_str(alloc, "/api/v1/write")?,
+        })
+    }
+
+    pub fn as_str(&self) -> &str
+        ensures text { result.now ≡ self.now }
+        ensures path { is_request_path result.now ≡ true }
+    {
+        self.text.as_str()
+    }
+}
