@@ -21,7 +21,7 @@ nothing_grouped ns gs e f =
     (ap length e ∙ ap length (sym f), let P : WriteRequest → Type 0 = λ x. IsDistinct labels_eq (labels_of x) in subst P (sym f) tt)
 
 -- a series that is changed and keeps its labels
-labels_of-set : (gs : WriteRequest) (i : ℕ) (old new : TimeSeries) → i < length gs → old ≡ get_or gs i old → new.labels ≡ old.labels → labels_of (set gs i new) ≡ labels_of gs
+pub labels_of-set : (gs : WriteRequest) (i : ℕ) (old new : TimeSeries) → i < length gs → old ≡ get_or gs i old → new.labels ≡ old.labels → labels_of (set gs i new) ≡ labels_of gs
 labels_of-set [] i old new lt e f = refl
 labels_of-set (g ∷ gs) zero old new lt e f = ap (λ l. l ∷ labels_of gs) (f ∙ ap (λ s. s.labels) e)
 labels_of-set (g ∷ gs) (suc i) old new lt e f = let lt' : i < length gs = omega arith in ap (λ ls. g.labels ∷ ls) (labels_of-set gs i old new lt' e f)
@@ -38,7 +38,7 @@ apart_from_first l m (k ∷ ls) zero h e = let same : k ≡ l = cc in eq-flip l 
 apart_from_first l m (k ∷ ls) (suc i) h e = apart_from_first l m ls i h.1 e
 
 -- a sample at the end of the series at the place of its labels
-with_sample-at : (gs : WriteRequest) (i : ℕ) (l : Labels) (s : Sample) (old : TimeSeries) → IsDistinct labels_eq (labels_of gs) → slice_get (labels_of gs) i ≡ Some l
+pub with_sample-at : (gs : WriteRequest) (i : ℕ) (l : Labels) (s : Sample) (old : TimeSeries) → IsDistinct labels_eq (labels_of gs) → slice_get (labels_of gs) i ≡ Some l
     → old ≡ get_or gs i old → set gs i (record { labels = old.labels; samples = old.samples ++ s ∷ [] }) ≡ with_sample l s gs
 with_sample-at [] i l s old d e f = absurd cc
 with_sample-at (g ∷ gs) zero l s old d e f =
@@ -73,7 +73,7 @@ labels_are_new n l g none h =
     (λ i e. both_ways (list_any (nat_eq n) g.numbers) none (any_passes_from_place (nat_eq n) g.numbers i n ((h i).1 e) (eq-eqb n n refl)))
 
 -- a sample with new labels opens a series
-with_sample-new : (l : Labels) (s : Sample) (gs : WriteRequest) → list_any (labels_eq l) (labels_of gs) ≡ false → with_sample l s gs ≡ gs ++ record { labels = l; samples = s ∷ [] } ∷ []
+pub with_sample-new : (l : Labels) (s : Sample) (gs : WriteRequest) → list_any (labels_eq l) (labels_of gs) ≡ false → with_sample l s gs ≡ gs ++ record { labels = l; samples = s ∷ [] } ∷ []
 unfolding with_sample
 with_sample-new l s [] e = refl
 with_sample-new l s (g ∷ gs) e =

@@ -1,2 +1,3 @@
 pub mod Grouping
 pub mod Groups
+pub mod Batches

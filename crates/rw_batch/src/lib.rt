@@ -1,8 +1,13 @@
-//! The messages of batches: samples grouped by label set (Remote-Write 1.0).
+//! The batches that a shard sends (Remote-Write 1.0): their messages, their ids and their bodies.
 #![tactic(auto)]
 
+mod batch;
+mod body;
+mod builder;
 mod grouping;
 mod laws;
 
+pub use batch::{Batch, BatchId};
+pub use builder::{Builder, MAX_BATCH};
 pub use grouping::Grouping;
 pub use laws::{message_grows, message_keeps_all, numbers_stand_for_labels};

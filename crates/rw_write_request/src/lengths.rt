@@ -3,7 +3,8 @@
 ghost use Rattle.std.specs.Prelude.{◌≡◌, ◌≤◌, ◌+◌, ◌^◌, length, map, IfSome, IfNone};
 ghost use Rattle.rw_codes.specs.Varint.{uvarint};
 ghost use Rattle.rw_types.specs.Labels.{text_label};
-ghost use Rattle.rw_write_request.specs.Canon.{string_field, label, label_field, label_fields, sample, sample_field, sample_fields, series, canon};
+ghost use Rattle.rw_write_request.specs.Canon.{string_field, label, label_field, label_fields, sample, sample_field, sample_fields, series, series_field, canon};
+ghost use Rattle.rw_write_request.specs.Texts.{series_of};
 
 use crate::message::{Message, Series};
 use rw_codes::uvarint_len;
@@ -92,13 +93,30 @@ fn sample_fields_len(samples: &[(Word, i64)]) -> Option<usize>
 }
 
 #[tactic(auto, unfolding(crate::specs::Canon::series))]
+pub(crate) fn parts_len(labels: &[(String, String)], samples: &[(Word, i64)]) -> Option<usize>
+    ensures some { IfSome result (λ n. n ≡ length (series (series_of labels.now samples.now))) }
+    ensures none { IfNone result (2 ^ 64 ≤ length (series (series_of labels.now samples.now))) }
+{
+    let labels = label_fields_len(labels)?;
+    let samples = sample_fields_len(samples)?;
+    labels.checked_add(samples)
+}
+
+/// The length of the field of a series with these labels and samples, if it fits 64 bits.
+#[tactic(auto, unfolding(crate::specs::Canon::series_field))]
+pub fn series_field_len(labels: &[(String, String)], samples: &[(Word, i64)]) -> Option<usize>
+    ensures some { IfSome result (λ n. n ≡ length (series_field (series_of labels.now samples.now))) }
+    ensures none { IfNone result (2 ^ 64 ≤ length (series_field (series_of labels.now samples.now))) }
+{
+    let inner = parts_len(labels, samples)?;
+    bytes_field_len(inner)
+}
+
 pub(crate) fn series_len(s: &Series) -> Option<usize>
     ensures some { IfSome result (λ n. n ≡ length (series s.now)) }
     ensures none { IfNone result (2 ^ 64 ≤ length (series s.now)) }
 {
-    let labels = label_fields_len(&s.labels)?;
-    let samples = sample_fields_len(&s.samples)?;
-    labels.checked_add(samples)
+    parts_len(&s.labels, &s.samples)
 }
 
 #[tactic(auto, unfolding(crate::specs::Canon::series_field))]

@@ -8,8 +8,9 @@ ghost use Rattle.rw_types.specs.Labels.{text_label};
 ghost use Rattle.rw_write_request.specs.Canon.{tag, string_field, fixed64_field, int64_field, label_field, label_fields, sample_field, sample_fields, series_field, canon};
 ghost use Rattle.rw_write_request.specs.Valid.{IsLabel, IsSample, IsSeries};
 ghost use Rattle.rw_write_request.specs.Spells.{Spells};
+ghost use Rattle.rw_write_request.specs.Texts.{series_of};
 
-use crate::lengths::{encoded_len, label_len, sample_len, series_len};
+use crate::lengths::{encoded_len, label_len, parts_len, sample_len};
 use crate::message::{Message, Series};
 use rw_codes::push_uvarint;
 use rw_types::Word;
@@ -130,17 +131,27 @@ fn put_sample_fields(out: &mut Vec<u8>, samples: &[(Word, i64)])
     }
 }
 
+/// Writes the field of a series with these labels and samples at the end. This takes no memory.
 #[tactic(auto, unfolding(crate::specs::Canon::series_field, crate::specs::Canon::series))]
+pub fn put_series(out: &mut Vec<u8>, labels: &[(String, String)], samples: &[(Word, i64)])
+    requires room { vec_len out.old + length (series_field (series_of labels.now samples.now)) ≤ vec_capacity out.old }
+    ensures items { out.new.items ≡ out.old.items ++ series_field (series_of labels.now samples.now) }
+    ensures valid { IsSeries (series_of labels.now samples.now) }
+    ensures capacity { vec_capacity out.old ≤ vec_capacity out.new }
+{
+    let len = parts_len(labels, samples).unwrap();
+    put_series_front(out, len);
+    put_label_fields(out, labels);
+    put_sample_fields(out, samples);
+}
+
 fn put_series_field(out: &mut Vec<u8>, s: &Series)
     requires room { vec_len out.old + length (series_field s.now) ≤ vec_capacity out.old }
     ensures items { out.new.items ≡ out.old.items ++ series_field s.now }
     ensures valid { IsSeries s.now }
     ensures capacity { vec_capacity out.old ≤ vec_capacity out.new }
 {
-    let len = series_len(s).unwrap();
-    put_series_front(out, len);
-    put_label_fields(out, &s.labels);
-    put_sample_fields(out, &s.samples);
+    put_series(out, &s.labels, &s.samples);
 }
 
 fn put_all_series(out: &mut Vec<u8>, list: &[Series])

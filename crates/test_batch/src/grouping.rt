@@ -1,33 +1,16 @@
 //! Samples grouped by label set. The calls that take memory are made again where it is refused, so each test can be run
 //! with each allocation refused in turn: the refused call changes nothing.
 
-ghost use Rattle.std.specs.Prelude.{◌≡◌, ◌∷◌, [], codes, IfOk, OnOk};
+ghost use Rattle.std.specs.Prelude.{◌≡◌, OnOk};
 ghost use Rattle.rw_batch.specs.Grouping.{with_sample};
 ghost use Rattle.rw_batch.specs.Groups.{StandsFor, with_number};
 
+use crate::metrics::metric;
 use rw_batch::Grouping;
-use rw_types::{LabelFault, LabelSet, RawLabels, Word};
+use rw_types::{LabelSet, Word};
 use rw_write_request::Series;
-use std::alloc::{AllocError, Global};
+use std::alloc::AllocError;
 use std::test::Fail;
-
-/// The label set of a metric's name alone.
-fn metric_once(alloc: Global, name: &str) -> Result<LabelSet, LabelFault>
-    ensures { IfOk result (λ s. s ≡ (codes "__name__", name.now) ∷ []) }
-{
-    let mut labels = RawLabels::new(alloc);
-    labels.push(b"__name__", name.as_bytes())?;
-    LabelSet::check(alloc, &labels)
-}
-
-fn metric(alloc: Global, name: &str) -> Result<LabelSet, LabelFault>
-    ensures { IfOk result (λ s. s ≡ (codes "__name__", name.now) ∷ []) }
-{
-    match metric_once(alloc, name) {
-        Err(LabelFault::OutOfMemory) => metric_once(alloc, name),
-        answer => answer,
-    }
-}
 
 /// Groups one more sample, whose word is 0.
 fn add(grouping: &mut Grouping, number: u64, labels: &LabelSet, t: i64) -> Result<(), AllocError>

@@ -1,0 +1,74 @@
+-- Series that are found by their labels: a key for each series, in the same order.
+use Rattle.std.proofs.Common.{◌≡◌, ℕ, zero, suc, ◌<◌, List, [], ◌∷◌, ◌++◌, map, length, set, get_or, take, add-one, ◌+◌, slice_get, Some, Bool, true, false, cond, not, ◌||◌, refl, sym, ◌∙◌, ap, arith}
+use Rattle.std.specs.List.{list_any, IsDistinct}
+use Rattle.std.proofs.lemmas.List.{length-map}
+use Rattle.std.proofs.Math.Seq.{take-suc}
+use Rattle.rw_types.specs.Labels.{Labels}
+use Rattle.rw_types.specs.LabelOrder.{labels_eq}
+use Rattle.rw_types.proofs.OrderLemmas.{same_if_equal}
+use Rattle.rw_write_request.specs.Message.{Sample, TimeSeries, WriteRequest}
+use Rattle.rw_batch.specs.Grouping.{LabelledSample, distinct, message, with_sample, labels_of}
+use Rattle.rw_shard_queue.proofs.Lists.{get_below}
+use Rattle.rw_batch.proofs.MessageLemmas.{message-push}
+use Rattle.rw_batch.proofs.GroupsLemmas.{labels_of-set, with_sample-at, with_sample-new}
+
+module _ {K : Type 0} (v : K → Labels) where
+  any-map : (l : Labels) (ks : List K) → list_any (labels_eq l) (map v ks) ≡ list_any (λ k. labels_eq l (v k)) ks
+  any-map l [] = refl
+  any-map l (k ∷ ks) = ap (λ b. labels_eq l (v k) || b) (any-map l ks)
+
+  get-map : (ks : List K) (i : ℕ) (k : K) → slice_get ks i ≡ Some k → slice_get (map v ks) i ≡ Some (v k)
+  get-map [] i k e = absurd cc
+  get-map (x ∷ ks) zero k e = let same : x ≡ k = cc in ap (λ y. Some (v y)) same
+  get-map (x ∷ ks) (suc i) k e = get-map ks i k e
+
+  -- a key that is new opens a series
+  pub opened : (ks : List K) (gs : WriteRequest) (l : Labels) (s : Sample) (b : Bool) → map v ks ≡ labels_of gs → b ≡ not (list_any (λ k. labels_eq l (v k)) ks) → b ≡ true
+      → with_sample l s gs ≡ gs ++ record { labels = l; samples = s ∷ [] } ∷ []
+  opened ks gs l s b same is new =
+      with_sample-new l s gs (ap (list_any (labels_eq l)) (sym same) ∙ any-map l ks ∙ negated (list_any (λ k. labels_eq l (v k)) ks) (sym is ∙ new))
+    where
+      negated : (x : Bool) → not x ≡ true → x ≡ false
+      negated true e = absurd cc
+      negated false e = refl
+
+  known : (x : Bool) (b : Bool) → b ≡ not x → b ≡ false → x ≡ true
+  known true b e f = refl
+  known false b e f = absurd cc
+
+  -- where a key is known the keys stay
+  pub keys_stay : (ks new : List K) (k : K) (l : Labels) (b : Bool) → b ≡ not (list_any (λ k. labels_eq l (v k)) ks) → b ≡ false → new ≡ cond (list_any (λ k. labels_eq l (v k)) ks) ks (ks ++ k ∷ []) → new ≡ ks
+  keys_stay ks new k l b is old e = e ∙ ap (λ x. cond x ks (ks ++ k ∷ [])) (known _ b is old)
+
+  -- and its place is that of the series with these labels
+  pub labels_at : (ks new : List K) (k : K) (gs : WriteRequest) (l : Labels) (i : ℕ) → new ≡ ks → map v ks ≡ labels_of gs → slice_get new i ≡ Some k → labels_eq l (v k) ≡ true → slice_get (labels_of gs) i ≡ Some l
+  labels_at ks new k gs l i stay same at equal =
+      ap (λ ls. slice_get ls i) (sym same) ∙ get-map ks i k (ap (λ r. slice_get r i) (sym stay) ∙ at) ∙ ap Some (sym (same_if_equal l (v k) equal))
+
+  -- the series at that place gets the sample
+  pub grown : (ks new : List K) (k : K) (gs : WriteRequest) (l : Labels) (s : Sample) (i : ℕ) (old g : TimeSeries) → new ≡ ks → map v ks ≡ labels_of gs → IsDistinct labels_eq (labels_of gs)
+      → slice_get new i ≡ Some k → labels_eq l (v k) ≡ true → old ≡ get_or gs i old → g ≡ record { labels = old.labels; samples = old.samples ++ s ∷ [] } → set gs i g ≡ with_sample l s gs
+  grown ks new k gs l s i old g stay same apart at equal is pushed =
+      ap (set gs i) pushed ∙ with_sample-at gs i l s old apart (labels_at ks new k gs l i stay same at equal) is
+
+  pub keys_of_grown : (ks new : List K) (k : K) (gs : WriteRequest) (l : Labels) (s : Sample) (i : ℕ) (old g : TimeSeries) → new ≡ ks → map v ks ≡ labels_of gs
+      → slice_get new i ≡ Some k → labels_eq l (v k) ≡ true → old ≡ get_or gs i old → g ≡ record { labels = old.labels; samples = old.samples ++ s ∷ [] } → map v new ≡ labels_of (set gs i g)
+  keys_of_grown ks new k gs l s i old g stay same at equal is pushed =
+      let below = get_below (labels_of gs) i l (labels_at ks new k gs l i stay same at equal) in
+      ap (map v) stay ∙ same ∙ sym (labels_of-set gs i old g (omega (arith, below, length-map gs (λ (x : TimeSeries). x.labels))) is (ap (λ (x : TimeSeries). x.labels) pushed))
+
+message-none : message [] ≡ []
+unfolding message distinct
+message-none = refl
+
+-- before the first sample
+pub none_grouped : (gs : WriteRequest) → gs ≡ [] → gs ≡ message []
+none_grouped gs e = e ∙ sym message-none
+
+-- one sample more
+pub grouped_more : (xs : List LabelledSample) (i : ℕ) (x : LabelledSample) (gs new : WriteRequest) (l m : Labels) (s : Sample) → i < length xs → x ≡ get_or xs i x → gs ≡ message (take i xs)
+    → record { labels = l; sample = s } ≡ x → m ≡ l → new ≡ with_sample m s gs → new ≡ message (take (i + 1) xs)
+grouped_more xs i x gs new l m s lt is so_far view same added =
+    let next : take (i + 1) xs ≡ take i xs ++ x ∷ [] = ap (λ (k : ℕ). take k xs) (add-one i) ∙ take-suc xs i x lt ∙ ap (λ (y : LabelledSample). take i xs ++ y ∷ []) (sym is) in
+    added ∙ ap (λ (r : WriteRequest). with_sample m s r) so_far ∙ ap (λ (r : Labels). with_sample r s (message (take i xs))) same
+    ∙ ap (λ (y : LabelledSample). with_sample y.labels y.sample (message (take i xs))) view ∙ sym (message-push (take i xs) x) ∙ ap message (sym next)

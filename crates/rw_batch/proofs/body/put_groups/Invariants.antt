@@ -1,0 +1,10 @@
+use Rattle.std.proofs.Common.{◌≡◌, ◌≤◌, ◌++◌, take}
+use Rattle.std.specs.Vec.{vec_capacity}
+use Rattle.rw_write_request.specs.Canon.{canon}
+use Rattle.rw_batch.proofs.body.put_groups.Given as goal
+
+abbrev pub invariant-loop-group : goal.invariant-loop-group
+invariant-loop-group l = record {
+  items : l.out.items ≡ l.fn.out.items ++ canon (take l.group-index l.groups);
+  capacity : vec_capacity l.fn.out ≤ vec_capacity l.out;
+}

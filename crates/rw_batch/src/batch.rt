@@ -1,0 +1,64 @@
+//! A batch that was frozen.
+
+ghost use Rattle.std.specs.Prelude.{◌≡◌, ◌<◌, length};
+ghost use Rattle.rw_batch.specs.Batches.{IsStretch, id_of};
+
+use bytes::Bytes;
+use rw_types::Place;
+use std::marker::Model;
+
+/// What names a batch: the place of its first sample.
+#[derive(Clone, Copy, Debug, PartialEq, Eq)]
+pub struct BatchId {
+    pub epoch: u64,
+    pub shard: u32,
+    /// The number, from 0, of the first sample among those of the shard.
+    pub seq: u64,
+}
+
+/// A stretch of one shard's samples. Its id and its body stay as they are: each attempt to send it uses the one body.
+#[derive(Drop)]
+pub struct Batch {
+    pub(crate) places: Vec<Place>,
+    pub(crate) body: Bytes,
+}
+
+impl Model for Batch {
+    ghost use Rattle.std.specs.Prelude.{◌<◌, length};
+    ghost use Rattle.rw_batch.specs.Batches.{Frozen, IsStretch};
+
+    ghost Value = { Frozen };
+
+    ghost view = { λ b. record { places = b.places.items; body = b.body } };
+
+    ghost invariant = { λ b. (0 < length b.places.items) × IsStretch b.places.items };
+}
+
+impl Batch {
+    pub fn id(&self) -> BatchId
+        ensures { result ≡ id_of self.now.places }
+    {
+        let first = self.places[0];
+        BatchId {
+            epoch: first.epoch,
+            shard: first.shard,
+            seq: first.seq,
+        }
+    }
+
+    /// Where its samples stand, in order.
+    pub fn places(&self) -> &[Place]
+        ensures places { result.now ≡ self.now.places }
+        ensures some { 0 < length self.now.places }
+        ensures stretch { IsStretch self.now.places }
+    {
+        self.places.as_slice()
+    }
+
+    /// The bytes of its message.
+    pub fn body(&self) -> &Bytes
+        ensures { result.now ≡ self.now.body }
+    {
+        &self.body
+    }
+}

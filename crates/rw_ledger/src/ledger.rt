@@ -1,0 +1,146 @@
+//! Which samples were dropped, and why.
+
+ghost use Rattle.std.specs.Prelude.{◌≡◌, ◌+◌, ◌<◌, ◌≤◌, None, OnOk, OnErr, IsTrue};
+ghost use Rattle.std.specs.Slice.Iter.{iter_rest};
+ghost use Rattle.std.specs.Ordering.{nat_cmp};
+ghost use Rattle.std.specs.FinMap as map;
+ghost use Rattle.rw_ledger.specs.Names.{IsPlaceOf};
+
+use std::alloc::{AllocError, Global};
+use std::marker::Model;
+use std::slice;
+
+/// Why a sample was dropped.
+#[derive(Clone, Copy, Debug, PartialEq, Eq)]
+pub enum Reason {
+    /// The receiver refused its batch with this status.
+    Status(u16),
+    /// The labels of its series are no label set: the number of the fault.
+    BadLabels(u8),
+    /// No series was defined under its reference before it.
+    NoSeries,
+}
+
+/// The positions of dropped samples, each with its reason, and room for more of them.
+///
+/// A name takes no memory: its room is made before. To name a position behind all others takes no longer as the ledger grows.
+#[derive(Debug, Drop)]
+pub struct Ledger {
+    names: Vec<(u64, Reason)>,
+    room: usize,
+}
+
+impl Model for Ledger {
+    ghost use Rattle.std.specs.Prelude.{◌+◌, ◌≤◌, vec_len, vec_capacity, IsTrue};
+    ghost use Rattle.std.specs.Ordering.{nat_cmp};
+    ghost use Rattle.std.specs.FinMap as map;
+    ghost use Rattle.std.specs.Coded.{codes};
+    ghost use Rattle.rw_ledger.specs.Names.{Named};
+
+    ghost Value = { Named };
+
+    ghost coded = { Prim.hlevel (codes, map.code) };
+
+    ghost view = { λ l. record { names = map.from_sorted l.names.items; room = l.room } };
+
+    ghost invariant = { λ l. IsTrue (map.is_sorted nat_cmp l.names.items) × (vec_len l.names + l.room ≤ vec_capacity l.names) };
+}
+
+/// The place where a position stands, or would stand.
+fn place_of(names: &[(u64, Reason)], pos: u64) -> usize
+    requires { IsTrue (map.is_sorted nat_cmp names.now) }
+    ensures { IsPlaceOf pos names.now result }
+{
+    match names.last() {
+        Some(last) => {
+            if last.0 < pos {
+                return names.len();
+            }
+            names.partition_point(|name| name.0 < pos)
+        }
+        None => 0,
+    }
+}
+
+impl Ledger {
+    /// No names, and no room. This takes no memory.
+    pub fn new(alloc: Global) -> Ledger
+        ensures names { result.names ≡ map.empty }
+        ensures room { result.room ≡ 0 }
+    {
+        Ledger {
+            names: Vec::new(alloc),
+            room: 0,
+        }
+    }
+
+    /// Adds room for so many names to what there is.
+    pub fn room(&mut self, n: usize) -> Result<(), AllocError>
+        ensures ok { OnOk result (self.new.room ≡ self.old.room + n) }
+        ensures names { self.new.names ≡ self.old.names }
+        ensures err { OnErr result (self.new ≡ self.old) }
+    {
+        let Some(room) = self.room.checked_add(n) else {
+            return Err(AllocError);
+        };
+        self.names.reserve(room)?;
+        self.room = room;
+        Ok(())
+    }
+
+    /// For how many more names there is room.
+    pub fn left(&self) -> usize
+        ensures { result ≡ self.now.room }
+    {
+        self.room
+    }
+
+    /// Takes back room for so many names that will not be used.
+    pub fn give_back(&mut self, n: usize)
+        requires { n ≤ self.old.room }
+        ensures names { self.new.names ≡ self.old.names }
+        ensures room { self.new.room + n ≡ self.old.room }
+    {
+        self.room -= n;
+    }
+
+    /// Names the sample at this position, which uses room for one.
+    pub fn name(&mut self, pos: u64, reason: Reason)
+        requires room { 0 < self.old.room }
+        requires unnamed { map.get self.old.names pos ≡ None }
+        ensures names { self.new.names ≡ map.insert self.old.names pos reason }
+        ensures room { self.new.room + 1 ≡ self.old.room }
+    {
+        let place = place_of(&self.names, pos);
+        self.names.insert(place, (pos, reason)).unwrap();
+        self.room -= 1;
+    }
+
+    /// Why the sample at this position was dropped, if it was.
+    pub fn get(&self, pos: u64) -> Option<Reason>
+        ensures { result ≡ map.get self.now.names pos }
+    {
+        let place = place_of(&self.names, pos);
+        if place < self.names.len() {
+            let (named, reason) = self.names[place];
+            if named == pos {
+                return Some(reason);
+            }
+        }
+        None
+    }
+
+    /// The named positions in ascending order, each with its reason.
+    pub fn iter(&self) -> slice::Iter<'_, (u64, Reason)>
+        ensures { iter_rest result ≡ map.entries self.now.names }
+    {
+        self.names.iter()
+    }
+
+    /// How many positions are named.
+    pub fn total(&self) -> usize
+        ensures { result ≡ map.len self.now.names }
+    {
+        self.names.len()
+    }
+}
