@@ -1,0 +1,4 @@
+pub mod KeptLemmas
+pub mod NamingLemmas
+pub mod ReplyLemmas
+pub mod RequestLemmas

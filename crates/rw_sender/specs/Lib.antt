@@ -1,0 +1,5 @@
+pub mod Configs
+pub mod Replies
+pub mod SentRequest
+pub mod Shard
+pub mod Inside

@@ -1,0 +1,136 @@
+//! How a sender is set up.
+
+ghost use Rattle.std.specs.Prelude.{◌≡◌, ◌≤◌, Some, None, codes, IfOk, if◌then◌else◌};
+ghost use Rattle.rw_sender.specs.Configs.{is_ordered, standard};
+
+use rw_relabel::Rules;
+use rw_types::{Bounded, HostName, RequestPath};
+use std::alloc::{AllocError, Global};
+use std::marker::Model;
+
+/// Where messages are sent to.
+#[derive(Debug, Drop)]
+pub struct Target {
+    /// The field `Host` of each request.
+    pub host: HostName,
+    pub path: RequestPath,
+}
+
+impl Target {
+    /// The receiver of a Prometheus on this machine.
+    pub fn standard(alloc: Global) -> Result<Target, AllocError>
+        ensures { IfOk result (λ t. t ≡ record { host = codes "localhost:9090"; path = codes "/api/v1/write" }) }
+    {
+        Ok(Target {
+            host: HostName::local_prometheus(alloc)?,
+            path: RequestPath::api_v1_write(alloc)?,
+        })
+    }
+}
+
+/// What a sender can be told, each number in its range.
+#[derive(Debug, Drop)]
+pub struct ConfigFields {
+    pub target: Target,
+    /// The shards at the beginning.
+    pub shards: Bounded<1, 1_000>,
+    /// The fewest and the most shards that resharding picks.
+    pub min_shards: Bounded<1, 1_000>,
+    pub max_shards: Bounded<1, 1_000>,
+    /// The items that one shard's queue holds, marks included.
+    pub capacity: Bounded<1, 1_000_000>,
+    /// The most samples of a batch.
+    pub batch: Bounded<1, 10_000>,
+    /// The pause before the first retry of a batch, and the longest one, in milliseconds.
+    pub min_backoff_ms: Bounded<1, 3_600_000>,
+    pub max_backoff_ms: Bounded<1, 3_600_000>,
+    /// How long a read or a write of a connection may take, in milliseconds.
+    pub timeout_ms: Bounded<1, 3_600_000>,
+    /// Which series are sent.
+    pub rules: Rules,
+}
+
+/// How a sender is set up: `min_shards <= shards <= max_shards` and `min_backoff_ms <= max_backoff_ms`. Contracts see the fields.
+#[derive(Debug, Drop)]
+pub struct Config {
+    fields: ConfigFields,
+}
+
+impl Model for Config {
+    ghost use Rattle.std.specs.Prelude.{◌≡◌, true};
+    ghost use Rattle.rw_sender.specs.declared.config.ConfigFields.{ConfigFields};
+    ghost use Rattle.rw_sender.specs.Configs.{is_ordered};
+
+    ghost Value = { ConfigFields };
+
+    ghost view = { λ c. c.fields };
+
+    ghost invariant = { λ c. is_ordered c.fields ≡ true };
+}
+
+impl ConfigFields {
+    /// One shard, at most 50, and what else a sender does when it is told nothing.
+    pub fn standard(alloc: Global) -> Result<ConfigFields, AllocError>
+        ensures { IfOk result (λ c. c ≡ standard) }
+    {
+        Ok(ConfigFields {
+            target: Target::standard(alloc)?,
+            shards: Bounded::of(1),
+            min_shards: Bounded::of(1),
+            max_shards: Bounded::of(50),
+            capacity: Bounded::of(10_000),
+            batch: Bounded::of(2_000),
+            min_backoff_ms: Bounded::of(30),
+            max_backoff_ms: Bounded::of(5_000),
+            timeout_ms: Bounded::of(30_000),
+            rules: Rules::new(Vec::new(alloc)),
+        })
+    }
+
+    /// Whether shards and backoff are between their bounds.
+    pub fn is_ordered(&self) -> bool
+        ensures { result ≡ is_ordered self.now }
+    {
+        self.min_shards.get() <= self.shards.get()
+            && self.shards.get() <= self.max_shards.get()
+            && self.min_backoff_ms.get() <= self.max_backoff_ms.get()
+    }
+}
+
+impl Config {
+    /// This configuration, where shards and backoff are between their bounds. This takes no memory.
+    pub fn new(fields: ConfigFields) -> Option<Config>
+        ensures { result ≡ (if is_ordered fields then Some fields else None) }
+    {
+        if fields.is_ordered() {
+            Some(Config { fields })
+        } else {
+            None
+        }
+    }
+
+    /// What a sender does when it is told nothing.
+    pub fn standard(alloc: Global) -> Result<Config, AllocError>
+        ensures { IfOk result (λ c. c ≡ standard) }
+    {
+        Ok(Config {
+            fields: ConfigFields::standard(alloc)?,
+        })
+    }
+
+    pub fn fields(&self) -> &ConfigFields
+        ensures fields { result.now ≡ self.now }
+        ensures min_shards { self.now.min_shards ≤ self.now.shards }
+        ensures max_shards { self.now.shards ≤ self.now.max_shards }
+        ensures backoff { self.now.min_backoff_ms ≤ self.now.max_backoff_ms }
+    {
+        &self.fields
+    }
+
+    pub fn into_fields(self) -> ConfigFields
+        ensures { result ≡ self }
+    {
+        let Config { fields } = self;
+        fields
+    }
+}

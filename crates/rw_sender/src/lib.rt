@@ -1,0 +1,14 @@
+//! The sender of messages: how it is set up, the state of one shard, and the bytes of its requests and of the replies to them.
+#![tactic(auto)]
+
+mod config;
+mod outcome;
+mod replies;
+mod request;
+mod shard;
+
+pub use config::{Config, ConfigFields, Target};
+pub use outcome::Outcome;
+pub use replies::{MAX_FIELDS, MAX_HEAD_BYTES, ReplyRead, read_reply};
+pub use request::request_bytes;
+pub use shard::{Attempt, ShardCore};
