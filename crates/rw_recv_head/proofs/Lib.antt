@@ -1,0 +1,4 @@
+pub mod OrderLemmas
+pub mod PlaceLemmas
+pub mod StoreLemmas
+pub mod VerdictLemmas

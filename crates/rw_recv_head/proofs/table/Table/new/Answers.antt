@@ -1,0 +1,8 @@
+use Rattle.rw_recv_head.proofs.PlaceLemmas.{no_places, IsSound-empty}
+use Rattle.rw_recv_head.proofs.table.Table.new.Goals as goal
+
+pub invariant_of-result : goal.invariant_of-result
+invariant_of-result c = IsSound-empty c.new.result _ _ c.new.ensures.empty c.new-2.ensures.items c.new-3.ensures.items
+
+pub returns : goal.returns
+returns c = let stores = no_places c.new.result.entries c.new-2.result.items c.new.ensures.empty in λ i. record { kept = stores.0 i; staged = stores.1 i }

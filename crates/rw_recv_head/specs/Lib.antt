@@ -1,0 +1,5 @@
+pub mod Order
+pub mod Store
+pub mod Verdicts
+pub mod Head
+pub mod Lists

@@ -1,0 +1,209 @@
+//! The receiving head.
+
+ghost use Rattle.std.specs.Prelude.{◌≡◌, ◌≢◌, ◌^◌, ◌<◌, length, None, Some, Ok, OnOk, IfOk, IfErr, map};
+ghost use Rattle.std.specs.FinMap.{empty};
+ghost use Rattle.rw_types.specs.Labels.{text_label};
+ghost use Rattle.rw_recv_head.specs.declared.verdict.Verdict.TheVariants.{NoMemory};
+ghost use Rattle.rw_recv_head.specs.Store.{list_of, total, label_sets, HasNoEmptyList};
+ghost use Rattle.rw_recv_head.specs.Verdicts.{refusal, taken, taken_all, apply};
+ghost use Rattle.rw_recv_head.specs.Head.{status_of, answer, IsStatus};
+ghost use Rattle.rw_recv_head.specs.Lists.{StoreGives};
+
+use crate::label_sets::LabelSets;
+use crate::limits::Limits;
+use crate::table::Table;
+use crate::verdict::Verdict;
+use rw_types::{LabelFault, LabelSet, Word};
+use rw_write_request::{Message, Series, WireFault, decode, reads_spellings};
+use std::alloc::{AllocError, Global};
+use std::marker::Model;
+
+/// How large label sets may be.
+#[derive(Debug, Drop)]
+struct LabelBounds {
+    max_labels: usize,
+    max_label_bytes: usize,
+}
+
+impl Model for LabelBounds {
+    ghost use Rattle.rw_recv_head.specs.Verdicts.{LabelLimits};
+
+    ghost Value = { LabelLimits };
+
+    ghost view = { λ b. record { max_labels = b.max_labels; max_label_bytes = b.max_label_bytes } };
+}
+
+/// Writes the labels of a series down, where the head takes them.
+fn take_labels(
+    labels: &mut LabelSet,
+    texts: &[(String, String)],
+    bounds: &LabelBounds,
+) -> Result<(), Verdict>
+    ensures ok { OnOk result ((labels.new ≡ map text_label texts.now) × (refusal bounds.now (map text_label texts.now) ≡ None)) }
+    ensures err { IfErr result (λ v. v ≢ NoMemory → refusal bounds.now (map text_label texts.now) ≡ Some v) }
+{
+    match labels.assign(texts) {
+        Ok(()) => {}
+        Err(LabelFault::OutOfMemory) => return Err(Verdict::NoMemory),
+        Err(_) => return Err(Verdict::BadLabels),
+    }
+    if labels.is_over(bounds.max_labels, bounds.max_label_bytes) {
+        return Err(Verdict::OverLimit);
+    }
+    Ok(())
+}
+
+/// Stages a series.
+fn stage_series(
+    table: &mut Table,
+    labels: &mut LabelSet,
+    bounds: &LabelBounds,
+    series: &Series,
+) -> Result<(), Verdict>
+    ensures kept { table.new.kept ≡ table.old.kept }
+    ensures staged { StoreGives result (taken bounds.now table.old.staged series.now) table.new.staged }
+{
+    take_labels(labels, &series.labels, bounds)?;
+    table.stage(labels, &series.samples)
+}
+
+/// Stages series, one after the other, up to the first that is refused.
+fn stage_all(
+    table: &mut Table,
+    labels: &mut LabelSet,
+    bounds: &LabelBounds,
+    message: &[Series],
+) -> Result<(), Verdict>
+    ensures kept { table.new.kept ≡ table.old.kept }
+    ensures staged { StoreGives result (taken_all bounds.now (Ok table.old.staged) message.now) table.new.staged }
+{
+    for series in message {
+        stage_series(table, labels, bounds, series)?;
+    }
+    Ok(())
+}
+
+/// The receiving head: the samples of each label set, and what it takes.
+#[derive(Debug, Drop)]
+pub struct Head {
+    alloc: Global,
+    table: Table,
+    labels: LabelSet,
+    bounds: LabelBounds,
+    busy: u64,
+}
+
+impl Model for Head {
+    ghost use Rattle.std.specs.Prelude.{◌≡◌};
+    ghost use Rattle.std.specs.Coded.{codes};
+    ghost use Rattle.std.specs.FinMap as map;
+    ghost use Rattle.rw_recv_head.specs.Head.{State};
+
+    ghost Value = { State };
+
+    ghost coded = { Prim.hlevel (codes, map.code) };
+
+    ghost view = { λ h. record { store = h.table.kept; limits = h.bounds; busy = h.busy } };
+
+    ghost invariant = { λ h. h.table.staged ≡ h.table.kept };
+}
+
+/// The status that tells a verdict.
+fn status_of(verdict: Verdict) -> u16
+    ensures { result ≡ status_of verdict }
+{
+    match verdict {
+        Verdict::Stored(_) => 204,
+        Verdict::NoMemory => 503,
+        _ => 400,
+    }
+}
+
+impl Head {
+    /// A head without samples. This takes no memory.
+    pub fn new(alloc: Global, limits: &Limits) -> Head
+        ensures store { result.store ≡ empty }
+        ensures max_labels { result.limits.max_labels ≡ limits.now.max_labels }
+        ensures max_label_bytes { result.limits.max_label_bytes ≡ limits.now.max_label_bytes }
+        ensures busy { result.busy ≡ limits.now.busy_first }
+    {
+        let bounds = LabelBounds {
+            max_labels: limits.max_labels.get() as usize,
+            max_label_bytes: limits.max_label_bytes.get() as usize,
+        };
+        Head {
+            alloc,
+            table: Table::new(alloc),
+            labels: LabelSet::empty(alloc),
+            bounds,
+            busy: limits.busy_first.get(),
+        }
+    }
+
+    /// Takes a message whole or not at all: its series in order, each by its labels, then by this head's limits, and then by its samples.
+    /// `NoMemory` is the verdict only where memory ran out.
+    pub fn apply(&mut self, message: &Message) -> Verdict
+        ensures verdict { result ≢ NoMemory → result ≡ (apply self.old.limits self.old.store message.now).verdict }
+        ensures store { result ≢ NoMemory → self.new.store ≡ (apply self.old.limits self.old.store message.now).store }
+        ensures no_memory { result ≡ NoMemory → self.new.store ≡ self.old.store }
+        ensures limits { self.new.limits ≡ self.old.limits }
+        ensures busy { self.new.busy ≡ self.old.busy }
+    {
+        let staged = stage_all(
+            &mut self.table,
+            &mut self.labels,
+            &self.bounds,
+            &message.series,
+        );
+        match staged {
+            Ok(()) => Verdict::Stored(self.table.commit()),
+            Err(verdict) => {
+                self.table.abort();
+                verdict
+            }
+        }
+    }
+
+    /// The status for a request's body: 429 for as many requests as the head is busy for first, whatever they hold. Then 204 where the body is
+    /// a message that is stored, 400 where it is refused, and 503 only where memory ran out.
+    pub fn answer(&mut self, body: &[u8]) -> u16
+        ensures status { result ≢ 503 → result ≡ (answer self.old body.now).status }
+        ensures head { result ≢ 503 → self.new ≡ (answer self.old body.now).head }
+        ensures no_memory { result ≡ 503 → (self.new ≡ self.old) × (self.old.busy ≡ 0) }
+        ensures statuses { IsStatus result }
+    {
+        if self.busy > 0 {
+            self.busy -= 1;
+            return 429;
+        }
+        reads_spellings();
+        match decode(self.alloc, body) {
+            Ok(message) => status_of(self.apply(&message)),
+            Err(WireFault::OutOfMemory) => 503,
+            Err(_) => 400,
+        }
+    }
+
+    /// How many samples there are. This takes no memory, and its time does not grow.
+    pub fn total(&self) -> u64
+        ensures { result ≡ total self.now.store }
+    {
+        self.table.total()
+    }
+
+    /// The samples of a label set in order, as (timestamp in milliseconds, value).
+    pub fn samples(&self, labels: &LabelSet) -> Result<Vec<(i64, Word)>, AllocError>
+        ensures { IfOk result (λ v. v.items ≡ list_of self.now.store labels.now) }
+    {
+        self.table.kept(labels).to_vec(self.alloc)
+    }
+
+    /// The label sets that have samples, by byte order of their lists of (name, value). This takes no memory.
+    pub fn label_sets(&self) -> LabelSets<'_>
+        ensures list { result ≡ label_sets self.now.store }
+        ensures filled { HasNoEmptyList self.now.store }
+        ensures fits { length result < 2 ^ 63 }
+    {
+        self.table.label_sets()
+    }
+}

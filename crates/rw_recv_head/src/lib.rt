@@ -1,0 +1,16 @@
+//! The head of a receiver of samples: requests are taken whole or not at all, each sample once, in order.
+#![tactic(auto)]
+
+mod head;
+mod label_sets;
+mod laws;
+mod limits;
+mod sample_list;
+mod table;
+mod verdict;
+
+pub use head::Head;
+pub use label_sets::LabelSets;
+pub use laws::{stores_are_lists, stores_hold_no_empty_list};
+pub use limits::Limits;
+pub use verdict::Verdict;

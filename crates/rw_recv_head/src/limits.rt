@@ -1,0 +1,42 @@
+//! What a receiving head takes.
+
+ghost use Rattle.std.specs.Prelude.{◌≡◌, codes, IfOk};
+
+use rw_types::{Bounded, RequestPath};
+use std::alloc::{AllocError, Global};
+
+/// The limits of a receiving head and of its endpoint.
+#[derive(Debug, Drop)]
+pub struct Limits {
+    /// The path of the endpoint.
+    pub path: RequestPath,
+    /// The most bytes of a request's body.
+    pub max_body_bytes: Bounded<1, 67_108_864>,
+    /// The most labels of a label set.
+    pub max_labels: Bounded<1, 64>,
+    /// The most bytes of the names and values of a label set together.
+    pub max_label_bytes: Bounded<1, 16_384>,
+    /// How many requests are answered with 429 before the first one is judged.
+    pub busy_first: Bounded<0, 1_000_000>,
+}
+
+impl Limits {
+    /// The limits of a head that is given none: `/api/v1/write`, 16 MiB, and what a label set may have at most.
+    pub fn standard(alloc: Global) -> Result<Limits, AllocError>
+        ensures { IfOk result (λ l. l ≡ record {
+          path = codes "/api/v1/write";
+          max_body_bytes = 16777216;
+          max_labels = 64;
+          max_label_bytes = 16384;
+          busy_first = 0;
+        }) }
+    {
+        Ok(Limits {
+            path: RequestPath::api_v1_write(alloc)?,
+            max_body_bytes: Bounded::of(16_777_216),
+            max_labels: Bounded::of(64),
+            max_label_bytes: Bounded::of(16_384),
+            busy_first: Bounded::of(0),
+        })
+    }
+}
