@@ -1,0 +1,7 @@
+pub mod HeadLemmas
+pub mod KnownLemmas
+pub mod FrontLemmas
+pub mod ServingLemmas
+pub mod ReplyLemmas
+pub mod AloneLemmas
+pub mod DeterminedLemmas

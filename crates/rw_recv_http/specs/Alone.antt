@@ -1,0 +1,21 @@
+-- A connection on which one request comes, which asks to close.
+use Rattle.std.specs.Prelude.{◌≡◌, ℕ, ◌⊎◌, List, ◌++◌, length, true, Option, Some, IsTrue}
+use Rattle.httparse.specs.Grammar.{RequestHead}
+use Rattle.rw_recv_http.specs.Judgement.{finding_of}
+use Rattle.rw_recv_http.specs.Reading.{BeginsWithHead}
+use Rattle.rw_recv_http.specs.Replies.{reply, is_verdict}
+use Rattle.rw_recv_http.specs.declared.finding.Finding.TheVariants.{Body}
+use Rattle.rw_recv_http.specs.declared.serve_end.ServeEnd.{ServeEnd}
+use Rattle.rw_recv_http.specs.declared.serve_end.ServeEnd.TheVariants.{Closed, OutOfMemory}
+
+-- the input is one request with this body, which is sound and closes
+pub record IsOneRequest (path : List ℕ) (limit : ℕ) (input body : List ℕ) : Type 0 where
+  pub head : RequestHead
+  pub begins : BeginsWithHead input head body
+  pub finding : finding_of path limit head ≡ Body (length body) true
+
+-- the body was answered, and that is the reply; or memory was refused before it was asked, and nothing was written
+abbrev pub IsServedAlone : {S : Type 0} → (S → List ℕ → ℕ → S → Type 0) → List ℕ → S → List ℕ → Option (List ℕ) → S → ServeEnd → Type 0
+IsServedAlone answers body old before contents new how =
+    ((how ≡ Closed) × (status : ℕ) × answers old body status new × IsTrue (is_verdict status) × (contents ≡ Some (before ++ reply status true)))
+    ⊎ ((how ≡ OutOfMemory) × (new ≡ old) × (contents ≡ Some before))

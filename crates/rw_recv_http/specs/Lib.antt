@@ -1,0 +1,10 @@
+pub mod Fields
+pub mod Values
+pub mod Judgement
+pub mod Reading
+pub mod Replies
+pub mod Serving
+pub mod Steps
+pub mod Alone
+pub mod Determined
+pub mod HeadAnswers

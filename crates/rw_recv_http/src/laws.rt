@@ -1,0 +1,18 @@
+//! Laws of the replies.
+
+ghost use Rattle.std.specs.Prelude.{◌≤◌, ◌||◌, ℕ, Bool, IsTrue, length};
+ghost use Rattle.rw_recv_http.specs.Determined.{IsFunction, AreDetermined};
+ghost use Rattle.rw_recv_http.specs.Judgement.{is_refusal};
+ghost use Rattle.rw_recv_http.specs.Replies.{reply, is_verdict};
+
+use crate::answer::Answer;
+
+/// A reply takes at most 86 bytes.
+pub fn replies_are_short()
+    ensures { (status : ℕ) (closes : Bool) → IsTrue (is_verdict status || is_refusal status) → length (reply status closes) ≤ 86 }
+{}
+
+/// Where a body has one answer, an input that is served whole has one text of replies.
+pub fn replies_are_determined<A: Answer>()
+    ensures { IsFunction A.answers → AreDetermined A.answers }
+{}

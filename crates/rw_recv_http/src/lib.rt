@@ -1,0 +1,20 @@
+//! The receiving endpoint of Remote-Write 1.0 over HTTP/1.1: bytes of a connection in, one reply for each request out, in order.
+#![tactic(auto)]
+
+mod answer;
+mod fields;
+mod finding;
+mod head;
+mod head_answer;
+mod input;
+mod laws;
+mod names;
+mod reply;
+mod requests;
+mod serve_end;
+mod values;
+
+pub use answer::Answer;
+pub use laws::{replies_are_determined, replies_are_short};
+pub use requests::serve;
+pub use serve_end::ServeEnd;

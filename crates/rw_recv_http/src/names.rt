@@ -1,0 +1,11 @@
+//! Names and values that are compared without case.
+
+ghost use Rattle.std.specs.Prelude.{◌≡◌};
+ghost use Rattle.std.specs.Str.{str_eq_ignore_ascii_case};
+
+/// Whether two texts are the same, in any case.
+pub(crate) fn is_same(text: &[u8], other: &[u8]) -> bool
+    ensures { result ≡ str_eq_ignore_ascii_case text.now other.now }
+{
+    text.eq_ignore_ascii_case(other)
+}
