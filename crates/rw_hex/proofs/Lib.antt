@@ -1,0 +1,3 @@
+pub mod PairLemmas
+pub mod LineLemmas
+pub mod LawLemmas

@@ -1,0 +1,12 @@
+use Rattle.std.proofs.Common.{refl}
+use Rattle.rw_hex.specs.HexText.{read_text, read_digits}
+use Rattle.rw_hex.proofs.LawLemmas.{all_digits, none_foreign, bytes_back}
+use Rattle.rw_hex.proofs.laws.text_is_read.Goals as goal
+
+pub returns-clause-whole : goal.returns-clause-whole
+unfolding read_text
+returns-clause-whole c bytes h = rw (none_foreign bytes h, bytes_back bytes h) refl
+
+pub returns-clause-digits : goal.returns-clause-digits
+unfolding read_digits
+returns-clause-digits c bytes h = rw (all_digits bytes h, bytes_back bytes h) refl

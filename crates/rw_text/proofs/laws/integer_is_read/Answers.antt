@@ -1,0 +1,5 @@
+use Rattle.rw_text.proofs.OneLemmas.{integer_printed}
+use Rattle.rw_text.proofs.laws.integer_is_read.Goals as goal
+
+pub returns : goal.returns
+returns c = integer_printed

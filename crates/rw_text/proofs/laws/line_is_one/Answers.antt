@@ -1,0 +1,5 @@
+use Rattle.rw_text.proofs.OneLemmas.{line_one}
+use Rattle.rw_text.proofs.laws.line_is_one.Goals as goal
+
+pub returns : goal.returns
+returns c = line_one

@@ -1,0 +1,5 @@
+pub mod Growing
+pub mod LabelText
+pub mod LineText
+pub mod Numbers
+pub mod ValueText

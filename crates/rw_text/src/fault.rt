@@ -1,0 +1,23 @@
+//! Why a text was not read.
+
+use std::alloc::AllocError;
+
+/// Why a text was not read.
+#[derive(Clone, Copy, Debug, PartialEq, Eq)]
+pub enum TextFault {
+    /// Memory ran out.
+    OutOfMemory,
+    /// The text is not of the form.
+    NotOfForm,
+}
+
+impl From<AllocError> for TextFault {
+    ghost use Rattle.std.specs.Prelude.{◌≡◌};
+    ghost use Rattle.rw_text.specs.declared.fault.TextFault.TheVariants.{OutOfMemory};
+
+    ghost from_gives = { λ _ e. e ≡ OutOfMemory };
+
+    fn from(_e: AllocError) -> TextFault {
+        TextFault::OutOfMemory
+    }
+}

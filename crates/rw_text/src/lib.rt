@@ -1,0 +1,25 @@
+//! The text forms of numbers, values, labels and logs: readers and printers.
+#![tactic(auto)]
+
+mod bytes;
+mod fault;
+mod labels;
+mod laws;
+mod line;
+mod lines;
+mod numbers;
+mod print;
+mod quotes;
+mod values;
+
+pub use fault::TextFault;
+pub use labels::read_labels;
+pub use laws::{
+    integer_is_read, labels_are_one, line_is_one, number_is_one, number_is_read, value_is_one,
+    value_is_read,
+};
+pub use line::LogLine;
+pub use lines::read_line;
+pub use numbers::{push_integer, push_number, read_integer, read_number};
+pub use print::push_labels;
+pub use values::{push_value, read_value};

@@ -1,0 +1,66 @@
+//! Whole numbers in decimal digits.
+
+ghost use Rattle.std.specs.Prelude.{◌≡◌, ◌<◌, ◌≤◌, ◌+◌, ◌-◌, ◌*◌, ◌^◌, ℕ, ℤ, ◌++◌, MatchOption, OnOk, OnErr, FitsSigned, decimal};
+ghost use Rattle.std.proofs.Common.{w64};
+ghost use Rattle.std.specs.Fmt.{signed_decimal};
+ghost use Rattle.rw_text.specs.Numbers.{IsNumber, IsInteger};
+
+use crate::bytes::after;
+use itoa::Buffer;
+use std::alloc::AllocError;
+
+/// The number behind the digits of `front` once this digit follows them.
+fn with_digit(front: u64, digit: u8) -> Option<u64>
+    requires { (48 ≤ digit) × (digit ≤ 57) }
+    ensures { MatchOption result (2 ^ 64 ≤ front * 10 + (digit - 48)) (λ n. n ≡ front * 10 + (digit - 48)) }
+{
+    front.checked_mul(10)?.checked_add((digit - b'0') as u64)
+}
+
+/// A number below 2^64 in decimal digits, of which the first ones may be zeros.
+pub fn read_number(text: &[u8]) -> Option<u64>
+    ensures { MatchOption result ((n : ℕ) → n < 2 ^ 64 → IsNumber text.now n → ⊥) (IsNumber text.now) }
+{
+    if text.is_empty() {
+        return None;
+    }
+    let mut number = 0;
+    for digit in text {
+        if !digit.is_ascii_digit() {
+            return None;
+        }
+        let Some(longer) = with_digit(number, *digit) else {
+            return None;
+        };
+        number = longer;
+    }
+    Some(number)
+}
+
+/// A number from -2^63 to 2^63 - 1 in decimal digits, which may stand behind one minus.
+pub fn read_integer(text: &[u8]) -> Option<i64>
+    ensures { MatchOption result ((z : ℤ) → FitsSigned w64 z → IsInteger text.now z → ⊥) (IsInteger text.now) }
+{
+    match after(text, b"-") {
+        Some(digits) => 0i64.checked_sub_unsigned(read_number(digits)?),
+        None => 0i64.checked_add_unsigned(read_number(text)?),
+    }
+}
+
+/// Adds the decimal digits of a number at the end, without zeros before them. An `Err` leaves `out` as it was.
+pub fn push_number(out: &mut Vec<u8>, n: u64) -> Result<(), AllocError>
+    ensures ok { OnOk result (out.new.items ≡ out.old.items ++ decimal n) }
+    ensures err { OnErr result (out.new.items ≡ out.old.items) }
+{
+    let mut buffer = Buffer::new();
+    out.extend_from_slice(buffer.format(n).as_bytes())
+}
+
+/// Adds the decimal digits of a number at the end, behind a minus where it is negative. An `Err` leaves `out` as it was.
+pub fn push_integer(out: &mut Vec<u8>, z: i64) -> Result<(), AllocError>
+    ensures ok { OnOk result (out.new.items ≡ out.old.items ++ signed_decimal z) }
+    ensures err { OnErr result (out.new.items ≡ out.old.items) }
+{
+    let mut buffer = Buffer::new();
+    out.extend_from_slice(buffer.format(z).as_bytes())
+}
