@@ -1,0 +1,108 @@
+-- The series plan of a log: what becomes of each definition, and of how many samples.
+use Rattle.std.specs.Prelude.{ℕ, List, [], ◌∷◌, ◌++◌, Bool, true, false, count_by, codes, decimal, Some}
+use Rattle.rw_types.specs.Labels.{Labels}
+use Rattle.rw_types.specs.declared.entry.Entry.{Entry}
+use Rattle.rw_types.specs.declared.entry.Entry.TheVariants.{Def, Sample}
+use Rattle.rw_types.specs.declared.label_fault.LabelFault.{LabelFault}
+use Rattle.rw_types.specs.declared.label_fault.LabelFault.TheVariants as fault
+use Rattle.rw_codes.specs.Pieces.{bytes, entries}
+use Rattle.rw_relabel.specs.Rules.{RuleConfig}
+use Rattle.rw_series_cache.specs.Known.{Standing, Unknown, Bad, Filtered, Kept, standing_of, known}
+use Rattle.rw_series_cache.specs.Numbers.{series_of, number_of}
+use Rattle.rw_text.specs.LabelText.{labels_text}
+use Rattle.rw_plan.specs.declared.counts.SampleCounts.{SampleCounts}
+
+-- the number of a fault of labels
+abbrev pub label_fault_number : LabelFault → ℕ
+label_fault_number fault.OutOfMemory = 0
+label_fault_number fault.NotUtf8 = 1
+label_fault_number fault.EmptyName = 2
+label_fault_number fault.BadName = 3
+label_fault_number fault.EmptyValue = 4
+label_fault_number fault.NotSorted = 5
+label_fault_number fault.TooMany = 6
+label_fault_number fault.TooLong = 7
+
+-- `REF bad FAULT`, `REF filtered LABELS` and `REF kept NUMBER LABELS`, each with a newline
+abbrev pub bad_text : ℕ → LabelFault → List ℕ
+bad_text reference f = decimal reference ++ codes " bad " ++ decimal (label_fault_number f) ++ codes "\n"
+
+abbrev pub filtered_text : ℕ → Labels → List ℕ
+filtered_text reference l = decimal reference ++ codes " filtered " ++ labels_text l ++ codes "\n"
+
+abbrev pub kept_text : ℕ → ℕ → Labels → List ℕ
+kept_text reference number l = decimal reference ++ codes " kept " ++ decimal number ++ codes " " ++ labels_text l ++ codes "\n"
+
+-- the line of a definition with these labels, which stand so, where the series are these
+abbrev pub definition_text : List Labels → ℕ → Labels → Standing → List ℕ
+definition_text series reference labels Unknown = []
+definition_text series reference labels (Bad f) = bad_text reference f
+definition_text series reference labels Filtered = filtered_text reference labels
+definition_text series reference labels (Kept l) = kept_text reference (number_of series l) l
+
+-- the line that an entry gives, after those before
+abbrev pub line_of : List RuleConfig → List Entry → Entry → List ℕ
+line_of rules before (Sample reference t word) = []
+line_of rules before (Def reference labels) =
+    definition_text (series_of rules (before ++ Def reference labels ∷ [])) reference labels (standing_of rules (Some labels))
+
+-- what is known of the reference of a sample, after the entries before it
+abbrev pub standing_at : List RuleConfig → List Entry → Entry → List Standing
+standing_at rules before (Sample reference t word) = known rules before reference ∷ []
+standing_at rules before (Def reference labels) = []
+
+-- what entries give, each after those before
+abbrev pub each_after : {A : Type 0} → (List Entry → Entry → List A) → List Entry → List Entry → List A
+each_after f before [] = []
+each_after f before (e ∷ es) = f before e ++ each_after f (before ++ e ∷ []) es
+
+-- the lines of the definitions
+unfoldable pub lines : List RuleConfig → List Entry → List ℕ
+lines rules es = each_after (line_of rules) [] es
+
+-- what is known of the samples, in order
+unfoldable pub standings : List RuleConfig → List Entry → List Standing
+standings rules es = each_after (standing_at rules) [] es
+
+abbrev pub is_kept : Standing → Bool
+is_kept (Kept l) = true
+is_kept _ = false
+
+abbrev pub is_filtered : Standing → Bool
+is_filtered Filtered = true
+is_filtered _ = false
+
+abbrev pub is_bad : Standing → Bool
+is_bad (Bad f) = true
+is_bad _ = false
+
+abbrev pub is_unknown : Standing → Bool
+is_unknown Unknown = true
+is_unknown _ = false
+
+-- how many samples there are of each kind
+unfoldable pub counts_of : List Standing → SampleCounts
+counts_of standings = record {
+  kept = count_by is_kept standings;
+  filtered = count_by is_filtered standings;
+  bad = count_by is_bad standings;
+  noseries = count_by is_unknown standings;
+}
+
+-- a count behind its word
+unfoldable pub count_text : List ℕ → ℕ → List ℕ
+count_text word n = word ++ decimal n
+
+-- the last line
+abbrev pub counts_text : SampleCounts → List ℕ
+counts_text c =
+    count_text (codes "samples kept ") c.kept ++ count_text (codes " filtered ") c.filtered ++ count_text (codes " bad ") c.bad
+    ++ count_text (codes " noseries ") c.noseries ++ codes "\n"
+
+-- the plan of some entries
+unfoldable pub plan_text : List RuleConfig → List Entry → List ℕ
+plan_text rules es = lines rules es ++ counts_text (counts_of (standings rules es))
+
+-- the plan of a segment
+abbrev pub plan_of : List RuleConfig → List ℕ → List ℕ
+plan_of rules segment = plan_text rules (entries (bytes segment ∷ []))

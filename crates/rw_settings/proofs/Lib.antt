@@ -1,0 +1,3 @@
+pub mod DocumentLemmas
+pub mod KeyLemmas
+pub mod RuleLemmas

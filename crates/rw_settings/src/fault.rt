@@ -1,0 +1,82 @@
+//! What is wrong with settings.
+
+ghost use Rattle.std.specs.Prelude.{◌≡◌};
+ghost use Rattle.rw_settings.specs.Faults.{fault_number, lesser, least};
+
+use std::alloc::AllocError;
+
+/// Why settings are refused: the least of these that holds anywhere in the text. Cast to a number, `OutOfMemory` is 0 and the faults of the text are 1 to 5.
+#[derive(Clone, Copy, Debug, PartialEq, Eq)]
+pub enum SettingsFault {
+    /// No fault of the text: memory ran out.
+    OutOfMemory,
+    /// The text is no TOML: it is not UTF-8, or a whole number does not fit 64 signed bits, or the like.
+    NotToml,
+    /// A table has a key that is none of its keys.
+    UnknownKey,
+    /// A value is of another type than its key's.
+    WrongType,
+    /// A value is not in its key's range, a number is not between its bounds, or a rule has an empty list of source labels.
+    OutOfRange,
+    /// A rule has no action, an unknown one or no source labels, or its regular expression is refused.
+    BadRule,
+}
+
+impl From<AllocError> for SettingsFault {
+    ghost use Rattle.std.specs.Prelude.{◌≡◌};
+    ghost use Rattle.rw_settings.specs.declared.fault.SettingsFault.TheVariants.{OutOfMemory};
+
+    ghost from_gives = { λ _ e. e ≡ OutOfMemory };
+
+    fn from(_e: AllocError) -> SettingsFault {
+        SettingsFault::OutOfMemory
+    }
+}
+
+impl SettingsFault {
+    /// Its number, 0 to 5.
+    pub fn number(self) -> u8
+        ensures { result ≡ fault_number self }
+    {
+        match self {
+            SettingsFault::OutOfMemory => 0,
+            SettingsFault::NotToml => 1,
+            SettingsFault::UnknownKey => 2,
+            SettingsFault::WrongType => 3,
+            SettingsFault::OutOfRange => 4,
+            SettingsFault::BadRule => 5,
+        }
+    }
+}
+
+/// The lesser of two faults, where there is any.
+pub(crate) fn lesser(
+    fault: Option<SettingsFault>,
+    other: Option<SettingsFault>,
+) -> Option<SettingsFault>
+    ensures { result ≡ lesser fault other }
+{
+    match (fault, other) {
+        (None, other) => other,
+        (Some(fault), None) => Some(fault),
+        (Some(fault), Some(other)) => {
+            if other.number() < fault.number() {
+                Some(other)
+            } else {
+                Some(fault)
+            }
+        }
+    }
+}
+
+/// The least fault, where there is any.
+#[tactic(auto, unfolding(crate::specs::Faults::least))]
+pub(crate) fn least(faults: &[Option<SettingsFault>]) -> Option<SettingsFault>
+    ensures { result ≡ least faults.now }
+{
+    let mut worst = None;
+    for fault in faults {
+        worst = lesser(worst, *fault);
+    }
+    worst
+}

@@ -1,0 +1,7 @@
+//! Tests of the settings.
+#![tactic(auto)]
+
+#[cfg(test)]
+mod documents;
+#[cfg(test)]
+mod ranges;
