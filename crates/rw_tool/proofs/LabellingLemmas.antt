@@ -1,5 +1,5 @@
 -- What is known of a log, entry by entry.
-use Rattle.std.proofs.Common.{◌≡◌, ℕ, ℤ, ◌<◌, zero, suc, List, [], ◌∷◌, ◌++◌, length, map, Bool, true, false, cond, nat_eq, refl, sym, ◌∙◌, ap, ap₂, subst, Option, Some, None, slice_get, get_or}
+use Rattle.std.proofs.Common.{◌≡◌, ℕ, ℤ, ◌<◌, zero, suc, List, [], ◌∷◌, ◌++◌, length, map, Bool, true, false, cond, nat_eq, refl, sym, ◌∙◌, ap, ap₂, subst, Option, Some, None, slice_get}
 use Rattle.std.specs.List.{IsDistinct, AllByRecursion, list_any}
 use Rattle.std.proofs.lemmas.List.{append-nil}
 use Rattle.std.proofs.lemmas.Option.{slice_get-get_or, slice_get_within, get_or_from_slice_get}
@@ -7,12 +7,11 @@ use Rattle.rw_types.specs.Labels.{Labels}
 use Rattle.rw_types.specs.LabelOrder.{labels_eq}
 use Rattle.rw_types.specs.declared.entry.Entry.{Entry}
 use Rattle.rw_types.specs.declared.entry.Entry.TheVariants.{Def, Sample}
-use Rattle.rw_write_request.specs.Message as message_specs
 use Rattle.rw_batch.specs.Grouping.{message, distinct, with_sample, labels_of}
 use Rattle.rw_batch.specs.Groups.{Groups, StandsFor, IsAlone, with_number}
 use Rattle.rw_batch.proofs.MessageLemmas.{message-push}
 use Rattle.rw_batch.proofs.NumberLemmas.{stands_for_own, labels_stay}
-use Rattle.rw_tool.specs.Body.{labelled, labelled_of, labelled_by, label_set_of, if_label_set}
+use Rattle.rw_tool.specs.Body.{labelled, labelled_by, label_set_of, if_label_set}
 use Rattle.rw_tool.specs.Labelling.{Numbers, KeepsNumbers, labels_at, IsLabelling}
 use Rattle.rw_tool.proofs.LabelledLemmas.{labelled-push, label_set_of-none, label_set_of-sample, label_set_of-definition}
 use Rattle.rw_tool.proofs.NumberingLemmas.{one_place}

@@ -1,4 +1,7 @@
+pub mod FillingLemmas
 pub mod LabelledLemmas
 pub mod LabellingLemmas
+pub mod LogTextLemmas
 pub mod NumberingLemmas
-pub mod TailReads
+pub mod PlanRuns
+pub mod TakingLemmas

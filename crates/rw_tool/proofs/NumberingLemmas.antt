@@ -1,26 +1,12 @@
 -- Label sets and their numbers.
-use Rattle.std.proofs.Common.{◌≡◌, ℕ, ◌+◌, zero, suc, List, [], ◌∷◌, ◌++◌, length, map, Bool, true, false, cond, refl, sym, ◌∙◌, ap, ap₂, Option, Some, None, slice_get, String}
-use Rattle.std.specs.Prelude.{string_bytes}
-use Rattle.std.specs.Hash as fed
-use Rattle.std.specs.List.{IsDistinct, AllByRecursion, list_any, flat_map}
-use Rattle.std.specs.declared.alloc.Global.{Global}
+use Rattle.std.proofs.Common.{◌≡◌, ℕ, zero, suc, List, [], ◌∷◌, ◌++◌, Bool, true, false, cond, refl, sym, ◌∙◌, ap, Some, slice_get}
+use Rattle.std.specs.List.{IsDistinct, AllByRecursion, list_any}
 use Rattle.std.proofs.lemmas.Bool.{both_ways}
-use Rattle.std.proofs.lemmas.List.{length-map}
-use Rattle.std.proofs.lemmas.List.Folds.{flat_map-map}
 use Rattle.std.proofs.lemmas.Map.Keys.{IsDistinct-head, IsDistinct-tail}
 use Rattle.indexmap.specs.IndexSet.{insert_key}
-use Rattle.rw_types.specs.Labels.{Labels, text_label}
+use Rattle.rw_types.specs.Labels.{Labels}
 use Rattle.rw_types.specs.LabelOrder.{labels_eq}
 use Rattle.rw_types.proofs.OrderLemmas.{equal_if_same}
-use Rattle.rw_tool.specs.Hashing.{label_input, labels_input}
-
-abbrev text_input : String Global × String Global → fed.HashWrites
-text_input t = fed.str (string_bytes t.0) ++ fed.str (string_bytes t.1)
-
--- texts are fed as the labels that they are
-pub input_of_texts : (ts : List (String Global × String Global)) → fed.slice text_input ts ≡ labels_input (map text_label ts)
-unfolding labels_input
-input_of_texts ts = ap₂ (λ n w. fed.usize n ++ w) (sym (length-map ts text_label)) (sym (flat_map-map label_input text_label ts))
 
 kept_by_push : (ks : List Labels) (k : Labels) (n : ℕ) (l : Labels) → slice_get ks n ≡ Some l → slice_get (ks ++ k ∷ []) n ≡ Some l
 kept_by_push [] k n l e = absurd cc

@@ -1,17 +1,24 @@
--- The faults of a body.
-use Rattle.std.specs.Prelude.{◌≡◌, List, ℕ, [], ◌∷◌, Some}
-use Rattle.rw_codes.specs.Pieces.{Piece, bytes, fault}
+-- The faults of the parts, as those of a command.
+use Rattle.rw_types.specs.declared.transfer.ReadFault.{ReadFault}
+use Rattle.rw_types.specs.declared.transfer.ReadFault.TheVariants as read
 use Rattle.rw_codes.specs.declared.tail_fault.TailFault.{TailFault}
 use Rattle.rw_codes.specs.declared.tail_fault.TailFault.TheVariants as tail
-use Rattle.rw_tool.specs.declared.fault.BodyFault.{BodyFault}
-use Rattle.rw_tool.specs.declared.fault.BodyFault.TheVariants.{OutOfMemory, Log}
+use Rattle.rw_hex.specs.declared.fault.HexFault.{HexFault}
+use Rattle.rw_hex.specs.declared.fault.HexFault.TheVariants as hex
+use Rattle.rw_tool.specs.declared.fault.ToolFault.{ToolFault}
+use Rattle.rw_tool.specs.declared.fault.ToolFault.TheVariants.{OutOfMemory, Log, Line, Device}
 
--- the fault of a reader, as one of a body
-abbrev pub body_fault : TailFault → BodyFault
-body_fault tail.OutOfMemory = OutOfMemory
-body_fault f = Log f
+-- of a log
+abbrev pub fault_of_log : TailFault → ToolFault
+fault_of_log tail.OutOfMemory = OutOfMemory
+fault_of_log f = Log f
 
--- a fault of the log is the one that the segment has
-abbrev pub IsFaultOf : List ℕ → BodyFault → Type 0
-IsFaultOf segment OutOfMemory = Unit {0}
-IsFaultOf segment (Log f) = fault (bytes segment ∷ []) ≡ Some f
+-- of hexadecimal text
+abbrev pub fault_of_hex : HexFault → ToolFault
+fault_of_hex hex.OutOfMemory = OutOfMemory
+fault_of_hex (hex.Line line) = Line line
+
+-- of a reader
+abbrev pub fault_of_reading : ReadFault → ToolFault
+fault_of_reading read.OutOfMemory = OutOfMemory
+fault_of_reading read.Failed = Device

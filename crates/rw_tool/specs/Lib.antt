@@ -1,5 +1,10 @@
 pub mod Body
 pub mod Faults
-pub mod Hashing
+pub mod Filling
 pub mod Labelling
+pub mod Logging
+pub mod LogText
+pub mod Planning
+pub mod Printed
 pub mod Running
+pub mod Taking

@@ -1,42 +1,9 @@
-//! Why there is no body, and why a command ends.
+//! Why a command ends.
 
 use rw_codes::TailFault;
+use rw_hex::HexFault;
 use rw_types::{Failed, ReadFault};
 use std::alloc::AllocError;
-
-/// Why a segment has no body.
-#[derive(Clone, Copy, Debug, PartialEq, Eq)]
-pub enum BodyFault {
-    /// Memory ran out.
-    OutOfMemory,
-    /// The segment has this fault, which is not `TailFault::OutOfMemory`.
-    Log(TailFault),
-}
-
-impl From<AllocError> for BodyFault {
-    ghost use Rattle.std.specs.Prelude.{◌≡◌};
-    ghost use Rattle.rw_tool.specs.declared.fault.BodyFault.TheVariants.{OutOfMemory};
-
-    ghost from_gives = { λ _ e. e ≡ OutOfMemory };
-
-    fn from(_e: AllocError) -> BodyFault {
-        BodyFault::OutOfMemory
-    }
-}
-
-impl From<TailFault> for BodyFault {
-    ghost use Rattle.std.specs.Prelude.{◌≡◌};
-    ghost use Rattle.rw_tool.specs.Faults.{body_fault};
-
-    ghost from_gives = { λ f e. e ≡ body_fault f };
-
-    fn from(fault: TailFault) -> BodyFault {
-        match fault {
-            TailFault::OutOfMemory => BodyFault::OutOfMemory,
-            _ => BodyFault::Log(fault),
-        }
-    }
-}
 
 /// Why a command of the program ends.
 #[derive(Clone, Copy, Debug, PartialEq, Eq)]
@@ -45,27 +12,56 @@ pub enum ToolFault {
     OutOfMemory,
     /// The log has this fault, which is not `TailFault::OutOfMemory`.
     Log(TailFault),
+    /// The text of the input has a fault in this line, counted from 1.
+    Line(u64),
+    /// A record has no room in the segment.
+    SegmentFull,
     /// A reader or a writer failed.
     Device,
 }
 
-impl From<BodyFault> for ToolFault {
+impl From<AllocError> for ToolFault {
     ghost use Rattle.std.specs.Prelude.{◌≡◌};
-    ghost use Rattle.rw_tool.specs.Running.{fault_of_body};
+    ghost use Rattle.rw_tool.specs.declared.fault.ToolFault.TheVariants.{OutOfMemory};
 
-    ghost from_gives = { λ f e. e ≡ fault_of_body f };
+    ghost from_gives = { λ _ e. e ≡ OutOfMemory };
 
-    fn from(fault: BodyFault) -> ToolFault {
+    fn from(_e: AllocError) -> ToolFault {
+        ToolFault::OutOfMemory
+    }
+}
+
+impl From<TailFault> for ToolFault {
+    ghost use Rattle.std.specs.Prelude.{◌≡◌};
+    ghost use Rattle.rw_tool.specs.Faults.{fault_of_log};
+
+    ghost from_gives = { λ f e. e ≡ fault_of_log f };
+
+    fn from(fault: TailFault) -> ToolFault {
         match fault {
-            BodyFault::OutOfMemory => ToolFault::OutOfMemory,
-            BodyFault::Log(fault) => ToolFault::Log(fault),
+            TailFault::OutOfMemory => ToolFault::OutOfMemory,
+            _ => ToolFault::Log(fault),
+        }
+    }
+}
+
+impl From<HexFault> for ToolFault {
+    ghost use Rattle.std.specs.Prelude.{◌≡◌};
+    ghost use Rattle.rw_tool.specs.Faults.{fault_of_hex};
+
+    ghost from_gives = { λ f e. e ≡ fault_of_hex f };
+
+    fn from(fault: HexFault) -> ToolFault {
+        match fault {
+            HexFault::OutOfMemory => ToolFault::OutOfMemory,
+            HexFault::Line(line) => ToolFault::Line(line),
         }
     }
 }
 
 impl From<ReadFault> for ToolFault {
     ghost use Rattle.std.specs.Prelude.{◌≡◌};
-    ghost use Rattle.rw_tool.specs.Running.{fault_of_reading};
+    ghost use Rattle.rw_tool.specs.Faults.{fault_of_reading};
 
     ghost from_gives = { λ f e. e ≡ fault_of_reading f };
 

@@ -3,10 +3,16 @@
 
 mod body;
 mod fault;
+mod filling;
 mod labelling;
+mod log;
+mod log_text;
 mod numbering;
+mod plan;
+mod report;
 mod run;
 
-pub use body::body_of;
-pub use fault::{BodyFault, ToolFault};
+pub use fault::ToolFault;
+pub use log::{run_log, run_log_dir};
+pub use plan::run_plan;
 pub use run::run_body;

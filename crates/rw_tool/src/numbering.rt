@@ -8,61 +8,12 @@ ghost use Rattle.rw_tool.specs.Labelling.{KeepsNumbers};
 use indexmap::IndexSet;
 use rw_types::LabelSet;
 use std::alloc::{AllocError, Global};
-use std::hash::{Hash, Hasher};
 use std::marker::Model;
-
-/// A label set that can be hashed.
-#[derive(Drop)]
-struct Key {
-    labels: LabelSet,
-}
-
-impl Model for Key {
-    ghost use Rattle.std.specs.Prelude.{ℕ, List};
-
-    ghost Value = { List (List ℕ × List ℕ) };
-
-    ghost view = { λ k. k.labels };
-}
-
-impl PartialEq for Key {
-    ghost use Rattle.rw_types.specs.LabelOrder.{labels_eq};
-    ghost use Rattle.rw_types.specs.LabelOrder.{labels_cmp-total};
-    ghost use Rattle.std.proofs.lemmas.Cmp.{eq_by_cmp_equiv};
-    ghost use Rattle.std.specs.Cmp.{partial_equiv_from_equiv};
-
-    ghost eq = { labels_eq };
-
-    ghost laws = { partial_equiv_from_equiv (eq_by_cmp_equiv labels_cmp-total) };
-
-    fn eq(&self, other: &Key) -> bool {
-        self.labels == other.labels
-    }
-}
-
-impl Eq for Key {
-    ghost use Rattle.rw_types.specs.LabelOrder.{labels_cmp-total};
-    ghost use Rattle.std.proofs.lemmas.Cmp.{eq_by_cmp_equiv};
-
-    ghost laws = { eq_by_cmp_equiv labels_cmp-total };
-}
-
-impl Hash for Key {
-    ghost use Rattle.rw_tool.specs.Hashing.{labels_input, same_input};
-
-    ghost hash_input = { labels_input };
-
-    ghost respects_eq = { same_input };
-
-    fn hash<H: Hasher>(&self, state: &mut H) {
-        self.labels.as_slice().hash(state);
-    }
-}
 
 /// Label sets, each once, in the order in which they came. Contracts see their list; a label set's place in it is its number.
 #[derive(Drop)]
 pub(crate) struct Numbering {
-    sets: IndexSet<Key>,
+    sets: IndexSet<LabelSet>,
 }
 
 impl Model for Numbering {
@@ -91,7 +42,7 @@ impl Numbering {
         ensures number { IfOk result (λ n. slice_get self.new n ≡ Some labels) }
         ensures keeps { KeepsNumbers self.old self.new }
     {
-        let (number, _) = self.sets.insert_full(Key { labels })?;
+        let (number, _) = self.sets.insert_full(labels)?;
         Ok(number)
     }
 
@@ -102,7 +53,7 @@ impl Numbering {
         ensures distinct { IsDistinct labels_eq self.now }
     {
         match self.sets.get_index(number) {
-            Some(key) => &key.labels,
+            Some(labels) => labels,
             None => unreachable!(),
         }
     }

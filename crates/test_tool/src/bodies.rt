@@ -1,128 +1,103 @@
-//! The bodies of log segments.
+//! The command `body`. Segments and bodies are written out in hexadecimal; they were made by another program.
 
 use rw_codes::TailFault;
-use rw_tool::{BodyFault, body_of};
-use rw_types::{RawLabels, Room, Word};
-use rw_wal_write::{SegmentWriter, sample_record, series_record};
+use rw_hex::read_digits;
+use rw_tool::{ToolFault, run_body};
+use rw_types::Room;
 use std::alloc::Global;
 use std::test::Fail;
 
-/// Writes a record, where there is one.
-fn put(writer: &mut SegmentWriter<Room>, rec: &[u8]) {
-    if !rec.is_empty() {
-        let _ = writer.log(rec);
+/// One series `up` with one sample at 1000 of the value 1.
+const UP_SEGMENT: &str =
+    "010016391994f301000000000000000101085f5f6e616d655f5f02757001001b2c514c0702000000000000000100000000000003e800003ff0000000000000";
+
+const UP: &str = "0a1e0a0e0a085f5f6e616d655f5f12027570120c09000000000000f03f10e807";
+
+/// The same with another last byte.
+const CHANGED_SEGMENT: &str =
+    "010016391994f301000000000000000101085f5f6e616d655f5f02757001001b2c514c0702000000000000000100000000000003e800003ff0000000000001";
+
+/// Definitions 1 of `a` and 2 of `b`, and samples of 1, 2 and 1 at 1, 2 and 3, all of the word 0.
+const A_AND_B_SEGMENT: &str =
+    "01001565cc629301000000000000000101085f5f6e616d655f5f016101001527ead9c801000000000000000201085f5f6e616d655f5f016201002f49f164d60200000000000000010000000000000001000000000000000000000202000000000000000000040000000000000000";
+
+const A_AND_B: &str =
+    "0a170a0d0a085f5f6e616d655f5f12016112021001120210030a130a0d0a085f5f6e616d655f5f12016212021002";
+
+/// The same samples: reference 1 is `a`, then `b`, and reference 7 is `a` again.
+const REDEFINED_SEGMENT: &str =
+    "01001565cc629301000000000000000101085f5f6e616d655f5f016101001b74934011020000000000000001000000000000000100000000000000000000010015769c916701000000000000000101085f5f6e616d655f5f016201001bc8ed2ea3020000000000000001000000000000000200000000000000000000010015c720f3cd01000000000000000701085f5f6e616d655f5f016101001bc733e823020000000000000007000000000000000300000000000000000000";
+
+/// Samples of reference 1 before it is defined, where it has the name `9`, where it is `a`, and where it has the name `9` again.
+const LEFT_OUT_SEGMENT: &str =
+    "01001b74934011020000000000000001000000000000000100000000000000000000010015be30e08f01000000000000000101085f5f6e616d655f5f013901001bc8ed2ea302000000000000000100000000000000020000000000000000000001001565cc629301000000000000000101085f5f6e616d655f5f016101001b74934011020000000000000001000000000000000100000000000000000000010015be30e08f01000000000000000101085f5f6e616d655f5f013901001b5f9cd962020000000000000001000000000000000300000000000000000000";
+
+const ONE_OF_A: &str = "0a130a0d0a085f5f6e616d655f5f12016112021001";
+
+/// What is written, and the fault, of an input.
+fn written(alloc: Global, input: &[u8], hex: bool) -> Result<(Vec<u8>, Option<ToolFault>), Fail> {
+    let mut reader = input;
+    let mut writer = Room::new(alloc, 4096)?;
+    let ended = run_body(alloc, &mut reader, &mut writer, hex);
+    Ok((writer.into_bytes(), ended.err()))
+}
+
+#[test]
+fn bodies(rt: HostRuntime) -> Result<(), Fail> {
+    let alloc = rt.alloc();
+    let rows = [
+        (UP_SEGMENT, UP),
+        (A_AND_B_SEGMENT, A_AND_B),
+        (REDEFINED_SEGMENT, A_AND_B),
+        (LEFT_OUT_SEGMENT, ONE_OF_A),
+        ("010001b34623a602", ""),
+        ("", ""),
+    ];
+    for (segment, body) in rows {
+        let (mut text, fault) = written(alloc, segment.as_bytes(), true)?;
+        assert_eq!(rt; fault, None);
+        assert_eq!(rt; text.pop(), Some(b'\n'));
+        assert_eq!(rt; text.as_slice(), body.as_bytes());
+        let bytes = read_digits(alloc, segment.as_bytes())?.ok_or("no digits")?;
+        let (output, fault) = written(alloc, &bytes, false)?;
+        assert_eq!(rt; fault, None);
+        let wanted = read_digits(alloc, body.as_bytes())?.ok_or("no digits")?;
+        assert_eq!(rt; output.as_slice(), wanted.as_slice());
     }
-}
-
-/// Writes a definition with one label.
-fn put_series(
-    alloc: Global,
-    writer: &mut SegmentWriter<Room>,
-    reference: u64,
-    label: (&str, &str),
-) -> Result<(), Fail> {
-    let mut labels = RawLabels::new(alloc);
-    labels.push(label.0.as_bytes(), label.1.as_bytes())?;
-    put(writer, &series_record(alloc, reference, &labels)?);
-    Ok(())
-}
-
-/// Writes samples of one record.
-fn put_samples(
-    alloc: Global,
-    writer: &mut SegmentWriter<Room>,
-    samples: &[(u64, i64, Word)],
-) -> Result<(), Fail> {
-    put(writer, &sample_record(alloc, samples)?);
-    Ok(())
-}
-
-fn new_segment(alloc: Global) -> Result<SegmentWriter<Room>, Fail> {
-    Ok(SegmentWriter::new(Room::new(alloc, 4096)?, 1))
-}
-
-fn text_of(writer: SegmentWriter<Room>) -> Vec<u8> {
-    writer.into_inner().into_bytes()
-}
-
-/// One series with one sample at 1000 of the value 1.
-const UP: [u8; 32] = [
-    0x0a, 0x1e, 0x0a, 0x0e, 0x0a, 0x08, 0x5f, 0x5f, 0x6e, 0x61, 0x6d, 0x65, 0x5f, 0x5f, 0x12, 0x02,
-    0x75, 0x70, 0x12, 0x0c, 0x09, 0, 0, 0, 0, 0, 0, 0xf0, 0x3f, 0x10, 0xe8, 0x07,
-];
-
-/// A series `a` with samples at 1 and 3, and then a series `b` with one at 2, all of the word 0.
-const A_AND_B: [u8; 46] = [
-    0x0a, 0x17, 0x0a, 0x0d, 0x0a, 0x08, 0x5f, 0x5f, 0x6e, 0x61, 0x6d, 0x65, 0x5f, 0x5f, 0x12, 0x01,
-    0x61, 0x12, 0x02, 0x10, 0x01, 0x12, 0x02, 0x10, 0x03, 0x0a, 0x13, 0x0a, 0x0d, 0x0a, 0x08, 0x5f,
-    0x5f, 0x6e, 0x61, 0x6d, 0x65, 0x5f, 0x5f, 0x12, 0x01, 0x62, 0x12, 0x02, 0x10, 0x02,
-];
-
-#[test]
-fn one_sample(rt: HostRuntime) -> Result<(), Fail> {
-    let alloc = rt.alloc();
-    let mut writer = new_segment(alloc)?;
-    put_series(alloc, &mut writer, 1, ("__name__", "up"))?;
-    put_samples(
-        alloc,
-        &mut writer,
-        &[(1, 1000, Word(0x3ff0_0000_0000_0000))],
-    )?;
-    let mut text = text_of(writer);
-    assert_eq!(rt; text.len(), 63);
-    assert_eq!(rt; body_of(alloc, &text)?.as_slice(), UP.as_slice());
-    let _ = text.pop();
-    text.push(1)?;
-    assert_eq!(rt;
-        body_of(alloc, &text).err(),
-        Some(BodyFault::Log(TailFault::BadCrc))
-    );
     Ok(())
 }
 
 #[test]
-fn no_sample(rt: HostRuntime) -> Result<(), Fail> {
+fn white_space(rt: HostRuntime) -> Result<(), Fail> {
     let alloc = rt.alloc();
-    assert_eq!(rt; body_of(alloc, b"")?.len(), 0);
-    assert_eq!(rt;
-        body_of(alloc, &[0x01, 0x00, 0x01, 0xb3, 0x46, 0x23, 0xa6, 0x02])?.len(),
-        0
-    );
-    // a sample without a definition, and one whose labels are no label set
-    let mut writer = new_segment(alloc)?;
-    put_samples(alloc, &mut writer, &[(1, 1, Word(0))])?;
-    put_series(alloc, &mut writer, 1, ("__name__", "9"))?;
-    put_samples(alloc, &mut writer, &[(1, 2, Word(0))])?;
-    assert_eq!(rt; body_of(alloc, &text_of(writer))?.len(), 0);
+    let (text, fault) = written(alloc, b" 01\t0001\r\nb3 4623\n\na602\n", true)?;
+    assert_eq!(rt; fault, None);
+    assert_eq!(rt; text.as_slice(), b"\n".as_slice());
     Ok(())
 }
 
 #[test]
-fn two_series(rt: HostRuntime) -> Result<(), Fail> {
+fn faults(rt: HostRuntime) -> Result<(), Fail> {
     let alloc = rt.alloc();
-    let mut writer = new_segment(alloc)?;
-    put_series(alloc, &mut writer, 1, ("__name__", "a"))?;
-    put_series(alloc, &mut writer, 2, ("__name__", "b"))?;
-    put_samples(
-        alloc,
-        &mut writer,
-        &[(1, 1, Word(0)), (2, 2, Word(0)), (1, 3, Word(0))],
-    )?;
-    assert_eq!(rt;
-        body_of(alloc, &text_of(writer))?.as_slice(),
-        A_AND_B.as_slice()
-    );
-    // the same through one reference that is defined anew, and through two of one label set
-    let mut writer = new_segment(alloc)?;
-    put_series(alloc, &mut writer, 1, ("__name__", "a"))?;
-    put_samples(alloc, &mut writer, &[(1, 1, Word(0))])?;
-    put_series(alloc, &mut writer, 1, ("__name__", "b"))?;
-    put_samples(alloc, &mut writer, &[(1, 2, Word(0))])?;
-    put_series(alloc, &mut writer, 7, ("__name__", "a"))?;
-    put_samples(alloc, &mut writer, &[(7, 3, Word(0))])?;
-    assert_eq!(rt;
-        body_of(alloc, &text_of(writer))?.as_slice(),
-        A_AND_B.as_slice()
-    );
+    let rows = [
+        (CHANGED_SEGMENT, ToolFault::Log(TailFault::BadCrc)),
+        ("ff", ToolFault::Log(TailFault::BadType)),
+        ("08", ToolFault::Log(TailFault::Compressed)),
+        ("0g", ToolFault::Line(1)),
+        ("0A", ToolFault::Line(1)),
+        ("ff\n\n0 x", ToolFault::Line(3)),
+        ("0\r0\n0\n", ToolFault::Line(2)),
+        ("0\n\n \n", ToolFault::Line(1)),
+        ("0\n\n,", ToolFault::Line(3)),
+    ];
+    for (text, fault) in rows {
+        let (output, found) = written(alloc, text.as_bytes(), true)?;
+        assert_eq!(rt; found, Some(fault));
+        assert_eq!(rt; output.len(), 0);
+    }
+    let bytes = read_digits(alloc, CHANGED_SEGMENT.as_bytes())?.ok_or("no digits")?;
+    let (output, found) = written(alloc, &bytes, false)?;
+    assert_eq!(rt; found, Some(ToolFault::Log(TailFault::BadCrc)));
+    assert_eq!(rt; output.len(), 0);
     Ok(())
 }

@@ -3,3 +3,9 @@
 
 #[cfg(test)]
 mod bodies;
+#[cfg(test)]
+mod logs;
+#[cfg(test)]
+mod plans;
+#[cfg(test)]
+mod texts;

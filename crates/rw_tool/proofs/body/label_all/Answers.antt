@@ -1,29 +1,24 @@
-use Rattle.std.proofs.Common.{ap, Ok, refl}
-use Rattle.rw_tool.proofs.TailReads.{one_more_taken, all_taken, fault_handed_on}
+use Rattle.std.proofs.Common.{arith, Ok, ap}
+use Rattle.rw_tool.proofs.TakingLemmas.{reads_all, reads_more, reads_nothing, stops_at_fault}
 use Rattle.rw_tool.proofs.body.label_all.Goals as goal
 
-pub returns-in_err-entry-clause-err : goal.returns-in_err-entry-clause-err
-returns-in_err-entry-clause-err c =
-    fault_handed_on _ _ _ _ _ _ c.loop-labelling.invariant c.in_err-entry.ensures.answer refl c.from_residual-in_err-entry.ensures.1
+pub loop-init : goal.loop-init
+loop-init g c = record {
+  has_read = reads_nothing _ _ _ c.new-tail.ensures c.new-labelling.ensures;
+  room = rw c.in_ok-chunk.ensures (omega arith);
+}
 
-pub loop-labelling-smaller-in_ok-take : goal.loop-labelling-smaller-in_ok-take
-loop-labelling-smaller-in_ok-take c =
-    (one_more_taken _ _ _ _ _ _ _ c.loop-labelling.invariant c.in_ok-entry.ensures.answer c.in_ok-entry.ensures.after (ap Ok c.in-Some.is) c.in_ok-take.ensures.ok).1
+pub returns-in_err-take_all-clause-err : goal.returns-in_err-take_all-clause-err
+returns-in_err-take_all-clause-err g c =
+    stops_at_fault _ _ _ _ _ _ _ c.loop.invariant.has_read c.in_err-take_all.ensures.err c.from_residual-in_err-take_all.ensures.1
 
-pub loop-labelling-preserved-in_ok-take : goal.loop-labelling-preserved-in_ok-take
-loop-labelling-preserved-in_ok-take c =
-    (one_more_taken _ _ _ _ _ _ _ c.loop-labelling.invariant c.in_ok-entry.ensures.answer c.in_ok-entry.ensures.after (ap Ok c.in-Some.is) c.in_ok-take.ensures.ok).0
+pub returns-then-not-branch-clause-ok : goal.returns-then-not-branch-clause-ok
+returns-then-not-branch-clause-ok g c =
+    let ended = c.in_ok-feed_some.ensures.end (ap Ok c.if-not-branch.true) in
+    reads_all _ _ _ _ _ _ _ c.loop.invariant.has_read c.in_ok-take_all.ensures.ok ended.0 ended.1
 
-pub loop-labelling-smaller : goal.loop-labelling-smaller
-loop-labelling-smaller c =
-    (one_more_taken _ _ _ _ _ _ _ c.loop-labelling.invariant c.in_ok-entry.ensures.answer c.in_ok-entry.ensures.after (ap Ok c.in-Some.is) c.in_ok-take.ensures.ok).1
-
-pub loop-labelling-preserved : goal.loop-labelling-preserved
-loop-labelling-preserved c =
-    (one_more_taken _ _ _ _ _ _ _ c.loop-labelling.invariant c.in_ok-entry.ensures.answer c.in_ok-entry.ensures.after (ap Ok c.in-Some.is) c.in_ok-take.ensures.ok).0
-
-pub returns-clause-ok : goal.returns-clause-ok
-returns-clause-ok c = (all_taken _ _ _ _ c.loop-labelling.invariant c.in_ok-entry.ensures.answer (ap Ok c.in_default.is)).0
-
-pub returns-clause-sound : goal.returns-clause-sound
-returns-clause-sound c = (all_taken _ _ _ _ c.loop-labelling.invariant c.in_ok-entry.ensures.answer (ap Ok c.in_default.is)).1
+pub loop-preserved : goal.loop-preserved
+loop-preserved g c = record {
+  has_read = reads_more _ _ _ _ _ _ _ _ c.loop.invariant.has_read c.in_ok-take_all.ensures.ok (c.in_ok-feed_some.ensures.more (ap Ok c.if-not-branch.false));
+  room = c.loop.invariant.room;
+}

@@ -1,8 +1,9 @@
-use Rattle.rw_tool.proofs.TailReads.{HasTaken, entries_left}
+use Rattle.std.proofs.Common.{◌<◌, vec_len}
+use Rattle.rw_tool.proofs.TakingLemmas.{HasRead}
 use Rattle.rw_tool.proofs.body.label_all.Given as goal
 
-abbrev pub invariant-loop-labelling : goal.invariant-loop-labelling
-invariant-loop-labelling l = HasTaken l.segment l.tail l.labelling
-
-abbrev pub decreases-loop-labelling : goal.decreases-loop-labelling
-decreases-loop-labelling l = entries_left l.segment l.tail
+abbrev pub invariant-loop : goal.invariant-loop
+invariant-loop g l = record {
+  has_read : HasRead (g.R.Source.remaining l.fn.reader) (g.R.Source.remaining l.reader) l.tail l.labelling;
+  room : 0 < vec_len l.chunk;
+}

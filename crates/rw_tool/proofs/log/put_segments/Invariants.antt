@@ -1,0 +1,6 @@
+use Rattle.std.proofs.Common.{List, ℕ}
+use Rattle.rw_tool.specs.LogText.{lines, AreRecords}
+use Rattle.rw_tool.proofs.log.put_segments.Given as goal
+
+abbrev pub invariant-loop-number : goal.invariant-loop-number
+invariant-loop-number g l = (recs : List (List ℕ)) × AreRecords (lines l.rest) recs

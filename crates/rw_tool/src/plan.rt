@@ -1,0 +1,117 @@
+//! The command `plan`, over any reader and writer.
+
+ghost use Rattle.std.specs.Prelude.{◌≡◌, ◌≢◌, ◌⊎◌, ℕ, List, [], ◌∷◌, true, false, Err, None, IfOk, OnOk, IfErr};
+ghost use Rattle.rw_codes.specs.Pieces.{bytes, entries};
+ghost use Rattle.rw_codes.specs.declared.tail_fault.TailFault.{TailFault};
+ghost use Rattle.rw_plan.specs.Plan.{plan_of};
+ghost use Rattle.rw_tool.specs.Planning.{WritesPlan, WritesPlanPart};
+ghost use Rattle.rw_tool.specs.Running.{ReadsInput, ReadsFault, ReadsLine, StopsInput};
+ghost use Rattle.rw_tool.specs.Taking.{HasTaken, HasTakenAll, IsFaultOf, ReadsSegment, StopsReading};
+ghost use Rattle.rw_tool.specs.declared.fault.ToolFault.TheVariants.{Log, Line, Device};
+
+use crate::body::{CHUNK, feed_some, zeros};
+use crate::fault::ToolFault;
+use crate::run::read_input;
+use rw_plan::Planner;
+use rw_relabel::Rules;
+use rw_settings::Settings;
+use rw_types::{Sink, Source, write_all};
+use rw_wal_tail::Tail;
+use std::alloc::Global;
+
+/// Takes the entries that the reader of the log has left.
+fn take_all(tail: &mut Tail, planner: &mut Planner) -> Result<(), ToolFault>
+    requires { HasTaken tail.old planner.old.entries }
+    ensures ok { OnOk result (HasTakenAll tail.old.pieces tail.new planner.new.entries) }
+    ensures rules { OnOk result (planner.new.rules ≡ planner.old.rules) }
+    ensures err { IfErr result (IsFaultOf tail.old.pieces) }
+{
+    while let Some(entry) = tail.next_entry()? {
+        planner.take(entry)?;
+    }
+    Ok(())
+}
+
+/// Takes all entries of a segment, as its bytes come.
+fn plan_all<R: Source>(alloc: Global, reader: &mut R, rules: Rules) -> Result<Planner, ToolFault>
+    ensures ok { IfOk result (λ p. (segment : List ℕ) × ReadsSegment None (R.remaining reader.old) (R.remaining reader.new) segment × (p.entries ≡ entries (bytes segment ∷ []))) }
+    ensures rules { IfOk result (λ p. p.rules ≡ rules) }
+    ensures sound { OnOk result (R.has_failed reader.new ≡ false) }
+    ensures err { IfErr result (StopsReading (R.remaining reader.old) (R.remaining reader.new) (R.has_failed reader.new)) }
+{
+    let mut tail = Tail::new(alloc);
+    let mut planner = Planner::new(alloc, rules);
+    let mut chunk = zeros(alloc, CHUNK)?;
+    for _ in 0..u64::MAX {
+        take_all(&mut tail, &mut planner)?;
+        if !feed_some(reader, &mut chunk, &mut tail)? {
+            return Ok(planner);
+        }
+    }
+    Err(ToolFault::OutOfMemory)
+}
+
+/// Reads a log segment (wal.md) to its end, and answers its plan.
+fn read_plan<R: Source>(alloc: Global, reader: &mut R, rules: Rules) -> Result<Vec<u8>, ToolFault>
+    ensures ok { IfOk result (λ v. (segment : List ℕ) × ReadsSegment None (R.remaining reader.old) (R.remaining reader.new) segment × (v.items ≡ plan_of rules segment)) }
+    ensures sound { OnOk result (R.has_failed reader.new ≡ false) }
+    ensures err { IfErr result (StopsReading (R.remaining reader.old) (R.remaining reader.new) (R.has_failed reader.new)) }
+{
+    Ok(plan_all(alloc, reader, rules)?.into_text()?)
+}
+
+/// Reads the hexadecimal text of a segment to its end, and answers its plan.
+fn read_hex_plan<R: Source>(
+    alloc: Global,
+    reader: &mut R,
+    rules: Rules,
+) -> Result<Vec<u8>, ToolFault>
+    ensures ok { IfOk result (λ v. (segment : List ℕ) × ReadsInput true None (R.remaining reader.old) (R.remaining reader.new) segment × (v.items ≡ plan_of rules segment)) }
+    ensures sound { OnOk result (R.has_failed reader.new ≡ false) }
+    ensures err { IfErr result (StopsInput true (R.remaining reader.old) (R.remaining reader.new) (R.has_failed reader.new)) }
+{
+    let text = read_input(alloc, reader)?;
+    let segment = rw_hex::read(alloc, &text)?;
+    drop(text);
+    read_plan(alloc, &mut segment.as_slice(), rules)
+}
+
+/// The rules of the settings.
+fn rules_in(settings: Settings) -> Rules
+    ensures { result ≡ settings.config.rules }
+{
+    settings.config.into_fields().rules
+}
+
+/// Reads a log segment (wal.md) and writes what the rules make of it: for each definition in log order `REF kept NUMBER LABELS`,
+/// `REF filtered LABELS` or `REF bad FAULT`, and then `samples kept A filtered B bad C noseries D`, each line ended by LF.
+/// With `hex` the input is hexadecimal text in which white space is ignored. Nothing is written before the whole plan is made.
+pub fn run_plan<R: Source, W: Sink>(
+    alloc: Global,
+    reader: &mut R,
+    writer: &mut W,
+    settings: Settings,
+    hex: bool,
+) -> Result<(), ToolFault>
+    ensures ok { OnOk result (WritesPlan settings.config.rules hex (R.remaining reader.old) (R.remaining reader.new) (W.contents writer.old) (W.contents writer.new)) }
+    ensures reader_sound { OnOk result (R.has_failed reader.new ≡ false) }
+    ensures writer_sound { OnOk result (W.has_failed writer.old ≡ false → W.has_failed writer.new ≡ false) }
+
+    // A fault of the data is the one that the input has, and nothing is written then, or where memory ran out.
+    ensures log { (f : TailFault) → result ≡ Err (Log f) → ReadsFault hex f (R.remaining reader.old) (R.remaining reader.new) }
+    ensures line { (n : ℕ) → result ≡ Err (Line n) → ReadsLine hex n (R.remaining reader.old) (R.remaining reader.new) }
+    ensures untouched { IfErr result (λ e. e ≢ Device → writer.new ≡ writer.old) }
+
+    // Where a device fails, the writer holds a beginning of the plan.
+    ensures device { result ≡ Err Device → ((R.has_failed reader.new ≡ true) × (writer.new ≡ writer.old))
+        ⊎ ((W.has_failed writer.new ≡ true) × WritesPlanPart settings.config.rules hex (R.remaining reader.old) (R.remaining reader.new) (W.contents writer.old) (W.contents writer.new)) }
+{
+    let rules = rules_in(settings);
+    let plan = if hex {
+        read_hex_plan(alloc, reader, rules)?
+    } else {
+        read_plan(alloc, reader, rules)?
+    };
+    write_all(writer, &plan)?;
+    Ok(())
+}

@@ -1,0 +1,104 @@
+//! The program `rwship`.
+#![tactic(auto)]
+
+mod settings;
+mod words;
+
+use clap::error::ErrorKind;
+use rw_tool::{ToolFault, run_body, run_log, run_log_dir, run_plan};
+use rw_types::Std;
+use settings::{Unset, settings_in};
+use std::process::ExitCode;
+use std::{env, io};
+use words::{Task, command_line, task_of};
+
+/// The exit status for words and settings that the program does not take.
+const BAD_WORDS: u8 = 2;
+
+/// Writes the one line of a fault to standard error, and gives its exit status.
+fn ended(rt: &HostRuntime, outcome: Result<(), ToolFault>) -> ExitCode {
+    match outcome {
+        Ok(()) => ExitCode::SUCCESS,
+        Err(fault) => {
+            let _ = eprintln!(rt; "rwship: {fault}");
+            ExitCode::from(fault.exit_status())
+        }
+    }
+}
+
+/// The same of settings that cannot be read.
+fn unset(rt: &HostRuntime, fault: Unset) -> ExitCode {
+    match fault {
+        Unset::Tool(fault) => ended(rt, Err(fault)),
+        Unset::Settings(fault) => {
+            let number = fault.number();
+            let _ = eprintln!(rt; "rwship: settings fault {number}");
+            ExitCode::from(BAD_WORDS)
+        }
+    }
+}
+
+/// The text of the command-line parser: help and version on standard output with status 0, and else what is wrong with the words.
+fn unparsed(rt: &HostRuntime, error: clap::Error) -> ExitCode {
+    if error.kind() == ErrorKind::OutOfMemory {
+        return ended(rt, Err(ToolFault::OutOfMemory));
+    }
+    match error.print(rt) {
+        Err(_) if !error.use_stderr() => ended(rt, Err(ToolFault::Device)),
+        _ if error.use_stderr() => ExitCode::from(BAD_WORDS),
+        _ => ExitCode::SUCCESS,
+    }
+}
+
+/// Does what the words ask for.
+fn perform(rt: &HostRuntime, task: Task<'_>) -> ExitCode {
+    let mut input = Std::new(rt.stdin());
+    let mut output = Std::new(rt.stdout());
+    match task {
+        Task::Body { hex } => ended(rt, run_body(rt.alloc(), &mut input, &mut output, hex)),
+        Task::Log { hex, pages, dir } => {
+            let pages = pages.get() as usize;
+            match dir {
+                Some(dir) => ended(rt, run_log_dir(rt, rt.alloc(), &mut input, dir, pages)),
+                None => ended(rt, run_log(rt.alloc(), &mut input, &mut output, hex, pages)),
+            }
+        }
+        Task::Plan { settings, hex } => match settings_in(rt, settings) {
+            Ok(settings) => ended(
+                rt,
+                run_plan(rt.alloc(), &mut input, &mut output, settings, hex),
+            ),
+            Err(fault) => unset(rt, fault),
+        },
+        // not offered yet
+        Task::Replay { .. } | Task::Send { .. } | Task::Receive { .. } => {
+            ExitCode::from(BAD_WORDS)
+        }
+    }
+}
+
+/// Reads the words and does what they ask for.
+fn run(rt: &HostRuntime) -> Result<ExitCode, ToolFault> {
+    let alloc = rt.alloc();
+    let words: Vec<String> = match env::args(rt) {
+        Ok(words) => words.collect(alloc)?,
+        Err(_) => return Err(ToolFault::OutOfMemory),
+    };
+    match command_line(alloc)?.try_get_matches_from(words.as_slice()) {
+        Err(error) => Ok(unparsed(rt, error)),
+        Ok(matches) => match task_of(&matches) {
+            Some(task) => Ok(perform(rt, task)),
+            None => {
+                let _ = eprintln!(rt; "error: a HOST:PORT has a port from 1 to 65535");
+                Ok(ExitCode::from(BAD_WORDS))
+            }
+        },
+    }
+}
+
+fn main(rt: HostRuntime) -> ExitCode {
+    match run(&rt) {
+        Ok(status) => status,
+        Err(fault) => ended(&rt, Err(fault)),
+    }
+}

@@ -1,0 +1,197 @@
+//! The command line: what each command is called, which options it takes, and what the words ask for.
+
+ghost use Rattle.std.specs.Prelude.{◌<◌, IfSome};
+
+use clap::{Arg, ArgAction, ArgMatches, Command, value_parser};
+use rw_types::Bounded;
+use std::alloc::{AllocError, Global};
+
+/// A host, to be looked up, and a port.
+#[derive(Clone, Copy, Debug)]
+pub struct Address<'a> {
+    pub host: &'a str,
+    pub port: u16,
+}
+
+/// What the words ask for. A file or a folder is a path; a missing `settings` stands for the defaults.
+#[derive(Clone, Copy, Debug)]
+pub enum Task<'a> {
+    /// One log segment in; its body out.
+    Body {
+        hex: bool,
+    },
+    /// Log text in; one segment out, or numbered segments into `dir`.
+    Log {
+        hex: bool,
+        pages: Bounded<1, 4096>,
+        dir: Option<&'a str>,
+    },
+    /// One log segment in; its series plan out.
+    Plan {
+        settings: Option<&'a str>,
+        hex: bool,
+    },
+    /// An event script in; the state at its end out.
+    Replay {
+        settings: Option<&'a str>,
+    },
+    /// Ships all segments of `dir`.
+    Send {
+        settings: Option<&'a str>,
+        dir: &'a str,
+        to: Address<'a>,
+    },
+    /// Serves connections, and then prints what is held.
+    Receive {
+        settings: Option<&'a str>,
+        listen: Address<'a>,
+        /// 1 to 1,000.
+        connections: u16,
+    },
+}
+
+fn hex<'a>(alloc: Global) -> Arg<'a> {
+    Arg::new(alloc, "hex")
+        .long("hex")
+        .action(ArgAction::SetTrue)
+        .help("Read and write lower case hexadecimal text in place of bytes")
+}
+
+fn settings<'a>(alloc: Global) -> Arg<'a> {
+    Arg::new(alloc, "settings")
+        .long("settings")
+        .value_name("FILE")
+        .help("Read the settings from this TOML file")
+}
+
+fn body_command<'a>(alloc: Global) -> Result<Command<'a>, AllocError> {
+    Command::new(alloc, "body")
+        .about("Reads one log segment and writes the remote-write body of its samples")
+        .arg(hex(alloc))
+}
+
+fn log_command<'a>(alloc: Global) -> Result<Command<'a>, AllocError> {
+    let pages = Arg::new(alloc, "pages")
+        .long("pages")
+        .value_name("N")
+        .value_parser(value_parser!(u16).range(1..=4096))
+        .default_value("4096")
+        .help("Give a segment at most this many pages, 1 to 4096");
+    let dir = Arg::new(alloc, "dir")
+        .long("dir")
+        .value_name("DIR")
+        .help("Write numbered segment files into this folder");
+    Command::new(alloc, "log")
+        .about("Reads log text and writes log segments")
+        .arg(hex(alloc))?
+        .arg(pages)?
+        .arg(dir)
+}
+
+fn plan_command<'a>(alloc: Global) -> Result<Command<'a>, AllocError> {
+    Command::new(alloc, "plan")
+        .about("Reads one log segment and prints which of its series the rules keep")
+        .arg(settings(alloc))?
+        .arg(hex(alloc))
+}
+
+fn replay_command<'a>(alloc: Global) -> Result<Command<'a>, AllocError> {
+    Command::new(alloc, "replay")
+        .about("Reads an event script and prints the state at its end")
+        .arg(settings(alloc))
+}
+
+fn send_command<'a>(alloc: Global) -> Result<Command<'a>, AllocError> {
+    let dir = Arg::new(alloc, "dir")
+        .long("dir")
+        .value_name("DIR")
+        .required(true)
+        .help("Ship the segments of this folder");
+    let to = Arg::new(alloc, "to")
+        .long("to")
+        .value_name("HOST:PORT")
+        .required(true)
+        .help("Send to this receiver");
+    Command::new(alloc, "send")
+        .about("Ships all segments of a folder and prints a report")
+        .arg(settings(alloc))?
+        .arg(dir)?
+        .arg(to)
+}
+
+fn receive_command<'a>(alloc: Global) -> Result<Command<'a>, AllocError> {
+    let listen = Arg::new(alloc, "listen")
+        .long("listen")
+        .value_name("HOST:PORT")
+        .required(true)
+        .help("Listen here");
+    let connections = Arg::new(alloc, "connections")
+        .long("connections")
+        .value_name("N")
+        .required(true)
+        .value_parser(value_parser!(u16).range(1..=1000))
+        .help("Serve this many connections, 1 to 1000");
+    Command::new(alloc, "receive")
+        .about("Serves connections and prints what they left")
+        .arg(settings(alloc))?
+        .arg(listen)?
+        .arg(connections)
+}
+
+/// The commands that are offered: those that run.
+pub fn command_line<'a>(alloc: Global) -> Result<Command<'a>, AllocError> {
+    Command::new(alloc, "rwship")
+        .version("0.1.0")
+        .about("Remote-write shipper and receiving head of Prometheus")
+        .subcommand_required(true)
+        .subcommand(body_command(alloc)?)?
+        .subcommand(log_command(alloc)?)?
+        .subcommand(plan_command(alloc)?)
+}
+
+/// HOST:PORT, split at its last colon. The port is decimal.
+fn address_of(text: &str) -> Option<Address<'_>>
+    ensures { IfSome result (λ a. 0 < a.port) }
+{
+    let (host, port) = text.rsplit_once(':')?;
+    if !port.bytes().all(|b| b.is_ascii_digit()) {
+        return None;
+    }
+    match port.parse::<u16>() {
+        Ok(0) | Err(_) => None,
+        Ok(port) => Some(Address { host, port }),
+    }
+}
+
+/// What a command's options ask for.
+fn task_named<'a>(name: &str, options: &ArgMatches<'a>) -> Option<Task<'a>> {
+    let hex = options.get_flag("hex");
+    let settings = options.get_str("settings");
+    match name.as_bytes() {
+        b"body" => Some(Task::Body { hex }),
+        b"log" => Some(Task::Log {
+            hex,
+            pages: Bounded::new(options.get_one::<u16>("pages")? as u64)?,
+            dir: options.get_str("dir"),
+        }),
+        b"plan" => Some(Task::Plan { settings, hex }),
+        b"replay" => Some(Task::Replay { settings }),
+        b"send" => Some(Task::Send {
+            settings,
+            dir: options.get_str("dir")?,
+            to: address_of(options.get_str("to")?)?,
+        }),
+        b"receive" => Some(Task::Receive {
+            settings,
+            listen: address_of(options.get_str("listen")?)?,
+            connections: options.get_one::<u16>("connections")?,
+        }),
+        _ => None,
+    }
+}
+
+/// What the words ask for; none where a HOST:PORT is none.
+pub fn task_of<'a>(words: &ArgMatches<'a>) -> Option<Task<'a>> {
+    let (name, options) = words.subcommand()?;
+    task_named(name, options)
+}
