@@ -6,7 +6,7 @@ mod words;
 
 use clap::error::ErrorKind;
 use rw_tool::{ToolFault, run_body, run_log, run_log_dir, run_plan};
-use rw_types::Std;
+use rw_types::{Bounded, Std};
 use settings::{Unset, settings_in};
 use std::process::ExitCode;
 use std::{env, io};
@@ -50,26 +50,45 @@ fn unparsed(rt: &HostRuntime, error: clap::Error) -> ExitCode {
     }
 }
 
-/// Does what the words ask for.
-fn perform(rt: &HostRuntime, task: Task<'_>) -> ExitCode {
+/// Writes a segment of log text, or the segments into a folder.
+fn log(rt: &HostRuntime, hex: bool, pages: Bounded<1, 4096>, dir: Option<&str>) -> ExitCode {
+    let mut input = Std::new(rt.stdin());
+    let pages = pages.get() as usize;
+    match dir {
+        Some(dir) => ended(rt, run_log_dir(rt, rt.alloc(), &mut input, dir, pages)),
+        None => {
+            let mut output = Std::new(rt.stdout());
+            ended(rt, run_log(rt.alloc(), &mut input, &mut output, hex, pages))
+        }
+    }
+}
+
+/// Prints the plan of a segment.
+fn plan(rt: &HostRuntime, settings: Option<&str>, hex: bool) -> ExitCode {
     let mut input = Std::new(rt.stdin());
     let mut output = Std::new(rt.stdout());
-    match task {
-        Task::Body { hex } => ended(rt, run_body(rt.alloc(), &mut input, &mut output, hex)),
-        Task::Log { hex, pages, dir } => {
-            let pages = pages.get() as usize;
-            match dir {
-                Some(dir) => ended(rt, run_log_dir(rt, rt.alloc(), &mut input, dir, pages)),
-                None => ended(rt, run_log(rt.alloc(), &mut input, &mut output, hex, pages)),
-            }
+    match settings_in(rt, settings) {
+        Ok(settings) => {
+            let outcome = run_plan(rt.alloc(), &mut input, &mut output, settings, hex);
+            ended(rt, outcome)
         }
-        Task::Plan { settings, hex } => match settings_in(rt, settings) {
-            Ok(settings) => ended(
-                rt,
-                run_plan(rt.alloc(), &mut input, &mut output, settings, hex),
-            ),
-            Err(fault) => unset(rt, fault),
-        },
+        Err(fault) => unset(rt, fault),
+    }
+}
+
+/// Writes the body of a segment.
+fn body(rt: &HostRuntime, hex: bool) -> ExitCode {
+    let mut input = Std::new(rt.stdin());
+    let mut output = Std::new(rt.stdout());
+    ended(rt, run_body(rt.alloc(), &mut input, &mut output, hex))
+}
+
+/// Does what the words ask for.
+fn perform(rt: &HostRuntime, task: &Task<'_>) -> ExitCode {
+    match task {
+        Task::Body { hex } => body(rt, *hex),
+        Task::Log { hex, pages, dir } => log(rt, *hex, *pages, *dir),
+        Task::Plan { settings, hex } => plan(rt, *settings, *hex),
         // not offered yet
         Task::Replay { .. } | Task::Send { .. } | Task::Receive { .. } => {
             ExitCode::from(BAD_WORDS)
@@ -87,7 +106,7 @@ fn run(rt: &HostRuntime) -> Result<ExitCode, ToolFault> {
     match command_line(alloc)?.try_get_matches_from(words.as_slice()) {
         Err(error) => Ok(unparsed(rt, error)),
         Ok(matches) => match task_of(&matches) {
-            Some(task) => Ok(perform(rt, task)),
+            Some(task) => Ok(perform(rt, &task)),
             None => {
                 let _ = eprintln!(rt; "error: a HOST:PORT has a port from 1 to 65535");
                 Ok(ExitCode::from(BAD_WORDS))
