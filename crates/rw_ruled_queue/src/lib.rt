@@ -1,0 +1,12 @@
+//! The queue of a shard between two threads: the feeder holds one end and the worker the other. The type of an end says what it may still do.
+#![tactic(auto)]
+
+mod ends;
+mod rule;
+mod stage;
+mod whole;
+
+pub use ends::{Drain, Feed, Gone, Taken, open};
+pub use rw_shard_queue::{Item, Kind};
+pub use stage::{Ended, Killed, Open, Stage};
+pub use whole::{Whole, begins, compare};

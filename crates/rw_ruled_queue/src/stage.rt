@@ -1,0 +1,46 @@
+//! How far an end of a queue has come, as a type.
+
+/// How far an end has come.
+pub trait Stage {
+    ghost use Rattle.std.specs.Prelude.{List};
+    ghost use Rattle.rw_shard_queue.specs.declared.item.Item.{Item};
+
+    /// What is known of the items that went through the end.
+    ghost stands: { List Item → Type 0 };
+
+    /// What is known of an end that let go of the channel, so that the other end is Gone.
+    ghost let_go: { Type 0 };
+}
+
+/// No End went through.
+pub struct Open;
+
+/// An End went through, as the last item.
+pub struct Ended;
+
+/// The end was given up.
+pub struct Killed;
+
+impl Stage for Open {
+    ghost use Rattle.rw_shard_queue.specs.History.{IsOpen};
+
+    ghost stands = { IsOpen };
+
+    ghost let_go = { ⊥ };
+}
+
+impl Stage for Ended {
+    ghost use Rattle.rw_shard_queue.specs.History.{IsEnded};
+
+    ghost stands = { IsEnded };
+
+    ghost let_go = { ⊥ };
+}
+
+impl Stage for Killed {
+    ghost use Rattle.std.specs.Prelude.{⊤};
+
+    ghost stands = { λ items. ⊤ };
+
+    ghost let_go = { ⊤ };
+}

@@ -1,0 +1,92 @@
+//! What the two ends of a queue tell of each other.
+
+ghost use Rattle.std.specs.Prelude.{◌≡◌};
+ghost use Rattle.rw_shard_queue.specs.History.{IsHistory, IsEnded};
+ghost use Rattle.rw_ruled_queue.specs.Ends.{IsBeginning};
+
+use crate::ends::{Drain, Feed};
+use crate::rule::{Compares, InOrder, Log, Meets, Parts};
+use crate::stage::{Ended, Stage};
+use crossbeam_channel::{Pass, RuledReceiver, RuledSender};
+use rw_shard_queue::Item;
+use std::marker::{Model, PhantomData};
+
+/// Both ends of a queue out of which all was taken that was put. Contracts see the queue and the items.
+#[derive(Drop)]
+pub struct Whole {
+    sender: RuledSender<Item, Log, InOrder>,
+    receiver: Option<RuledReceiver<Item, Log, InOrder>>,
+    pass: Pass<Item, Log>,
+}
+
+impl Model for Whole {
+    ghost use Rattle.std.specs.Prelude.{◌≡◌};
+    ghost use Rattle.rw_ruled_queue.specs.Ends.{Passing, queue_of, log_of};
+    ghost use Rattle.rw_ruled_queue.specs.Rule.{both};
+
+    ghost Value = { Passing };
+
+    ghost view = { λ w. record { queue = queue_of w.pass; items = (log_of w.pass).put } };
+
+    ghost invariant = { λ w. log_of w.pass ≡ both (log_of w.pass).epoch (log_of w.pass).shard (log_of w.pass).put (log_of w.pass).put };
+}
+
+/// Keeps the two ends of an ended queue together: what was put is what was taken. It waits for nobody.
+pub fn compare<R>(_rt: &R, feed: Feed<Ended>, drain: Drain<Ended>) -> Whole
+    requires { feed.queue ≡ drain.queue }
+    ensures queue { result.queue ≡ feed.queue }
+    ensures put { result.items ≡ feed.put }
+    ensures taken { result.items ≡ drain.taken }
+    ensures history { IsHistory result.queue.epoch result.queue.shard result.items }
+    ensures ended { IsEnded result.items }
+{
+    let Feed {
+        sender,
+        pass: mut both,
+        ..
+    } = feed;
+    let Drain {
+        receiver,
+        pass: other,
+        ..
+    } = drain;
+    sender.absorb::<Meets>(&mut both, other);
+    sender.learn_as::<Compares>(&mut both);
+    Whole {
+        sender,
+        receiver,
+        pass: both,
+    }
+}
+
+/// The two ends of a queue as they were: what was taken is a beginning of what was put. It waits for nobody.
+pub fn begins<S: Stage, T: Stage>(feed: Feed<S>, drain: Drain<T>) -> (Feed<S>, Drain<T>)
+    requires { feed.queue ≡ drain.queue }
+    ensures same { (result.0 ≡ feed) × (result.1 ≡ drain) }
+    ensures begins { IsBeginning drain.taken feed.put }
+{
+    let Feed {
+        sender,
+        mut pass,
+        ..
+    } = feed;
+    let Drain {
+        receiver,
+        pass: other,
+        ..
+    } = drain;
+    sender.absorb::<Meets>(&mut pass, other);
+    sender.learn_as::<Compares>(&mut pass);
+    let other = sender.another::<Parts>(&mut pass);
+    let feed = Feed {
+        sender,
+        pass,
+        stage: PhantomData,
+    };
+    let drain = Drain {
+        receiver,
+        pass: other,
+        stage: PhantomData,
+    };
+    (feed, drain)
+}
