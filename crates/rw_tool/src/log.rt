@@ -4,7 +4,8 @@ ghost use Rattle.std.specs.Prelude.{◌≡◌, ◌≢◌, ◌⊎◌, ◌≤◌, 
 ghost use Rattle.std.specs.Io.KnownBytes.{Consumes, IsAtEnd};
 ghost use Rattle.rw_tool.specs.LogText.{lines, have_room, segment_of, AreRecords};
 ghost use Rattle.rw_tool.specs.Logging.{IsFaultOfAny, IsFaultOfLog, ReadsAnyFault, ReadsRecords, ReadsFaulty, StopsLog, WritesLog, WritesLogPart};
-ghost use Rattle.rw_tool.specs.declared.fault.ToolFault.TheVariants.{OutOfMemory, Line, SegmentFull, Device};
+ghost use Rattle.rw_codes.specs.declared.tail_fault.TailFault.{TailFault};
+ghost use Rattle.rw_tool.specs.declared.fault.ToolFault.TheVariants.{OutOfMemory, Log, Line, SegmentFull, Device};
 
 use crate::fault::ToolFault;
 use crate::filling::fill;
@@ -72,6 +73,7 @@ pub fn run_log<R: Source, W: Sink>(
     // A line that is no log text comes before records that have no room, and nothing is written at either.
     ensures line { (n : ℕ) → result ≡ Err (Line n) → ReadsFaulty pages (R.remaining reader.old) (R.remaining reader.new) (Line n) }
     ensures full { result ≡ Err SegmentFull → ReadsFaulty pages (R.remaining reader.old) (R.remaining reader.new) SegmentFull }
+    ensures no_other { (f : TailFault) → result ≡ Err (Log f) → ⊥ }
     ensures untouched { IfErr result (λ e. e ≢ Device → writer.new ≡ writer.old) }
 
     // Where a device fails, the writer holds a beginning of the output.
