@@ -4,24 +4,12 @@ use Rattle.rw_types.specs.Labels.{Labels}
 use Rattle.rw_types.specs.declared.entry.Entry.{Entry}
 use Rattle.rw_types.specs.declared.entry.Entry.TheVariants.{Def, Sample}
 use Rattle.rw_types.specs.declared.label_fault.LabelFault.{LabelFault}
-use Rattle.rw_types.specs.declared.label_fault.LabelFault.TheVariants as fault
 use Rattle.rw_codes.specs.Pieces.{bytes, entries}
 use Rattle.rw_relabel.specs.Rules.{RuleConfig}
-use Rattle.rw_series_cache.specs.Known.{Standing, Unknown, Bad, Filtered, Kept, standing_of, known}
+use Rattle.rw_series_cache.specs.Known.{Standing, Unknown, Bad, Filtered, Kept, standing_of, known, label_fault_number}
 use Rattle.rw_series_cache.specs.Numbers.{series_of, number_of}
 use Rattle.rw_text.specs.LabelText.{labels_text}
 use Rattle.rw_plan.specs.declared.counts.SampleCounts.{SampleCounts}
-
--- the number of a fault of labels
-abbrev pub label_fault_number : LabelFault → ℕ
-label_fault_number fault.OutOfMemory = 0
-label_fault_number fault.NotUtf8 = 1
-label_fault_number fault.EmptyName = 2
-label_fault_number fault.BadName = 3
-label_fault_number fault.EmptyValue = 4
-label_fault_number fault.NotSorted = 5
-label_fault_number fault.TooMany = 6
-label_fault_number fault.TooLong = 7
 
 -- `REF bad FAULT`, `REF filtered LABELS` and `REF kept NUMBER LABELS`, each with a newline
 abbrev pub bad_text : ℕ → LabelFault → List ℕ

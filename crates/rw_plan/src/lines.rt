@@ -1,7 +1,8 @@
 //! The lines of definitions.
 
 ghost use Rattle.std.specs.Prelude.{◌≡◌, ◌++◌, OnOk};
-ghost use Rattle.rw_plan.specs.Plan.{label_fault_number, bad_text, filtered_text, kept_text};
+ghost use Rattle.rw_plan.specs.Plan.{bad_text, filtered_text, kept_text};
+ghost use Rattle.rw_series_cache.specs.Known.{label_fault_number};
 ghost use Rattle.rw_plan.specs.Planned.{found_text};
 
 use rw_series_cache::Known;
