@@ -2,9 +2,11 @@
 
 ghost use Rattle.std.specs.Prelude.{◌≡◌, ◌+◌, ◌≤◌, ◌^◌, ◌++◌, ◌∷◌, [], length, map, IfOk, IfSome, IfNone, OnOk};
 ghost use Rattle.std.specs.Vec.{vec_len, vec_capacity};
-ghost use Rattle.std.specs.List.{IsDistinct};
+ghost use Rattle.std.specs.List.{IsDistinct, AllByRecursion};
 ghost use Rattle.rw_types.specs.LabelOrder.{labels_eq};
 ghost use Rattle.rw_write_request.specs.Canon.{series_field, canon};
+ghost use Rattle.rw_write_request.specs.Spells.{Spells};
+ghost use Rattle.rw_write_request.specs.Valid.{IsSeries};
 ghost use Rattle.rw_batch.specs.Grouping.{message, with_sample, labels_of};
 
 use bytes::Bytes;
@@ -111,6 +113,7 @@ fn group_len(group: &Group<'_>) -> Option<usize>
 fn put_group(out: &mut Vec<u8>, group: &Group<'_>)
     requires room { vec_len out.old + length (series_field group.now) ≤ vec_capacity out.old }
     ensures items { out.new.items ≡ out.old.items ++ series_field group.now }
+    ensures valid { IsSeries group.now }
     ensures capacity { vec_capacity out.old ≤ vec_capacity out.new }
 {
     put_series(out, group.labels.as_slice(), &group.samples);
@@ -131,6 +134,7 @@ fn groups_len(groups: &[Group<'_>]) -> Option<usize>
 fn put_groups(out: &mut Vec<u8>, groups: &[Group<'_>])
     requires room { vec_len out.old + length (canon groups.now) ≤ vec_capacity out.old }
     ensures items { out.new.items ≡ out.old.items ++ canon groups.now }
+    ensures valid { AllByRecursion IsSeries groups.now }
     ensures capacity { vec_capacity out.old ≤ vec_capacity out.new }
 {
     for group in groups {
@@ -140,7 +144,8 @@ fn put_groups(out: &mut Vec<u8>, groups: &[Group<'_>])
 
 /// The canonical spelling of a message, in one buffer of exactly its length.
 fn spelling_of(alloc: Global, groups: &[Group<'_>]) -> Result<Vec<u8>, AllocError>
-    ensures { IfOk result (λ v. v.items ≡ canon groups.now) }
+    ensures canonical { IfOk result (λ v. v.items ≡ canon groups.now) }
+    ensures spells { IfOk result (λ v. Spells v.items groups.now) }
 {
     let Some(len) = groups_len(groups) else {
         return Err(AllocError);
@@ -152,7 +157,8 @@ fn spelling_of(alloc: Global, groups: &[Group<'_>]) -> Result<Vec<u8>, AllocErro
 
 /// The canonical spelling of the message that groups the samples by label set.
 pub(crate) fn body_of(alloc: Global, samples: &[Labelled]) -> Result<Bytes, AllocError>
-    ensures { IfOk result (λ b. b ≡ canon (message samples.now)) }
+    ensures canonical { IfOk result (λ b. b ≡ canon (message samples.now)) }
+    ensures spells { IfOk result (λ b. Spells b (message samples.now)) }
 {
     let groups = groups_of(alloc, samples)?;
     let spelling = spelling_of(alloc, &groups)?;

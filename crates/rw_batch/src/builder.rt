@@ -1,7 +1,9 @@
 //! A batch that grows sample by sample.
 
 ghost use Rattle.std.specs.Prelude.{◌≡◌, ◌↔◌, ◌+◌, ◌<◌, ◌≤◌, [], length, IsTrue, IfOk, IfErr, OnOk, OnErr};
+ghost use Rattle.rw_write_request.specs.Spells.{Spells};
 ghost use Rattle.rw_batch.specs.Batches.{Follows, MayBeTaken, with_item, batch_of};
+ghost use Rattle.rw_batch.specs.Grouping.{message};
 
 use crate::batch::Batch;
 use crate::body::{Labelled, body_of};
@@ -122,6 +124,8 @@ impl Builder {
     pub fn freeze(self, ledger: &mut Ledger) -> Result<Batch, (Builder, AllocError)>
         requires { 0 < length self.samples }
         ensures batch { IfOk result (λ b. b ≡ batch_of self) }
+        // A reader of its body finds the message of the samples.
+        ensures spells { IfOk result (λ b. Spells b.body (message self.samples)) }
         ensures room { OnOk result (ledger.new.room ≡ ledger.old.room + length self.samples) }
         ensures names { ledger.new.names ≡ ledger.old.names }
         ensures builder { IfErr result (λ e. e.0 ≡ self) }

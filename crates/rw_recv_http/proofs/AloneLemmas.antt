@@ -6,7 +6,7 @@ use Rattle.std.specs.Str.{bytes_eq}
 use Rattle.httparse.specs.Grammar.{RequestHead}
 use Rattle.httparse.specs.Spans.{name_and_value}
 use Rattle.httparse.proofs.GrammarLemmas.{request_unique}
-use Rattle.rw_recv_http.specs.Judgement.{closes_after, finding_of, body_finding}
+use Rattle.rw_recv_http.specs.Judgement.{closes_after, finding_of, body_finding, is_refusal}
 use Rattle.rw_recv_http.specs.Fields.{NameValue, has_field}
 use Rattle.rw_recv_http.specs.Values.{announced}
 use Rattle.rw_recv_http.specs.Reading.{BeginsWithHead}
@@ -75,46 +75,46 @@ replies_short path limit answers input body old text one (further {first = first
     let p = one_reply path limit answers input body old first rest false middle one r in
     absurd (let e : false ≡ true = p.closing in cc)
 
--- a body that is asked for has at most so many bytes
-abbrev BodyWithin : ℕ → Finding → Type 0
-BodyWithin limit (Refused status) = Unit {0}
-BodyWithin limit (Body len closes) = len ≤ limit
+-- a refusal has one of its statuses, and a body that is asked for has at most so many bytes
+abbrev pub FindingWithin : ℕ → Finding → Type 0
+FindingWithin limit (Refused status) = IsTrue (is_refusal status)
+FindingWithin limit (Body len closes) = len ≤ limit
 
-record StaysWithin (limit : ℕ) (finding : Finding) : Type 0 where
-  bound : BodyWithin limit finding
+pub record StaysWithin (limit : ℕ) (finding : Finding) : Type 0 where
+  pub bound : FindingWithin limit finding
 
 one_of : (limit : ℕ) (b : Bool) (x y : Finding) → StaysWithin limit x → StaysWithin limit y → StaysWithin limit (if b then x else y)
 one_of limit true x y p q = p
 one_of limit false x y p q = q
 
-refused_within : (limit status : ℕ) → StaysWithin limit (Refused status)
-refused_within limit status = record { bound = tt }
+refused_within : (limit status : ℕ) → IsTrue (is_refusal status) → StaysWithin limit (Refused status)
+refused_within limit status e = record { bound = e }
 
 length_within : (limit len : ℕ) (closes b : Bool) (x : Finding) → nat_lt limit len ≡ b → (len ≤ limit → StaysWithin limit x) →
     StaysWithin limit (if b then Refused 413 else x)
-length_within limit len closes true x e p = refused_within limit 413
+length_within limit len closes true x e p = refused_within limit 413 refl
 length_within limit len closes false x e p = p (ltb-false limit len e)
 
 body_within : (limit minor : ℕ) (fields : List NameValue) (n : Option ℕ) → StaysWithin limit (body_finding limit minor fields n)
-body_within limit minor fields None = refused_within limit 400
+body_within limit minor fields None = refused_within limit 400 refl
 body_within limit minor fields (Some n) =
     let closes = closes_after minor fields in
     length_within limit n closes (nat_lt limit n) _ refl
-    (λ (few : n ≤ limit). one_of limit _ (Refused 415) _ (refused_within limit 415)
-    (one_of limit _ (Refused 415) (Body n closes) (refused_within limit 415) (record { bound = few })))
+    (λ (few : n ≤ limit). one_of limit _ (Refused 415) _ (refused_within limit 415 refl)
+    (one_of limit _ (Refused 415) (Body n closes) (refused_within limit 415 refl) (record { bound = few })))
 
-finding_within : (path : List ℕ) (limit : ℕ) (head : RequestHead) → StaysWithin limit (finding_of path limit head)
+pub finding_within : (path : List ℕ) (limit : ℕ) (head : RequestHead) → StaysWithin limit (finding_of path limit head)
 finding_within path limit head =
     let fields = map name_and_value head.fields in
-    one_of limit (not (bytes_eq head.target path)) _ _ (refused_within limit 404)
-    (one_of limit (not (bytes_eq head.method (codes "POST"))) _ _ (refused_within limit 405)
-    (one_of limit (has_field (codes "transfer-encoding") fields || not (has_field (codes "content-length") fields)) _ _ (refused_within limit 411)
+    one_of limit (not (bytes_eq head.target path)) _ _ (refused_within limit 404 refl)
+    (one_of limit (not (bytes_eq head.method (codes "POST"))) _ _ (refused_within limit 405 refl)
+    (one_of limit (has_field (codes "transfer-encoding") fields || not (has_field (codes "content-length") fields)) _ _ (refused_within limit 411 refl)
     (body_within limit head.minor fields (announced fields))))
 
 -- so the input is not long
 pub few_bytes : (path : List ℕ) (limit : ℕ) (input body : List ℕ) → IsOneRequest path limit input body → length input ≤ 8192 + limit
 few_bytes path limit input body one =
-    let bound : length body ≤ limit = subst (BodyWithin limit) one.finding (finding_within path limit one.head).bound in
+    let bound : length body ≤ limit = subst (FindingWithin limit) one.finding (finding_within path limit one.head).bound in
     let whole = simp length-append at (ap length one.begins.0.1) in
     omega (arith, bound, whole, one.begins.1)
 

@@ -4,4 +4,5 @@ pub mod FrontLemmas
 pub mod ServingLemmas
 pub mod ReplyLemmas
 pub mod AloneLemmas
+pub mod RefusedLemmas
 pub mod DeterminedLemmas

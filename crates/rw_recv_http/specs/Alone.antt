@@ -1,10 +1,10 @@
 -- A connection on which one request comes, which asks to close.
 use Rattle.std.specs.Prelude.{◌≡◌, ℕ, ◌⊎◌, List, ◌++◌, length, true, Option, Some, IsTrue}
 use Rattle.httparse.specs.Grammar.{RequestHead}
-use Rattle.rw_recv_http.specs.Judgement.{finding_of}
+use Rattle.rw_recv_http.specs.Judgement.{finding_of, is_refusal}
 use Rattle.rw_recv_http.specs.Reading.{BeginsWithHead}
 use Rattle.rw_recv_http.specs.Replies.{reply, is_verdict}
-use Rattle.rw_recv_http.specs.declared.finding.Finding.TheVariants.{Body}
+use Rattle.rw_recv_http.specs.declared.finding.Finding.TheVariants.{Refused, Body}
 use Rattle.rw_recv_http.specs.declared.serve_end.ServeEnd.{ServeEnd}
 use Rattle.rw_recv_http.specs.declared.serve_end.ServeEnd.TheVariants.{Closed, OutOfMemory}
 
@@ -19,3 +19,17 @@ abbrev pub IsServedAlone : {S : Type 0} → (S → List ℕ → ℕ → S → Ty
 IsServedAlone answers body old before contents new how =
     ((how ≡ Closed) × (status : ℕ) × answers old body status new × IsTrue (is_verdict status) × (contents ≡ Some (before ++ reply status true)))
     ⊎ ((how ≡ OutOfMemory) × (new ≡ old) × (contents ≡ Some before))
+
+-- the input begins with a request that its head refuses with this status
+pub record IsOneRefusal (path : List ℕ) (limit : ℕ) (input : List ℕ) (status : ℕ) : Type 0 where
+  pub head : RequestHead
+  pub rest : List ℕ
+  pub begins : BeginsWithHead input head rest
+  pub finding : finding_of path limit head ≡ Refused status
+
+-- nothing was asked, and that is the reply; or memory was refused, and nothing was written
+abbrev pub IsTurnedAway : {S : Type 0} → ℕ → S → List ℕ → Option (List ℕ) → S → ServeEnd → Type 0
+IsTurnedAway status old before contents new how =
+    (new ≡ old)
+    × (((how ≡ Closed) × IsTrue (is_refusal status) × (contents ≡ Some (before ++ reply status true)))
+    ⊎ ((how ≡ OutOfMemory) × (contents ≡ Some before)))

@@ -3,7 +3,7 @@
 ghost use Rattle.std.specs.Prelude.{length, ◌<◌, ◌-◌, ◌^◌, true, false, ◌⊎◌, ◌≡◌, ℕ, ◌+◌, ◌≤◌, List, ◌++◌, Bool, Some, Err, OnOk, vec_len};
 ghost use Rattle.std.specs.Io.KnownBytes.{prepend_known};
 ghost use Rattle.rw_recv_http.specs.Serving.{Replies, HasWritten, IsTooSmall};
-ghost use Rattle.rw_recv_http.specs.Alone.{IsOneRequest, IsServedAlone};
+ghost use Rattle.rw_recv_http.specs.Alone.{IsOneRequest, IsServedAlone, IsOneRefusal, IsTurnedAway};
 ghost use Rattle.rw_recv_http.specs.Steps.{IsBodyAnswered, HasBodyServed, HasServed};
 
 use crate::answer::Answer;
@@ -188,6 +188,12 @@ pub fn serve<R: Source, W: Sink, A: Answer>(
         → R.is_sure reader.old ≡ true → W.has_failed writer.old ≡ false → 86 ≤ W.room writer.old
         → IsOneRequest limits.now.path limits.now.max_body_bytes input body
         → IsServedAlone A.answers body answer.old before (W.contents writer.new) answer.new result }
+
+    // One that its head refuses has its reply, where there is room for one, and nothing is asked.
+    ensures refused { (input before : List ℕ) (status : ℕ) → R.remaining reader.old ≡ Some input → W.contents writer.old ≡ Some before
+        → R.is_sure reader.old ≡ true → W.has_failed writer.old ≡ false → 86 ≤ W.room writer.old
+        → length input < 2 ^ 64 - 1 → IsOneRefusal limits.now.path limits.now.max_body_bytes input status
+        → IsTurnedAway status answer.old before (W.contents writer.new) answer.new result }
 {
     let mut chunk = match new_chunk(alloc) {
         Ok(chunk) => chunk,

@@ -1,18 +1,20 @@
 -- What a shard's core keeps, as samples are taken and batches are frozen.
-use Rattle.std.proofs.Common.{◌≡◌, ℕ, zero, suc, ◌-◌, ◌<◌, Bool, true, false, not, ◌&&◌, ◌||◌, nat_le, List, [], ◌∷◌, ◌++◌, length, Option, None, Some, All, IfSome, refl, sym, ap, ◌∙◌, append_assoc, length-append, arith}
+use Rattle.std.proofs.Common.{◌≡◌, ℕ, zero, suc, ◌-◌, ◌<◌, Bool, true, false, not, ◌&&◌, ◌||◌, nat_le, List, [], ◌∷◌, ◌++◌, length, map, Option, None, Some, All, IfSome, refl, sym, subst, ap, ◌∙◌, append_assoc, length-append, arith}
 use Rattle.std.proofs.lemmas.Bool.Decides.{nat_tests}
 use Rattle.std.proofs.lemmas.List.{map-append, length-map}
 use Rattle.std.proofs.lemmas.List.Elements.{All-append}
 use Rattle.std.specs.Prelude.{slice_get, option_map}
 use Rattle.rw_batch.specs.Batches.{Building, Frozen, Follows}
-use Rattle.rw_batch.specs.Grouping.{message}
+use Rattle.rw_batch.specs.Grouping.{LabelledSample, distinct, message}
 use Rattle.rw_write_request.specs.Canon.{canon}
+use Rattle.rw_write_request.specs.Spells.{Spells}
+use Rattle.rw_write_request.proofs.Meanings.{request-again}
 use Rattle.rw_types.specs.declared.place.Place.{Place}
 use Rattle.rw_shard_queue.specs.Items.{Placed, samples_in}
 use Rattle.rw_shard_queue.specs.declared.item.Item.{Item}
 use Rattle.rw_shard_queue.specs.declared.item.Item.TheVariants.{Sample, Flush, End}
-use Rattle.rw_sender.specs.Shard.{Core, is_empty, can_take, last_of, IsNext, AreInRow, places_of, labelled, body_of}
-use Rattle.rw_sender.specs.Inside.{batch_part, builder_part, IsKept}
+use Rattle.rw_sender.specs.Shard.{Core, is_empty, can_take, last_of, IsNext, AreInRow, places_of, labelled, body_of, IsReadAgain}
+use Rattle.rw_sender.specs.Inside.{batch_part, builder_part, IsKept, SpellsMessageOf}
 use Rattle.rw_sender.specs.declared.config.Target.{Target}
 use Rattle.rw_sender.specs.declared.shard.OpenBatch.{OpenBatch}
 
@@ -120,10 +122,10 @@ parts_take target epoch shard full builder (Some o) last taken resolved pending 
 pub kept_freeze : (target : Target) (epoch shard full : ℕ) (builder next : Building) (current : Option OpenBatch) (frozen : Frozen) (last : Option Place) (taken resolved pending : List Placed) →
     IsKept target epoch shard full builder current last taken resolved pending → current ≡ None → 0 < length builder.samples →
     next ≡ record { batch = full; places = []; samples = [] } →
-    frozen ≡ record { places = builder.places; body = canon (message builder.samples) } →
+    frozen ≡ record { places = builder.places; body = canon (message builder.samples) } → Spells frozen.body (message builder.samples) →
     IsKept target epoch shard full next (Some (record { batch = frozen; request = None; waiting = false })) last taken resolved pending
-unfolding body_of
-kept_freeze target epoch shard full builder next None frozen last taken resolved pending k e some n f =
+unfolding body_of SpellsMessageOf
+kept_freeze target epoch shard full builder next None frozen last taken resolved pending k e some n f spells =
     let same : length builder.samples ≡ length pending = ap length k.builder_is.samples_are ∙ length-map pending labelled in record {
       some = k.some;
       most = k.most;
@@ -138,7 +140,25 @@ kept_freeze target epoch shard full builder next None frozen last taken resolved
         some = omega (arith, same, some);
         places = ap (λ (b : Frozen). b.places) f ∙ k.builder_is.places;
         body = ap (λ (b : Frozen). b.body) f ∙ ap (λ ss. canon (message ss)) k.builder_is.samples_are;
+        spells = subst (λ (ss : List LabelledSample). Spells frozen.body (message ss)) k.builder_is.samples_are spells;
         request = tt;
       };
     }
-kept_freeze target epoch shard full builder next (Some o) frozen last taken resolved pending k e some n f = absurd (cc)
+kept_freeze target epoch shard full builder next (Some o) frozen last taken resolved pending k e some n f spells = absurd (cc)
+
+-- no samples make an empty message, which takes no byte
+none_spelled : Spells (body_of []) (message [])
+unfolding body_of message distinct
+none_spelled = record { fields = []; are = record { spelled = refl; wires = tt }; series = tt }
+
+none_read : IsReadAgain []
+none_read = request-again (body_of []) (message []) none_spelled
+
+-- the open batch is read again, and so are no samples
+pub kept_read : (target : Target) (epoch shard full : ℕ) (builder : Building) (current : Option OpenBatch) (last : Option Place) (taken resolved pending : List Placed) →
+    IsKept target epoch shard full builder current last taken resolved pending → IsReadAgain (batch_part current pending)
+unfolding SpellsMessageOf
+kept_read target epoch shard full builder None last taken resolved pending k = none_read
+kept_read target epoch shard full builder (Some o) last taken resolved pending k =
+    let open_is = k.open_is in
+    request-again (body_of pending) (message (map labelled pending)) (subst (λ (b : List ℕ). Spells b (message (map labelled pending))) open_is.body open_is.spells)

@@ -2,7 +2,9 @@
 use Rattle.std.specs.Prelude.{◌≡◌, ℕ, ◌<◌, ◌≤◌, List, [], ◌∷◌, ◌++◌, length, map, Bool, false, Option, None, Some, All, IfSome, option_map, ⊤}
 use Rattle.rw_types.specs.declared.place.Place.{Place}
 use Rattle.rw_batch.specs.Batches.{Building}
+use Rattle.rw_batch.specs.Grouping.{message}
 use Rattle.rw_shard_queue.specs.Items.{Placed}
+use Rattle.rw_write_request.specs.Spells.{Spells}
 use Rattle.rw_sender.specs.SentRequest.{request_of}
 use Rattle.rw_sender.specs.Shard.{AreInRow, last_of, places_of, labelled, body_of}
 use Rattle.rw_sender.specs.declared.config.Target.{Target}
@@ -27,11 +29,16 @@ pub record IsBuilderOf (samples : List Placed) (builder : Building) : Type 0 whe
   pub places : builder.places ≡ places_of samples
   pub samples_are : builder.samples ≡ map labelled samples
 
--- the open batch has these samples, and its request, where it was made, is theirs
+-- the body spells the message of these samples
+unfoldable pub SpellsMessageOf : List Placed → List ℕ → Type 0
+SpellsMessageOf samples body = Spells body (message (map labelled samples))
+
+-- the open batch has these samples, its body spells their message, and its request, where it was made, is theirs
 pub record IsBatchOf (target : Target) (samples : List Placed) (opened : OpenBatch) : Type 0 where
   pub some : 0 < length samples
   pub places : opened.batch.places ≡ places_of samples
   pub body : opened.batch.body ≡ body_of samples
+  pub spells : SpellsMessageOf samples opened.batch.body
   pub request : IfSome opened.request (λ r. r ≡ request_of target.host target.path opened.batch.body)
 
 abbrev pub IsOpen : Target → List Placed → Option OpenBatch → Type 0

@@ -1,5 +1,5 @@
 -- One shard of a sender behind its queue: what it took, its builder and its open batch (Remote-Write 1.0, "Ordering" and "Retries & backoff").
-use Rattle.std.specs.Prelude.{◌≡◌, ℕ, ℤ, ◌+◌, ◌-◌, ◌<◌, ◌≤◌, List, [], ◌∷◌, ◌++◌, length, map, Bool, true, false, not, ◌&&◌, ◌||◌, ◌==◌, nat_le, Option, None, Some, All, IfSome, if◌then◌else◌, ⊤}
+use Rattle.std.specs.Prelude.{◌≡◌, ℕ, ℤ, ◌+◌, ◌-◌, ◌<◌, ◌≤◌, List, [], ◌∷◌, ◌++◌, length, map, Bool, true, false, not, ◌&&◌, ◌||◌, ◌==◌, nat_le, Option, None, Some, Ok, All, IfSome, if◌then◌else◌, ⊤}
 use Rattle.std.specs.Ordering.{nat_cmp}
 use Rattle.std.specs.FinMap.{FinMap, get, insert}
 use Rattle.rw_ledger.specs.Names.{Named}
@@ -17,6 +17,7 @@ use Rattle.rw_batch.specs.declared.batch.BatchId.{BatchId}
 use Rattle.rw_types.specs.Labels.{Labels}
 use Rattle.rw_types.specs.declared.place.Place.{Place}
 use Rattle.rw_write_request.specs.Canon.{canon}
+use Rattle.rw_write_request.specs.Read.{read}
 use Rattle.rw_sender.specs.SentRequest.{request_of}
 use Rattle.rw_sender.specs.declared.config.Target.{Target}
 use Rattle.rw_sender.specs.declared.shard.Attempt.{Attempt}
@@ -53,7 +54,7 @@ new_core target epoch shard full = record {
   killed = false;
 }
 
-abbrev pub is_empty : List Placed → Bool
+abbrev pub is_empty : {X : Type 0} → List X → Bool
 is_empty [] = true
 is_empty (x ∷ xs) = false
 
@@ -73,6 +74,10 @@ labelled x = record { labels = x.labels; sample = (x.word, x.t) }
 -- the body of a batch: the canonical spelling of the message that groups its samples by label set
 unfoldable pub body_of : List Placed → List ℕ
 body_of xs = canon (message (map labelled xs))
+
+-- a receiver reads this body as that message
+abbrev pub IsReadAgain : List Placed → Type 0
+IsReadAgain xs = read (body_of xs) ≡ Ok (message (map labelled xs))
 
 -- its id: the epoch, the shard and the number of its first sample
 abbrev pub batch_id : List Placed → BatchId
@@ -97,13 +102,19 @@ placed place t word labels = record { place = place; t = t; word = word; labels 
 abbrev pub mark : Core → Core
 mark c = record c { marked = not (is_empty c.builder) }
 
--- Take: a sample goes into the builder, a mark closes it, and an End ends the shard
+-- Take: a sample goes into the builder
+abbrev pub take_sample : Placed → Core → Core
+take_sample x c = record c { taken = c.taken ++ x ∷ []; builder = c.builder ++ x ∷ [] }
+
+-- Take: an End closes it, and ends the shard
+abbrev pub take_end : Core → Core
+take_end c = record (mark c) { ended = true }
+
+-- Take
 abbrev pub take_item : Item → Core → Core
-take_item (Sample place t word labels) c =
-    let x : Placed = placed place t word labels.value in
-    record c { taken = c.taken ++ x ∷ []; builder = c.builder ++ x ∷ [] }
+take_item (Sample place t word labels) c = take_sample (placed place t word labels.value) c
 take_item Flush c = mark c
-take_item (End kind) c = record (mark c) { ended = true }
+take_item (End kind) c = take_end c
 
 abbrev pub last_of : List Placed → Option Placed
 last_of [] = None

@@ -5,7 +5,7 @@ ghost use Rattle.rw_retry.specs.Judgements.{judgement_of};
 ghost use Rattle.std.specs.FinMap.{get};
 ghost use Rattle.rw_sender.specs.Inside.{RiseStrictly};
 ghost use Rattle.rw_sender.specs.SentRequest.{request_of};
-ghost use Rattle.rw_sender.specs.Shard.{IsCore, MayTake, HasRoomFor, new_core, is_empty, pending, is_due, can_take, mark, take_item, can_freeze, freeze, freeze_room, can_send, send, request_for, awaits, lose, attempt_for, batch_id, places_of, positions_of, positions, resolve, is_answer, name_all, reply, reply_names, kill};
+ghost use Rattle.rw_sender.specs.Shard.{IsCore, IsReadAgain, MayTake, HasRoomFor, new_core, is_empty, pending, is_due, can_take, mark, take_item, can_freeze, freeze, freeze_room, can_send, send, request_for, awaits, lose, attempt_for, batch_id, places_of, positions_of, positions, resolve, is_answer, name_all, reply, reply_names, kill};
 
 use crate::config::Target;
 use crate::request::request_bytes;
@@ -333,6 +333,8 @@ impl ShardCore {
     /// Begins an attempt to send the open batch. None where no batch is open, or an attempt is under way.
     pub fn attempt(&mut self) -> Result<Option<Attempt>, AllocError>
         ensures attempt { IfOk result (λ a. a ≡ (if can_send self.old then Some (attempt_for self.old) else None)) }
+        // A receiver reads the message of the batch's samples.
+        ensures read { IsReadAgain self.old.batch }
         ensures core { OnOk result (self.new ≡ send self.old) }
         ensures err { OnErr result (self.new ≡ self.old) }
     {
