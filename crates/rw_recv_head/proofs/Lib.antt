@@ -2,3 +2,4 @@ pub mod OrderLemmas
 pub mod PlaceLemmas
 pub mod StoreLemmas
 pub mod VerdictLemmas
+pub mod GrowthLemmas

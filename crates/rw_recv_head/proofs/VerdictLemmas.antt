@@ -6,7 +6,7 @@ use Rattle.rw_recv_head.specs.declared.verdict.Verdict.{Verdict}
 use Rattle.rw_recv_head.specs.Store.{Store}
 use Rattle.rw_recv_head.specs.Verdicts.{LabelLimits, taken, taken_all}
 
-taken_all-err : (limits : LabelLimits) (v : Verdict) (ss : WriteRequest) → (let no : Result Store Verdict = Err v in taken_all limits no ss ≡ no)
+pub taken_all-err : (limits : LabelLimits) (v : Verdict) (ss : WriteRequest) → (let no : Result Store Verdict = Err v in taken_all limits no ss ≡ no)
 taken_all-err limits v [] = refl
 taken_all-err limits v (s ∷ ss) = taken_all-err limits v ss
 

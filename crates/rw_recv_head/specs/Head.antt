@@ -36,11 +36,15 @@ abbrev pub judged_body : State → Result WriteRequest WireFault → Judged
 judged_body h (Ok m) = apply h.limits h.store m
 judged_body h (Err e) = record { verdict = BadBody; store = h.store }
 
--- the answer to a body, where memory is there: while the head is busy, 429 Too Many Requests, whatever the body is
-abbrev pub answer : State → List ℕ → Answer
-answer h body =
+-- the answer to what was read of a body: while the head is busy, 429 Too Many Requests, whatever it is
+abbrev pub answer_to : State → Result WriteRequest WireFault → Answer
+answer_to h found =
     if nat_lt 0 h.busy then record { status = 429; head = record h { busy = h.busy - 1 } }
-    else answered h (judged_body h (read body))
+    else answered h (judged_body h found)
+
+-- the answer to a body, where memory is there
+abbrev pub answer : State → List ℕ → Answer
+answer h body = answer_to h (read body)
 
 -- the statuses that a head answers
 abbrev pub IsStatus : ℕ → Type 0

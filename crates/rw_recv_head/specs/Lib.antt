@@ -3,3 +3,4 @@ pub mod Store
 pub mod Verdicts
 pub mod Head
 pub mod Lists
+pub mod Growth

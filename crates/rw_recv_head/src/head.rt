@@ -1,6 +1,6 @@
 //! The receiving head.
 
-ghost use Rattle.std.specs.Prelude.{◌≡◌, ◌≢◌, ◌^◌, ◌<◌, length, None, Some, Ok, OnOk, IfOk, IfErr, map};
+ghost use Rattle.std.specs.Prelude.{◌≡◌, ◌≢◌, ◌+◌, ◌^◌, ◌<◌, ◌≤◌, length, None, Some, Ok, OnOk, IfOk, IfErr, map};
 ghost use Rattle.std.specs.FinMap.{empty};
 ghost use Rattle.rw_types.specs.Labels.{text_label};
 ghost use Rattle.rw_recv_head.specs.declared.verdict.Verdict.TheVariants.{NoMemory};
@@ -8,6 +8,7 @@ ghost use Rattle.rw_recv_head.specs.Store.{list_of, total, label_sets, HasNoEmpt
 ghost use Rattle.rw_recv_head.specs.Verdicts.{refusal, taken, taken_all, apply};
 ghost use Rattle.rw_recv_head.specs.Head.{status_of, answer, IsStatus};
 ghost use Rattle.rw_recv_head.specs.Lists.{StoreGives};
+ghost use Rattle.rw_recv_head.specs.Growth.{sample_count, EachRises, HasTaken};
 
 use crate::label_sets::LabelSets;
 use crate::limits::Limits;
@@ -105,7 +106,9 @@ impl Model for Head {
 
     ghost view = { λ h. record { store = h.table.kept; limits = h.bounds; busy = h.busy } };
 
-    ghost invariant = { λ h. h.table.staged ≡ h.table.kept };
+    ghost use Rattle.rw_recv_head.specs.Growth.{IsReady};
+
+    ghost invariant = { λ h. IsReady h.table };
 }
 
 /// The status that tells a verdict.
@@ -148,6 +151,10 @@ impl Head {
         ensures no_memory { result ≡ NoMemory → self.new.store ≡ self.old.store }
         ensures limits { self.new.limits ≡ self.old.limits }
         ensures busy { self.new.busy ≡ self.old.busy }
+        ensures refused { status_of result ≢ 204 → self.new.store ≡ self.old.store }
+        ensures more { total self.old.store ≤ total self.new.store }
+        ensures few { total self.new.store ≤ total self.old.store + sample_count message.now }
+        ensures rises { EachRises self.new.store }
     {
         let staged = stage_all(
             &mut self.table,
@@ -171,6 +178,10 @@ impl Head {
         ensures head { result ≢ 503 → self.new ≡ (answer self.old body.now).head }
         ensures no_memory { result ≡ 503 → (self.new ≡ self.old) × (self.old.busy ≡ 0) }
         ensures statuses { IsStatus result }
+        ensures refused { result ≢ 204 → self.new.store ≡ self.old.store }
+        ensures taken { result ≡ 204 → HasTaken body.now self.old.store self.new.store }
+        ensures more { total self.old.store ≤ total self.new.store }
+        ensures rises { EachRises self.new.store }
     {
         if self.busy > 0 {
             self.busy -= 1;
@@ -186,7 +197,8 @@ impl Head {
 
     /// How many samples there are. This takes no memory, and its time does not grow.
     pub fn total(&self) -> u64
-        ensures { result ≡ total self.now.store }
+        ensures total { result ≡ total self.now.store }
+        ensures rises { EachRises self.now.store }
     {
         self.table.total()
     }
