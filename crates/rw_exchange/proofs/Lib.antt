@@ -1,0 +1,6 @@
+pub mod ByteLemmas
+pub mod HeadLemmas
+pub mod FieldLemmas
+pub mod RequestLemmas
+pub mod ReplyLemmas
+pub mod ExchangeLemmas

@@ -1,0 +1,19 @@
+-- One request and its reply (RFC 9112, section 9.3): what the endpoint makes of it, and the status that is read in its reply.
+use Rattle.std.specs.Prelude.{◌≡◌, ℕ, ◌⊎◌, List, IsTrue, Result, Ok, Err}
+use Rattle.std.specs.declared.alloc.AllocError.{AllocError}
+use Rattle.rw_recv_http.specs.Alone.{IsOneRequest, IsOneRefusal}
+use Rattle.rw_recv_http.specs.Replies.{is_verdict}
+
+-- one request with its body, or one that its head refuses
+abbrev pub IsRequest : List ℕ → ℕ → List ℕ → Type 0
+IsRequest path limit input = ((body : List ℕ) × IsOneRequest path limit input body) ⊎ ((status : ℕ) × IsOneRefusal path limit input status)
+
+-- the body was answered with this status; or memory was refused, and it was not asked
+abbrev pub IsAnswered : {S : Type 0} → (S → List ℕ → ℕ → S → Type 0) → List ℕ → S → Result ℕ AllocError → S → Type 0
+IsAnswered answers body old (Ok status) new = answers old body status new × IsTrue (is_verdict status)
+IsAnswered answers body old (Err e) new = new ≡ old
+
+-- nothing was asked, and the status is this one, unless memory was refused
+abbrev pub IsRefused : {S : Type 0} → ℕ → S → Result ℕ AllocError → S → Type 0
+IsRefused status old (Ok read) new = (read ≡ status) × (new ≡ old)
+IsRefused status old (Err e) new = new ≡ old
