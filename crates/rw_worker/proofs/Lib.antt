@@ -1,0 +1,7 @@
+pub mod StepLemmas
+pub mod CutLemmas
+pub mod TranscriptLemmas
+pub mod KeepsLemmas
+pub mod NameLemmas
+pub mod TakeLemmas
+pub mod StateLemmas

@@ -1,0 +1,5 @@
+pub mod Cut
+pub mod Transcript
+pub mod Steps
+pub mod Setups
+pub mod Report

@@ -1,0 +1,59 @@
+//! Workers in threads of their own.
+
+ghost use Rattle.std.specs.Prelude.{◌≡◌, IfOk};
+ghost use Rattle.rw_worker.specs.Report.{IsReport};
+
+use crate::report::WorkerReport;
+use crate::transport::{Pause, Transport};
+use crate::worker::Worker;
+use std::alloc::AllocError;
+use std::snapshot::Snapshot;
+use std::sync::atomic::AtomicBool;
+use std::sync::{Arc, Wait};
+use std::thread;
+use std::thread::{Promise, PromisedHandle, Threads};
+
+/// What a worker began with, by which its report is promised. It takes no bytes.
+#[derive(Drop)]
+pub struct Begun<T> {
+    pub worker: Snapshot<Worker>,
+    pub transport: Snapshot<T>,
+}
+
+impl<T: Transport> Promise<WorkerReport<T>> for Begun<T> {
+    ghost use Rattle.rw_worker.specs.Report.{IsReport};
+
+    ghost kept_by = { λ b r. IsReport T.tells T.seen b.worker.value b.transport.value r };
+}
+
+/// Runs a worker in a thread of its own. Its report comes when the thread is joined.
+///
+/// Where memory or a thread is refused the worker and its end of the queue are dropped.
+pub fn spawn<
+    T: Transport + Send + Drop + 'static,
+    P: Pause + Send + Drop + 'static,
+    R: Threads + Wait + Copy + Send + 'static,
+>(
+    rt: &R,
+    worker: Worker,
+    transport: T,
+    mut pause: P,
+    stop: Arc<AtomicBool>,
+) -> Result<PromisedHandle<WorkerReport<T>, Begun<T>>, AllocError>
+    ensures worker { IfOk result (λ h. h.promise.worker.value ≡ worker) }
+    ensures transport { IfOk result (λ h. h.promise.transport.value ≡ transport) }
+{
+    let begun = Begun {
+        worker: Snapshot::of(&worker),
+        transport: Snapshot::of(&transport),
+    };
+    let own = *rt;
+    let handle = thread::spawn_with(
+        rt,
+        begun,
+        move || -> WorkerReport<T>
+            ensures { IsReport T.tells T.seen worker transport result }
+        { worker.run(&own, transport, &mut pause, &stop) },
+    )?;
+    Ok(handle)
+}

@@ -1,0 +1,16 @@
+//! The worker of a shard: it takes what comes out of the shard's queue, and sends it batch by batch.
+#![tactic(auto)]
+
+mod backoff;
+mod begun;
+mod report;
+mod send;
+mod state;
+mod step;
+mod transport;
+mod worker;
+
+pub use begun::{Begun, spawn};
+pub use report::{TakingEnd, WorkerReport};
+pub use transport::{Lost, Pause, Reply, Transport};
+pub use worker::Worker;

@@ -1,0 +1,51 @@
+//! One attempt to send a batch.
+
+ghost use Rattle.std.specs.Prelude.{◌≡◌, true, false, IfOk, OnErr};
+ghost use Rattle.rw_sender.specs.Shard.{HasRoomFor, awaits, can_send, batch_id};
+ghost use Rattle.rw_worker.specs.Steps.{working, answered, resolved_after, WasSent};
+
+use crate::transport::{Lost, Reply, Transport};
+use rw_batch::BatchId;
+use rw_ledger::Ledger;
+use rw_retry::Judgement;
+use rw_sender::{Attempt, ShardCore};
+use std::alloc::AllocError;
+
+/// Notes the answer to the attempt that is under way: whether it settles the batch.
+fn note(core: &mut ShardCore, ledger: &mut Ledger, id: BatchId, answer: Result<Reply, Lost>) -> bool
+    requires waiting { awaits core.old ≡ true }
+    requires id { id ≡ batch_id core.old.batch }
+    requires room { HasRoomFor core.old ledger.old }
+    ensures becomes { working core.new ledger.new ≡ answered answer (working core.old ledger.old) }
+    ensures resolved { core.new.resolved ≡ resolved_after result core.old }
+{
+    let Ok(reply) = answer else {
+        core.lost();
+        return false;
+    };
+    match core.reply(id, reply.status, ledger) {
+        Some(Judgement::Again) => false,
+        Some(Judgement::Done | Judgement::Refused) => true,
+        None => unreachable!(),
+    }
+}
+
+/// Sends the open batch once: whether the answer settles it. Where memory is refused nothing changes.
+pub(crate) fn send_once<T: Transport>(
+    core: &mut ShardCore,
+    ledger: &mut Ledger,
+    transport: &mut T,
+) -> Result<bool, AllocError>
+    requires guard { can_send core.old ≡ true }
+    requires room { HasRoomFor core.old ledger.old }
+    ensures ok { IfOk result (λ settled. WasSent (T.tells transport.old) (T.tells transport.new) (T.seen transport.old) (T.seen transport.new) (working core.old ledger.old) (working core.new ledger.new) settled) }
+    ensures err { OnErr result (core.new ≡ core.old) }
+    ensures err_ledger { OnErr result (ledger.new ≡ ledger.old) }
+    ensures err_transport { OnErr result (transport.new ≡ transport.old) }
+{
+    let Some(Attempt { id, request }) = core.attempt()? else {
+        unreachable!();
+    };
+    let answer = transport.exchange(request.as_slice());
+    Ok(note(core, ledger, id, answer))
+}

@@ -1,0 +1,75 @@
+//! How far a worker is.
+
+ghost use Rattle.std.specs.Prelude.{◌≡◌};
+ghost use Rattle.rw_worker.specs.Report.{given_back};
+
+use crate::backoff::Backoff;
+use crate::report::{TakingEnd, WorkerReport};
+use rw_ledger::Ledger;
+use rw_ruled_queue::{Drain, Ended, Kind, Open};
+use rw_sender::ShardCore;
+
+/// The end of the queue that is taken from.
+#[derive(Drop)]
+pub(crate) enum Intake {
+    Open(Drain<Open>),
+    /// The End was taken: what was taken before is still to be sent.
+    Ended(Kind, Drain<Ended>),
+}
+
+impl Intake {
+    /// Takes nothing more.
+    pub(crate) fn close(self) -> TakingEnd
+        ensures { result ≡ given_back self }
+    {
+        match self {
+            Intake::Open(drain) => TakingEnd::Killed(drain.kill()),
+            Intake::Ended(kind, drain) => TakingEnd::Ended(kind, drain),
+        }
+    }
+}
+
+/// What was taken, and how far it is sent.
+#[derive(Drop)]
+pub(crate) struct Sending<T> {
+    pub(crate) core: ShardCore,
+    pub(crate) ledger: Ledger,
+    pub(crate) backoff: Backoff,
+    /// How many samples are resolved.
+    pub(crate) resolved: u64,
+    /// How often the open batch was sent in vain.
+    pub(crate) retries: u64,
+    pub(crate) transport: T,
+}
+
+impl<T: Drop> Sending<T> {
+    pub(crate) fn report(self, end: TakingEnd, stopped: bool) -> WorkerReport<T>
+        ensures { result ≡ record { end = end; resolved = self.resolved; stopped = stopped; ledger = self.ledger; transport = self.transport } }
+    {
+        let Sending {
+            resolved,
+            ledger,
+            transport,
+            ..
+        } = self;
+        WorkerReport {
+            end,
+            resolved,
+            stopped,
+            ledger,
+            transport,
+        }
+    }
+}
+
+#[derive(Drop)]
+pub(crate) struct State<T> {
+    pub(crate) intake: Intake,
+    pub(crate) sending: Sending<T>,
+}
+
+#[derive(Drop)]
+pub(crate) enum Progress<T> {
+    Goes(State<T>),
+    Stops(WorkerReport<T>),
+}

@@ -1,0 +1,167 @@
+//! The steps of a worker.
+
+ghost use Rattle.std.specs.Prelude.{◌≡◌, true, false};
+ghost use Rattle.rw_sender.specs.Shard.{IsCore, can_take, is_empty};
+ghost use Rattle.rw_worker.specs.Report.{is_hard, IsSending, IsState, IsReport, IsProgress};
+
+use crate::begun::Begun;
+use crate::report::{TakingEnd, WorkerReport};
+use crate::send::send_once;
+use crate::state::{Intake, Progress, Sending, State};
+use crate::transport::{Pause, Transport};
+use rw_ruled_queue::{Drain, Item, Kind, Open, Taken};
+use std::sync::Wait;
+use std::sync::atomic::{AtomicBool, Ordering};
+
+/// Freezes the builder, which is due.
+fn freeze<T: Transport + Drop, P: Pause>(
+    _begun: &Begun<T>,
+    state: State<T>,
+    pause: &mut P,
+) -> State<T>
+    requires state { IsState T.tells T.seen _begun.now.worker.value _begun.now.transport.value state }
+    requires full { can_take state.sending.core ≡ false }
+    requires none { is_empty state.sending.core.batch ≡ true }
+    ensures { IsState T.tells T.seen _begun.now.worker.value _begun.now.transport.value result }
+{
+    let State {
+        intake,
+        mut sending,
+    } = state;
+    if sending.core.freeze(&mut sending.ledger).is_err() {
+        pause.pause(sending.backoff.least());
+    }
+    State { intake, sending }
+}
+
+/// Sends the open batch once.
+fn send<T: Transport + Drop, P: Pause>(
+    _begun: &Begun<T>,
+    state: State<T>,
+    pause: &mut P,
+) -> State<T>
+    requires state { IsState T.tells T.seen _begun.now.worker.value _begun.now.transport.value state }
+    requires core { IsCore state.sending.core }
+    requires some { is_empty state.sending.core.batch ≡ false }
+    ensures { IsState T.tells T.seen _begun.now.worker.value _begun.now.transport.value result }
+{
+    let State {
+        intake,
+        mut sending,
+    } = state;
+    let count = sending.core.pending_places().len() as u64;
+    match send_once(
+        &mut sending.core,
+        &mut sending.ledger,
+        &mut sending.transport,
+    ) {
+        Ok(true) => {
+            sending.resolved += count;
+            sending.retries = 0;
+        }
+        Ok(false) => {
+            pause.pause(sending.backoff.before(sending.retries));
+            sending.retries = sending.retries.saturating_add(1);
+        }
+        Err(_) => pause.pause(sending.backoff.least()),
+    }
+    State { intake, sending }
+}
+
+/// Stops where the stop flag is set.
+fn give_up<T: Transport + Drop>(_begun: &Begun<T>, state: State<T>) -> WorkerReport<T>
+    requires { IsState T.tells T.seen _begun.now.worker.value _begun.now.transport.value state }
+    ensures { IsReport T.tells T.seen _begun.now.worker.value _begun.now.transport.value result }
+{
+    let State { intake, sending } = state;
+    sending.report(intake.close(), true)
+}
+
+fn is_hard(kind: Kind) -> bool
+    ensures { result ≡ is_hard kind }
+{
+    matches!(kind, Kind::Hard)
+}
+
+/// Takes the next item of the queue.
+fn take<T: Transport + Drop, R: Wait>(
+    rt: &R,
+    _begun: &Begun<T>,
+    drain: Drain<Open>,
+    mut sending: Sending<T>,
+) -> Progress<T>
+    requires sending { IsSending T.tells T.seen _begun.now.worker.value _begun.now.transport.value drain sending }
+    requires can { can_take sending.core ≡ true }
+    ensures { IsProgress T.tells T.seen _begun.now.worker.value _begun.now.transport.value result }
+{
+    match drain.take(rt) {
+        Taken::Item(item, drain) => {
+            sending.core.take(item);
+            Progress::Goes(State {
+                intake: Intake::Open(drain),
+                sending,
+            })
+        }
+        Taken::End(kind, drain) => {
+            if is_hard(kind) {
+                return Progress::Stops(sending.report(TakingEnd::Ended(kind, drain), false));
+            }
+            sending.core.take(Item::End(kind));
+            Progress::Goes(State {
+                intake: Intake::Ended(kind, drain),
+                sending,
+            })
+        }
+        Taken::Gone(drain) => {
+            Progress::Stops(sending.report(TakingEnd::Killed(drain.kill()), false))
+        }
+    }
+}
+
+/// Takes the next item, where all that was taken is sent or waits for more. Behind an End everything is resolved.
+fn go_on<T: Transport + Drop, R: Wait>(
+    rt: &R,
+    begun: &Begun<T>,
+    state: State<T>,
+    stop: &AtomicBool,
+) -> Progress<T>
+    requires state { IsState T.tells T.seen begun.now.worker.value begun.now.transport.value state }
+    requires can { can_take state.sending.core ≡ true }
+    ensures { IsProgress T.tells T.seen begun.now.worker.value begun.now.transport.value result }
+{
+    let State { intake, sending } = state;
+    match intake {
+        Intake::Ended(kind, drain) => {
+            Progress::Stops(sending.report(TakingEnd::Ended(kind, drain), false))
+        }
+        Intake::Open(drain) => {
+            if stop.load(Ordering::SeqCst) {
+                return Progress::Stops(sending.report(TakingEnd::Killed(drain.kill()), true));
+            }
+            take(rt, begun, drain, sending)
+        }
+    }
+}
+
+/// Makes one step: the next item is taken, or a builder that is due is frozen, or its batch is sent.
+pub(crate) fn step<T: Transport + Drop, P: Pause, R: Wait>(
+    rt: &R,
+    begun: &Begun<T>,
+    state: State<T>,
+    pause: &mut P,
+    stop: &AtomicBool,
+) -> Progress<T>
+    requires { IsState T.tells T.seen begun.now.worker.value begun.now.transport.value state }
+    ensures { IsProgress T.tells T.seen begun.now.worker.value begun.now.transport.value result }
+{
+    if state.sending.core.can_take() {
+        return go_on(rt, begun, state, stop);
+    }
+    if stop.load(Ordering::SeqCst) {
+        return Progress::Stops(give_up(begun, state));
+    }
+    if state.sending.core.batch_id().is_some() {
+        return Progress::Goes(send(begun, state, pause));
+    }
+    Progress::Goes(freeze(begun, state, pause))
+}

@@ -1,0 +1,37 @@
+//! What a worker sends over, and what it waits by.
+
+ghost use Rattle.std.specs.Prelude.{◌≡◌, List, [], ◌∷◌, ◌++◌};
+ghost use Rattle.rw_worker.specs.Transcript.{Exchange, exchange_of};
+
+use http::StatusCode;
+
+/// The answer to a request.
+#[derive(Clone, Copy, PartialEq, Eq)]
+pub struct Reply {
+    pub status: StatusCode,
+}
+
+/// No answer came. The receiver may have the request or not.
+#[derive(Clone, Copy, Debug, PartialEq, Eq)]
+pub struct Lost;
+
+/// Sends a request and waits for the answer.
+pub trait Transport {
+    ghost use Rattle.std.specs.Prelude.{◌≡◌, List, [], ◌∷◌, ◌++◌};
+    ghost use Rattle.rw_worker.specs.Transcript.{Exchange, exchange_of};
+
+    /// It has told of each exchange so far. A transport need not tell of any.
+    ghost tells: { Self → Type 0 };
+
+    /// The exchanges so far.
+    ghost seen: { Self → List Exchange };
+
+    fn exchange(&mut self, request: &[u8]) -> Result<Reply, Lost>
+        ensures { tells self.new → tells self.old × (seen self.new ≡ seen self.old ++ exchange_of request.now result ∷ []) };
+}
+
+/// Lets time pass.
+pub trait Pause {
+    /// Waits for so many milliseconds.
+    fn pause(&mut self, ms: u64);
+}

@@ -1,0 +1,130 @@
+//! The worker of a shard.
+
+ghost use Rattle.std.specs.Prelude.{◌≡◌, [], IfOk, IfErr};
+ghost use Rattle.rw_worker.specs.Report.{IsState, IsReport};
+
+use crate::backoff::Backoff;
+use crate::begun::Begun;
+use crate::report::WorkerReport;
+use crate::state::{Intake, Progress, Sending, State};
+use crate::step::step;
+use crate::transport::{Pause, Transport};
+use rw_ledger::Ledger;
+use rw_ruled_queue::{Drain, Open};
+use rw_sender::{Config, ShardCore};
+use std::alloc::{AllocError, Global};
+use std::marker::Model;
+use std::snapshot::Snapshot;
+use std::sync::Wait;
+use std::sync::atomic::AtomicBool;
+
+/// A worker that has not begun. Contracts see what it is set up with.
+#[derive(Drop)]
+pub struct Worker {
+    drain: Drain<Open>,
+    core: ShardCore,
+    ledger: Ledger,
+    backoff: Backoff,
+}
+
+impl Model for Worker {
+    ghost use Rattle.std.specs.Prelude.{◌≡◌, ◌<◌, []};
+    ghost use Rattle.std.specs.FinMap.{empty};
+    ghost use Rattle.rw_sender.specs.Shard.{new_core};
+    ghost use Rattle.rw_worker.specs.Setups.{Setup};
+
+    ghost Value = { Setup };
+
+    ghost view = { λ w. record {
+      queue = w.drain.queue;
+      target = w.core.target;
+      batch = w.core.full;
+      min_backoff = w.backoff.0;
+      max_backoff = w.backoff.1;
+    } };
+
+    ghost invariant = { λ w. (w.drain.taken ≡ [])
+        × (w.core ≡ new_core w.core.target w.drain.queue.epoch w.drain.queue.shard w.core.full)
+        × (w.ledger ≡ record { names = empty; room = 0 })
+        × (0 < w.core.full) };
+}
+
+impl Worker {
+    /// The worker of the shard `shard` of the epoch `epoch`. Where memory is refused its end of the queue comes back.
+    pub fn new(
+        alloc: Global,
+        config: &Config,
+        epoch: u64,
+        shard: u32,
+        drain: Drain<Open>,
+    ) -> Result<Worker, (Drain<Open>, AllocError)>
+        requires queue { (drain.queue.epoch ≡ epoch) × (drain.queue.shard ≡ shard) }
+        requires untouched { drain.taken ≡ [] }
+        ensures queue { IfOk result (λ w. w.queue ≡ drain.queue) }
+        ensures target { IfOk result (λ w. w.target ≡ config.now.target) }
+        ensures batch { IfOk result (λ w. w.batch ≡ config.now.batch) }
+        ensures backoff { IfOk result (λ w. (w.min_backoff ≡ config.now.min_backoff_ms) × (w.max_backoff ≡ config.now.max_backoff_ms)) }
+        ensures err { IfErr result (λ e. e.0 ≡ drain) }
+    {
+        let fields = config.fields();
+        let batch = fields.batch.get() as usize;
+        match ShardCore::new(alloc, &fields.target, epoch, shard, batch) {
+            Ok(core) => Ok(Worker {
+                drain,
+                core,
+                ledger: Ledger::new(alloc),
+                backoff: Backoff::of(config),
+            }),
+            Err(refused) => Err((drain, refused)),
+        }
+    }
+
+    /// Sends what comes out of the queue, batch by batch, until an End, a set stop flag or a lost feeder.
+    ///
+    /// It waits between two attempts of a batch, longer each time, and where memory was refused. Once the stop flag is set nothing more is sent.
+    pub fn run<T: Transport + Drop, P: Pause, R: Wait>(
+        self,
+        rt: &R,
+        transport: T,
+        pause: &mut P,
+        stop: &AtomicBool,
+    ) -> WorkerReport<T>
+        ensures { IsReport T.tells T.seen self transport result }
+    {
+        let begun = Begun {
+            worker: Snapshot::of(&self),
+            transport: Snapshot::of(&transport),
+        };
+        let mut state = self.begin(transport);
+        for _ in rt.forever() {
+            match step(rt, &begun, state, pause, stop) {
+                Progress::Goes(next) => state = next,
+                Progress::Stops(report) => return report,
+            }
+        }
+        unreachable!()
+    }
+
+    /// The state before the first step.
+    fn begin<T: Transport>(self, transport: T) -> State<T>
+        ensures { IsState T.tells T.seen self transport result }
+    {
+        let Worker {
+            drain,
+            core,
+            ledger,
+            backoff,
+        } = self;
+        State {
+            intake: Intake::Open(drain),
+            sending: Sending {
+                core,
+                ledger,
+                backoff,
+                resolved: 0,
+                retries: 0,
+                transport,
+            },
+        }
+    }
+}
