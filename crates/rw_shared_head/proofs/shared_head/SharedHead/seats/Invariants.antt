@@ -1,0 +1,12 @@
+use Rattle.std.proofs.Common.{◌≡◌, ◌+◌, ◌≤◌, All, vec_len, vec_capacity}
+use Rattle.rw_shared_head.proofs.shared_head.SharedHead.seats.Given as goal
+
+abbrev pub invariant-loop : goal.invariant-loop
+invariant-loop g l = record {
+  len : vec_len l.seats ≡ l.counter;
+  room : l.n ≤ vec_capacity l.seats;
+  parts : l.rest.parts + l.counter ≡ l.n + 1;
+  amount : l.rest.amount ≡ l.initial.rest.amount;
+  nothing : All (λ stored. stored ≡ 0) l.seats.items;
+  below : l.counter ≤ l.n;
+}

@@ -1,0 +1,31 @@
+-- What a request through a seat does to the number of samples that the seat stored.
+use Rattle.std.specs.Prelude.{◌≡◌, ◌≢◌, ℕ, ◌+◌, ◌-◌, ◌^◌, ◌≤◌, List, Ok}
+use Rattle.rw_write_request.specs.Message.{WriteRequest}
+use Rattle.rw_write_request.specs.Read.{read}
+use Rattle.rw_recv_head.specs.Store.{Store, total}
+use Rattle.rw_recv_head.specs.Growth.{EachRises, sample_count}
+
+-- the body spells a message, and at most its samples were stored
+abbrev pub HasStored : List ℕ → ℕ → ℕ → Type 0
+HasStored body old new = (m : WriteRequest) × (read body ≡ Ok m) × (new ≤ old + sample_count m)
+
+-- The number never falls. It grows only where the body was taken, and then by at most the samples of its message.
+pub record HasAsked (old : ℕ) (body : List ℕ) (status new : ℕ) : Type 0 where
+  pub never_falls : old ≤ new
+  pub refused : status ≢ 204 → new ≡ old
+  pub taken : status ≡ 204 → HasStored body old new
+
+-- how many samples a head held when it was shared, and among how many seats
+pub record Opening : Type 0 where
+  pub start : ℕ
+  pub seats : ℕ
+
+-- as many samples as can be counted
+abbrev pub most : ℕ
+most = 2 ^ 64 - 1
+
+-- What the lock keeps: the timestamps of each list rise, and the ledger's rest is what could still be stored.
+pub record IsKept (store : Store) (parts rest : ℕ) : Type 0 where
+  pub rises : EachRises store
+  pub one_part : parts ≡ 1
+  pub adds_up : total store + rest ≡ most

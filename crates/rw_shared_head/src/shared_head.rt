@@ -1,0 +1,91 @@
+//! A head under a lock.
+
+ghost use Rattle.std.specs.Prelude.{◌≡◌, ◌+◌, ◌<◌, All, IfOk, IfErr, sum, vec_len};
+ghost use Rattle.rw_recv_head.specs.Head.{IsStatus};
+ghost use Rattle.rw_recv_head.specs.Store.{total};
+ghost use Rattle.rw_recv_head.specs.Growth.{EachRises};
+ghost use Rattle.rw_shared_head.specs.Seats.{HasAsked};
+
+use crate::locked::Locked;
+use crate::seat::Seat;
+use rw_recv_head::Head;
+use std::alloc::{AllocError, Global};
+use std::marker::Model;
+use std::sync::ledger::{Blank, Ledger, Total};
+use std::sync::{Mutex, Wait};
+
+/// A head that threads ask under one lock. Contracts see how many samples it held when it was shared,
+/// and among how many seats.
+///
+/// Whenever the lock is free, the timestamps of each list rise strictly, and the head's total is that at the start with what the seats stored.
+#[derive(Drop)]
+pub struct SharedHead<L: Ledger> {
+    locked: Mutex<Locked<L>>,
+    all: Total<L>,
+}
+
+impl<L: Ledger> Model for SharedHead<L> {
+    ghost use Rattle.std.specs.Prelude.{◌-◌, ◌<◌, ◌≤◌};
+    ghost use Rattle.rw_shared_head.specs.Seats.{Opening, most};
+
+    ghost Value = { Opening };
+
+    ghost view = { λ s. record { start = most - s.all.amount; seats = s.all.parts - 1 } };
+
+    ghost invariant = { λ s. (s.all.amount ≤ most) × (0 < s.all.parts) };
+}
+
+impl<L: Ledger> SharedHead<L> {
+    /// Shares a head among so many seats, over a ledger of one part for each of them and one for the lock. Where memory runs out, the head comes
+    /// back as it was.
+    pub fn seats(
+        alloc: Global,
+        blank: Blank,
+        head: Head,
+        n: usize,
+    ) -> Result<(SharedHead<L>, Vec<Seat<L>>), (Head, AllocError)>
+        requires seats { 0 < n }
+        requires name { blank.name ≡ L.name }
+        requires parts { (blank.parts ≡ n + 1) × (L.parts ≡ n + 1) }
+        ensures shared { IfOk result (λ r. r.0 ≡ record { start = total head.store; seats = n }) }
+        ensures seats { IfOk result (λ r. vec_len r.1 ≡ n) }
+        ensures nothing { IfOk result (λ r. All (λ stored. stored ≡ 0) r.1.items) }
+        ensures refused { IfErr result (λ e. e.0 ≡ head) }
+    {
+        let mut seats = Vec::new(alloc);
+        if seats.reserve(n).is_err() {
+            return Err((head, AllocError));
+        }
+        let (mut book, mut rest) = blank.open::<L>();
+        book.add(&mut rest, u64::MAX - head.total());
+        let all = book.close();
+        for _ in 0..n {
+            seats.push_reserved(Seat::new(rest.split_off(1, 0)));
+        }
+        let locked = Mutex::new(Locked::new(head, rest));
+        Ok((SharedHead { locked, all }, seats))
+    }
+
+    /// The answer to a body from a seat, under the lock.
+    pub(crate) fn answer<R: Wait>(&self, rt: &R, seat: &mut Seat<L>, body: &[u8]) -> u16
+        ensures statuses { IsStatus result }
+        ensures asked { HasAsked seat.old body.now result seat.new }
+    {
+        self.locked.lock(rt).answer(&self.all, seat, body)
+    }
+
+    /// Gives the head back, once all seats are back. This takes no memory and waits for nobody.
+    pub fn gather(self, seats: Vec<Seat<L>>) -> Head
+        requires { vec_len seats ≡ self.seats }
+        ensures total { total result.store ≡ self.start + sum seats.items }
+        ensures rises { EachRises result.store }
+    {
+        let SharedHead { locked, all } = self;
+        let (head, mut rest) = locked.into_inner().into_parts();
+        for seat in seats {
+            rest.merge(seat.into_share());
+        }
+        all.audit(&mut rest);
+        head
+    }
+}
