@@ -1,9 +1,9 @@
 mod EscapeLemmas
 mod GrowingLemmas
 mod LabelLemmas
-mod LineLemmas
+pub mod LineLemmas
 mod NumberLemmas
 pub mod OneLemmas
 mod PrintLemmas
-mod SplitLemmas
+pub mod SplitLemmas
 mod ValueLemmas

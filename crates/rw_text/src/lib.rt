@@ -12,6 +12,7 @@ mod print;
 mod quotes;
 mod values;
 
+pub use bytes::split_at_byte;
 pub use fault::TextFault;
 pub use labels::read_labels;
 pub use laws::{

@@ -1,13 +1,11 @@
 -- The samples of a log, entry by entry.
 use Rattle.std.proofs.Common.{◌≡◌, ℕ, List, [], ◌∷◌, ◌++◌, length, Bool, true, false, cond, nat_eq, refl, sym, ◌∙◌, ap, Some, None, append_assoc}
 use Rattle.std.proofs.lemmas.List.{append-nil}
-use Rattle.std.proofs.lemmas.List.Sums.{fold-append}
-use Rattle.std.proofs.Math.Seq.{take-length}
-use Rattle.std.specs.List.{fold}
 use Rattle.rw_types.specs.Labels.{Labels}
 use Rattle.rw_types.specs.declared.entry.Entry.{Entry}
 use Rattle.rw_types.specs.declared.entry.Entry.TheVariants.{Def, Sample}
-use Rattle.rw_codes.specs.Series.{labels_of, defines}
+use Rattle.rw_codes.specs.Series.{labels_of}
+use Rattle.rw_series_cache.proofs.KnownLemmas.{labels_of-push}
 use Rattle.rw_tool.specs.Body.{labelled, labelled_after, labelled_of, label_set_of, if_label_set}
 
 labelled_after-push : (before es : List Entry) (e : Entry) → labelled_after before (es ++ e ∷ []) ≡ labelled_after before es ++ labelled_of (before ++ es) e
@@ -21,13 +19,6 @@ labelled_after-push before (d ∷ es) e =
 pub labelled-push : (es : List Entry) (e : Entry) → labelled (es ++ e ∷ []) ≡ labelled es ++ labelled_of es e
 unfolding labelled
 labelled-push es e = labelled_after-push [] es e
-
-labels_of-all : (es : List Entry) (r : ℕ) → labels_of es r (length es) ≡ fold (defines r) None es
-labels_of-all es r = ap (fold (defines r) None) (take-length es)
-
-labels_of-push : (es : List Entry) (e : Entry) (r : ℕ) → labels_of (es ++ e ∷ []) r (length (es ++ e ∷ [])) ≡ defines r (labels_of es r (length es)) e
-labels_of-push es e r =
-    labels_of-all (es ++ e ∷ []) r ∙ fold-append (defines r) None es (e ∷ []) ∙ ap (λ k. defines r k e) (sym (labels_of-all es r))
 
 -- a sample defines nothing
 pub label_set_of-sample : (es : List Entry) (reference t word : _) (r : ℕ) → label_set_of (es ++ Sample reference t word ∷ []) r ≡ label_set_of es r

@@ -1,52 +1,12 @@
 -- Log text line by line.
-use Rattle.std.proofs.Common.{◌≡◌, ◌<◌, ◌≤◌, ◌+◌, ◌-◌, ◌*◌, ◌==◌, ℕ, suc, max, add-one, List, [], ◌∷◌, ◌++◌, length, take, drop, All, false, refl, sym, ap, ◌∙◌, subst, arith, append_assoc}
-use Rattle.std.proofs.Math.ListN.{get_or}
-use Rattle.std.proofs.Math.Seq.{split_at}
-use Rattle.std.proofs.lemmas.List.{take_all, length-drop, length-append, append-nil}
-use Rattle.std.specs.List.{onto_first}
-use Rattle.std.proofs.lemmas.List.Elements.{All-head, All-tail}
-use Rattle.rw_text.specs.LineText.{Line, IsLine}
-use Rattle.rw_text.proofs.OneLemmas.{line_one}
-use Rattle.rw_tool.specs.LogText.{lines, longest_of, record_of, IsRecordOf, AreRecords, IsBadLine}
-
--- a line, LF, and what follows
-pub lines-at : (line rest : List ℕ) → All (λ b. (b == 10) ≡ false) line → lines (line ++ 10 ∷ rest) ≡ line ∷ lines rest
-lines-at [] rest none = refl
-lines-at (b ∷ bs) rest none =
-    rw (All-head (λ b. (b == 10) ≡ false) b bs none) (ap (onto_first b) (lines-at bs rest (All-tail (λ b. (b == 10) ≡ false) b bs none)))
-
--- the last line, without LF
-pub lines-last : (b : ℕ) (bs : List ℕ) → All (λ b. (b == 10) ≡ false) (b ∷ bs) → lines (b ∷ bs) ≡ (b ∷ bs) ∷ []
-lines-last b [] none = rw (All-head (λ b. (b == 10) ≡ false) b [] none) refl
-lines-last b (c ∷ cs) none =
-    rw (All-head (λ b. (b == 10) ≡ false) b (c ∷ cs) none) (ap (onto_first b) (lines-last c cs (All-tail (λ b. (b == 10) ≡ false) b (c ∷ cs) none)))
-
-pub lines-whole : (text rest : List ℕ) → 0 < length text → All (λ b. (b == 10) ≡ false) text → rest ≡ [] → lines text ≡ text ∷ lines rest
-lines-whole [] rest some none e = absurd (omega arith)
-lines-whole (b ∷ bs) rest some none e = lines-last b bs none ∙ ap (λ (t : List ℕ). (b ∷ bs) ∷ lines t) (sym e)
-
--- a line has one record at most, so none where it is too long
-pub too_long : (line : List ℕ) (said : Line) (rec : List ℕ) → IsLine line said → rec ≡ record_of said → 16 * 1024 * 1024 < length rec → (other : List ℕ) → IsRecordOf line other → ⊥
-too_long line said rec is e long other h =
-    let same : rec ≡ other = e ∙ ap record_of (line_one line said h.said is h.is_line) ∙ sym h.is in
-    omega (arith, ap length same, h.short)
+use Rattle.std.proofs.Common.{◌≡◌, ◌<◌, ◌≤◌, ◌+◌, ℕ, max, List, [], ◌∷◌, ◌++◌, length, refl, sym, ap, ◌∙◌, subst, arith, append_assoc}
+use Rattle.std.proofs.lemmas.List.{length-append, append-nil}
+use Rattle.rw_log_text.specs.RecordLines.{lines, IsRecordOf}
+use Rattle.rw_tool.specs.LogText.{longest_of, AreRecords, IsBadLine}
 
 pub empty_from_length : {A : Type 0} (xs : List A) → length xs ≡ 0 → xs ≡ []
 empty_from_length [] e = refl
 empty_from_length (x ∷ xs) e = absurd (omega arith)
-
-pub rest_is : (text : List ℕ) (i : ℕ) → take (length text - i) (drop i text) ≡ drop i text
-rest_is text i = take_all (length text - i) (drop i text) (omega (arith, length-drop i text))
-
-pub line_at : (text : List ℕ) (i : ℕ) → i < length text → get_or text i 0 ≡ 10 → All (λ b. (b == 10) ≡ false) (take i text)
-    → lines text ≡ take i text ∷ lines (take (length text - (i + 1)) (drop (i + 1) text))
-line_at text i within is none =
-    let whole : text ≡ take i text ++ get_or text i 0 ∷ drop (suc i) text = split_at text i 0 within in
-    ap lines (whole ∙ ap (λ (b : ℕ). take i text ++ b ∷ drop (suc i) text) is) ∙ lines-at (take i text) (drop (suc i) text) none
-    ∙ ap (λ (t : List ℕ). take i text ∷ lines t) (ap (λ (n : ℕ). drop n text) (sym (add-one i)) ∙ sym (rest_is text (i + 1)))
-
-pub nothing_left : (text : List ℕ) → take (length text - length text) (drop (length text) text) ≡ []
-nothing_left text = rest_is text (length text) ∙ empty_from_length (drop (length text) text) (omega (arith, length-drop (length text) text))
 
 -- ---- records of lines
 

@@ -2,9 +2,10 @@
 
 ghost use Rattle.std.specs.Prelude.{◌≡◌, ◌<◌, ◌≤◌, ℕ, List, [], ◌∷◌, length, true, false, IfOk, MatchBool};
 ghost use Rattle.rw_tool.specs.Filling.{HasMemory, TakesRecords};
-ghost use Rattle.rw_tool.specs.LogText.{lines, have_room, AreRecords, Fills};
+ghost use Rattle.rw_log_text.specs.RecordLines.{lines};
+ghost use Rattle.rw_tool.specs.LogText.{have_room, AreRecords, Fills};
 
-use crate::log_text::{first_line, read_record};
+use rw_log_text::{first_line, read_record};
 use rw_text::TextFault;
 use rw_types::Room;
 use rw_wal_write::{LogFault, SegmentWriter};

@@ -2,7 +2,8 @@
 
 ghost use Rattle.std.specs.Prelude.{◌≡◌, ◌≢◌, ◌⊎◌, ◌≤◌, ℕ, List, true, false, Err, IfOk, OnOk, IfErr};
 ghost use Rattle.std.specs.Io.KnownBytes.{Consumes, IsAtEnd};
-ghost use Rattle.rw_tool.specs.LogText.{lines, have_room, segment_of, AreRecords};
+ghost use Rattle.rw_log_text.specs.RecordLines.{lines};
+ghost use Rattle.rw_tool.specs.LogText.{have_room, segment_of, AreRecords};
 ghost use Rattle.rw_tool.specs.Logging.{IsFaultOfAny, IsFaultOfLog, ReadsAnyFault, ReadsRecords, ReadsFaulty, StopsLog, WritesLog, WritesLogPart};
 ghost use Rattle.rw_codes.specs.declared.tail_fault.TailFault.{TailFault};
 ghost use Rattle.rw_tool.specs.declared.fault.ToolFault.TheVariants.{OutOfMemory, Log, Line, SegmentFull, Device};

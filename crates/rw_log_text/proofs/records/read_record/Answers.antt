@@ -1,7 +1,7 @@
 use Rattle.std.proofs.Common.{arith, ◌<◌, ◌*◌, length}
 use Rattle.rw_text.specs.LineText.{line_of}
-use Rattle.rw_tool.proofs.LogTextLemmas.{too_long}
-use Rattle.rw_tool.proofs.log_text.read_record.Goals as goal
+use Rattle.rw_log_text.proofs.RecordLemmas.{too_long}
+use Rattle.rw_log_text.proofs.records.read_record.Goals as goal
 
 pub returns-then-len-gt-MAX_RECORD_BYTES-clause-err : goal.returns-then-len-gt-MAX_RECORD_BYTES-clause-err
 returns-then-len-gt-MAX_RECORD_BYTES-clause-err c = λ _.

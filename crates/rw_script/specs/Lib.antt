@@ -1,0 +1,4 @@
+pub mod Scripts
+pub mod ScriptText
+pub mod Ways
+pub mod StateText

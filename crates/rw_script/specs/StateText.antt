@@ -1,0 +1,77 @@
+-- The state of a sender and a receiver as text, one fact a line.
+use Rattle.std.specs.Prelude.{ℕ, List, [], ◌∷◌, ◌++◌, flat_map, Option, Some, None, codes, decimal}
+use Rattle.std.specs.Fmt.{signed_decimal}
+use Rattle.std.specs.FinMap.{entries}
+use Rattle.rw_types.specs.Labels.{Labels}
+use Rattle.rw_codes.specs.declared.tail_fault.TailFault.{TailFault}
+use Rattle.rw_codes.specs.declared.tail_fault.TailFault.TheVariants as tail
+use Rattle.rw_text.specs.LabelText.{labels_text}
+use Rattle.rw_text.specs.ValueText.{value_text}
+use Rattle.rw_ledger.specs.declared.ledger.Reason.{Reason}
+use Rattle.rw_ledger.specs.declared.ledger.Reason.TheVariants.{Status, BadLabels, NoSeries}
+use Rattle.rw_recv_head.specs.Order.{Point}
+use Rattle.rw_recv_head.specs.Store.{Store, list_of, label_sets}
+use Rattle.rw_sender.specs.declared.outcome.Outcome.{Outcome}
+use Rattle.rw_sender.specs.declared.outcome.Outcome.TheVariants as outcome
+use Rattle.rw_schedule.specs.Worlds.{World, Ending, Complete, Abandoned, Damaged, report}
+
+-- ` T=VALUE`
+abbrev pub point_text : Point → List ℕ
+point_text p = 32 ∷ signed_decimal p.0 ++ 61 ∷ value_text p.1
+
+-- `received LABELS` and the samples; no line where there is none
+abbrev pub received_text : Labels → List Point → List ℕ
+received_text l [] = []
+received_text l (p ∷ ps) = codes "received " ++ labels_text l ++ flat_map point_text (p ∷ ps) ++ 10 ∷ []
+
+-- what a receiver holds, by byte order of the label sets' lists of (name, value)
+abbrev pub store_text : Store → List ℕ
+store_text store = flat_map (λ l. received_text l (list_of store l)) (label_sets store)
+
+abbrev pub reason_text : Reason → List ℕ
+reason_text (Status status) = codes "status " ++ decimal status
+reason_text (BadLabels fault) = codes "labels " ++ decimal fault
+reason_text NoSeries = codes "noseries"
+
+-- `dropped POS REASON`
+abbrev pub dropped_text : ℕ × Reason → List ℕ
+dropped_text name = codes "dropped " ++ decimal name.0 ++ 32 ∷ reason_text name.1 ++ 10 ∷ []
+
+abbrev pub filtered_text : ℕ → List ℕ
+filtered_text count = codes "filtered " ++ decimal count ++ 10 ∷ []
+
+abbrev pub abandoned_text : ℕ → List ℕ
+abandoned_text pos = codes "abandoned " ++ decimal pos ++ 10 ∷ []
+
+-- the number of a fault of a log; want of memory is none
+abbrev pub log_fault_number : TailFault → ℕ
+log_fault_number tail.OutOfMemory = 0
+log_fault_number tail.BadType = 1
+log_fault_number tail.BadLength = 2
+log_fault_number tail.BadCrc = 3
+log_fault_number tail.Compressed = 4
+log_fault_number tail.NonzeroPadding = 5
+log_fault_number tail.Sequence = 6
+log_fault_number tail.BadRecord = 7
+log_fault_number tail.TornSegment = 8
+
+-- what is said of the end: an `abandoned` line for each sample that was put and not resolved, and the report
+abbrev pub ending_text : Option Ending → List ℕ
+ending_text None = codes "report running\n"
+ending_text (Some (Complete end)) = codes "report complete " ++ decimal end ++ 10 ∷ []
+ending_text (Some (Abandoned placed samples)) = flat_map abandoned_text samples ++ codes "report abandoned " ++ decimal placed ++ 10 ∷ []
+ending_text (Some (Damaged fault)) = codes "report damaged " ++ decimal (log_fault_number fault) ++ 10 ∷ []
+
+-- what a sender tells of its work: the dropped samples by position, how many the rules have filtered, and its end
+abbrev pub work_text : List (ℕ × Reason) → ℕ → Option Ending → List ℕ
+work_text names filtered ending = flat_map dropped_text names ++ filtered_text filtered ++ ending_text ending
+
+-- the whole state
+abbrev pub state_text : World → List ℕ
+state_text w = store_text w.head.store ++ work_text (entries w.names) w.filtered (report w)
+
+-- the end that an outcome tells
+abbrev pub ending_of : Outcome → Ending
+ending_of (outcome.Complete end) = Complete end
+ending_of (outcome.Abandoned placed samples) = Abandoned placed samples.items
+ending_of (outcome.Damaged fault) = Damaged fault
