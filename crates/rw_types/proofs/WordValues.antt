@@ -1,8 +1,8 @@
 -- The whole number of a word is read from it.
-use Rattle.std.proofs.Common.{◌≡◌, ◌≢◌, ℕ, suc, ◌+◌, ◌-◌, ◌*◌, ◌/◌, ◌%◌, ◌^◌, ◌<◌, ◌≤◌, ℤ, pos, negsuc, neg_ℤ, Option, Some, None, Bool, true, false, if◌then◌else◌, eqb, eq-eqb, ne_eqb, nat_abs, unsigned_abs, int_lt, refl, sym, ap, ◌∙◌, subst, inl, inr, ◌⊎◌, arith, IfSome, IfNone}
+use Rattle.std.proofs.Common.{◌≡◌, ℕ, suc, ◌+◌, ◌-◌, ◌/◌, ◌%◌, ◌^◌, ◌≤◌, ℤ, pos, negsuc, neg_ℤ, Option, Some, None, Bool, true, false, if◌then◌else◌, eq-eqb, ne_eqb, nat_abs, int_lt, refl, sym, ap, ◌∙◌, subst, inl, inr, ◌⊎◌, arith}
 use Rattle.std.proofs.lemmas.Bool.{eqb-true, le-ltb, false≢true, false_from_ne_true}
 use Rattle.rw_types.specs.Words.{highest_bit, magnitude_word, word_of_int, size_of_word, has_word, int_of_word}
-use Rattle.rw_types.proofs.WordLaws.{IsTop, fraction_of, fraction_none, word_small}
+use Rattle.rw_types.proofs.WordLaws.{fraction_none, word_small}
 use Rattle.rw_types.proofs.WordReads.{Reads, reads_word, size_at}
 
 size_of_word-zero : (w : ℕ) → w ≡ 0 → size_of_word w ≡ 0
