@@ -1,6 +1,6 @@
 //! Labels as they stand in a log, before anybody has judged them.
 
-ghost use Rattle.std.specs.Prelude.{◌≡◌, ◌↔◌, ◌++◌, [], ◌∷◌, length, IsTrue, OnOk, OnErr, map};
+ghost use Rattle.std.specs.Prelude.{◌≡◌, ◌↔◌, ◌++◌, [], ◌∷◌, length, IsTrue, IfOk, OnOk, OnErr, map};
 ghost use Rattle.rw_types.specs.Labels.{bytes_label};
 
 use std::alloc::{AllocError, Global};
@@ -41,6 +41,18 @@ impl RawLabels {
         let value = value.to_vec(alloc)?;
         self.list.push((name, value))?;
         Ok(())
+    }
+
+    /// The same labels once more.
+    pub fn copy(&self, alloc: Global) -> Result<RawLabels, AllocError>
+        ensures { IfOk result (λ l. l ≡ self.now) }
+    {
+        let mut copy = RawLabels::new(alloc);
+        let items = self.as_slice();
+        for (name, value) in items {
+            copy.push(name, value)?;
+        }
+        Ok(copy)
     }
 
     pub fn len(&self) -> usize
