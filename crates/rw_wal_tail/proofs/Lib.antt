@@ -5,3 +5,4 @@ mod StillLaws
 mod WaitingLaws
 mod StepLaws
 mod FedLaws
+mod CopyLaws

@@ -1,6 +1,6 @@
 //! The bytes that are not read yet.
 
-ghost use Rattle.std.specs.Prelude.{◌≡◌, ◌≤◌, ◌<◌, ◌+◌, [], true, false, length, drop, take, map, OnOk, OnErr};
+ghost use Rattle.std.specs.Prelude.{◌≡◌, ◌≤◌, ◌<◌, ◌+◌, [], true, false, length, drop, take, map, IfOk, OnOk, OnErr};
 ghost use Rattle.rw_wal_tail.specs.Held.{has_ended, begun_with, extend_last, fed};
 
 use std::alloc::{AllocError, Global};
@@ -44,6 +44,27 @@ fn extend_last_segment(later: &mut VecDeque<Vec<u8>>, piece: &[u8]) -> Result<()
 {
     let last = later.len() - 1;
     later[last].extend_from_slice(piece)
+}
+
+/// The same bytes once more.
+pub(crate) fn copy_of(alloc: Global, bytes: &[u8]) -> Result<Vec<u8>, AllocError>
+    ensures { IfOk result (λ v. v.items ≡ bytes.now) }
+{
+    bytes.to_vec(alloc)
+}
+
+/// The same segments once more.
+fn copy_all(
+    alloc: Global,
+    segments: &VecDeque<Vec<u8>>,
+) -> Result<VecDeque<Vec<u8>>, AllocError>
+    ensures { IfOk result (λ d. map (λ v. v.items) d.items ≡ map (λ v. v.items) segments.now.items) }
+{
+    let mut copy = VecDeque::new(alloc);
+    for i in 0..segments.len() {
+        copy.push_back(copy_of(alloc, &segments[i])?)?;
+    }
+    Ok(copy)
 }
 
 impl Input {
@@ -128,5 +149,18 @@ impl Input {
         } else {
             extend_last_segment(&mut self.later, piece)
         }
+    }
+
+    /// The same bytes once more.
+    pub(crate) fn copy(&self, alloc: Global) -> Result<Input, AllocError>
+        ensures { IfOk result (λ i. i ≡ self.now) }
+    {
+        let later = copy_all(alloc, &self.later)?;
+        Ok(Input {
+            buffer: copy_of(alloc, self.rest())?,
+            at: 0,
+            later,
+            ended: self.ended,
+        })
     }
 }

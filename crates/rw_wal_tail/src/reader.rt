@@ -8,7 +8,7 @@ ghost use Rattle.rw_wal_tail.specs.declared.reader.Step.TheVariants.{Failed};
 ghost use Rattle.rw_wal_tail.specs.Found.{kind_of};
 ghost use Rattle.rw_wal_tail.specs.Steps.{Same, Takes, Stepped, PausesAt, FoundAt, FoundFragment, IsReader, IsUnfed, IsRead, Ran, is_failed_by};
 
-use crate::input::Input;
+use crate::input::{Input, copy_of};
 use crate::item::{Found, Kind, item};
 use crate::record::{Unread, read_record};
 use rw_codes::TailFault;
@@ -96,6 +96,17 @@ fn read_whole(
         *passed += 1;
     }
     Ok(true)
+}
+
+/// The same entries once more.
+fn copy_ready(alloc: Global, ready: &VecDeque<Entry>) -> Result<VecDeque<Entry>, AllocError>
+    ensures { IfOk result (λ d. d.items ≡ ready.now.items) }
+{
+    let mut copy = VecDeque::new(alloc);
+    for i in 0..ready.len() {
+        copy.push_back(ready[i].copy(alloc)?)?;
+    }
+    Ok(copy)
 }
 
 impl Reader {
@@ -314,5 +325,23 @@ impl Reader {
         ensures rest { self.new ≡ record self.old { ready = self.new.ready } }
     {
         self.ready.pop_front().unwrap()
+    }
+
+    /// The same reader once more.
+    pub(crate) fn copy(&self) -> Result<Reader, AllocError>
+        requires { IsReader self.now }
+        ensures { IfOk result (λ r. Same self.now r) }
+    {
+        Ok(Reader {
+            alloc: self.alloc,
+            input: self.input.copy(self.alloc)?,
+            left: self.left,
+            zeros: self.zeros,
+            begun: copy_of(self.alloc, &self.begun)?,
+            is_open: self.is_open,
+            ready: copy_ready(self.alloc, &self.ready)?,
+            passed: self.passed,
+            fault: self.fault,
+        })
     }
 }

@@ -1,6 +1,6 @@
 //! A reader of a log that grows.
 
-ghost use Rattle.std.specs.Prelude.{◌≡◌, ◌⊎◌, ◌≤◌, ◌<◌, ◌^◌, [], ◌∷◌, ◌++◌, length, Err, OnOk, OnErr};
+ghost use Rattle.std.specs.Prelude.{◌≡◌, ◌⊎◌, ◌≤◌, ◌<◌, ◌^◌, [], ◌∷◌, ◌++◌, length, Err, IfOk, OnOk, OnErr};
 ghost use Rattle.rw_codes.specs.Laws.{Extends};
 ghost use Rattle.rw_codes.specs.Pieces.{bytes, next_segment, entries, page_size, reading};
 ghost use Rattle.rw_codes.specs.declared.tail_fault.TailFault.TheVariants.{OutOfMemory};
@@ -118,5 +118,18 @@ impl Tail {
         ensures { result ≡ self.now.skipped }
     {
         self.skipped
+    }
+
+    /// A second reader at the same place, for one who may have to go back.
+    pub fn copy(&self) -> Result<Tail, AllocError>
+        ensures { IfOk result (λ t. t ≡ self.now) }
+    {
+        Ok(Tail {
+            reader: self.reader.copy()?,
+            pieces: self.pieces.again(),
+            given: self.given.again(),
+            count: self.count,
+            skipped: self.skipped,
+        })
     }
 }

@@ -167,6 +167,25 @@ fn byte_by_byte(rt: HostRuntime) -> Result<(), Fail> {
     Ok(())
 }
 
+#[test]
+fn copy_reads_on_by_itself(rt: HostRuntime) -> Result<(), Fail> {
+    let mut tail = Tail::new(rt.alloc());
+    let mut seen = NOTHING;
+    let (front, back) = UP.split_at(40);
+    feed(&mut tail, front)?;
+    seen.read(&mut tail);
+    let mut copy = tail.copy()?;
+    let mut seen_of_copy = seen;
+    feed(&mut copy, back)?;
+    seen_of_copy.read(&mut copy);
+    seen.read(&mut tail);
+    assert_eq!(rt; (seen, seen_of_copy), (DEFINITION, BOTH));
+    feed(&mut tail, back)?;
+    seen.read(&mut tail);
+    assert_eq!(rt; seen, BOTH);
+    Ok(())
+}
+
 /// What is there once a byte has another value.
 fn changed(at: usize, value: u8) -> Seen {
     let before = if at < 29 { NOTHING } else { DEFINITION };
