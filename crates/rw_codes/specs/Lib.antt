@@ -6,3 +6,4 @@ pub mod Pieces
 pub mod Writing
 pub mod Series
 pub mod Laws
+pub mod Faults

@@ -3,8 +3,7 @@ use Rattle.std.specs.Prelude.{ℕ, List, [], ◌∷◌, ◌++◌, flat_map, Opti
 use Rattle.std.specs.Fmt.{signed_decimal}
 use Rattle.std.specs.FinMap.{entries}
 use Rattle.rw_types.specs.Labels.{Labels}
-use Rattle.rw_codes.specs.declared.tail_fault.TailFault.{TailFault}
-use Rattle.rw_codes.specs.declared.tail_fault.TailFault.TheVariants as tail
+use Rattle.rw_codes.specs.Faults.{log_fault_number}
 use Rattle.rw_text.specs.LabelText.{labels_text}
 use Rattle.rw_text.specs.ValueText.{value_text}
 use Rattle.rw_ledger.specs.declared.ledger.Reason.{Reason}
@@ -42,18 +41,6 @@ filtered_text count = codes "filtered " ++ decimal count ++ 10 ∷ []
 
 abbrev pub abandoned_text : ℕ → List ℕ
 abandoned_text pos = codes "abandoned " ++ decimal pos ++ 10 ∷ []
-
--- the number of a fault of a log; want of memory is none
-abbrev pub log_fault_number : TailFault → ℕ
-log_fault_number tail.OutOfMemory = 0
-log_fault_number tail.BadType = 1
-log_fault_number tail.BadLength = 2
-log_fault_number tail.BadCrc = 3
-log_fault_number tail.Compressed = 4
-log_fault_number tail.NonzeroPadding = 5
-log_fault_number tail.Sequence = 6
-log_fault_number tail.BadRecord = 7
-log_fault_number tail.TornSegment = 8
 
 -- what is said of the end: an `abandoned` line for each sample that was put and not resolved, and the report
 abbrev pub ending_text : Option Ending → List ℕ

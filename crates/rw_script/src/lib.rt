@@ -16,6 +16,6 @@ pub use laws::order_is_one;
 pub use lines::read_command;
 pub use script::read_script;
 pub use state::{
-    log_fault_number, push_dropped, push_ending, push_filtered, push_received, push_store,
+    push_dropped, push_ending, push_filtered, push_received, push_store,
     push_work,
 };

@@ -4,9 +4,8 @@ ghost use Rattle.std.specs.Prelude.{◌≡◌, ◌∷◌, [], ◌++◌, decimal,
 ghost use Rattle.std.specs.FinMap.{entries};
 ghost use Rattle.std.specs.Option.{option_map};
 ghost use Rattle.rw_text.specs.Growing.{Grown};
-ghost use Rattle.rw_script.specs.StateText.{point_text, received_text, store_text, reason_text, dropped_text, filtered_text, abandoned_text, log_fault_number, ending_text, ending_of, work_text};
+ghost use Rattle.rw_script.specs.StateText.{point_text, received_text, store_text, reason_text, dropped_text, filtered_text, abandoned_text, ending_text, ending_of, work_text};
 
-use rw_codes::TailFault;
 use rw_ledger::{Ledger, Reason};
 use rw_recv_head::Head;
 use rw_sender::Outcome;
@@ -139,23 +138,6 @@ fn push_all_abandoned(out: &mut Vec<u8>, samples: &[u64]) -> Result<(), AllocErr
     Ok(())
 }
 
-/// The number of a fault of a log, from 1 to 8.
-pub fn log_fault_number(fault: TailFault) -> u8
-    ensures { result ≡ log_fault_number fault }
-{
-    match fault {
-        TailFault::OutOfMemory => 0,
-        TailFault::BadType => 1,
-        TailFault::BadLength => 2,
-        TailFault::BadCrc => 3,
-        TailFault::Compressed => 4,
-        TailFault::NonzeroPadding => 5,
-        TailFault::Sequence => 6,
-        TailFault::BadRecord => 7,
-        TailFault::TornSegment => 8,
-    }
-}
-
 /// Adds a report with its number.
 fn push_report(out: &mut Vec<u8>, report: &[u8], number: u64) -> Result<(), AllocError>
     ensures ok { OnOk result (out.new.items ≡ out.old.items ++ report.now ++ decimal number ++ 10 ∷ []) }
@@ -180,7 +162,7 @@ pub fn push_ending(out: &mut Vec<u8>, outcome: Option<&Outcome>) -> Result<(), A
             push_report(out, b"report abandoned ", *placed)
         }
         Some(Outcome::Damaged(fault)) => {
-            push_report(out, b"report damaged ", log_fault_number(*fault) as u64)
+            push_report(out, b"report damaged ", fault.number() as u64)
         }
     }
 }

@@ -1,28 +1,10 @@
 //! What the program says of a fault.
 
 ghost use Rattle.std.specs.Prelude.{◌≡◌};
-ghost use Rattle.rw_tool.specs.Printed.{log_fault_number, exit_status};
+ghost use Rattle.rw_tool.specs.Printed.{exit_status};
 
 use crate::fault::ToolFault;
-use rw_codes::TailFault;
 use std::fmt;
-
-/// The number of a fault of a log, from 1 to 8.
-fn log_fault_number(fault: TailFault) -> u8
-    ensures { result ≡ log_fault_number fault }
-{
-    match fault {
-        TailFault::OutOfMemory => 0,
-        TailFault::BadType => 1,
-        TailFault::BadLength => 2,
-        TailFault::BadCrc => 3,
-        TailFault::Compressed => 4,
-        TailFault::NonzeroPadding => 5,
-        TailFault::Sequence => 6,
-        TailFault::BadRecord => 7,
-        TailFault::TornSegment => 8,
-    }
-}
 
 impl fmt::Display for ToolFault {
     ghost use Rattle.std.specs.Prelude.{Some};
@@ -34,7 +16,7 @@ impl fmt::Display for ToolFault {
         match *self {
             ToolFault::OutOfMemory => write!(f, "out of memory"),
             ToolFault::Log(fault) => {
-                let number = log_fault_number(fault);
+                let number = fault.number();
                 write!(f, "log fault {number}")
             }
             ToolFault::Line(line) => write!(f, "line {line}"),
