@@ -3,6 +3,7 @@
 ghost use Rattle.std.specs.Prelude.{◌≡◌, ◌↔◌, IsTrue, ◌+◌, ◌<◌, ◌≤◌, [], true, false, All, not, ◌&&◌, Some, None, if◌then◌else◌, IfOk, IfSome, OnOk, OnErr, length};
 ghost use Rattle.rw_retry.specs.Judgements.{judgement_of};
 ghost use Rattle.std.specs.FinMap.{get};
+ghost use Rattle.rw_shard_queue.specs.Items.{samples_in};
 ghost use Rattle.rw_sender.specs.Inside.{RiseStrictly};
 ghost use Rattle.rw_sender.specs.SentRequest.{request_of};
 ghost use Rattle.rw_sender.specs.Shard.{IsCore, IsReadAgain, MayTake, HasRoomFor, new_core, is_empty, pending, is_due, can_take, mark, take_item, can_freeze, freeze, freeze_room, can_send, send, request_for, awaits, lose, attempt_for, batch_id, places_of, positions_of, positions, resolve, is_answer, name_all, reply, reply_names, kill};
@@ -235,6 +236,16 @@ impl ShardCore {
                 place.epoch == self.epoch && place.shard == self.shard && follows(self.last, *place)
             }
             Item::Flush | Item::End(_) => true,
+        }
+    }
+
+    /// The samples of the open batch, which only contracts see.
+    pub fn open_samples(&self) -> History<Item>
+        ensures { samples_in result ≡ self.now.batch }
+    {
+        match &self.current {
+            Some(_) => self.pending.again(),
+            None => History::new(),
         }
     }
 
