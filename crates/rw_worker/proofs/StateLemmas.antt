@@ -238,6 +238,7 @@ module _ {T : Type 0} (tells : T → Type 0) (seen : T → List Exchange) (setup
     steps = ss;
     made = made;
     worked = (keeps-made (drain_of r.end) r.transport ss some made).worked;
+    target = (keeps-made (drain_of r.end) r.transport ss some made).target_is;
     counted = counted;
     names = names;
     whole = whole;

@@ -86,6 +86,7 @@ module _ {T : Type 0} (tells : T → Type 0) (seen : T → List Exchange) (setup
     pub steps : List Step
     pub made : HasMade (drain_of r.end) r.transport steps
     pub worked : IsWorked setup.batch (drain_of r.end).taken (exchanges_of steps) (after (start_of setup) steps)
+    pub target : (after (start_of setup) steps).core.target ≡ setup.target
     pub counted : r.resolved ≡ length (after (start_of setup) steps).core.resolved
     pub names : r.ledger.names ≡ (after (start_of setup) steps).ledger.names
     pub whole : r.stopped ≡ false → IsOrderly r.end → (after (start_of setup) steps).core.resolved ≡ samples_in (drain_of r.end).taken
