@@ -219,7 +219,7 @@ classes_reply c w (Some a) at = by_shard (slice_get w.shards a.id.shard) refl
 
     by_shard : (o : Option Shard) → slice_get w.shards a.id.shard ≡ o → Classes c (reply_to w a o)
     by_shard None e = at
-    by_shard (Some s) e = either (Classes c) (is_answer a.id s.core) _ w (λ _. answered s e) (λ _. at)
+    by_shard (Some s) e = either (Classes c) _ _ w (λ _. answered s e) (λ _. at)
 
 classes_act : (c : Setup) (w : World) (e : Event) → Classes c w → Classes c (act c w e)
 classes_act c w (event.Feed piece) at = either (Classes c) (is_some w.closed) w _ (λ _. at) (λ _. classes_grow c w (piece_of piece ∷ []) at)
@@ -246,7 +246,7 @@ classes_act c w event.Restart at = by_draining w.draining
   where
     by_draining : (o : Option ℕ) → Classes c (restart_as c w o)
     by_draining None = at
-    by_draining (Some n) = either (Classes c) (not (is_finished w) && all_drained w) _ w (λ _. record { placed_in = at.placed_in; below = at.below; above = at.above; kept = each_new (λ i s. AllOf (KeptAt c w.placed (log w)) (pending s)) c (suc w.epoch) 0 (λ _. tt) n }) (λ _. at)
+    by_draining (Some n) = either (Classes c) _ _ w (λ _. record { placed_in = at.placed_in; below = at.below; above = at.above; kept = each_new (λ i s. AllOf (KeptAt c w.placed (log w)) (pending s)) c (suc w.epoch) 0 (λ _. tt) n }) (λ _. at)
 classes_act c w event.Close at = either (Classes c) (is_some w.closed) w _ (λ _. at) (λ _. record { placed_in = at.placed_in; below = at.below; above = at.above; kept = at.kept })
 classes_act c w event.Kill at = record { placed_in = at.placed_in; below = at.below; above = at.above; kept = at.kept }
 

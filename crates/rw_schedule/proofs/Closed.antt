@@ -199,7 +199,7 @@ ends_act c w (event.Reply k) at = by_answer (slice_get w.replies k)
   where
     by_shard : (a : Reply) (o : Option Shard) → Ends (reply_to w a o)
     by_shard a None = at
-    by_shard a (Some s) = either Ends (is_answer a.id s.core) _ w (λ _. record { at_close = at.at_close; shapes = each_change (λ i s. ShapeOf s × MayEnd w s) (with_core (settle (judgement_of a.status))) a.id.shard w.shards at.shapes (λ u _ h. ((settle_leaves (judgement_of a.status) u).0 h.0, h.1)) }) (λ _. at)
+    by_shard a (Some s) = either Ends _ _ w (λ _. record { at_close = at.at_close; shapes = each_change (λ i s. ShapeOf s × MayEnd w s) (with_core (settle (judgement_of a.status))) a.id.shard w.shards at.shapes (λ u _ h. ((settle_leaves (judgement_of a.status) u).0 h.0, h.1)) }) (λ _. at)
 
     by_answer : (o : Option Reply) → Ends (take_reply w o)
     by_answer None = at
@@ -210,7 +210,7 @@ ends_act c w event.Restart at = by_draining w.draining
   where
     by_draining : (o : Option ℕ) → Ends (restart_as c w o)
     by_draining None = at
-    by_draining (Some n) = either Ends (not (is_finished w) && all_drained w) (restarted n) w (λ _. record { at_close = at.at_close; shapes = each_new (λ i s. ShapeOf s × MayEnd (restarted n) s) c (suc w.epoch) 0 (λ i. (tt, λ p. off (sym p))) n }) (λ _. at)
+    by_draining (Some n) = either Ends _ (restarted n) w (λ _. record { at_close = at.at_close; shapes = each_new (λ i s. ShapeOf s × MayEnd (restarted n) s) c (suc w.epoch) 0 (λ i. (tt, λ p. off (sym p))) n }) (λ _. at)
       where
         restarted : ℕ → World
         restarted n = record w { epoch = suc w.epoch; shards = new_shards c (suc w.epoch) 0 n; draining = None }

@@ -42,9 +42,9 @@ reply_frame P w (Some a) at = by_shard (slice_get w.shards a.id.shard)
   where
     by_shard : (o : Option Shard) → P (reply_to w a o)
     by_shard None = at w.shards w.names
-    by_shard (Some s) = either P (is_answer a.id s.core) _ w (λ _. at _ _) (λ _. at w.shards w.names)
+    by_shard (Some s) = either P _ _ w (λ _. at _ _) (λ _. at w.shards w.names)
 
 -- a restart changes the epoch, shards and draining alone
 pub restart_frame : (P : World → Type 0) (c : Setup) (w : World) (o : Option ℕ) → ((epoch : ℕ) (shards : List Shard) (draining : Option ℕ) → P (record w { epoch = epoch; shards = shards; draining = draining })) → P (restart_as c w o)
 restart_frame P c w None at = at w.epoch w.shards w.draining
-restart_frame P c w (Some n) at = either P (not (is_finished w) && all_drained w) _ w (λ _. at _ _ _) (λ _. at w.epoch w.shards w.draining)
+restart_frame P c w (Some n) at = either P _ _ w (λ _. at _ _ _) (λ _. at w.epoch w.shards w.draining)

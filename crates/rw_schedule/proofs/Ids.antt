@@ -233,7 +233,7 @@ reply_ids w (Some a) at = by_shard (slice_get w.shards a.id.shard) refl
 -- ---- and the next epoch
 restart_ids : (c : Setup) (w : World) (o : Option ℕ) → Ids w → Ids (restart_as c w o)
 restart_ids c w None at = at
-restart_ids c w (Some n) at = either Ids (not (is_finished w) && all_drained w) _ w
+restart_ids c w (Some n) at = either Ids _ _ w
     (λ _. record {
       rows = each_new (InRow (suc w.epoch)) c (suc w.epoch) 0 (λ i. record { counted = refl; numbered = tt }) n;
       fates = all_more (Fate w.epoch w.shards) (Fate (suc w.epoch) (new_shards c (suc w.epoch) 0 n)) (λ r h. record { id_is = h.id_is; fate = inl (inl (older r h.fate)) }) w.requests at.fates;

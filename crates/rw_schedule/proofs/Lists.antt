@@ -130,7 +130,7 @@ all_reply c w (Some a) at = by_shard (slice_get w.shards a.id.shard)
 
     by_shard : (o : Option Shard) → All c (reply_to w a o)
     by_shard None = at
-    by_shard (Some s) = either (All c) (is_answer a.id s.core) _ w (λ _. all_change c w a.id.shard (with_core (settle (judgement_of a.status))) (by_judgement (judgement_of a.status)) at) (λ _. at)
+    by_shard (Some s) = either (All c) _ _ w (λ _. all_change c w a.id.shard (with_core (settle (judgement_of a.status))) (by_judgement (judgement_of a.status)) at) (λ _. at)
 
 all_act : (c : Setup) (w : World) (e : Event) → All c w → All c (act c w e)
 all_act c w (event.Feed piece) at = either (All c) (is_some w.closed) w _ (λ _. at) (λ _. at)
@@ -157,7 +157,7 @@ all_act c w event.Restart at = by_draining w.draining
   where
     by_draining : (o : Option ℕ) → All c (restart_as c w o)
     by_draining None = at
-    by_draining (Some n) = either (All c) (not (is_finished w) && all_drained w) _ w (λ _. each_new (λ i s. Lists c s) c (suc w.epoch) 0 (λ i. record { queued = refl; held = refl; within = omega arith }) n) (λ _. at)
+    by_draining (Some n) = either (All c) _ _ w (λ _. each_new (λ i s. Lists c s) c (suc w.epoch) 0 (λ i. record { queued = refl; held = refl; within = omega arith }) n) (λ _. at)
 all_act c w event.Close at = either (All c) (is_some w.closed) w _ (λ _. at) (λ _. at)
 all_act c w event.Kill at = at
 

@@ -294,7 +294,7 @@ reply_live c w (Some a) at = by_shard (slice_get w.shards a.id.shard)
 
     by_shard : (o : Option Shard) → LiveIf c (reply_to w a o)
     by_shard None = λ ends. at
-    by_shard (Some s) = either (LiveIf c) (is_answer a.id s.core) (settled w a.id.shard s a.status) w
+    by_shard (Some s) = either (LiveIf c) _ (settled w a.id.shard s a.status) w
         (λ _ ends. record {
           ends = ends;
           placed_in = at.placed_in;
@@ -332,7 +332,7 @@ live_act c w e at = by_event e (ends_act c w e at.ends)
 
     by_draining : (o : Option ℕ) → w.draining ≡ o → LiveIf c (restart_as c w o)
     by_draining None e = λ ends. at
-    by_draining (Some n) e = either (LiveIf c) (not (is_finished w) && all_drained w) (record w { epoch = suc w.epoch; shards = new_shards c (suc w.epoch) 0 n; draining = None }) w
+    by_draining (Some n) e = either (LiveIf c) _ (record w { epoch = suc w.epoch; shards = new_shards c (suc w.epoch) 0 n; draining = None }) w
         (λ _ ends. record {
           ends = ends;
           placed_in = at.placed_in;

@@ -295,7 +295,7 @@ others_reply c w (Some a) at = by_shard (slice_get w.shards a.id.shard)
   where
     by_shard : (o : Option Shard) → OnlyLogged c (reply_to w a o)
     by_shard None = at
-    by_shard (Some s) = either (OnlyLogged c) (is_answer a.id s.core) _ w
+    by_shard (Some s) = either (OnlyLogged c) _ _ w
         (λ _. record {
           pending_logged = each_change (λ i s. AllOf (IsLogged c (log w)) (pending s)) (with_core (settle (judgement_of a.status))) a.id.shard w.shards at.pending_logged (λ u _ all. settled_part (IsLogged c (log w)) (judgement_of a.status) u all);
           requests_logged = at.requests_logged;
@@ -305,7 +305,7 @@ others_reply c w (Some a) at = by_shard (slice_get w.shards a.id.shard)
 
 others_restart : (c : Setup) (w : World) (o : Option ℕ) → OnlyLogged c w → OnlyLogged c (restart_as c w o)
 others_restart c w None at = at
-others_restart c w (Some n) at = either (OnlyLogged c) (not (is_finished w) && all_drained w) _ w
+others_restart c w (Some n) at = either (OnlyLogged c) _ _ w
     (λ _. record { pending_logged = each_new (λ i s. AllOf (IsLogged c (log w)) (pending s)) c (suc w.epoch) 0 (λ _. tt) n; requests_logged = at.requests_logged; nothing_else = at.nothing_else })
     (λ _. at)
 

@@ -267,7 +267,7 @@ module _ (c : Setup) (w : World) (at : Inv c w) (j : ℕ) (s : Shard) (at_j : sl
     answers_ok = all_more (AnswerOk c w.epoch w.shards at.got) (AnswerOk c w.epoch shards got) (λ a a_ok. resolved_answer a a_ok (cases_eq a.id.shard j)) w.replies at.answers_ok;
   }
 
-same_id_is : (a b : BatchId) → same_id a b ≡ true → a ≡ b
+pub same_id_is : (a b : BatchId) → same_id a b ≡ true → a ≡ b
 same_id_is a b h i = id_at
     ((Decides-eqb a.epoch b.epoch).0 (and_left (a.epoch == b.epoch) (a.shard == b.shard) (and_left (a.epoch == b.epoch && a.shard == b.shard) (a.seq == b.seq) h)) i)
     ((Decides-eqb a.shard b.shard).0 (and_right (a.epoch == b.epoch) (a.shard == b.shard) (and_left (a.epoch == b.epoch && a.shard == b.shard) (a.seq == b.seq) h)) i)

@@ -15,6 +15,7 @@ use Rattle.rw_batch.specs.declared.batch.BatchId.{BatchId}
 use Rattle.rw_retry.specs.Judgements.{judgement_of}
 use Rattle.rw_retry.specs.declared.judgement.Judgement.{Judgement}
 use Rattle.rw_retry.specs.declared.judgement.Judgement.TheVariants.{Again, Done, Refused}
+use Rattle.rw_schedule.proofs.Resolves.{same_id_is}
 use Rattle.rw_schedule.proofs.Views.{shard_again, shard_resolve}
 use Rattle.rw_recv_head.specs.Head.{Answer, State, answer_to, status_of}
 use Rattle.rw_recv_head.specs.Head as head
@@ -214,13 +215,6 @@ newest_stands id rs has = by_case (newest id 0 rs 0)
     by_case : Newest id 0 rs 0 (newest_from id 0 rs 0) → (r : Request) × (slice_get rs (newest_from id 0 rs 0) ≡ Some r) × (same_id id r.id ≡ true)
     by_case (inl h) = off (sym has ∙ h.0)
     by_case (inr h) = (h.1, ap (slice_get rs) (h.2 ∙ (let z : 0 + h.0 ≡ h.0 = omega arith in z)) ∙ h.3, h.4)
-
-same_id_is : (a b : BatchId) → same_id a b ≡ true → a ≡ b
-same_id_is a b h i = record {
-  epoch = (Decides-eqb a.epoch b.epoch).0 (and_left (a.epoch == b.epoch) (a.shard == b.shard) (and_left (a.epoch == b.epoch && a.shard == b.shard) (a.seq == b.seq) h)) i;
-  shard = (Decides-eqb a.shard b.shard).0 (and_right (a.epoch == b.epoch) (a.shard == b.shard) (and_left (a.epoch == b.epoch && a.shard == b.shard) (a.seq == b.seq) h)) i;
-  seq = (Decides-eqb a.seq b.seq).0 (and_right (a.epoch == b.epoch && a.shard == b.shard) (a.seq == b.seq) h) i;
-}
 
 -- an answer lowers the busy count where it says busy, and leaves it elsewhere
 pub record Calm (h : State) (a : Answer) : Type 0 where
