@@ -1,6 +1,7 @@
 //! How long a worker waits.
 
 ghost use Rattle.std.specs.Prelude.{◌≡◌};
+ghost use Rattle.rw_retry.specs.Backoff.{delay_of};
 
 use rw_retry::delay;
 use rw_sender::Config;
@@ -35,12 +36,16 @@ impl Backoff {
     }
 
     /// The pause where memory was refused.
-    pub(crate) fn least(&self) -> u64 {
+    pub(crate) fn least(&self) -> u64
+        ensures { result ≡ self.now.0 }
+    {
         self.least
     }
 
     /// The pause before a retry, counted from 0.
-    pub(crate) fn before(&self, retry: u64) -> u64 {
+    pub(crate) fn before(&self, retry: u64) -> u64
+        ensures { result ≡ delay_of self.now.0 self.now.1 retry }
+    {
         delay(self.least, self.most, retry)
     }
 }
