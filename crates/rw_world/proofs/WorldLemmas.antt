@@ -1,0 +1,186 @@
+-- What the parts of a world keep, as entries are placed.
+use Rattle.std.proofs.Common.{◌≡◌, ℕ, zero, suc, ◌+◌, ◌≤◌, Bool, true, false, not, ◌&&◌, cond, List, [], ◌∷◌, ◌++◌, length, map, take, Option, None, Some, refl, sym, ap, ◌∙◌, add-one, arith, length-append}
+use Rattle.std.proofs.lemmas.List.{take-append-le}
+use Rattle.std.proofs.lemmas.Option.{slice_get_within}
+use Rattle.std.specs.Prelude.{slice_get, fold}
+use Rattle.rw_types.specs.Labels.{Labels}
+use Rattle.rw_types.specs.declared.entry.Entry.{Entry}
+use Rattle.rw_types.specs.declared.entry.Entry.TheVariants.{Def, Sample}
+use Rattle.rw_codes.specs.Laws.{Extends}
+use Rattle.rw_codes.specs.Pieces.{Piece, entries, reading, page_size}
+use Rattle.rw_relabel.specs.Rules.{RuleConfig}
+use Rattle.rw_series_cache.specs.Known.{standing_of, definitions_of}
+use Rattle.rw_series_cache.specs.Numbers.{with_series, with_entry, series_of}
+use Rattle.rw_series_cache.specs.Cached.{Taken}
+use Rattle.rw_sender.specs.Shard.{can_send, new_core}
+use Rattle.rw_sender.specs.declared.config.Target.{Target}
+use Rattle.rw_schedule.specs.Shards.{Shard, new_shard, shard_send}
+use Rattle.rw_schedule.specs.Worlds.{Setup, Reply, World, new_shards, start, is_finished, all_drained}
+use Rattle.rw_schedule.specs.Steps.{change, send_batch, restart}
+use Rattle.std.specs.FinMap.{empty}
+use Rattle.rw_recv_head.specs.Head.{State}
+use Rattle.rw_recv_head.specs.declared.limits.Limits.{Limits}
+use Rattle.rw_sender.specs.declared.config.ConfigFields.{ConfigFields}
+use Rattle.rw_world.specs.Held.{Held, SentBatch}
+use Rattle.rw_world.specs.Sending.{Sending, new_held, sent_at}
+use Rattle.rw_world.specs.Machine.{Machine, IsWorld, IsSample, label_limits, setup_of, requests_seen}
+use Rattle.rw_world.proofs.ReadingLemmas.{taken_more}
+
+fold_snoc : {A B : Type 0} (f : A → B → A) (z : A) (xs : List B) (x : B) → fold f z (xs ++ x ∷ []) ≡ f (fold f z xs) x
+fold_snoc f z [] x = refl
+fold_snoc f z (y ∷ ys) x = fold_snoc f (f z y) ys x
+
+-- one more definition
+pub series_defined : (rules : List RuleConfig) (definitions : List Entry) (r : ℕ) (l : Labels) → series_of rules (definitions ++ Def r l ∷ []) ≡ with_series (series_of rules definitions) (standing_of rules (Some l))
+unfolding series_of
+series_defined rules definitions r l = fold_snoc (with_entry rules) [] definitions (Def r l)
+
+pub no_series : (rules : List RuleConfig) → series_of rules [] ≡ []
+unfolding series_of
+no_series rules = refl
+
+definitions_more : (es : List Entry) (e : Entry) → definitions_of (es ++ e ∷ []) ≡ definitions_of es ++ definitions_of (e ∷ [])
+definitions_more [] e = refl
+definitions_more (Def r l ∷ es) e = ap (λ ds. Def r l ∷ ds) (definitions_more es e)
+definitions_more (Sample r t w ∷ es) e = definitions_more es e
+
+pub world_defined : (next placed filtered : ℕ) (pieces : List Piece) (cache cache' : Taken) (draining : Option ℕ) (r : ℕ) (l : Labels) → IsWorld next placed filtered pieces cache draining →
+    slice_get (entries pieces) placed ≡ Some (Def r l) → cache' ≡ record cache { definitions = cache.definitions ++ Def r l ∷ [] } → IsWorld next (placed + 1) filtered pieces cache' draining
+world_defined next placed filtered pieces cache cache' draining r l w at e =
+    let lt = slice_get_within (entries pieces) placed (Def r l) at in
+    record {
+      next_within = omega (arith, w.next_within);
+      placed_within = omega arith;
+      filtered_within = omega (arith, w.filtered_within);
+      defined = ap definitions_of (taken_more (entries pieces) placed (Def r l) at) ∙ definitions_more (take placed (entries pieces)) (Def r l) ∙ ap (λ ds. ds ++ Def r l ∷ []) w.defined ∙ sym (ap (λ (c : Taken). c.definitions) e);
+      shards = w.shards;
+    }
+
+append_none : (es : List Entry) → es ++ [] ≡ es
+append_none [] = refl
+append_none (e ∷ es) = ap (λ xs. e ∷ xs) (append_none es)
+
+sampled : (next placed filtered next' filtered' : ℕ) (pieces : List Piece) (cache : Taken) (draining : Option ℕ) (o : Option Entry) → IsWorld next placed filtered pieces cache draining →
+    slice_get (entries pieces) placed ≡ o → IsSample o → next' ≤ placed + 1 → filtered' ≤ placed + 1 → IsWorld next' (placed + 1) filtered' pieces cache draining
+sampled next placed filtered next' filtered' pieces cache draining None w at s n f = absurd s
+sampled next placed filtered next' filtered' pieces cache draining (Some (Def r l)) w at s n f = absurd s
+sampled next placed filtered next' filtered' pieces cache draining (Some (Sample r t x)) w at s n f =
+    let lt = slice_get_within (entries pieces) placed (Sample r t x) at in
+    record {
+      next_within = n;
+      placed_within = omega arith;
+      filtered_within = f;
+      defined = ap definitions_of (taken_more (entries pieces) placed (Sample r t x) at) ∙ definitions_more (take placed (entries pieces)) (Sample r t x) ∙ append_none (definitions_of (take placed (entries pieces))) ∙ w.defined;
+      shards = w.shards;
+    }
+
+pub world_sampled : (next placed filtered next' filtered' : ℕ) (pieces : List Piece) (cache : Taken) (draining : Option ℕ) → IsWorld next placed filtered pieces cache draining →
+    IsSample (slice_get (entries pieces) placed) → next' ≤ placed + 1 → filtered' ≤ placed + 1 → IsWorld next' (placed + 1) filtered' pieces cache draining
+world_sampled next placed filtered next' filtered' pieces cache draining w s n f = sampled next placed filtered next' filtered' pieces cache draining (slice_get (entries pieces) placed) w refl s n f
+
+-- more of the log
+pub world_fed : (next placed filtered : ℕ) (pieces pieces' : List Piece) (cache : Taken) (draining : Option ℕ) → IsWorld next placed filtered pieces cache draining →
+    Extends (reading page_size pieces) (reading page_size pieces') → IsWorld next placed filtered pieces' cache draining
+world_fed next placed filtered pieces pieces' cache draining w x =
+    let len : length (entries pieces') ≡ length (entries pieces) + length x.more = ap length x.entries ∙ length-append (entries pieces) x.more in
+    record {
+      next_within = w.next_within;
+      placed_within = omega (arith, w.placed_within, len);
+      filtered_within = w.filtered_within;
+      defined = ap (λ es. definitions_of (take placed es)) x.entries ∙ ap definitions_of (take-append-le placed (entries pieces) x.more w.placed_within) ∙ w.defined;
+      shards = w.shards;
+    }
+
+-- new shards, as the machine has them
+pub new_seen : (c : Setup) (target : Target) (capacity batch epoch i n : ℕ) → c.target ≡ target → c.batch ≡ batch → map (λ (h : Held). h.shard) (new_held target capacity batch epoch i n) ≡ new_shards c epoch i n
+new_seen c target capacity batch epoch i zero t b = refl
+new_seen c target capacity batch epoch i (suc n) t b = rw (t, b) (ap (λ ss. new_shard (new_core target epoch i batch) ∷ ss) (new_seen c target capacity batch epoch (suc i) n t b))
+
+-- a shard that may not send stays
+unsent_if : (b : Bool) (s : Shard) (r : SentBatch) → cond b (Some r) None ≡ None → record s { core = cond b (record s.core { waiting = true }) s.core } ≡ s
+unsent_if true s r e = absurd (cc)
+unsent_if false s r e = refl
+
+pub unsent : (ss : List Shard) (i : ℕ) → sent_at (slice_get ss i) ≡ None → change i shard_send ss ≡ ss
+unsent [] i e = refl
+unsent (s ∷ ss) zero e = ap (λ t. t ∷ ss) (unsent_if (can_send s.core) s _ e)
+unsent (s ∷ ss) (suc i) e = ap (λ xs. s ∷ xs) (unsent ss i e)
+
+send_if : (b : Bool) (r : SentBatch) (v w : World) → cond b (Some r) None ≡ None → cond b v w ≡ w
+send_if true r v w e = absurd (cc)
+send_if false r v w e = refl
+
+pub send_none : (w : World) (i : ℕ) (o : Option Shard) → sent_at o ≡ None → send_batch w i o ≡ w
+send_none w i None e = refl
+send_none w i (Some s) e = send_if (can_send s.core) _ _ w e
+
+-- before the first event
+pub started : (cfg : ConfigFields) (l : Limits) (v : Sending) (pieces : List Piece) (cache : Taken) (requests : List SentBatch) (replies : List Reply) (head : State) →
+    v ≡ record {
+      target = cfg.target;
+      capacity = cfg.capacity;
+      batch = cfg.batch;
+      epoch = 0;
+      shards = map (λ (h : Held). h.shard) (new_held cfg.target cfg.capacity cfg.batch 0 0 cfg.shards);
+      next = 0;
+      names = empty;
+    } → pieces ≡ [] → cache ≡ record { rules = cfg.rules; definitions = [] } → requests ≡ [] → replies ≡ [] →
+    head ≡ record { store = empty; limits = label_limits l; busy = l.busy_first } →
+    ◌≡◌ {A = Machine}
+    (record {
+      setup = record {
+        target = v.target;
+        shards = cfg.shards;
+        capacity = v.capacity;
+        batch = v.batch;
+        rules = cache.rules;
+        limits = label_limits l;
+        max_body = l.max_body_bytes;
+        busy = l.busy_first;
+      };
+      world = record {
+        pieces = pieces;
+        placed = 0;
+        series = series_of cache.rules cache.definitions;
+        epoch = v.epoch;
+        shards = v.shards;
+        requests = requests_seen requests;
+        replies = replies;
+        head = head;
+        names = v.names;
+        filtered = 0;
+        draining = None;
+        closed = None;
+        killed = false;
+      };
+    })
+    (record { setup = setup_of cfg l; world = start (setup_of cfg l) })
+started cfg l v pieces cache requests replies head a b d e f g =
+    let seen = new_seen (setup_of cfg l) cfg.target cfg.capacity cfg.batch 0 0 cfg.shards refl refl in
+    rw (a, b, d, e, f, g) (rw (seen, no_series cfg.rules) refl)
+
+pub parts : (f a : Bool) → (not f && a) ≡ true → (f ≡ false) × (a ≡ true)
+parts true a e = absurd (cc)
+parts false a e = (refl, e)
+
+-- the next shards take over
+pub restarted : (u : Machine) (v v' : Sending) (n : ℕ) → u.world.draining ≡ Some n → is_finished u.world ≡ false → all_drained u.world ≡ true →
+    u.setup.target ≡ v.target → u.setup.batch ≡ v.batch → u.world.epoch ≡ v.epoch → u.world.names ≡ v.names →
+    v' ≡ record v { epoch = v.epoch + 1; shards = map (λ (h : Held). h.shard) (new_held v.target v.capacity v.batch (v.epoch + 1) 0 n) } →
+    record u { world = record u.world { epoch = v'.epoch; shards = v'.shards; names = v'.names; draining = None } } ≡ record u { world = restart u.setup u.world }
+restarted u v v' n d f a t b ep nm e =
+    let up : v.epoch + 1 ≡ suc u.world.epoch = add-one v.epoch ∙ ap suc (sym ep) in
+    let seen = new_seen u.setup v.target v.capacity v.batch (v.epoch + 1) 0 n t b in
+    let epoch : v'.epoch ≡ suc u.world.epoch = ap (λ (x : Sending). x.epoch) e ∙ up in
+    let shards : v'.shards ≡ new_shards u.setup (suc u.world.epoch) 0 n = ap (λ (x : Sending). x.shards) e ∙ seen ∙ ap (λ k. new_shards u.setup k 0 n) up in
+    let names : v'.names ≡ u.world.names = ap (λ (x : Sending). x.names) e ∙ sym nm in
+    let next : World = record u.world { epoch = suc u.world.epoch; shards = new_shards u.setup (suc u.world.epoch) 0 n; draining = None } in
+    let made : record u.world { epoch = v'.epoch; shards = v'.shards; names = v'.names; draining = None } ≡ next = rw (epoch, shards, names) refl in
+    let row : restart u.setup u.world ≡ next = rw (d, f, a) refl in
+    ap (λ (w : World). record u { world = w }) (made ∙ sym row)
+
+pub head_is : (h : State) (l : Limits) → h.store ≡ empty → h.limits.max_labels ≡ l.max_labels → h.limits.max_label_bytes ≡ l.max_label_bytes → h.busy ≡ l.busy_first →
+    h ≡ record { store = empty; limits = label_limits l; busy = l.busy_first }
+head_is h l a b d e =
+    let made : ◌≡◌ {A = State} (record { store = h.store; limits = record { max_labels = h.limits.max_labels; max_label_bytes = h.limits.max_label_bytes }; busy = h.busy }) (record { store = empty; limits = label_limits l; busy = l.busy_first }) = rw (a, b, d, e) refl in
+    made

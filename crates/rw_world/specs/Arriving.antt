@@ -1,0 +1,40 @@
+-- The requests of a sender, and the answers of a receiver to them.
+use Rattle.std.specs.Prelude.{◌≡◌, ℕ, ◌⊎◌, List, map, length, nat_lt, if◌then◌else◌, All, Option, None, Some, Result, Ok, Err}
+use Rattle.std.specs.declared.alloc.AllocError.{AllocError}
+use Rattle.http.specs.StatusCode.{IsStatusCode}
+use Rattle.rw_batch.specs.Grouping.{message}
+use Rattle.rw_shard_queue.specs.Items.{Placed}
+use Rattle.rw_sender.specs.declared.config.Target.{Target}
+use Rattle.rw_sender.specs.Shard.{labelled, body_of, IsReadAgain}
+use Rattle.rw_sender.specs.SentRequest.{request_of}
+use Rattle.rw_recv_head.specs.Head.{State, Answer, answer_to}
+use Rattle.rw_schedule.specs.Worlds.{World, Request}
+use Rattle.rw_schedule.specs.Steps.{answered}
+use Rattle.rw_world.specs.Held.{SentBatch}
+
+-- these bytes are the request of the batch, whose message a receiver reads
+pub record IsSentTo (host path : List ℕ) (s : SentBatch) : Type 0 where
+  pub bytes : s.bytes ≡ request_of host path (body_of s.batch)
+  pub read : IsReadAgain s.batch
+
+-- a receiver's answer to the body of a batch: 413 Content Too Large over its limit, or what the head answers to the message
+abbrev pub answer_within : ℕ → State → List Placed → Answer
+answer_within limit h batch =
+    if nat_lt limit (length (body_of batch)) then record { status = 413; head = h }
+    else answer_to h (Ok (message (map labelled batch)))
+
+-- the answer; or memory ran out, and the head stays as it was
+abbrev pub IsReplied : Answer → State → Result ℕ AllocError → State → Type 0
+IsReplied a old (Ok status) new = ((status ≡ a.status) × (new ≡ a.head) × IsStatusCode status) ⊎ ((status ≡ 503) × (new ≡ old))
+IsReplied a old (Err e) new = new ≡ old
+
+-- the receiver stands where requests are sent, and all of them are requests to it
+pub record IsServed (target : Target) (host path : List ℕ) (requests : List SentBatch) : Type 0 where
+  pub host_is : target.host ≡ host
+  pub path_is : target.path ≡ path
+  pub sent : All (IsSentTo host path) requests
+
+-- a request is answered with this status, and the head stays
+abbrev pub turned_away : World → ℕ → Option Request → World
+turned_away w status None = w
+turned_away w status (Some r) = answered w r.id (record { status = status; head = w.head })

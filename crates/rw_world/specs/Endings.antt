@@ -1,0 +1,9 @@
+-- How the work has ended, as an outcome tells it.
+use Rattle.rw_schedule.specs.Worlds.{Ending, Complete, Abandoned, Damaged}
+use Rattle.rw_sender.specs.declared.outcome.Outcome.{Outcome}
+use Rattle.rw_sender.specs.declared.outcome.Outcome.TheVariants as outcome
+
+abbrev pub ending_of : Outcome → Ending
+ending_of (outcome.Complete end) = Complete end
+ending_of (outcome.Abandoned placed samples) = Abandoned placed samples.items
+ending_of (outcome.Damaged fault) = Damaged fault

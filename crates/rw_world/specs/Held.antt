@@ -1,0 +1,84 @@
+-- One shard of the world: what its queue and its core keep.
+use Rattle.std.specs.Prelude.{◌≡◌, ℕ, ℤ, ◌+◌, ◌≤◌, ◌^◌, List, length, map, Bool, false, not, ◌&&◌, if◌then◌else◌, Option, None, Some, All, IfSome}
+use Rattle.rw_types.specs.Labels.{Labels}
+use Rattle.rw_shard_queue.specs.Items.{Placed, samples_in}
+use Rattle.rw_shard_queue.specs.Queue.{Queue, put_in}
+use Rattle.rw_shard_queue.specs.declared.item.Kind.{Kind}
+use Rattle.rw_shard_queue.specs.declared.item.Item.{Item}
+use Rattle.rw_shard_queue.specs.declared.item.Item.TheVariants.{Sample, Flush, End}
+use Rattle.rw_sender.specs.Shard.{Core, AreInRow, last_of, can_send, batch_id, request_for}
+use Rattle.rw_batch.specs.declared.batch.BatchId.{BatchId}
+use Rattle.rw_schedule.specs.Shards.{Shard, Queued, One, FlushMark, EndMark, has_room, shard_flush, shard_end}
+
+-- a shard, and how many items its queue holds at most
+pub record Held : Type 0 where
+  pub capacity : ℕ
+  pub shard : Shard
+
+-- the mark that is put: a Flush, or an End
+abbrev pub put_mark : Option Kind → Shard → Shard
+put_mark None s = shard_flush s
+put_mark (Some kind) s = shard_end kind s
+
+-- a mark is put while the End was not, and the queue takes one more item
+abbrev pub flushed : ℕ → Option Kind → Shard → Shard
+flushed capacity kind s = if not s.end_put && has_room capacity s then put_mark kind s else s
+
+-- a batch that was sent, with the bytes of its request
+pub record SentBatch : Type 0 where
+  pub id : BatchId
+  pub batch : List Placed
+  pub bytes : List ℕ
+
+-- what a shard sends, if it may
+abbrev pub sent_by : Shard → Option SentBatch
+sent_by s = if can_send s.core then Some (record { id = batch_id s.core.batch; batch = s.core.batch; bytes = request_for s.core }) else None
+
+-- an item of a queue, as the machine has it
+abbrev pub queued_of : Item → Queued
+queued_of (Sample place t word labels) = One (record { place = place; t = t; word = word; labels = labels.value })
+queued_of Flush = FlushMark
+queued_of (End kind) = EndMark kind
+
+-- a queue, whether its End was put, and a core
+abbrev pub held_of : Queue → Bool → Core → Held
+held_of q end_put c = record {
+  capacity = q.capacity;
+  shard = record { put = samples_in (put_in q); queue = map queued_of q.items; end_put = end_put; core = c };
+}
+
+-- how many samples it is
+abbrev pub samples_of : Queued → ℕ
+samples_of (One x) = 1
+samples_of FlushMark = 0
+samples_of (EndMark kind) = 0
+
+-- the sample that a shard is handed next
+abbrev pub sample_for : Shard → ℕ → ℕ → ℤ → ℕ → Labels → Placed
+sample_for s pos series t word l = record {
+  place = record { epoch = s.core.epoch; shard = s.core.shard; seq = length s.put; pos = pos; series = series };
+  t = t;
+  word = word;
+  labels = l;
+}
+
+-- each sample names this shard of this epoch
+abbrev pub AreNamed : Core → List Placed → Type 0
+AreNamed c xs = All (λ (x : Placed). (x.place.epoch ≡ c.epoch) × (x.place.shard ≡ c.shard)) xs
+
+-- the last of so many samples has the number before theirs
+abbrev pub IsNumbered : List Placed → Type 0
+IsNumbered xs = IfSome (last_of xs) (λ (y : Placed). y.place.seq + 1 ≡ length xs)
+
+-- The core has taken what was taken out of the queue, and what was put is one row of this shard's samples.
+pub record IsShard (q : Queue) (c : Core) (count taken : ℕ) : Type 0 where
+  pub not_closed : q.closed ≡ false
+  pub not_killed : q.killed ≡ false
+  pub alive : c.killed ≡ false
+  pub taken_is : samples_in q.taken ≡ c.taken
+  pub counted : count ≡ length (samples_in (put_in q))
+  pub counted_taken : taken ≡ length c.taken
+  pub few : count ≤ 2 ^ 60
+  pub named : AreNamed c (samples_in (put_in q))
+  pub in_row : AreInRow (samples_in (put_in q))
+  pub numbered : IsNumbered (samples_in (put_in q))

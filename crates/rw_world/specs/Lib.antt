@@ -1,0 +1,10 @@
+pub mod Held
+pub mod Sending
+pub mod Reading
+pub mod Machine
+pub mod Places
+pub mod Arriving
+pub mod Reached
+pub mod Endings
+pub mod Guards
+pub mod Rounds

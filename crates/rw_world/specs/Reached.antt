@@ -1,0 +1,34 @@
+-- What is known of every world, since events have brought it there.
+use Rattle.std.specs.Prelude.{◌≡◌, List}
+use Rattle.rw_schedule.specs.declared.event.Event.{Event}
+use Rattle.rw_schedule.specs.Worlds.{Setup, World, start}
+use Rattle.rw_schedule.specs.Steps.{run}
+use Rattle.rw_schedule.specs.Promises.{CanWork, IsInOrder, IsWhole, IsWholeBeforeDamage, HoldsNothingElse, IsClosedForGood, HasOneClassEach, CountsFiltered, NamesRefusals, HasOneBatchEachId, NeverTakesAndRefuses, StoresResolved, HasShardLists}
+use Rattle.rw_world.specs.Machine.{Machine}
+
+-- there are events that led to it, from a beginning that leaves room to work
+pub record IsReached (m : Machine) : Type 0 where
+  pub can : CanWork m.setup
+  pub events : List Event
+  pub reached : m.world ≡ run m.setup events (start m.setup)
+
+-- the events that led to it, and the statuses that are named are those of the replies among them that refused a batch
+pub record NamesItsRefusals (c : Setup) (w : World) : Type 0 where
+  pub events : List Event
+  pub reached : w ≡ run c events (start c)
+  pub refusals : NamesRefusals c events
+
+-- What every schedule keeps.
+pub record IsKept (c : Setup) (w : World) : Type 0 where
+  pub in_order : IsInOrder c w  -- of each label set a beginning of its logged samples has arrived, each once, less the named ones
+  pub whole : IsWhole c w  -- all of them up to the position asked for, once complete
+  pub damaged : IsWholeBeforeDamage c w  -- and all before the damage of a log
+  pub nothing_else : HoldsNothingElse c w
+  pub closed : IsClosedForGood c w
+  pub classes : HasOneClassEach c w
+  pub filtered : CountsFiltered c w
+  pub refusals : NamesItsRefusals c w
+  pub one_batch : HasOneBatchEachId w
+  pub one_fate : NeverTakesAndRefuses c w
+  pub resolved : StoresResolved c w
+  pub lists : HasShardLists c w

@@ -1,0 +1,57 @@
+//! A request arrives.
+
+ghost use Rattle.std.specs.Prelude.{◌≡◌, ◌<◌, length, slice_get, OnOk, OnErr};
+ghost use Rattle.rw_schedule.specs.Steps.{arrive};
+ghost use Rattle.rw_schedule.specs.declared.event.How.TheVariants.{Plain};
+ghost use Rattle.rw_world.specs.Arriving.{turned_away};
+
+use crate::engine::Engine;
+use crate::receiver::answer_to;
+use crate::sent::Answer;
+use http::StatusCode;
+use rw_schedule::How;
+use std::alloc::AllocError;
+
+impl Engine {
+    /// The receiver judges this request.
+    fn judge(&mut self, k: usize) -> Result<(), AllocError>
+        requires { k < length self.old.world.requests }
+        ensures ok { OnOk result (self.new ≡ record self.old { world = arrive self.old.setup self.old.world Plain (slice_get self.old.world.requests k) }) }
+        ensures err { OnErr result (self.new ≡ self.old) }
+    {
+        self.replies.reserve(1)?;
+        let sent = &self.requests[k];
+        let id = sent.id;
+        let status = answer_to(self.alloc, sent, &self.host, &mut self.head, &self.limits)?;
+        self.replies.push_reserved(Answer { id, status });
+        Ok(())
+    }
+
+    /// The receiver answers this request with a status, and its head does not see it.
+    fn turn_away(&mut self, k: usize, status: StatusCode) -> Result<(), AllocError>
+        requires { k < length self.old.world.requests }
+        ensures ok { OnOk result (self.new ≡ record self.old { world = turned_away self.old.world status (slice_get self.old.world.requests k) }) }
+        ensures err { OnErr result (self.new ≡ self.old) }
+    {
+        self.replies.reserve(1)?;
+        let id = self.requests[k].id;
+        self.replies.push_reserved(Answer { id, status });
+        Ok(())
+    }
+
+    /// The request with this number arrives, if there is one.
+    pub(crate) fn arrive(&mut self, k: u64, how: How) -> Result<(), AllocError>
+        ensures ok { OnOk result (self.new ≡ record self.old { world = arrive self.old.setup self.old.world how (slice_get self.old.world.requests k) }) }
+        ensures err { OnErr result (self.new ≡ self.old) }
+    {
+        let k = k as usize;
+        if k >= self.requests.len() {
+            return Ok(());
+        }
+        match how {
+            How::Plain => self.judge(k),
+            How::Busy => self.turn_away(k, StatusCode::TOO_MANY_REQUESTS),
+            How::Short => self.turn_away(k, StatusCode::SERVICE_UNAVAILABLE),
+        }
+    }
+}

@@ -1,0 +1,183 @@
+//! A sender, the network and a receiving head.
+
+ghost use Rattle.std.specs.Prelude.{◌≡◌, ◌^◌, ◌<◌, true, false, Some, None, length, IfOk};
+ghost use Rattle.rw_recv_head.specs.Store.{list_of, label_sets};
+ghost use Rattle.rw_schedule.specs.Worlds.{start, is_finished, is_over};
+ghost use Rattle.rw_schedule.specs.Promises.{CanWork};
+ghost use Rattle.rw_world.specs.Machine.{setup_of};
+
+use crate::log::Log;
+use crate::receiver::{copy_of, limits_at};
+use crate::sending::Senders;
+use crate::sent::{Answer, Sent};
+use rw_ledger::Ledger;
+use rw_recv_head::{Head, LabelSets, Limits};
+use rw_sender::{Config, ConfigFields};
+use rw_series_cache::Cache;
+use rw_types::{Bounded, HostName, LabelSet, Word};
+use std::alloc::{AllocError, Global};
+use std::marker::Model;
+
+/// A sender, the network and a receiving head on one thread, moved by events.
+#[derive(Drop)]
+pub(crate) struct Engine {
+    pub(crate) alloc: Global,
+    /// The shards at the beginning.
+    pub(crate) shards: Bounded<1, 1_000>,
+    /// The host of the receiver.
+    pub(crate) host: HostName,
+    /// The limits of the receiver, which stands at the target's path.
+    pub(crate) limits: Limits,
+    pub(crate) log: Log,
+    pub(crate) placed: u64,
+    pub(crate) cache: Cache,
+    pub(crate) senders: Senders,
+    pub(crate) requests: Vec<Sent>,
+    pub(crate) replies: Vec<Answer>,
+    pub(crate) head: Head,
+    pub(crate) filtered: u64,
+    pub(crate) draining: Option<u64>,
+    pub(crate) closed: Option<u64>,
+    pub(crate) killed: bool,
+}
+
+impl Model for Engine {
+    ghost use Rattle.std.specs.Coded.{codes};
+    ghost use Rattle.std.specs.FinMap as map;
+    ghost use Rattle.rw_series_cache.specs.Numbers.{series_of};
+    ghost use Rattle.rw_world.specs.Machine.{Machine, label_limits, requests_seen, IsWorld};
+    ghost use Rattle.rw_world.specs.Arriving.{IsServed};
+
+    ghost Value = { Machine };
+
+    ghost coded = { Prim.hlevel (codes, map.code) };
+
+    ghost view = { λ w. record {
+      setup = record {
+        target = w.senders.target;
+        shards = w.shards;
+        capacity = w.senders.capacity;
+        batch = w.senders.batch;
+        rules = w.cache.rules;
+        limits = label_limits w.limits;
+        max_body = w.limits.max_body_bytes;
+        busy = w.limits.busy_first;
+      };
+      world = record {
+        pieces = w.log;
+        placed = w.placed;
+        series = series_of w.cache.rules w.cache.definitions;
+        epoch = w.senders.epoch;
+        shards = w.senders.shards;
+        requests = requests_seen w.requests.items;
+        replies = w.replies.items;
+        head = w.head;
+        names = w.senders.names;
+        filtered = w.filtered;
+        draining = w.draining;
+        closed = w.closed;
+        killed = w.killed;
+      };
+    } };
+
+    ghost invariant = { λ w. IsWorld w.senders.next w.placed w.filtered w.log w.cache w.draining × IsServed w.senders.target w.host w.limits.path w.requests.items };
+}
+
+impl Engine {
+    /// Before the first event.
+    pub(crate) fn new(alloc: Global, config: Config, limits: Limits) -> Result<Engine, AllocError>
+        ensures start { IfOk result (λ w. w ≡ record { setup = setup_of config limits; world = start (setup_of config limits) }) }
+        ensures can { IfOk result (λ w. CanWork w.setup) }
+    {
+        let ConfigFields {
+            target,
+            shards,
+            min_shards: _,
+            max_shards: _,
+            capacity,
+            batch,
+            min_backoff_ms: _,
+            max_backoff_ms: _,
+            timeout_ms: _,
+            rules,
+        } = config.into_fields();
+        let host = copy_of(alloc, &target.host)?;
+        let limits = limits_at(alloc, limits, &target.path)?;
+        let senders = Senders::new(
+            alloc,
+            target,
+            capacity.get() as usize,
+            batch.get() as usize,
+            shards.get() as usize,
+        )?;
+        Ok(Engine {
+            alloc,
+            shards,
+            host,
+            log: Log::new(alloc),
+            placed: 0,
+            cache: Cache::new(alloc, rules),
+            senders,
+            requests: Vec::new(alloc),
+            replies: Vec::new(alloc),
+            head: Head::new(alloc, &limits),
+            limits,
+            filtered: 0,
+            draining: None,
+            closed: None,
+            killed: false,
+        })
+    }
+
+    /// Whether all that is to be sent was placed.
+    pub(crate) fn is_finished(&self) -> bool
+        ensures { result ≡ is_finished self.now.world }
+    {
+        match self.closed {
+            Some(end) => self.placed == end,
+            None => false,
+        }
+    }
+
+    /// Whether there is a report.
+    pub(crate) fn is_over(&self) -> bool
+        ensures { result ≡ is_over self.now.world }
+    {
+        if self.killed {
+            return true;
+        }
+        if !self.is_finished() {
+            return false;
+        }
+        self.senders.are_drained()
+    }
+
+    /// The samples that the receiver holds of a label set in order, as (timestamp in milliseconds, value).
+    pub(crate) fn received(&self, labels: &LabelSet) -> Result<Vec<(i64, Word)>, AllocError>
+        ensures { IfOk result (λ v. v.items ≡ list_of self.now.world.head.store labels.now) }
+    {
+        self.head.samples(labels)
+    }
+
+    /// The label sets of which the receiver holds samples, by byte order of their lists of (name, value). This takes no memory.
+    pub(crate) fn label_sets(&self) -> LabelSets<'_>
+        ensures list { result ≡ label_sets self.now.world.head.store }
+        ensures fits { length result < 2 ^ 63 }
+    {
+        self.head.label_sets()
+    }
+
+    /// How many samples were placed whose series the rules drop.
+    pub(crate) fn filtered(&self) -> u64
+        ensures { result ≡ self.now.world.filtered }
+    {
+        self.filtered
+    }
+
+    /// The dropped samples.
+    pub(crate) fn ledger(&self) -> &Ledger
+        ensures { result.now.names ≡ self.now.world.names }
+    {
+        self.senders.ledger()
+    }
+}

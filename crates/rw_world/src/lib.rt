@@ -1,0 +1,17 @@
+//! A sender, the network and a receiving head on one thread, moved by events.
+#![tactic(auto)]
+
+mod arrive;
+mod engine;
+mod log;
+mod place;
+mod receiver;
+mod report;
+mod round;
+mod sending;
+mod sent;
+mod shard;
+mod step;
+mod world;
+
+pub use world::{Refused, World};

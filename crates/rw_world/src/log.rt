@@ -1,0 +1,171 @@
+//! The log, as it was read so far.
+
+ghost use Rattle.std.specs.Prelude.{◌≡◌, ◌<◌, ◌+◌, ◌^◌, ◌++◌, ◌∷◌, [], Some, length, take, slice_get, IfOk, OnOk, OnErr};
+ghost use Rattle.rw_codes.specs.Laws.{Extends};
+ghost use Rattle.rw_codes.specs.Pieces.{entries, fault, reading, page_size};
+ghost use Rattle.rw_wal_tail.specs.Fed.{piece_of};
+ghost use Rattle.rw_world.specs.Reading.{Drains, HasRead, is_refusal};
+ghost use Rattle.rw_world.specs.Rounds.{ahead_of};
+
+use rw_codes::TailFault;
+use rw_types::Entry;
+use rw_wal_tail::{Piece, Tail};
+use std::alloc::{AllocError, Global};
+use std::marker::Model;
+
+/// A log that comes in pieces, and its entries. Contracts see the pieces.
+#[derive(Drop)]
+pub(crate) struct Log {
+    alloc: Global,
+    tail: Tail,
+    entries: Vec<Entry>,
+    fault: Option<TailFault>,
+}
+
+impl Model for Log {
+    ghost use Rattle.std.specs.Prelude.{List};
+    ghost use Rattle.rw_codes.specs.Pieces.{Piece};
+    ghost use Rattle.rw_world.specs.Reading.{HasRead};
+
+    ghost Value = { List Piece };
+
+    ghost view = { λ l. l.tail.pieces };
+
+    ghost invariant = { λ l. HasRead l.tail l.entries.items l.fault };
+}
+
+/// What stands at a position of a log.
+#[derive(Clone, Copy)]
+pub(crate) enum Ahead {
+    Nothing,
+    Definition,
+    /// A sample of this reference.
+    Sample(u64),
+}
+
+/// What an entry is.
+fn ahead_of(entry: &Entry) -> Ahead
+    ensures { result ≡ ahead_of (Some entry.now) }
+{
+    match entry {
+        Entry::Def { .. } => Ahead::Definition,
+        Entry::Sample { reference, .. } => Ahead::Sample(*reference),
+    }
+}
+
+/// Whether memory ran out, and the log has no fault.
+fn is_refusal(fault: TailFault) -> bool
+    ensures { result ≡ is_refusal fault }
+{
+    match fault {
+        TailFault::OutOfMemory => true,
+        _ => false,
+    }
+}
+
+/// Feeds the next piece.
+fn feed_piece(tail: &mut Tail, piece: &Piece) -> Result<(), AllocError>
+    ensures fed { OnOk result (tail.new ≡ record tail.old { pieces = tail.old.pieces ++ piece_of piece.now ∷ [] }) }
+    ensures goes_on { OnOk result (Extends (reading page_size tail.old.pieces) (reading page_size tail.new.pieces)) }
+{
+    match piece {
+        Piece::Bytes(bytes) => tail.feed(bytes),
+        Piece::NextSegment => {
+            tail.next_segment();
+            Ok(())
+        }
+    }
+}
+
+/// Takes all entries that there are, behind those that were taken, and answers the fault after them.
+fn drain(tail: &mut Tail, entries: &mut Vec<Entry>) -> Result<Option<TailFault>, AllocError>
+    requires { Drains tail.old entries.old.items }
+    ensures ok { IfOk result (λ f. HasRead tail.new entries.new.items f) }
+    ensures pieces { tail.new.pieces ≡ tail.old.pieces }
+    ensures begins { take (length entries.old.items) entries.new.items ≡ entries.old.items }
+{
+    'entries: for _ in 0..u64::MAX {
+        entries.reserve(1)?;
+        match tail.next_entry() {
+            Ok(Some(entry)) => entries.push_reserved(entry),
+            Ok(None) => return Ok(None),
+            Err(fault) => {
+                if is_refusal(fault) {
+                    return Err(AllocError);
+                }
+                return Ok(Some(fault));
+            }
+        }
+    }
+    Err(AllocError)
+}
+
+impl Log {
+    pub(crate) fn new(alloc: Global) -> Log
+        ensures { result ≡ [] }
+    {
+        Log {
+            alloc,
+            tail: Tail::new(alloc),
+            entries: Vec::new(alloc),
+            fault: None,
+        }
+    }
+
+    /// Reads the next piece.
+    pub(crate) fn feed(&mut self, piece: &Piece) -> Result<(), AllocError>
+        ensures ok { OnOk result (self.new ≡ self.old ++ piece_of piece.now ∷ []) }
+        ensures err { OnErr result (self.new ≡ self.old) }
+        ensures goes_on { OnOk result (Extends (reading page_size self.old) (reading page_size self.new)) }
+    {
+        let mut tail = self.tail.copy()?;
+        feed_piece(&mut tail, piece)?;
+        let before = self.entries.len();
+        match drain(&mut tail, &mut self.entries) {
+            Ok(fault) => {
+                self.tail = tail;
+                self.fault = fault;
+                Ok(())
+            }
+            Err(refused) => {
+                self.entries.truncate(before);
+                Err(refused)
+            }
+        }
+    }
+
+    /// How many entries there are.
+    pub(crate) fn len(&self) -> u64
+        ensures len { result ≡ length (entries self.now) }
+        ensures small { result < 2 ^ 60 }
+    {
+        self.tail.entries_read()
+    }
+
+    /// The entry at a position.
+    pub(crate) fn entry(&self, pos: u64) -> Result<Option<Entry>, AllocError>
+        ensures { IfOk result (λ e. e ≡ slice_get (entries self.now) pos) }
+    {
+        match self.entries.get(pos as usize) {
+            Some(entry) => Ok(Some(entry.copy(self.alloc)?)),
+            None => Ok(None),
+        }
+    }
+
+    /// What stands at a position.
+    pub(crate) fn ahead(&self, pos: u64) -> Ahead
+        ensures { result ≡ ahead_of (slice_get (entries self.now) pos) }
+    {
+        match self.entries.get(pos as usize) {
+            Some(entry) => ahead_of(entry),
+            None => Ahead::Nothing,
+        }
+    }
+
+    /// The fault at which reading ended, if it did.
+    pub(crate) fn fault(&self) -> Option<TailFault>
+        ensures { result ≡ fault self.now }
+    {
+        self.fault
+    }
+}
