@@ -19,14 +19,14 @@ use Rattle.rw_schedule.proofs.Views.{Ledger}
 use Rattle.rw_schedule.specs.Promises.{Accounted, AccountedEntry, HasOneClassEach}
 use Rattle.rw_schedule.specs.Shards.{Shard, has_room, pending, shard_freeze, shard_lost, shard_put, shard_send, shard_take, with_core}
 use Rattle.rw_schedule.specs.Steps.{act, arrive, change, changed, flush_shard, names_after, next_sample, place, place_entry, place_sample, put_if_room, reply_to, restart_as, settled, run, send_batch, shard_of, take_reply}
-use Rattle.rw_schedule.specs.Worlds.{Reply, Request, Setup, World, all_drained, is_finished, log, start}
+use Rattle.rw_schedule.specs.Worlds.{Reply, Request, Setup, World, is_finished, log, start}
 use Rattle.rw_codes.specs.Pieces.{entries}
 use Rattle.rw_codes.specs.Pieces as pieces
 use Rattle.rw_wal_tail.specs.Fed.{piece_of}
 use Rattle.rw_schedule.specs.declared.event.Event.{Event}
 use Rattle.rw_schedule.specs.declared.event.How.{How}
 use Rattle.rw_schedule.specs.declared.event.How.TheVariants.{Busy, Plain, Short}
-use Rattle.rw_sender.specs.Shard.{can_send, is_answer, name_all, positions, settle, settle_names}
+use Rattle.rw_sender.specs.Shard.{can_send, name_all, positions, settle, settle_names}
 use Rattle.rw_series_cache.specs.Known.{Bad, Filtered, Kept, Standing, Unknown, known, label_fault_number, standing_of}
 use Rattle.rw_series_cache.specs.Numbers.{with_series}
 use Rattle.rw_shard_queue.specs.Items.{Placed}

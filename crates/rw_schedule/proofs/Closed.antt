@@ -18,7 +18,7 @@ use Rattle.rw_wal_tail.specs.Fed.{piece_of}
 use Rattle.rw_schedule.specs.declared.event.Event.{Event}
 use Rattle.rw_schedule.specs.declared.event.How.{How}
 use Rattle.rw_schedule.specs.declared.event.How.TheVariants.{Busy, Plain, Short}
-use Rattle.rw_sender.specs.Shard.{Core, again, awaits, can_freeze, can_send, can_take, is_answer, settle}
+use Rattle.rw_sender.specs.Shard.{Core, again, awaits, can_freeze, can_send, can_take, settle}
 use Rattle.rw_series_cache.specs.Known.{Bad, Filtered, Kept, Standing, Unknown, known}
 use Rattle.rw_types.specs.Labels.{Labels}
 use Rattle.rw_types.specs.declared.entry.Entry.{Entry}

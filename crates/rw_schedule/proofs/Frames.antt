@@ -1,13 +1,12 @@
 -- What an event leaves alone.
-use Rattle.std.proofs.Common.{ℕ, List, Option, Some, None, is_some, slice_get, ℤ, ◌&&◌, not, take}
+use Rattle.std.proofs.Common.{ℕ, List, Option, Some, None, is_some, slice_get, ℤ, take}
 use Rattle.rw_schedule.proofs.Steps.{either}
 use Rattle.std.specs.FinMap.{FinMap}
 use Rattle.std.specs.Ordering.{nat_cmp}
 use Rattle.rw_ledger.specs.declared.ledger.Reason.{Reason}
 use Rattle.rw_schedule.specs.Shards.{Shard, has_room}
 use Rattle.rw_schedule.specs.Steps.{place, place_entry, place_sample, put_if_room, reply_to, restart_as, shard_of, take_reply}
-use Rattle.rw_schedule.specs.Worlds.{Reply, Setup, World, all_drained, is_finished, log}
-use Rattle.rw_sender.specs.Shard.{is_answer}
+use Rattle.rw_schedule.specs.Worlds.{Reply, Setup, World, log}
 use Rattle.rw_series_cache.specs.Known.{Bad, Filtered, Kept, Standing, Unknown, known}
 use Rattle.rw_types.specs.Labels.{Labels}
 use Rattle.rw_types.specs.declared.entry.Entry.{Entry}

@@ -14,7 +14,7 @@ use Rattle.rw_schedule.proofs.Views.{shard_again, shard_resolve}
 use Rattle.rw_schedule.specs.Promises.{HasOneBatchEachId}
 use Rattle.rw_schedule.specs.Shards.{Shard, has_room, pending, samples_in, shard_put, shard_send, shard_freeze, shard_take, shard_lost, with_core}
 use Rattle.rw_schedule.specs.Steps.{act, arrive, change, changed, flush_shard, next_sample, place, place_entry, place_sample, put_if_room, reply_to, restart_as, run, send_batch, shard_of, take_reply}
-use Rattle.rw_schedule.specs.Worlds.{Reply, Request, Setup, World, all_drained, is_finished, log, new_shards, start}
+use Rattle.rw_schedule.specs.Worlds.{Reply, Request, Setup, World, is_finished, log, new_shards, start}
 use Rattle.rw_schedule.specs.declared.event.Event.{Event}
 use Rattle.rw_schedule.specs.declared.event.Event.TheVariants as event
 use Rattle.rw_schedule.specs.declared.event.How.{How}

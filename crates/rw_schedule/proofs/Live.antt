@@ -21,11 +21,11 @@ use Rattle.rw_retry.specs.declared.judgement.Judgement.TheVariants.{Again, Done,
 use Rattle.rw_schedule.proofs.Views.{shard_again, shard_resolve}
 use Rattle.rw_schedule.specs.Shards.{EndMark, FlushMark, One, Queued, Shard, has_room, new_shard, pending, samples_in, shard_end, shard_flush, shard_freeze, shard_lost, shard_put, shard_send, shard_take, take_front, with_core}
 use Rattle.rw_schedule.specs.Steps.{act, arrive, change, changed, flush_shard, mark, next_sample, place, place_entry, place_sample, put_if_room, reply_to, restart_as, run, send_batch, settled, shard_of, take_reply}
-use Rattle.rw_schedule.specs.Worlds.{Reply, Request, Setup, World, all_drained, is_finished, log, new_shards, start}
+use Rattle.rw_schedule.specs.Worlds.{Reply, Request, Setup, World, is_finished, log, new_shards, start}
 use Rattle.rw_schedule.specs.declared.event.Event.{Event}
 use Rattle.rw_schedule.specs.declared.event.How.{How}
 use Rattle.rw_schedule.specs.declared.event.How.TheVariants.{Busy, Plain, Short}
-use Rattle.rw_sender.specs.Shard.{Core, again, awaits, batch_id, can_freeze, can_send, can_take, is_answer, is_empty, new_core, same_id, settle}
+use Rattle.rw_sender.specs.Shard.{Core, again, awaits, batch_id, can_freeze, can_send, can_take, is_empty, new_core, same_id, settle}
 use Rattle.rw_series_cache.specs.Known.{Bad, Filtered, Kept, Standing, Unknown, known}
 use Rattle.rw_shard_queue.specs.Items.{Placed}
 use Rattle.rw_types.specs.Labels.{Labels}

@@ -36,7 +36,7 @@ use Rattle.rw_schedule.specs.declared.event.How.{How}
 use Rattle.rw_schedule.specs.declared.event.How.TheVariants.{Busy, Plain, Short}
 use Rattle.rw_schedule.specs.Shards.{EndMark, FlushMark, One, Queued, Shard, has_room, pending, samples_in, shard_end, shard_flush, shard_freeze, shard_lost, shard_put, shard_send, shard_take, take_front, with_core}
 use Rattle.rw_schedule.specs.Steps.{act, arrive, changed, endpoint_answer, flush_shard, mark, next_sample, place, place_entry, place_sample, put_if_room, reply_to, restart_as, run, send_batch, shard_of, take_reply}
-use Rattle.rw_schedule.specs.Worlds.{Reply, Request, Setup, World, all_drained, is_finished, log, start}
+use Rattle.rw_schedule.specs.Worlds.{Reply, Request, Setup, World, is_finished, log, start}
 use Rattle.rw_schedule.specs.Promises.{HoldsNothingElse, Point}
 use Rattle.rw_schedule.proofs.Views.{IsKept, points, points_from, shard_resolve}
 use Rattle.rw_schedule.proofs.Steps.{always, either, Each, each_change, each_new, AllOf, all_append, all_left, all_right, all_get, all_more, all_filter, all_map, and_left, and_right, same_is}

@@ -15,7 +15,4 @@ pub use fault::ScriptFault;
 pub use laws::order_is_one;
 pub use lines::read_command;
 pub use script::read_script;
-pub use state::{
-    push_dropped, push_ending, push_filtered, push_received, push_store,
-    push_work,
-};
+pub use state::{push_dropped, push_ending, push_filtered, push_received, push_store, push_work};
