@@ -59,6 +59,19 @@ impl<W: Sink> SegmentWriter<W> {
         }
     }
 
+    /// A writer that goes on with a segment of at most so many pages of 32 KiB, of which so many bytes are written.
+    pub fn resume(w: W, pages: usize, offset: usize) -> SegmentWriter<W>
+        requires { IsPlace pages offset }
+        ensures { result ≡ record { sink = w; pages = pages; offset = offset; closed = false } }
+    {
+        SegmentWriter {
+            sink: w,
+            pages,
+            offset,
+            closed: false,
+        }
+    }
+
     /// The bytes of whole records that were written, with their headers and zeros.
     pub fn offset(&self) -> usize
         ensures offset { result ≡ self.now.offset }
