@@ -1,0 +1,134 @@
+//! Connections, each served in a thread of its own.
+
+ghost use Rattle.std.specs.Prelude.{◌≡◌, ◌+◌, ◌<◌, ◌⊎◌, IfOk, IfErr, vec_len};
+ghost use Rattle.rw_recv_head.specs.Growth.{EachRises};
+ghost use Rattle.rw_tool.specs.declared.fault.ToolFault.TheVariants.{OutOfMemory, Device};
+
+use rw_recv_head::{Head, Limits};
+use rw_recv_http::serve;
+use rw_shared_head::{Asking, Seat, SharedHead};
+use rw_tool::ToolFault;
+use rw_types::Std;
+use std::alloc::{AllocError, Global};
+use std::net::{TcpListener, TcpStream};
+use std::sync::Wait;
+use std::sync::ledger::{Blank, Ledger};
+use std::thread;
+use std::thread::{JoinHandle, Scope, Threads};
+
+/// Serves a connection to its end, however it ends, and gives the seat back.
+fn served<L: Ledger, R: Wait>(
+    rt: &R,
+    alloc: Global,
+    shared: &SharedHead<L>,
+    limits: &Limits,
+    stream: TcpStream,
+    seat: Seat<L>,
+) -> Seat<L> {
+    let mut seat = seat;
+    let mut reader = Std::new(&stream);
+    let mut writer = Std::new(&stream);
+    let mut asking = Asking {
+        rt,
+        shared,
+        seat: &mut seat,
+    };
+    serve(alloc, &mut reader, &mut writer, &mut asking, limits);
+    seat
+}
+
+/// The next connection.
+fn accepted(listener: &TcpListener) -> Result<TcpStream, ToolFault>
+    ensures { IfErr result (λ e. e ≡ Device) }
+{
+    match listener.accept() {
+        Ok((stream, _)) => Ok(stream),
+        Err(_) => Err(ToolFault::Device),
+    }
+}
+
+/// Accepts a connection for each seat, and begins to serve it in a thread of the scope.
+fn start_each<'s, E, L: Ledger + Send + Sync + 's, R: Wait + Sync>(
+    scope: &Scope<'s, E>,
+    rt: &'s R,
+    alloc: Global,
+    listener: &TcpListener,
+    shared: &'s SharedHead<L>,
+    limits: &'s Limits,
+    seats: Vec<Seat<L>>,
+) -> Result<Vec<JoinHandle<Seat<L>>>, ToolFault>
+    ensures all { IfOk result (λ handles. vec_len handles ≡ vec_len seats) }
+    ensures faults { IfErr result (λ e. (e ≡ OutOfMemory) ⊎ (e ≡ Device)) }
+{
+    let mut handles = Vec::with_capacity(alloc, seats.len())?;
+    for seat in seats {
+        let stream = accepted(listener)?;
+        match scope.spawn(move || served(rt, alloc, shared, limits, stream, seat)) {
+            Ok(handle) => handles.push_reserved(handle),
+            Err(_) => return Err(ToolFault::OutOfMemory),
+        }
+    }
+    Ok(handles)
+}
+
+/// Waits for the threads, and gives their seats back.
+fn join_each<L: Ledger, R: Threads>(
+    rt: &R,
+    alloc: Global,
+    handles: Vec<JoinHandle<Seat<L>>>,
+) -> Result<Vec<Seat<L>>, AllocError>
+    ensures { IfOk result (λ seats. vec_len seats ≡ vec_len handles) }
+{
+    let mut seats = Vec::with_capacity(alloc, handles.len())?;
+    for handle in handles {
+        seats.push_reserved(handle.join(rt));
+    }
+    Ok(seats)
+}
+
+/// Serves one connection from each seat, each in a thread of its own, and gives the seats back.
+fn serve_each<L: Ledger + Send + Sync, R: Threads + Wait + Sync>(
+    rt: &R,
+    alloc: Global,
+    listener: &TcpListener,
+    shared: &SharedHead<L>,
+    limits: &Limits,
+    seats: Vec<Seat<L>>,
+) -> Result<Vec<Seat<L>>, ToolFault>
+    ensures all { IfOk result (λ back. vec_len back ≡ vec_len seats) }
+    ensures faults { IfErr result (λ e. (e ≡ OutOfMemory) ⊎ (e ≡ Device)) }
+{
+    thread::scope(
+        thread::scope_env(),
+        rt,
+        move |scope| -> Result<Vec<Seat<L>>, ToolFault>
+            ensures { IfOk result (λ back. vec_len back ≡ vec_len seats) × IfErr result (λ e. (e ≡ OutOfMemory) ⊎ (e ≡ Device)) }
+        {
+            let handles = start_each(scope, rt, alloc, listener, shared, limits, seats)?;
+            Ok(join_each(rt, alloc, handles)?)
+        },
+    )
+}
+
+/// Serves so many connections over one head, which had nothing. Gives the head that they leave.
+pub(crate) fn receive_all<L: Ledger + Send + Sync, R: Threads + Wait + Sync>(
+    rt: &R,
+    alloc: Global,
+    blank: Blank,
+    limits: &Limits,
+    connections: usize,
+    listener: &TcpListener,
+) -> Result<Head, ToolFault>
+    requires some { 0 < connections }
+    requires name { blank.name ≡ L.name }
+    requires parts { (blank.parts ≡ connections + 1) × (L.parts ≡ connections + 1) }
+    ensures rises { IfOk result (λ head. EachRises head.store) }
+    ensures faults { IfErr result (λ e. (e ≡ OutOfMemory) ⊎ (e ≡ Device)) }
+{
+    let head = Head::new(alloc, limits);
+    let Ok((shared, seats)) = SharedHead::<L>::seats(alloc, blank, head, connections) else {
+        return Err(ToolFault::OutOfMemory);
+    };
+    let seats = serve_each(rt, alloc, listener, &shared, limits, seats)?;
+    Ok(shared.gather(seats))
+}

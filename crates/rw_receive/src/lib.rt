@@ -1,0 +1,7 @@
+//! The receiver: connections served in threads over one head, and what the head holds printed.
+#![tactic(auto)]
+
+mod connections;
+mod receive;
+
+pub use receive::run_receive;

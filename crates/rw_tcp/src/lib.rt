@@ -1,0 +1,10 @@
+//! Requests over TCP: one connection for each.
+#![tactic(auto)]
+
+mod reply;
+mod sleep;
+mod transport;
+
+pub use reply::{NoReply, ask};
+pub use sleep::Sleep;
+pub use transport::{TcpTransport, look_up};

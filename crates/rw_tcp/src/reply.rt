@@ -1,0 +1,140 @@
+//! One request and its reply, over any reader and writer.
+
+ghost use Rattle.std.specs.Prelude.{◌≡◌, ◌+◌, ◌⊎◌, [], true, false, Ok, Err, IfOk, IfErr, vec_len, if◌then◌else◌};
+ghost use Rattle.std.specs.Io.KnownBytes.{Appends, IsAtEnd};
+ghost use Rattle.rw_retry.specs.Judgements.{judgement_of};
+ghost use Rattle.rw_types.specs.Memory.{ReadsOnto};
+ghost use Rattle.rw_tcp.specs.Hearing.{Hears};
+
+use http::StatusCode;
+use rw_retry::{Judgement, judge};
+use rw_sender::{MAX_HEAD_BYTES, ReplyRead, read_reply};
+use rw_types::{ReadFault, Sink, Source, write_all};
+use rw_worker::Reply;
+use std::alloc::{AllocError, Global};
+
+/// How many bytes one read asks for.
+const CHUNK: usize = 1024;
+
+/// Why a request has no reply. The receiver may have the request or not.
+#[derive(Clone, Copy, Debug, PartialEq, Eq)]
+pub enum NoReply {
+    /// Memory ran out.
+    OutOfMemory,
+    /// The reader or the writer failed.
+    Device,
+    /// The input ended before the status.
+    Ended,
+    /// What came is no reply.
+    Bad,
+}
+
+impl From<AllocError> for NoReply {
+    ghost use Rattle.std.specs.Prelude.{◌≡◌};
+    ghost use Rattle.rw_tcp.specs.declared.reply.NoReply.TheVariants.{OutOfMemory};
+
+    ghost from_gives = { λ _ e. e ≡ OutOfMemory };
+
+    fn from(_e: AllocError) -> NoReply {
+        NoReply::OutOfMemory
+    }
+}
+
+impl From<ReadFault> for NoReply {
+    ghost use Rattle.std.specs.Prelude.{◌≡◌};
+    ghost use Rattle.rw_tcp.specs.Hearing.{fault_of_reading};
+
+    ghost from_gives = { λ f e. e ≡ fault_of_reading f };
+
+    fn from(fault: ReadFault) -> NoReply {
+        match fault {
+            ReadFault::OutOfMemory => NoReply::OutOfMemory,
+            ReadFault::Failed => NoReply::Device,
+        }
+    }
+}
+
+/// Adds what one read gives, and answers how many bytes came.
+fn read_more<R: Source>(reader: &mut R, text: &mut Vec<u8>) -> Result<usize, ReadFault>
+    ensures onto { IfOk result (λ _. ReadsOnto (R.remaining reader.old) (R.remaining reader.new) text.old.items text.new.items) }
+    ensures len { IfOk result (λ n. vec_len text.new ≡ vec_len text.old + n) }
+    ensures end { result ≡ Ok 0 → IsAtEnd (R.remaining reader.new) }
+    ensures failed { result ≡ Err ReadFault.Failed → R.has_failed reader.new ≡ true }
+{
+    let mut chunk = [0; CHUNK];
+    match reader.read(&mut chunk) {
+        Ok(n) => {
+            text.extend_from_slice(&chunk[..n])?;
+            Ok(n)
+        }
+        Err(_) => Err(ReadFault::Failed),
+    }
+}
+
+/// Reads until the bytes that came say what the reply is, or no more come.
+fn hear<R: Source>(reader: &mut R, text: &mut Vec<u8>) -> Result<ReplyRead, ReadFault>
+    requires { text.old.items ≡ [] }
+    ensures heard { IfOk result (Hears (R.remaining reader.old) (R.remaining reader.new)) }
+    ensures ended { result ≡ Ok ReplyRead.Partial → IsAtEnd (R.remaining reader.new) }
+    ensures failed { result ≡ Err ReadFault.Failed → R.has_failed reader.new ≡ true }
+{
+    loop {
+        match read_reply(text.as_slice()) {
+            ReplyRead::Partial => {
+                let count = read_more(reader, text)?;
+                if count == 0 {
+                    return Ok(ReplyRead::Partial);
+                }
+            }
+            said => return Ok(said),
+        }
+    }
+}
+
+/// What a status answers to a request, of which not all bytes may have been written.
+fn answer_of(status: StatusCode, sent: bool) -> Result<Reply, NoReply>
+    ensures reply { IfOk result (λ r. r.status ≡ status) }
+    ensures sent { IfOk result (λ r. judgement_of r.status ≡ Judgement.Done → sent ≡ true) }
+    ensures unsent { IfErr result (λ e. (e ≡ NoReply.Device) × (sent ≡ false)) }
+{
+    match judge(status) {
+        Judgement::Done if !sent => Err(NoReply::Device),
+        _ => Ok(Reply { status }),
+    }
+}
+
+/// Why a reply has no status.
+fn no_status(fault: NoReply, sent: bool) -> NoReply
+    ensures { result ≡ (if sent then fault else NoReply.Device) }
+{
+    if sent { fault } else { NoReply::Device }
+}
+
+/// Writes a request, and reads until its status has come.
+///
+/// A receiver may answer by the head of a request, and let go of the connection before the body has come. So the reply is read also where
+/// the writer failed; a status that takes the request counts only for one that was written whole.
+pub fn ask<R: Source, W: Sink>(
+    alloc: Global,
+    reader: &mut R,
+    writer: &mut W,
+    request: &[u8],
+) -> Result<Reply, NoReply>
+    ensures reply { IfOk result (λ r. Hears (R.remaining reader.old) (R.remaining reader.new) (ReplyRead.Status r.status)) }
+    ensures written { IfOk result (λ r. judgement_of r.status ≡ Judgement.Done → Appends (W.contents writer.old) (W.contents writer.new) request.now) }
+    ensures device { result ≡ Err NoReply.Device → (R.has_failed reader.new ≡ true) ⊎ (W.has_failed writer.new ≡ true) }
+    ensures ended { result ≡ Err NoReply.Ended → Hears (R.remaining reader.old) (R.remaining reader.new) ReplyRead.Partial × IsAtEnd (R.remaining reader.new) }
+    ensures bad { result ≡ Err NoReply.Bad → Hears (R.remaining reader.old) (R.remaining reader.new) ReplyRead.Bad }
+{
+    let mut text = Vec::with_capacity(alloc, MAX_HEAD_BYTES + CHUNK)?;
+    let sent = write_all(writer, request).is_ok();
+    let said = hear(reader, &mut text)?;
+    match said {
+        ReplyRead::Status(status) => match StatusCode::from_u16(status) {
+            Ok(status) => answer_of(status, sent),
+            Err(_) => unreachable!(),
+        },
+        ReplyRead::Partial => Err(no_status(NoReply::Ended, sent)),
+        ReplyRead::Bad => Err(no_status(NoReply::Bad, sent)),
+    }
+}

@@ -1,0 +1,23 @@
+//! Pauses by the clock.
+
+use rw_worker::Pause;
+use std::thread;
+use std::time::{Clock, Duration};
+
+/// Lets the thread sleep.
+#[derive(Clone, Copy)]
+pub struct Sleep<C> {
+    clock: C,
+}
+
+impl<C> Sleep<C> {
+    pub fn new(clock: C) -> Sleep<C> {
+        Sleep { clock }
+    }
+}
+
+impl<C: Clock> Pause for Sleep<C> {
+    fn pause(&mut self, ms: u64) {
+        thread::sleep(&self.clock, Duration::from_millis(ms));
+    }
+}
