@@ -1,0 +1,3 @@
+pub mod PlayedLemmas
+pub mod PrintLemmas
+pub mod ScriptLemmas

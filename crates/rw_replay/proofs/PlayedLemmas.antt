@@ -1,0 +1,57 @@
+-- Lines of a script are carried out.
+use Rattle.std.proofs.Common.{◌≡◌, ◌<◌, ◌≤◌, ◌+◌, ◌*◌, inl, inr, ℕ, List, [], ◌∷◌, length, map, Bool, true, false, Some, if◌then◌else◌, refl, sym, ap, ◌∙◌, subst, arith}
+use Rattle.std.specs.List.{AllByRecursion}
+use Rattle.std.proofs.lemmas.Bool.{ltb-true}
+use Rattle.rw_codes.specs.Pieces.{page_size}
+use Rattle.rw_codes.specs.Writing.{log_bytes}
+use Rattle.rw_schedule.specs.Worlds.{Ending, report}
+use Rattle.rw_schedule.specs.Steps.{happens}
+use Rattle.rw_schedule.specs.declared.event.Event.{Event}
+use Rattle.rw_schedule.specs.declared.event.Event.TheVariants as event
+use Rattle.rw_wal_tail.specs.declared.piece.Piece.TheVariants as piece
+use Rattle.rw_script.specs.declared.command.Command.{Command}
+use Rattle.rw_script.specs.declared.command.Command.TheVariants as command
+use Rattle.rw_script.specs.ScriptText.{Order, logged, fed, order_of, order_of_event}
+use Rattle.rw_world.specs.Machine.{Machine}
+use Rattle.rw_replay.specs.Played.{Played, is_full, next_segment, feeds, end_of, in_world, settled_after, Feeds, Plays, Follows, IsWritable}
+use Rattle.rw_replay.specs.Writing.{IsWritten}
+
+-- the machine after one event
+abbrev pub HasHappened : Played → Event → Machine → Type 0
+HasHappened p e m = m ≡ record p.machine { world = happens p.machine.setup p.machine.world e }
+
+-- another machine, with as much written
+abbrev pub on_machine : Played → Machine → Played
+on_machine p m = record p { machine = m }
+
+pub settled : (p : Played) (m : Machine) (e : Ending) (rounds : ℕ) → m ≡ record p.machine { world = settled_after p rounds } → report m.world ≡ Some e → Plays p (order_of command.Settle) (on_machine p m)
+settled p m e rounds h ended = inr (refl, (rounds, e, ap (λ (n : Machine). report n.world) (sym h) ∙ ended, ap (on_machine p) h))
+
+-- bytes are fed
+pub bytes_fed : (p : Played) (m : Machine) (e : Event) (bytes : List ℕ) (offset : ℕ) → order_of_event e ≡ fed bytes → HasHappened p e m
+    → Feeds p (fed bytes ∷ []) offset (record { machine = m; offset = offset })
+bytes_fed p m e bytes offset is h = (e ∷ [], ap (λ (o : Order). o ∷ []) is, ap (λ (n : Machine). record { machine = n; offset = offset }) h)
+
+-- a next segment, and then the bytes
+pub segment_fed : (p : Played) (m : Machine) (orders : List Order) (offset : ℕ) (q : Played) → HasHappened p (event.Feed piece.NextSegment) m → Feeds (on_machine p m) orders offset q
+    → Feeds p (next_segment ∷ orders) offset q
+segment_fed p m orders offset q h f =
+    let there : Feeds (on_machine p (record p.machine { world = happens p.machine.setup p.machine.world (event.Feed piece.NextSegment) })) orders offset q =
+    subst (λ (n : Machine). Feeds (on_machine p n) orders offset q) h f in
+    (event.Feed piece.NextSegment ∷ there.0, ap (λ (os : List Order). next_segment ∷ os) there.1, there.2)
+
+pub same_fed : (p q : Played) (bytes other : List ℕ) (offset end : ℕ) → bytes ≡ other → offset ≡ end → Feeds p (fed bytes ∷ []) offset q → Feeds p (fed other ∷ []) end q
+same_fed p q bytes other offset end e f h = subst (λ (n : ℕ). Feeds p (fed other ∷ []) n q) f (subst (λ (t : List ℕ). Feeds p (fed t ∷ []) offset q) e h)
+
+-- ---- line by line
+
+-- whatever the lines that are left lead to, all lines lead to
+pub record Playing (start : Played) (all left : List Order) (now : Played) : Type 0 where
+  pub goes_on : (last : Played) → Follows now left last → Follows start all last
+  pub writable : AllByRecursion IsWritable left
+
+pub playing_more : (start now next : Played) (all : List Order) (items more : List Command) (x : Command) → Playing start all (map order_of items) now → items ≡ x ∷ more → Plays now (order_of x) next
+    → Playing start all (map order_of more) next
+playing_more start now next all items more x h e played =
+    let here : Playing start all (order_of x ∷ map order_of more) now = subst (λ (xs : List Command). Playing start all (map order_of xs) now) e h in
+    record { goes_on = λ last f. here.goes_on last (next, played, f); writable = here.writable.1 }

@@ -1,0 +1,85 @@
+//! The command `replay`, over any reader and writer.
+
+ghost use Rattle.std.specs.Prelude.{◌≡◌, ◌≢◌, ◌⊎◌, ℕ, map, true, false, Err, IfOk, OnOk, IfErr};
+ghost use Rattle.std.specs.List.{AllByRecursion};
+ghost use Rattle.rw_codes.specs.declared.tail_fault.TailFault.{TailFault};
+ghost use Rattle.rw_script.specs.ScriptText.{order_of};
+ghost use Rattle.rw_script.specs.Scripts.{IsScript};
+ghost use Rattle.rw_tool.specs.declared.fault.ToolFault.TheVariants.{OutOfMemory, Log, Line, SegmentFull, Device};
+ghost use Rattle.rw_world.specs.Machine.{setup_of};
+ghost use Rattle.rw_replay.specs.Played.{IsPrinted, IsWritable};
+ghost use Rattle.rw_replay.specs.Runs.{IsFaultOfText, ReadsScript, ReadsBadLine, StopsReading, WritesState, WritesStatePart};
+
+use crate::player::Player;
+use rw_script::{Command, ScriptFault, read_script};
+use rw_settings::Settings;
+use rw_tool::ToolFault;
+use rw_types::{Sink, Source, read_to_end, write_all};
+use std::alloc::{AllocError, Global};
+
+/// The commands of a script.
+fn commands_of(alloc: Global, text: &[u8]) -> Result<Vec<Command>, ToolFault>
+    ensures ok { IfOk result (λ commands. IsScript text.now (map order_of commands.items)) }
+    ensures err { IfErr result (IsFaultOfText text.now) }
+{
+    match read_script(alloc, text) {
+        Ok(commands) => Ok(commands),
+        Err(ScriptFault::Line(number)) => Err(ToolFault::Line(number)),
+        Err(ScriptFault::OutOfMemory) => Err(ToolFault::OutOfMemory),
+    }
+}
+
+/// Reads a script to its end, and answers its commands.
+fn read_commands<R: Source>(alloc: Global, reader: &mut R) -> Result<Vec<Command>, ToolFault>
+    ensures ok { IfOk result (λ commands. ReadsScript (R.remaining reader.old) (R.remaining reader.new) (map order_of commands.items)) }
+    ensures sound { OnOk result (R.has_failed reader.new ≡ false) }
+    ensures err { IfErr result (StopsReading (R.remaining reader.old) (R.remaining reader.new) (R.has_failed reader.new)) }
+{
+    let mut text = Vec::new(alloc);
+    read_to_end(alloc, reader, &mut text)?;
+    commands_of(alloc, &text)
+}
+
+/// The text of the state that commands lead to.
+fn state_after(
+    alloc: Global,
+    settings: Settings,
+    commands: Vec<Command>,
+) -> Result<Vec<u8>, AllocError>
+    requires { AllByRecursion IsWritable (map order_of commands.items) }
+    ensures { IfOk result (λ text. IsPrinted (setup_of settings.config settings.limits) (map order_of commands.items) text.items) }
+{
+    let mut player = Player::new(alloc, settings)?;
+    player.play_all(commands)?;
+    player.state()
+}
+
+/// Reads an event script and writes the state at its end: for each label set of which the receiver holds samples, by byte order of its
+/// list of (name, value), `received LABELS T=VALUE ..`; `dropped POS REASON` by position; `filtered COUNT`; `abandoned POS` by position;
+/// and `report ..`, each line ended by LF. A damaged log is told by the report, and is no fault of the run.
+/// All lines are read before the first one is carried out, and nothing is written before all are carried out.
+pub fn run_replay<R: Source, W: Sink>(
+    alloc: Global,
+    reader: &mut R,
+    writer: &mut W,
+    settings: Settings,
+) -> Result<(), ToolFault>
+    ensures ok { OnOk result (WritesState (setup_of settings.config settings.limits) (R.remaining reader.old) (R.remaining reader.new) (W.contents writer.old) (W.contents writer.new)) }
+    ensures reader_sound { OnOk result (R.has_failed reader.new ≡ false) }
+    ensures writer_sound { OnOk result (W.has_failed writer.old ≡ false → W.has_failed writer.new ≡ false) }
+
+    // The only fault of the data is the first line that makes the text no script. Nothing is written then, or where memory ran out.
+    ensures line { (n : ℕ) → result ≡ Err (Line n) → ReadsBadLine (R.remaining reader.old) (R.remaining reader.new) n }
+    ensures no_log { (f : TailFault) → result ≡ Err (Log f) → ⊥ }
+    ensures no_full { result ≡ Err SegmentFull → ⊥ }
+    ensures untouched { IfErr result (λ e. e ≢ Device → writer.new ≡ writer.old) }
+
+    // Where a device fails, the writer holds a beginning of the state.
+    ensures device { result ≡ Err Device → ((R.has_failed reader.new ≡ true) × (writer.new ≡ writer.old))
+        ⊎ ((W.has_failed writer.new ≡ true) × WritesStatePart (setup_of settings.config settings.limits) (R.remaining reader.old) (R.remaining reader.new) (W.contents writer.old) (W.contents writer.new)) }
+{
+    let commands = read_commands(alloc, reader)?;
+    let state = state_after(alloc, settings, commands)?;
+    write_all(writer, &state)?;
+    Ok(())
+}
