@@ -4,19 +4,31 @@
 mod settings;
 mod words;
 
+ghost use Rattle.std.specs.Prelude.{◌≡◌, MatchResult};
+ghost use Rattle.std.specs.Process as process;
+ghost use Rattle.rw_tool.specs.Printed.{exit_status};
+ghost use Rattle.rwship.specs.Statuses.{unset_status};
+
 use clap::error::ErrorKind;
+use rw_receive::run_receive;
+use rw_replay::run_replay;
 use rw_tool::{ToolFault, run_body, run_log, run_log_dir, run_plan};
 use rw_types::{Bounded, Std};
 use settings::{Unset, settings_in};
+use std::env;
+use std::net::TcpListener;
 use std::process::ExitCode;
-use std::{env, io};
-use words::{Task, command_line, task_of};
+use std::sync::Wait;
+use std::thread::Threads;
+use words::{Address, Task, command_line, task_of};
 
 /// The exit status for words and settings that the program does not take.
 const BAD_WORDS: u8 = 2;
 
 /// Writes the one line of a fault to standard error, and gives its exit status.
-fn ended(rt: &HostRuntime, outcome: Result<(), ToolFault>) -> ExitCode {
+fn ended(rt: &HostRuntime, outcome: Result<(), ToolFault>) -> ExitCode
+    ensures { MatchResult outcome (λ _. process.exit_status result ≡ 0) (λ fault. process.exit_status result ≡ exit_status fault) }
+{
     match outcome {
         Ok(()) => ExitCode::SUCCESS,
         Err(fault) => {
@@ -27,7 +39,9 @@ fn ended(rt: &HostRuntime, outcome: Result<(), ToolFault>) -> ExitCode {
 }
 
 /// The same of settings that cannot be read.
-fn unset(rt: &HostRuntime, fault: Unset) -> ExitCode {
+fn unset(rt: &HostRuntime, fault: Unset) -> ExitCode
+    ensures { process.exit_status result ≡ unset_status fault }
+{
     match fault {
         Unset::Tool(fault) => ended(rt, Err(fault)),
         Unset::Settings(fault) => {
@@ -76,6 +90,19 @@ fn plan(rt: &HostRuntime, settings: Option<&str>, hex: bool) -> ExitCode {
     }
 }
 
+/// Plays a script and prints the state at its end.
+fn replay(rt: &HostRuntime, settings: Option<&str>) -> ExitCode {
+    let mut input = Std::new(rt.stdin());
+    let mut output = Std::new(rt.stdout());
+    match settings_in(rt, settings) {
+        Ok(settings) => {
+            let outcome = run_replay(rt.alloc(), &mut input, &mut output, settings);
+            ended(rt, outcome)
+        }
+        Err(fault) => unset(rt, fault),
+    }
+}
+
 /// Writes the body of a segment.
 fn body(rt: &HostRuntime, hex: bool) -> ExitCode {
     let mut input = Std::new(rt.stdin());
@@ -83,21 +110,52 @@ fn body(rt: &HostRuntime, hex: bool) -> ExitCode {
     ended(rt, run_body(rt.alloc(), &mut input, &mut output, hex))
 }
 
+/// Serves connections, and prints what they left.
+fn receive<R: Threads + Wait + Sync>(
+    rt: &HostRuntime,
+    threads: &R,
+    settings: Option<&str>,
+    listen: Address<'_>,
+    connections: Bounded<1, 1_000>,
+) -> ExitCode {
+    let mut output = Std::new(rt.stdout());
+    let settings = match settings_in(rt, settings) {
+        Ok(settings) => settings,
+        Err(fault) => return unset(rt, fault),
+    };
+    let Ok(listener) = TcpListener::bind(rt, (listen.host, listen.port)) else {
+        return ended(rt, Err(ToolFault::Device));
+    };
+    let outcome = run_receive(
+        threads,
+        rt.alloc(),
+        &settings,
+        connections,
+        &listener,
+        &mut output,
+    );
+    ended(rt, outcome)
+}
+
 /// Does what the words ask for.
-fn perform(rt: &HostRuntime, task: &Task<'_>) -> ExitCode {
+fn perform<R: Threads + Wait + Sync>(rt: &HostRuntime, threads: &R, task: &Task<'_>) -> ExitCode {
     match task {
         Task::Body { hex } => body(rt, *hex),
         Task::Log { hex, pages, dir } => log(rt, *hex, *pages, *dir),
         Task::Plan { settings, hex } => plan(rt, *settings, *hex),
+        Task::Replay { settings } => replay(rt, *settings),
+        Task::Receive {
+            settings,
+            listen,
+            connections,
+        } => receive(rt, threads, *settings, *listen, *connections),
         // not offered yet
-        Task::Replay { .. } | Task::Send { .. } | Task::Receive { .. } => {
-            ExitCode::from(BAD_WORDS)
-        }
+        Task::Send { .. } => ExitCode::from(BAD_WORDS),
     }
 }
 
 /// Reads the words and does what they ask for.
-fn run(rt: &HostRuntime) -> Result<ExitCode, ToolFault> {
+fn run<R: Threads + Wait + Sync>(rt: &HostRuntime, threads: &R) -> Result<ExitCode, ToolFault> {
     let alloc = rt.alloc();
     let words: Vec<String> = match env::args(rt) {
         Ok(words) => words.collect(alloc)?,
@@ -106,7 +164,7 @@ fn run(rt: &HostRuntime) -> Result<ExitCode, ToolFault> {
     match command_line(alloc)?.try_get_matches_from(words.as_slice()) {
         Err(error) => Ok(unparsed(rt, error)),
         Ok(matches) => match task_of(&matches) {
-            Some(task) => Ok(perform(rt, &task)),
+            Some(task) => Ok(perform(rt, threads, &task)),
             None => {
                 let _ = eprintln!(rt; "error: a HOST:PORT has a port from 1 to 65535");
                 Ok(ExitCode::from(BAD_WORDS))
@@ -116,7 +174,7 @@ fn run(rt: &HostRuntime) -> Result<ExitCode, ToolFault> {
 }
 
 fn main(rt: HostRuntime) -> ExitCode {
-    match run(&rt) {
+    match run(&rt, &rt) {
         Ok(status) => status,
         Err(fault) => ended(&rt, Err(fault)),
     }

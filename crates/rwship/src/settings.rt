@@ -1,5 +1,8 @@
 //! The settings that a command is given.
 
+ghost use Rattle.std.specs.Prelude.{◌≡◌, [], None, Ok, IfOk};
+ghost use Rattle.rw_settings.specs.Settings as toml;
+
 use rw_settings::{Settings, SettingsFault, read_settings};
 use rw_tool::ToolFault;
 use std::fs;
@@ -24,7 +27,9 @@ fn text_of(rt: &HostRuntime, path: &str) -> Result<Vec<u8>, ToolFault> {
 }
 
 /// The settings in a file, or the defaults where there is none.
-pub fn settings_in(rt: &HostRuntime, path: Option<&str>) -> Result<Settings, Unset> {
+pub fn settings_in(rt: &HostRuntime, path: Option<&str>) -> Result<Settings, Unset>
+    ensures { path.entry ≡ None → IfOk result (λ s. toml.settings_in [] ≡ Ok s) }
+{
     let text = match path {
         Some(path) => match text_of(rt, path) {
             Ok(text) => text,

@@ -45,8 +45,7 @@ pub enum Task<'a> {
     Receive {
         settings: Option<&'a str>,
         listen: Address<'a>,
-        /// 1 to 1,000.
-        connections: u16,
+        connections: Bounded<1, 1_000>,
     },
 }
 
@@ -146,7 +145,9 @@ pub fn command_line<'a>(alloc: Global) -> Result<Command<'a>, AllocError> {
         .subcommand_required(true)
         .subcommand(body_command(alloc)?)?
         .subcommand(log_command(alloc)?)?
-        .subcommand(plan_command(alloc)?)
+        .subcommand(plan_command(alloc)?)?
+        .subcommand(replay_command(alloc)?)?
+        .subcommand(receive_command(alloc)?)
 }
 
 /// HOST:PORT, split at its last colon. The port is decimal.
@@ -184,7 +185,7 @@ fn task_named<'a>(name: &str, options: &ArgMatches<'a>) -> Option<Task<'a>> {
         b"receive" => Some(Task::Receive {
             settings,
             listen: address_of(options.get_str("listen")?)?,
-            connections: options.get_one::<u16>("connections")?,
+            connections: Bounded::new(options.get_one::<u16>("connections")? as u64)?,
         }),
         _ => None,
     }
