@@ -54,10 +54,7 @@ pub(crate) fn copy_of(alloc: Global, bytes: &[u8]) -> Result<Vec<u8>, AllocError
 }
 
 /// The same segments once more.
-fn copy_all(
-    alloc: Global,
-    segments: &VecDeque<Vec<u8>>,
-) -> Result<VecDeque<Vec<u8>>, AllocError>
+fn copy_all(alloc: Global, segments: &VecDeque<Vec<u8>>) -> Result<VecDeque<Vec<u8>>, AllocError>
     ensures { IfOk result (λ d. map (λ v. v.items) d.items ≡ map (λ v. v.items) segments.now.items) }
 {
     let mut copy = VecDeque::new(alloc);
