@@ -1,0 +1,7 @@
+//! Tests of the sender, the network and the receiver on one thread.
+#![tactic(auto)]
+
+#[cfg(test)]
+mod runs;
+#[cfg(test)]
+mod schedules;
