@@ -1,0 +1,4 @@
+pub mod GatherLemmas
+pub mod HeldLemmas
+pub mod TailLemmas
+pub mod FeederLemmas

@@ -1,0 +1,117 @@
+-- What is taken from a reader of a log.
+use Rattle.std.proofs.Common.{◌≡◌, ◌≢◌, ℕ, zero, suc, ◌+◌, ◌<◌, ◌≤◌, Bool, true, false, cond, List, [], ◌∷◌, ◌++◌, length, Option, None, Some, Result, Ok, Err, ◌⊎◌, ⊎_elim, refl, sym, ap, ◌∙◌, append_assoc, append-nil, length-append, arith}
+use Rattle.std.proofs.lemmas.Bool.Decides.{nat_tests}
+use Rattle.std.specs.Prelude.{slice_get, nat_lt}
+use Rattle.rw_types.specs.declared.entry.Entry.{Entry}
+use Rattle.rw_codes.specs.Pieces.{entries, fault}
+use Rattle.rw_codes.specs.declared.tail_fault.TailFault.{TailFault}
+use Rattle.rw_codes.specs.declared.tail_fault.TailFault.TheVariants.{OutOfMemory}
+use Rattle.rw_wal_tail.specs.Fed.{Fed, next_of, end_of, answered}
+use Rattle.rw_feeder.specs.Feeders.{HasTaken, HasRead, is_refusal}
+
+-- what a reader may answer
+abbrev pub Said : Type 0
+Said = Result (Option Entry) TailFault
+
+end_none : (o : Option TailFault) (e : Entry) → Ok (Some e) ≡ end_of o → ⊥
+end_none None e h = cc
+end_none (Some f) e h = cc
+
+next_is : (b : Bool) (o : Option Entry) (f : Option TailFault) (e : Entry) → Ok (Some e) ≡ cond b (Ok o) (end_of f) → o ≡ Some e
+next_is true o f e h = cc
+next_is false o f e h = absurd (end_none f e h)
+
+end_is : (b : Bool) (o : Option Entry) (f : Option TailFault) → Ok None ≡ cond b (Ok o) (end_of f) → (b ≡ true → o ≢ None) → (b ≡ false) × (f ≡ None)
+end_is true o f h some = absurd (some refl cc)
+end_is false o None h some = (refl, refl)
+end_is false o (Some f) h some = absurd (cc)
+
+fault_is : (b : Bool) (o : Option Entry) (f : Option TailFault) (g : TailFault) → Err g ≡ cond b (Ok o) (end_of f) → (b ≡ false) × (f ≡ Some g)
+fault_is true o f g h = absurd (cc)
+fault_is false o None g h = absurd (cc)
+fault_is false o (Some f) g h = (refl, cc)
+
+has_some : {X : Type 0} (xs : List X) (n : ℕ) → n < length xs → slice_get xs n ≢ None
+has_some [] n lt = λ e. omega arith
+has_some (x ∷ xs) zero lt = λ e. cc
+has_some (x ∷ xs) (suc n) lt = has_some xs n (omega arith)
+
+-- the element behind a beginning
+next_rest : {X : Type 0} (front rest : List X) (x : X) → slice_get (front ++ rest) (length front) ≡ Some x → (later : List X) × (rest ≡ x ∷ later)
+next_rest [] [] x e = absurd (cc)
+next_rest [] (y ∷ ys) x e = let same : y ≡ x = cc in (ys, ap (λ z. z ∷ ys) same)
+next_rest (f ∷ fs) rest x e = next_rest fs rest x e
+
+nil_of : {X : Type 0} (xs : List X) → length xs ≡ 0 → xs ≡ []
+nil_of [] e = refl
+nil_of (x ∷ xs) e = absurd (omega arith)
+
+all_taken : (t : Fed) (taken : List Entry) → HasTaken t taken → nat_lt t.given (length (entries t.pieces)) ≡ false → taken ≡ entries t.pieces
+all_taken t taken h e =
+    let le : length (entries t.pieces) ≤ t.given = grind (arith, nat_tests) in
+    let c = h.count in
+    let len = ap length h.begins ∙ length-append taken h.rest in
+    let none : h.rest ≡ [] = nil_of h.rest (omega arith) in
+    sym (append-nil taken) ∙ ap (λ r. taken ++ r) (sym none) ∙ sym h.begins
+
+-- an entry is taken
+pub took_entry : (t after : Fed) (taken : List Entry) (e : Entry) (said : Said) → HasTaken t taken → said ≡ Ok (Some e) → (said ≡ Err OutOfMemory) ⊎ (said ≡ next_of t.pieces t.given) → after ≡ answered t said
+    → HasTaken after (taken ++ e ∷ []) × (after.pieces ≡ t.pieces)
+unfolding next_of answered
+took_entry t after taken e said d is a m = let n : after ≡ answered t (Ok (Some e)) = m ∙ ap (answered t) is in ⊎_elim
+    (λ (r : said ≡ Err OutOfMemory). absurd (cc))
+    (λ (r : said ≡ next_of t.pieces t.given).
+    let at : slice_get (entries t.pieces) t.given ≡ Some e = next_is (nat_lt t.given (length (entries t.pieces))) (slice_get (entries t.pieces) t.given) (fault t.pieces) e (sym is ∙ r) in
+    let there : slice_get (taken ++ d.rest) (length taken) ≡ Some e = ap (λ k. slice_get (taken ++ d.rest) k) (sym d.count) ∙ ap (λ l. slice_get l t.given) (sym d.begins) ∙ at in
+    let more = next_rest taken d.rest e there in
+    let pieces : after.pieces ≡ t.pieces = ap (λ (x : Fed). x.pieces) n in
+    let out : HasTaken after (taken ++ e ∷ []) = record {
+      count = ap (λ (x : Fed). x.given) n ∙ ap (λ k. k + 1) d.count ∙ sym (length-append taken (e ∷ []));
+      rest = more.0;
+      begins = ap entries pieces ∙ d.begins ∙ ap (λ r. taken ++ r) more.1 ∙ sym (append_assoc taken (e ∷ []) more.0);
+    } in
+    (out, pieces))
+    a
+
+-- nothing follows
+pub took_none : (t after : Fed) (taken : List Entry) (said : Said) → HasTaken t taken → said ≡ Ok None → (said ≡ Err OutOfMemory) ⊎ (said ≡ next_of t.pieces t.given) → after ≡ answered t said
+    → HasRead t.pieces taken None × (after.pieces ≡ t.pieces) × (after.given ≡ t.given)
+unfolding next_of answered
+took_none t after taken said d is a n = ⊎_elim
+    (λ (r : said ≡ Err OutOfMemory). absurd (cc))
+    (λ (r : said ≡ next_of t.pieces t.given).
+    let e = end_is (nat_lt t.given (length (entries t.pieces))) (slice_get (entries t.pieces) t.given) (fault t.pieces) (sym is ∙ r) (λ h. has_some (entries t.pieces) t.given (grind (arith, nat_tests))) in
+    let m : after ≡ answered t (Ok None) = n ∙ ap (answered t) is in
+    let out : HasRead t.pieces taken None = record { all = all_taken t taken d e.0; fault_is = e.1 } in
+    (out, ap (λ (x : Fed). x.pieces) m, ap (λ (x : Fed). x.given) m))
+    a
+
+answered_same : (t : Fed) (f : TailFault) → ((answered t (Err f)).pieces ≡ t.pieces) × ((answered t (Err f)).given ≡ t.given)
+unfolding answered
+answered_same t OutOfMemory = (refl, refl)
+answered_same t f = (refl, refl)
+
+-- a fault, or want of memory
+pub took_fault : (t after : Fed) (said : Said) (f : TailFault) → said ≡ Err f → after ≡ answered t said → (after.pieces ≡ t.pieces) × (after.given ≡ t.given)
+took_fault t after said f is n =
+    let m = n ∙ ap (answered t) is in
+    let k = answered_same t f in
+    (ap (λ (x : Fed). x.pieces) m ∙ k.0, ap (λ (x : Fed). x.given) m ∙ k.1)
+
+-- the log has that fault
+pub read_fault : (t : Fed) (taken : List Entry) (said : Said) (f : TailFault) → HasTaken t taken → said ≡ Err f → is_refusal f ≡ false → (said ≡ Err OutOfMemory) ⊎ (said ≡ next_of t.pieces t.given) → HasRead t.pieces taken (Some f)
+unfolding next_of
+read_fault t taken said f d is plain a = ⊎_elim
+    (λ (r : said ≡ Err OutOfMemory). let same : f ≡ OutOfMemory = cc in let it_is : is_refusal f ≡ true = ap is_refusal same in absurd (cc))
+    (λ (r : said ≡ next_of t.pieces t.given).
+    let e = fault_is (nat_lt t.given (length (entries t.pieces))) (slice_get (entries t.pieces) t.given) (fault t.pieces) f (sym is ∙ r) in
+    record { all = all_taken t taken d e.0; fault_is = e.1 })
+    a
+
+-- one more piece
+pub took_again : (t after : Fed) (taken more : List Entry) → HasTaken t taken → after.given ≡ t.given → entries after.pieces ≡ entries t.pieces ++ more → HasTaken after taken
+took_again t after taken more h g e = record {
+  count = g ∙ h.count;
+  rest = h.rest ++ more;
+  begins = e ∙ ap (λ l. l ++ more) h.begins ∙ append_assoc taken h.rest more;
+}

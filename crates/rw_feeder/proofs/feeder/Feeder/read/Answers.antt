@@ -1,0 +1,62 @@
+use Rattle.std.proofs.Common.{◌∙◌, ◌++◌, Ok, take, sym, ap}
+use Rattle.std.specs.Prelude.{drop}
+use Rattle.rw_feeder.specs.Feeders.{Sorting}
+use Rattle.rw_feeder.proofs.TailLemmas.{took_entry, took_none, took_fault, read_fault}
+use Rattle.rw_feeder.proofs.FeederLemmas.{same_tail, read_next, next_seen, end_seen, read_all}
+use Rattle.rw_feeder.proofs.feeder.Feeder.read.Goals as goal
+
+pub invariant_of-self : goal.invariant_of-self
+invariant_of-self c =
+    let s = c.self.inside in
+    let i = c.self.invariant in
+    let none = ap (λ (x : Sorting). x.hand) c.self.view_is ∙ c.requires in
+    let took = took_entry s.tail c.next_entry.new.self (take s.count s.read ++ drop s.count s.read) c.in-Ok-Some.entry c.next_entry.result i.taken (c.in-Ok-Some.is ∙ ap Ok c.in-Ok-Some.field-0-is) c.next_entry.ensures.answer c.next_entry.ensures.after in
+    read_next _ _ _ _ _ _ _ _ _ i none c.push.ensures took.0
+
+pub returns-in-Ok-Some-clause-ok : goal.returns-in-Ok-Some-clause-ok
+returns-in-Ok-Some-clause-ok c =
+    let s = c.self.inside in
+    let i = c.self.invariant in
+    let none = ap (λ (x : Sorting). x.hand) c.self.view_is ∙ c.requires in
+    let took = took_entry s.tail c.next_entry.new.self (take s.count s.read ++ drop s.count s.read) c.in-Ok-Some.entry c.next_entry.result i.taken (c.in-Ok-Some.is ∙ ap Ok c.in-Ok-Some.field-0-is) c.next_entry.ensures.answer c.next_entry.ensures.after in
+    next_seen s.tail c.next_entry.new.self s.cache s.part.names s.filtered s.count s.read _ _ _ i none c.push.ensures took.1 c.self.view_is
+
+pub invariant_of-self-in-Ok-None : goal.invariant_of-self-in-Ok-None
+invariant_of-self-in-Ok-None c =
+    let s = c.self.inside in
+    let i = c.self.invariant in
+    let took = took_none s.tail c.next_entry.new.self (take s.count s.read ++ drop s.count s.read) c.next_entry.result i.taken (c.in-Ok-None.is ∙ ap Ok c.in-Ok-None.field-0-is) c.next_entry.ensures.answer c.next_entry.ensures.after in
+    same_tail _ _ _ _ _ _ _ _ i took.1 took.2
+
+pub returns-in-Ok-None-clause-ok : goal.returns-in-Ok-None-clause-ok
+returns-in-Ok-None-clause-ok c =
+    let s = c.self.inside in
+    let i = c.self.invariant in
+    let none = ap (λ (x : Sorting). x.hand) c.self.view_is ∙ c.requires in
+    let took = took_none s.tail c.next_entry.new.self (take s.count s.read ++ drop s.count s.read) c.next_entry.result i.taken (c.in-Ok-None.is ∙ ap Ok c.in-Ok-None.field-0-is) c.next_entry.ensures.answer c.next_entry.ensures.after in
+    (end_seen s.cache.rules s.tail.pieces c.next_entry.new.self.pieces (take s.count s.read) (drop s.count s.read) _ took.1 c.self.view_is, read_all s.cache.rules s.tail.pieces (take s.count s.read) (drop s.count s.read) _ _ took.0 none c.self.view_is)
+
+pub invariant_of-self-then-is_refusal : goal.invariant_of-self-then-is_refusal
+invariant_of-self-then-is_refusal c =
+    let took = took_fault c.self.inside.tail c.next_entry.new.self c.next_entry.result c.in-Err.fault c.in-Err.is c.next_entry.ensures.after in
+    same_tail _ _ _ _ _ _ _ _ c.self.invariant took.0 took.1
+
+pub returns-then-is_refusal-clause-err : goal.returns-then-is_refusal-clause-err
+returns-then-is_refusal-clause-err c =
+    let s = c.self.inside in
+    let took = took_fault s.tail c.next_entry.new.self c.next_entry.result c.in-Err.fault c.in-Err.is c.next_entry.ensures.after in
+    end_seen s.cache.rules s.tail.pieces c.next_entry.new.self.pieces (take s.count s.read) (drop s.count s.read) _ took.0 c.self.view_is
+
+pub invariant_of-self-in-Err : goal.invariant_of-self-in-Err
+invariant_of-self-in-Err c =
+    let took = took_fault c.self.inside.tail c.next_entry.new.self c.next_entry.result c.in-Err.fault c.in-Err.is c.next_entry.ensures.after in
+    same_tail _ _ _ _ _ _ _ _ c.self.invariant took.0 took.1
+
+pub returns-else-is_refusal-clause-ok : goal.returns-else-is_refusal-clause-ok
+returns-else-is_refusal-clause-ok c =
+    let s = c.self.inside in
+    let i = c.self.invariant in
+    let none = ap (λ (x : Sorting). x.hand) c.self.view_is ∙ c.requires in
+    let took = took_fault s.tail c.next_entry.new.self c.next_entry.result c.in-Err.fault c.in-Err.is c.next_entry.ensures.after in
+    let found = read_fault s.tail (take s.count s.read ++ drop s.count s.read) c.next_entry.result c.in-Err.fault i.taken c.in-Err.is (sym c.is_refusal.ensures ∙ c.if-is_refusal.false) c.next_entry.ensures.answer in
+    (end_seen s.cache.rules s.tail.pieces c.next_entry.new.self.pieces (take s.count s.read) (drop s.count s.read) _ took.0 c.self.view_is, read_all s.cache.rules s.tail.pieces (take s.count s.read) (drop s.count s.read) _ _ found none c.self.view_is)

@@ -1,0 +1,45 @@
+-- Lists that a loop takes from the front, and lists with one element more or another.
+use Rattle.std.proofs.Common.{◌≡◌, ◌⊎◌, inl, inr, ℕ, zero, suc, ◌+◌, ◌<◌, List, [], ◌∷◌, ◌++◌, length, map, Some, refl, sym, ap, ◌∙◌, append_assoc, append-nil, length-append, arith}
+use Rattle.std.specs.Prelude.{slice_get, get_or}
+use Rattle.std.proofs.lemmas.Option.{slice_get-get_or}
+
+module _ {A : Type 0} where
+  nil_of : (xs : List A) → length xs ≡ 0 → xs ≡ []
+  nil_of [] e = refl
+  nil_of (x ∷ xs) e = absurd (omega arith)
+
+  pub none_left : (all done rest : List A) → all ≡ done ++ rest → length all ≡ length done → all ≡ done
+  none_left all done rest is len = is ∙ ap (λ l. done ++ l) (nil_of rest (let e = ap length is in omega (arith, length-append done rest))) ∙ append-nil done
+
+  -- the first of the rest joins what is done
+  pub moved : (all done rest later : List A) (x : A) → all ≡ done ++ rest → rest ≡ x ∷ later → all ≡ (done ++ x ∷ []) ++ later
+  moved all done rest later x is first = is ∙ ap (λ l. done ++ l) first ∙ sym (append_assoc done (x ∷ []) later)
+
+  pub more_length : (all old more : List A) → all ≡ old ++ more → length all ≡ length old + length more
+  more_length all old more is = ap length is ∙ length-append old more
+
+  pub pushed : (all old more after : List A) (x : A) → after ≡ all ++ x ∷ [] → all ≡ old ++ more → after ≡ old ++ (more ++ x ∷ [])
+  pushed all old more after x is was = is ∙ ap (λ l. l ++ x ∷ []) was ∙ append_assoc old more (x ∷ [])
+
+  pub get_snoc : (xs : List A) (x y : A) (k : ℕ) → slice_get (xs ++ x ∷ []) k ≡ Some y → (slice_get xs k ≡ Some y) ⊎ ((k ≡ length xs) × (x ≡ y))
+  get_snoc [] x y zero e = inr (refl, cc)
+  get_snoc [] x y (suc k) e = absurd (cc)
+  get_snoc (z ∷ zs) x y zero e = inl e
+  get_snoc (z ∷ zs) x y (suc k) e = elim (get_snoc zs x y k e) [ inl h ↦ inl h | inr h ↦ inr (ap suc h.0, h.1) ]
+
+  -- the element that an index gives
+  pub get_at : (xs : List A) (x : A) (k : ℕ) → k < length xs → x ≡ get_or xs k x → slice_get xs k ≡ Some x
+  get_at xs x k below is = slice_get-get_or xs k x below ∙ ap (λ y. Some y) (sym is)
+
+module _ {A B : Type 0} (f : A → B) where
+  pub map_push : (xs : List A) (x : A) → map f (xs ++ x ∷ []) ≡ map f xs ++ f x ∷ []
+  map_push [] x = refl
+  map_push (y ∷ ys) x = ap (λ l. f y ∷ l) (map_push ys x)
+
+  pub map_append : (xs ys : List A) → map f (xs ++ ys) ≡ map f xs ++ map f ys
+  map_append [] ys = refl
+  map_append (x ∷ xs) ys = ap (λ l. f x ∷ l) (map_append xs ys)
+
+  pub map_length : (xs : List A) → length (map f xs) ≡ length xs
+  map_length [] = refl
+  map_length (x ∷ xs) = ap suc (map_length xs)

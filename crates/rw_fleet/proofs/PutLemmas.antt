@@ -1,0 +1,54 @@
+-- What was put, with one item more.
+use Rattle.std.proofs.Common.{◌≡◌, ℕ, suc, map, List, [], ◌∷◌, ◌++◌, length, refl, sym, ap, ◌∙◌, append-nil}
+use Rattle.std.specs.Prelude.{ℤ}
+use Rattle.std.specs.Arc.{arc_value}
+use Rattle.rw_types.specs.declared.place.Place.{Place}
+use Rattle.rw_shard_queue.specs.declared.item.Item.{Item}
+use Rattle.rw_shard_queue.specs.declared.item.Item.TheVariants as item
+use Rattle.rw_shard_queue.specs.Items.{Placed, samples_in, places_in}
+use Rattle.rw_fleet.specs.Lanes.{Lane, put_as}
+use Rattle.rw_feeder.specs.declared.logged.Logged.{Logged}
+use Rattle.rw_fleet.specs.Work.{positions_in}
+
+pub samples_append : (xs ys : List Item) → samples_in (xs ++ ys) ≡ samples_in xs ++ samples_in ys
+samples_append [] ys = refl
+samples_append (item.Sample p t w l ∷ xs) ys = ap (λ ps. record { place = p; t = t; word = w; labels = l.value } ∷ ps) (samples_append xs ys)
+samples_append (item.Flush ∷ xs) ys = samples_append xs ys
+samples_append (item.End k ∷ xs) ys = samples_append xs ys
+
+pub places_append : (xs ys : List Item) → places_in (xs ++ ys) ≡ places_in xs ++ places_in ys
+places_append [] ys = refl
+places_append (item.Sample p t w l ∷ xs) ys = ap (λ ps. p ∷ ps) (places_append xs ys)
+places_append (item.Flush ∷ xs) ys = places_append xs ys
+places_append (item.End k ∷ xs) ys = places_append xs ys
+
+-- with an item more that is no sample
+pub samples_mark : (xs zs : List Item) (x : Item) → zs ≡ xs ++ x ∷ [] → samples_in (x ∷ []) ≡ [] → samples_in zs ≡ samples_in xs
+samples_mark xs zs x is none = ap samples_in is ∙ samples_append xs (x ∷ []) ∙ ap (λ ps. samples_in xs ++ ps) none ∙ append-nil (samples_in xs)
+
+pub places_mark : (xs zs : List Item) (x : Item) → zs ≡ xs ++ x ∷ [] → places_in (x ∷ []) ≡ [] → places_in zs ≡ places_in xs
+places_mark xs zs x is none = ap places_in is ∙ places_append xs (x ∷ []) ∙ ap (λ ps. places_in xs ++ ps) none ∙ append-nil (places_in xs)
+
+pub samples_more : (xs zs : List Item) (x : Item) → zs ≡ xs ++ x ∷ [] → samples_in zs ≡ samples_in xs ++ samples_in (x ∷ [])
+samples_more xs zs x is = ap samples_in is ∙ samples_append xs (x ∷ [])
+
+map_append : (ps qs : List Place) → map (λ (p : Place). p.pos) (ps ++ qs) ≡ map (λ (p : Place). p.pos) ps ++ map (λ (p : Place). p.pos) qs
+map_append [] qs = refl
+map_append (p ∷ ps) qs = ap (λ l. p.pos ∷ l) (map_append ps qs)
+
+map_length : (ps : List Place) → length (map (λ (p : Place). p.pos) ps) ≡ length ps
+map_length [] = refl
+map_length (p ∷ ps) = ap suc (map_length ps)
+
+-- as many positions as places
+pub positions_length : (xs : List Item) (ps : List ℕ) → ps ≡ positions_in xs → length ps ≡ length (places_in xs)
+positions_length xs ps is = ap length is ∙ map_length (places_in xs)
+
+pub positions_more : (xs zs : List Item) (x : Item) (p : Place) (was here now : List ℕ) → zs ≡ xs ++ x ∷ [] → places_in (x ∷ []) ≡ p ∷ [] → was ≡ positions_in xs → here ≡ was → now ≡ here ++ p.pos ∷ [] → now ≡ positions_in zs
+positions_more xs zs x p was here now is one old same new =
+    new ∙ ap (λ l. l ++ p.pos ∷ []) (same ∙ old) ∙ sym (ap (λ l. map (λ (q : Place). q.pos) (places_in l)) is ∙ ap (map (λ (q : Place). q.pos)) (places_append xs (x ∷ []) ∙ ap (λ ps. places_in xs ++ ps) one) ∙ map_append (places_in xs) (p ∷ []))
+
+-- the next sample of a shard, part by part
+pub as_put : (lane : Lane) (s : Logged) (epoch shard seq : ℕ) (t : ℤ) → epoch ≡ lane.setup.queue.epoch → shard ≡ lane.setup.queue.shard → seq ≡ length (places_in lane.put) → t ≡ s.t
+    → ◌≡◌ {A = Placed} (record { place = record { epoch = epoch; shard = shard; seq = seq; pos = s.pos; series = s.series }; t = t; word = s.word; labels = arc_value s.labels }) (put_as lane s)
+as_put lane s epoch shard seq t e h n z = λ i. record { place = record { epoch = e i; shard = h i; seq = n i; pos = s.pos; series = s.series }; t = z i; word = s.word; labels = arc_value s.labels }

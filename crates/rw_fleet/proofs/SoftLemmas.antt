@@ -1,0 +1,126 @@
+-- The last item of a queue, and what it says of the worker.
+use Rattle.std.proofs.Common.{◌≡◌, ◌⊎◌, inl, inr, ℕ, zero, suc, ◌+◌, ◌<◌, below_more, Bool, true, false, List, [], ◌∷◌, ◌++◌, length, map, Some, None, refl, sym, ap, ◌∙◌, subst, eq-eqb}
+use Rattle.std.specs.Prelude.{slice_get, ◌==◌, ◌&&◌}
+use Rattle.rw_shard_queue.specs.Items.{samples_in}
+use Rattle.rw_shard_queue.specs.declared.item.Item.{Item}
+use Rattle.rw_shard_queue.specs.declared.item.Item.TheVariants as item
+use Rattle.rw_shard_queue.specs.declared.item.Kind.TheVariants.{Orderly, Reshard, Hard}
+use Rattle.rw_worker.specs.Report.{is_hard, drain_of, IsOrderly, StopsAtHard, IsReport}
+use Rattle.rw_worker.specs.Setups.{Setup}
+use Rattle.rw_worker.specs.Steps.{Step, Takes, Freezes, Sends, items_of}
+use Rattle.rw_worker.specs.Transcript.{Exchange}
+use Rattle.rw_worker.specs.declared.report.TakingEnd.{TakingEnd}
+use Rattle.rw_worker.specs.declared.report.TakingEnd.TheVariants as taking
+use Rattle.rw_worker.specs.declared.report.WorkerReport.{WorkerReport}
+use Rattle.rw_fleet.specs.declared.ends.Ends.{Ends}
+use Rattle.rw_fleet.specs.declared.ends.Ends.TheVariants.{Compared, Apart}
+use Rattle.rw_fleet.specs.declared.joined.Joined.{Joined}
+use Rattle.rw_fleet.specs.Lanes.{Lane}
+use Rattle.rw_fleet.specs.Work.{put_of, taken_of, positions_in, lane_of, is_compared, is_resolved, IsSoft, AreSoft, IsEndTaken, IsWorked, AreWorked, HasCut, HasUnresolved}
+use Rattle.rw_fleet.proofs.ListLemmas.{map_append}
+
+abbrev last_of : Item → List Item → Item
+last_of x [] = x
+last_of x (y ∷ ys) = last_of y ys
+
+last_snoc : (d : Item) (xs : List Item) (x : Item) → last_of d (xs ++ x ∷ []) ≡ x
+last_snoc d [] x = refl
+last_snoc d (y ∷ ys) x = last_snoc y ys x
+
+same_last : (xs ys : List Item) (x y : Item) → xs ++ x ∷ [] ≡ ys ++ y ∷ [] → x ≡ y
+same_last xs ys x y e = sym (last_snoc x xs x) ∙ ap (last_of x) e ∙ last_snoc x ys y
+
+abbrev pub is_hard_end : Item → Bool
+is_hard_end (item.Sample p t w l) = false
+is_hard_end item.Flush = false
+is_hard_end (item.End kind) = is_hard kind
+
+no_last : (xs : List Item) (x : Item) → [] ≡ xs ++ x ∷ [] → ⊥
+no_last [] x e = cc
+no_last (y ∷ ys) x e = cc
+
+pub soft_nil : (xs : List Item) → xs ≡ [] → IsSoft xs
+soft_nil xs is = λ before e. no_last before (item.End Hard) (sym is ∙ e)
+
+pub soft_push : (xs zs : List Item) (x : Item) → zs ≡ xs ++ x ∷ [] → is_hard_end x ≡ false → IsSoft zs
+soft_push xs zs x is soft = λ before e.
+    let last : x ≡ item.End Hard = same_last xs before x (item.End Hard) (sym is ∙ e) in
+    let hard : true ≡ false = subst (λ y. is_hard_end y ≡ false) last soft in
+    absurd (cc)
+
+pub soft_same : (xs zs : List Item) → zs ≡ xs → IsSoft xs → IsSoft zs
+soft_same xs zs is soft = subst IsSoft (sym is) soft
+
+pub soft_append : (ls ms : List Lane) → AreSoft ls → AreSoft ms → AreSoft (ls ++ ms)
+soft_append [] ms h a = a
+soft_append (x ∷ xs) ms h a = (h.0, soft_append xs ms h.1 a)
+
+pub soft_more : (ls after : List Lane) (l : Lane) → after ≡ ls ++ l ∷ [] → AreSoft ls → IsSoft l.put → AreSoft after
+soft_more ls after l is h a = subst AreSoft (sym is) (soft_append ls (l ∷ []) h (a, tt))
+
+pub soft_none : (ls : List Lane) → ls ≡ [] → AreSoft ls
+soft_none ls is = subst AreSoft (sym is) tt
+
+items_snoc : (ss : List Step) (x : Item) → items_of (ss ++ Takes x ∷ []) ≡ items_of ss ++ x ∷ []
+items_snoc [] x = refl
+items_snoc (Takes y ∷ ss) x = ap (λ l. y ∷ l) (items_snoc ss x)
+items_snoc (Freezes ∷ ss) x = items_snoc ss x
+items_snoc (Sends e ∷ ss) x = items_snoc ss x
+
+-- an End that was taken, and is not hard, asks for all
+orderly_of : (e : TakingEnd) (steps : List Step) (put : List Item) → IsEndTaken e → StopsAtHard e steps → items_of steps ≡ put → IsSoft put → IsOrderly e
+orderly_of (taking.Ended Orderly d) steps put ended hard items soft = tt
+orderly_of (taking.Ended Reshard d) steps put ended hard items soft = tt
+orderly_of (taking.Ended Hard d) steps put ended hard items soft = absurd (soft (items_of hard.0) (sym items ∙ ap items_of hard.1 ∙ items_snoc hard.0 (item.End Hard)))
+orderly_of (taking.Killed d) steps put ended hard items soft = absurd ended
+
+positions_samples : (xs : List Item) → length (positions_in xs) ≡ length (samples_in xs)
+positions_samples [] = refl
+positions_samples (item.Sample p t w l ∷ xs) = ap suc (positions_samples xs)
+positions_samples (item.Flush ∷ xs) = positions_samples xs
+positions_samples (item.End kind ∷ xs) = positions_samples xs
+
+cut_cases : (compared stopped resolved : Bool) → (compared ≡ true → stopped ≡ false → resolved ≡ true) → resolved ≡ false → (compared ≡ false) ⊎ (stopped ≡ true)
+cut_cases false stopped resolved h e = inl refl
+cut_cases true true resolved h e = inr refl
+cut_cases true false resolved h e = let all : resolved ≡ true = h refl refl in absurd (cc)
+
+module _ {T : Type 0} where
+  pub soft_closed : (was now more : List (Joined T)) (ending : List Lane) → AreSoft (map lane_of was) → AreSoft ending → now ≡ was ++ more → map lane_of more ≡ ending → AreSoft (map lane_of now)
+  soft_closed was now more ending a b is lanes =
+      subst AreSoft (sym (ap (map lane_of) is ∙ map_append lane_of was more)) (soft_append (map lane_of was) (map lane_of more) a (subst AreSoft (sym lanes) b))
+
+  joined_is : (a b : Joined T) → Some a ≡ Some b → a ≡ b
+  joined_is a b e = cc
+
+  pub resolved_more : (js : List (Joined T)) (n : ℕ) (x : Joined T) → slice_get js n ≡ Some x → is_resolved x ≡ true → ((k : ℕ) → k < n → (j : Joined T) → slice_get js k ≡ Some j → is_resolved j ≡ true)
+      → (k : ℕ) → k < n + 1 → (j : Joined T) → slice_get js k ≡ Some j → is_resolved j ≡ true
+  resolved_more js n x here is all =
+      below_more (λ k. (j : Joined T) → slice_get js k ≡ Some j → is_resolved j ≡ true) n all (λ j at. subst (λ (y : Joined T). is_resolved y ≡ true) (joined_is x j (sym here ∙ at)) is)
+
+  soft_at : (js : List (Joined T)) (k : ℕ) (j : Joined T) → AreSoft (map lane_of js) → slice_get js k ≡ Some j → IsSoft (put_of j.finished.ends)
+  soft_at [] k j h at = absurd (let at' : None ≡ Some j = at in cc)
+  soft_at (x ∷ xs) zero j h at = subst (λ (y : Joined T). IsSoft (put_of y.finished.ends)) (joined_is x j at) h.0
+  soft_at (x ∷ xs) (suc k) j h at = soft_at xs k j h.1 at
+
+module _ {T : Type 0} (tells : T → Type 0) (seen : T → List Exchange) where
+  -- a worker that took the End, which was not hard, and did not stop, has resolved all
+  pub report_done : (setup : Setup) (begun : T) (r : WorkerReport T) (ends : Ends) (positions : List ℕ) → IsReport tells seen setup begun r → taken_of ends ≡ (drain_of r.end).taken → (is_compared ends ≡ true → IsEndTaken r.end)
+      → positions ≡ positions_in (put_of ends) → is_compared ends ≡ true → r.stopped ≡ false → IsSoft (put_of ends) → (is_compared ends && (r.resolved == length positions)) ≡ true
+  report_done setup begun r (Apart f e) positions h taken ended is compared live soft = absurd (cc)
+  report_done setup begun r (Compared w) positions h taken ended is compared live soft =
+      let orderly = orderly_of r.end h.steps w.items (ended refl) h.hard (h.made.items ∙ sym taken) soft in
+      let whole = h.whole live orderly in
+      let count : r.resolved ≡ length positions = h.counted ∙ ap length whole ∙ ap (λ xs. length (samples_in xs)) (sym taken) ∙ sym (ap length is ∙ positions_samples w.items) in
+      eq-eqb r.resolved (length positions) count
+
+  worked_at : (js : List (Joined T)) (k : ℕ) (j : Joined T) → AreWorked tells seen js → slice_get js k ≡ Some j → IsWorked tells seen j
+  worked_at [] k j h at = absurd (let at' : None ≡ Some j = at in cc)
+  worked_at (x ∷ xs) zero j h at = subst (IsWorked tells seen) (joined_is x j at) h.0
+  worked_at (x ∷ xs) (suc k) j h at = worked_at xs k j h.1 at
+
+  -- a shard that is not resolved was cut
+  pub has_cut : (js : List (Joined T)) → AreWorked tells seen js → AreSoft (map lane_of js) → HasUnresolved js → HasCut js
+  has_cut js worked soft u =
+      let w = worked_at js u.0 u.1 worked u.2 in
+      (u.0, u.1, u.2, cut_cases (is_compared u.1.finished.ends) u.1.finished.stopped (is_resolved u.1) (λ compared live. w.done compared live (soft_at js u.0 u.1 soft u.2)) u.3)

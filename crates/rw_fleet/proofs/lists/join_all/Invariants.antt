@@ -1,0 +1,13 @@
+use Rattle.std.proofs.Common.{◌≡◌, ◌+◌, List, ◌++◌, map, vec_len, vec_capacity}
+use Rattle.std.specs.Vec.Iter.{into_iter_items, into_iter_len}
+use Rattle.rw_fleet.specs.Lanes.{Lane}
+use Rattle.rw_fleet.specs.Work.{AreWorked, lane_of}
+use Rattle.rw_fleet.proofs.lists.join_all.Given as goal
+
+abbrev pub invariant-loop-shard : goal.invariant-loop-shard
+invariant-loop-shard g l =
+    let rest = l.shard-iterator in
+    (vec_len l.joined + into_iter_len rest ≡ vec_len l.initial.joined + vec_len l.fn.ending)
+    × (vec_capacity l.joined ≡ vec_capacity l.initial.joined)
+    × AreWorked g.T.Transport.tells g.T.Transport.seen l.joined.items
+    × ((more : List _) × (done : List Lane) × (l.joined.items ≡ l.initial.joined.items ++ more) × (l.fn.ending.items ≡ done ++ into_iter_items rest) × (map lane_of more ≡ done))

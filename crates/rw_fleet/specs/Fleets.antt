@@ -1,0 +1,21 @@
+-- The shards of all epochs.
+use Rattle.std.specs.Prelude.{◌≡◌, ℕ, ◌+◌, List, [], ◌++◌, map}
+use Rattle.rw_sender.specs.declared.config.ConfigFields.{ConfigFields}
+use Rattle.rw_fleet.specs.Lanes.{Lane, AreSame}
+use Rattle.rw_fleet.specs.Work.{lane_of}
+use Rattle.rw_fleet.specs.declared.joined.Joined.{Joined}
+
+-- how the workers are set up, the epoch, the shards at work, and those that have ended, oldest first
+pub record Shards (T : Type 0) : Type 0 where
+  pub config : ConfigFields
+  pub epoch : ℕ
+  pub current : List Lane
+  pub ended : List (Joined T)
+
+-- the shards that had ended, and then each one that was at work, with the samples that it was put
+abbrev pub AreAll : {T : Type 0} → Shards T → List (Joined T) → Type 0
+AreAll {T} s joined = (more : List (Joined T)) × (joined ≡ s.ended ++ more) × AreSame s.current (map lane_of more)
+
+-- all shards at work have ended, and the next epoch has none yet
+abbrev pub HasClosed : {T : Type 0} → Shards T → Shards T → Type 0
+HasClosed old new = (new.config ≡ old.config) × (new.epoch ≡ old.epoch + 1) × (new.current ≡ []) × AreAll old new.ended

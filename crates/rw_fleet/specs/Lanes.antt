@@ -1,0 +1,61 @@
+-- The shards of an epoch as the one who feeds them sees them.
+use Rattle.std.specs.Prelude.{◌≡◌, ℕ, zero, suc, List, [], ◌∷◌, ◌++◌, length, set, Some, slice_get, ⊤}
+use Rattle.std.specs.Arc.{arc_value}
+use Rattle.rw_sender.specs.declared.config.ConfigFields.{ConfigFields}
+use Rattle.rw_shard_queue.specs.Items.{Placed, samples_in, places_in}
+use Rattle.rw_shard_queue.specs.declared.item.Item.{Item}
+use Rattle.rw_shard_queue.specs.declared.item.Item.TheVariants as item
+use Rattle.rw_worker.specs.Setups.{Setup}
+use Rattle.rw_feeder.specs.declared.logged.Logged.{Logged}
+
+-- what a shard's worker is set up with, its queue among it, and what was put into the queue
+pub record Lane : Type 0 where
+  pub setup : Setup
+  pub put : List Item
+
+-- a worker sends as it was configured
+abbrev pub IsSetUp : ConfigFields → Setup → Type 0
+IsSetUp config setup = (setup.target ≡ config.target) × (setup.batch ≡ config.batch)
+
+abbrev pub AreSetUp : ConfigFields → List Lane → Type 0
+AreSetUp config [] = ⊤
+AreSetUp config (l ∷ ls) = IsSetUp config l.setup × AreSetUp config ls
+
+-- a sample of the log as the next one of a shard
+abbrev pub put_as : Lane → Logged → Placed
+put_as lane s = record {
+  place = record { epoch = lane.setup.queue.epoch; shard = lane.setup.queue.shard; seq = length (places_in lane.put); pos = s.pos; series = s.series };
+  t = s.t;
+  word = s.word;
+  labels = arc_value s.labels;
+}
+
+-- the shard numbered k was put one sample more, the others nothing
+pub record IsPut (k : ℕ) (s : Logged) (old new : List Lane) : Type 0 where
+  pub was : Lane
+  pub now : Lane
+  pub at : slice_get old k ≡ Some was
+  pub setup : now.setup ≡ was.setup
+  pub put : samples_in now.put ≡ samples_in was.put ++ put_as was s ∷ []
+  pub is : new ≡ set old k now
+
+-- the same shards, each with the same samples
+abbrev pub AreSame : List Lane → List Lane → Type 0
+AreSame [] [] = ⊤
+AreSame [] (q ∷ qs) = ⊥
+AreSame (p ∷ ps) [] = ⊥
+AreSame (p ∷ ps) (q ∷ qs) = (q.setup ≡ p.setup) × (samples_in q.put ≡ samples_in p.put) × AreSame ps qs
+
+-- the shards of an epoch, numbered, each with nothing put
+abbrev pub AreFresh : ℕ → List Lane → Type 0
+AreFresh epoch lanes = (k : ℕ) (l : Lane) → slice_get lanes k ≡ Some l → (l.setup.queue.epoch ≡ epoch) × (l.setup.queue.shard ≡ k) × (l.put ≡ [])
+
+-- with a Flush put
+abbrev pub marked : Lane → Lane
+marked l = record l { put = l.put ++ item.Flush ∷ [] }
+
+-- the first n of the shards with a Flush put
+abbrev pub marks : ℕ → List Lane → List Lane
+marks zero ls = ls
+marks (suc n) [] = []
+marks (suc n) (l ∷ ls) = marked l ∷ marks n ls

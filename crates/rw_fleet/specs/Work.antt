@@ -1,0 +1,97 @@
+-- What a shard did, once its worker's thread has ended.
+use Rattle.std.specs.Prelude.{◌≡◌, ◌⊎◌, ℕ, ◌==◌, ◌&&◌, Bool, true, false, List, [], ◌∷◌, ◌++◌, length, map, Some, slice_get, ⊤}
+use Rattle.rw_types.specs.declared.place.Place.{Place}
+use Rattle.rw_shard_queue.specs.Items.{places_in}
+use Rattle.rw_shard_queue.specs.declared.item.Item.{Item}
+use Rattle.rw_shard_queue.specs.declared.item.Item.TheVariants as item
+use Rattle.rw_shard_queue.specs.declared.item.Kind.TheVariants.{Hard}
+use Rattle.rw_ruled_queue.specs.Ends.{Feeding, QueueId, IsBeginning}
+use Rattle.rw_worker.specs.Report.{IsReport, drain_of}
+use Rattle.rw_worker.specs.Transcript.{Exchange}
+use Rattle.rw_worker.specs.declared.report.TakingEnd.{TakingEnd}
+use Rattle.rw_worker.specs.declared.report.TakingEnd.TheVariants as taking
+use Rattle.rw_fleet.specs.Lanes.{Lane}
+use Rattle.rw_fleet.specs.declared.ends.Fed.{Fed}
+use Rattle.rw_fleet.specs.declared.ends.Fed.TheVariants as fed
+use Rattle.rw_fleet.specs.declared.ends.Ends.{Ends}
+use Rattle.rw_fleet.specs.declared.ends.Ends.TheVariants.{Compared, Apart}
+use Rattle.rw_fleet.specs.declared.joined.Finished.{Finished}
+use Rattle.rw_fleet.specs.declared.joined.Joined.{Joined}
+
+abbrev pub feeding : Fed → Feeding
+feeding (fed.Open f) = f
+feeding (fed.Ended f) = f
+
+abbrev pub queue_of : Ends → QueueId
+queue_of (Compared w) = w.queue
+queue_of (Apart f end) = (feeding f).queue
+
+abbrev pub put_of : Ends → List Item
+put_of (Compared w) = w.items
+put_of (Apart f end) = (feeding f).put
+
+abbrev pub taken_of : Ends → List Item
+taken_of (Compared w) = w.items
+taken_of (Apart f end) = (drain_of end).taken
+
+-- what was taken is a beginning of what was put
+abbrev pub IsTakenOf : Ends → Type 0
+IsTakenOf ends = IsBeginning (taken_of ends) (put_of ends)
+
+-- the positions of the samples among items
+abbrev pub positions_in : List Item → List ℕ
+positions_in items = map (λ (p : Place). p.pos) (places_in items)
+
+abbrev pub lane_of : {T : Type 0} → Joined T → Lane
+lane_of j = record { setup = j.worker.value; put = put_of j.finished.ends }
+
+abbrev pub is_compared : Ends → Bool
+is_compared (Compared w) = true
+is_compared (Apart f end) = false
+
+-- all that was put was taken, and is resolved
+abbrev pub is_resolved : {T : Type 0} → Joined T → Bool
+is_resolved j = is_compared j.finished.ends && (j.finished.resolved == length j.positions.items)
+
+-- the last item is not an End at which nothing more is sent
+abbrev pub IsSoft : List Item → Type 0
+IsSoft put = (before : List Item) → put ≡ before ++ item.End Hard ∷ [] → ⊥
+
+abbrev pub AreSoft : List Lane → Type 0
+AreSoft [] = ⊤
+AreSoft (l ∷ ls) = IsSoft l.put × AreSoft ls
+
+-- the worker took the End
+abbrev pub IsEndTaken : TakingEnd → Type 0
+IsEndTaken (taking.Ended kind d) = ⊤
+IsEndTaken (taking.Killed d) = ⊥
+
+-- A shard's ends and counts are what a worker of this queue reported, over a transport that had told nothing.
+pub record IsWorked {T : Type 0} (tells : T → Type 0) (seen : T → List Exchange) (j : Joined T) : Type 0 where
+  pub begun : T
+  pub end : TakingEnd
+  pub none : seen begun ≡ []
+  pub queue : queue_of j.finished.ends ≡ j.worker.value.queue
+  pub taken : taken_of j.finished.ends ≡ (drain_of end).taken
+  pub begins : IsTakenOf j.finished.ends
+  pub report : IsReport tells seen j.worker.value begun (record { end = end; resolved = j.finished.resolved; stopped = j.finished.stopped; ledger = j.part; transport = j.finished.transport })
+  pub counted : j.positions.items ≡ positions_in (put_of j.finished.ends)
+  pub done : is_compared j.finished.ends ≡ true → j.finished.stopped ≡ false → IsSoft (put_of j.finished.ends) → is_resolved j ≡ true
+
+abbrev pub AreWorked : {T : Type 0} → (T → Type 0) → (T → List Exchange) → List (Joined T) → Type 0
+AreWorked tells seen [] = ⊤
+AreWorked tells seen (j ∷ js) = IsWorked tells seen j × AreWorked tells seen js
+
+abbrev pub AreResolved : {T : Type 0} → List (Joined T) → Type 0
+AreResolved {T} js = (k : ℕ) (j : Joined T) → slice_get js k ≡ Some j → is_resolved j ≡ true
+
+-- one of the ends was gone before the other, or the worker read the stop flag as set
+abbrev pub IsCut : {T : Type 0} → Finished T → Type 0
+IsCut f = (is_compared f.ends ≡ false) ⊎ (f.stopped ≡ true)
+
+-- one of these queues was cut
+abbrev pub HasCut : {T : Type 0} → List (Joined T) → Type 0
+HasCut {T} js = (k : ℕ) × (j : Joined T) × (slice_get js k ≡ Some j) × IsCut j.finished
+
+abbrev pub HasUnresolved : {T : Type 0} → List (Joined T) → Type 0
+HasUnresolved {T} js = (k : ℕ) × (j : Joined T) × (slice_get js k ≡ Some j) × (is_resolved j ≡ false)

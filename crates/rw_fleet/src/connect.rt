@@ -1,0 +1,19 @@
+//! What workers send over.
+
+ghost use Rattle.std.specs.Prelude.{◌≡◌, IfOk, []};
+
+use rw_worker::{Pause, Transport};
+use std::alloc::AllocError;
+
+/// Makes what each worker sends over, and what it waits by.
+pub trait Connect {
+    ghost use Rattle.std.specs.Prelude.{◌≡◌, IfOk, []};
+
+    type T: Transport + Send + Drop + 'static;
+
+    type P: Pause + Send + Drop + 'static;
+
+    /// For the worker of a shard of an epoch. The transport has made no exchange yet.
+    fn transport(&mut self, epoch: u64, shard: u32) -> Result<(Self::T, Self::P), AllocError>
+        ensures { IfOk result (λ r. Self.T.seen r.0 ≡ []) };
+}

@@ -1,0 +1,67 @@
+//! The ends of a queue that was ended.
+
+ghost use Rattle.std.specs.Prelude.{◌≡◌, true, false};
+ghost use Rattle.rw_shard_queue.specs.Items.{samples_in, places_in};
+ghost use Rattle.rw_worker.specs.Report.{drain_of, is_hard};
+ghost use Rattle.rw_fleet.specs.Work.{feeding, queue_of, put_of, taken_of, is_compared, IsTakenOf, IsSoft, IsEndTaken};
+
+use rw_ruled_queue::{Ended, Feed, Kind, Open, Whole, begins, compare};
+use rw_worker::TakingEnd;
+use std::sync::Wait;
+
+/// The end that puts.
+#[derive(Drop)]
+pub enum Fed {
+    /// No End could be put: the end that takes was gone.
+    Open(Feed<Open>),
+    /// An End was put.
+    Ended(Feed<Ended>),
+}
+
+/// The ends of a queue whose worker has ended.
+#[derive(Drop)]
+pub enum Ends {
+    /// All that was put was taken.
+    Compared(Whole),
+    /// The worker has not taken the End, or there was none.
+    Apart(Fed, TakingEnd),
+}
+
+/// Puts an End, where the other end still takes.
+pub(crate) fn end_of<R: Wait>(rt: &R, feed: Feed<Open>, kind: Kind) -> Fed
+    ensures queue { (feeding result).queue ≡ feed.queue }
+    ensures places { places_in (feeding result).put ≡ places_in feed.put }
+    ensures samples { samples_in (feeding result).put ≡ samples_in feed.put }
+    ensures soft { is_hard kind ≡ false → IsSoft feed.put → IsSoft (feeding result).put }
+{
+    match feed.end(rt, kind) {
+        Ok(feed) => Fed::Ended(feed),
+        Err((feed, _)) => Fed::Open(feed),
+    }
+}
+
+/// Brings the ends together: what was taken is a beginning of what was put, and all of it where an End was put and taken.
+pub(crate) fn meet<R>(rt: &R, fed: Fed, end: TakingEnd) -> Ends
+    requires { (feeding fed).queue ≡ (drain_of end).queue }
+    ensures queue { queue_of result ≡ (feeding fed).queue }
+    ensures put { put_of result ≡ (feeding fed).put }
+    ensures taken { taken_of result ≡ (drain_of end).taken }
+    ensures begins { IsTakenOf result }
+    ensures ended { is_compared result ≡ true → IsEndTaken end }
+{
+    match (fed, end) {
+        (Fed::Open(feed), TakingEnd::Killed(drain)) => {
+            let (feed, drain) = begins(feed, drain);
+            Ends::Apart(Fed::Open(feed), TakingEnd::Killed(drain))
+        }
+        (Fed::Open(feed), TakingEnd::Ended(kind, drain)) => {
+            let (feed, drain) = begins(feed, drain);
+            Ends::Apart(Fed::Open(feed), TakingEnd::Ended(kind, drain))
+        }
+        (Fed::Ended(feed), TakingEnd::Killed(drain)) => {
+            let (feed, drain) = begins(feed, drain);
+            Ends::Apart(Fed::Ended(feed), TakingEnd::Killed(drain))
+        }
+        (Fed::Ended(feed), TakingEnd::Ended(_, drain)) => Ends::Compared(compare(rt, feed, drain)),
+    }
+}

@@ -1,0 +1,204 @@
+//! All shards of all epochs.
+
+ghost use Rattle.std.specs.Prelude.{◌≡◌, ◌+◌, ◌<◌, ◌≤◌, ◌^◌, ℕ, List, [], ◌∷◌, ◌++◌, length, map, MatchResult, IfOk, IfErr, OnOk, OnErr, Some, true, false, slice_get};
+ghost use Rattle.rw_types.specs.declared.place.Place.{Place};
+ghost use Rattle.rw_shard_queue.specs.Items.{places_in};
+ghost use Rattle.rw_fleet.specs.Lanes.{Lane, AreFresh, AreSame, AreSetUp, IsPut, marked};
+ghost use Rattle.rw_worker.specs.Report.{is_hard};
+ghost use Rattle.rw_fleet.specs.Work.{AreResolved, AreWorked, HasCut, lane_of};
+ghost use Rattle.rw_fleet.specs.Fleets.{AreAll, HasClosed};
+
+use crate::connect::Connect;
+use crate::joined::Joined;
+use crate::lists::{all_resolved, end_all, join_all, mark_all, open_all};
+use crate::load::Load;
+use crate::running::{Ending, Fault, Running};
+use rw_feeder::Logged;
+use rw_ruled_queue::Kind;
+use rw_sender::Config;
+use std::alloc::{AllocError, Global};
+use std::marker::Model;
+use std::mem::replace;
+use std::sync::atomic::{AtomicBool, Ordering};
+use std::sync::{Arc, Wait};
+use std::thread::Threads;
+
+/// The shards at work, and those that have ended, in the order of their epochs.
+#[derive(Drop)]
+pub struct Fleet<C: Connect + Drop> {
+    alloc: Global,
+    config: Config,
+    connect: C,
+    stop: Arc<AtomicBool>,
+    epoch: u64,
+    running: Vec<Running<C::T>>,
+    /// It has room for each shard at work.
+    ending: Vec<Ending<C::T>>,
+    joined: Vec<Joined<C::T>>,
+}
+
+impl<C: Connect + Drop> Model for Fleet<C> {
+    ghost use Rattle.std.specs.Prelude.{◌≡◌, ◌+◌, ◌≤◌, [], map, vec_len, vec_capacity};
+    ghost use Rattle.std.specs.Coded.{codes};
+    ghost use Rattle.std.specs.FinMap as names;
+    ghost use Rattle.rw_fleet.specs.Lanes.{AreSetUp};
+    ghost use Rattle.rw_fleet.specs.Work.{AreWorked, AreSoft, lane_of};
+    ghost use Rattle.rw_fleet.specs.Fleets.{Shards};
+
+    ghost Value = { Shards C.T };
+
+    ghost coded = { Prim.hlevel (codes, names.code) };
+
+    ghost view = { λ f. record { config = f.config; epoch = f.epoch; current = f.running.items; ended = f.joined.items } };
+
+    ghost invariant = { λ f. AreWorked C.T.tells C.T.seen f.joined.items
+        × AreSetUp f.config (map lane_of f.joined.items)
+        × AreSetUp f.config f.running.items
+        × (vec_len f.joined + vec_len f.running ≤ vec_capacity f.joined)
+        × (vec_len f.running ≤ vec_capacity f.ending)
+        × (f.ending.items ≡ [])
+        × (vec_len f.running ≤ 1000)
+        × AreSoft (map lane_of f.joined.items) };
+}
+
+impl<C: Connect + Drop> Fleet<C> {
+    /// No shard, before epoch 0.
+    pub fn new(alloc: Global, config: Config, connect: C) -> Result<Fleet<C>, AllocError>
+        ensures { IfOk result (λ f. f ≡ record { config = config; epoch = 0; current = []; ended = [] }) }
+    {
+        let stop = Arc::new(alloc, AtomicBool::new(false))?;
+        Ok(Fleet {
+            alloc,
+            config,
+            connect,
+            stop,
+            epoch: 0,
+            running: Vec::new(alloc),
+            ending: Vec::new(alloc),
+            joined: Vec::new(alloc),
+        })
+    }
+
+    /// How many shards are at work.
+    pub fn len(&self) -> usize
+        ensures len { result ≡ length self.now.current }
+        ensures within { result ≤ 1000 }
+    {
+        self.running.len()
+    }
+
+    /// How often the number of shards has changed.
+    pub fn epoch(&self) -> u64
+        ensures { result ≡ self.now.epoch }
+    {
+        self.epoch
+    }
+
+    /// How far the samples have come. Of a shard at work as many may wait as its queue and one batch hold.
+    pub fn load(&self) -> Load {
+        let fields = self.config.fields();
+        let waiting = fields.capacity.get().saturating_add(fields.batch.get());
+        let mut load = Load::none();
+        for shard in self.joined.iter() {
+            load = load.with(shard.positions.len() as u64, shard.finished.resolved);
+        }
+        for shard in self.running.iter() {
+            let placed = shard.count();
+            load = load.with(placed, placed.saturating_sub(waiting));
+        }
+        load
+    }
+
+    /// Opens the queues of so many shards, and starts their workers. Where that is refused some may be at work.
+    pub fn open<R: Threads + Wait + Copy + Send + 'static>(
+        &mut self,
+        rt: &R,
+        shards: u32,
+    ) -> Result<(), AllocError>
+        requires none { self.old.current ≡ [] }
+        requires most { shards ≤ 1000 }
+        ensures rest { self.new ≡ record self.old { current = self.new.current } }
+        ensures fresh { AreFresh self.new.epoch self.new.current }
+        ensures most { length self.new.current ≤ shards }
+        ensures all { OnOk result (length self.new.current ≡ shards) }
+    {
+        self.joined.reserve(shards as usize)?;
+        let mut running = Vec::new(self.alloc);
+        running.reserve(shards as usize)?;
+        self.ending.reserve(shards as usize)?;
+        let (running, all) = open_all(
+            rt,
+            self.alloc,
+            &self.config,
+            self.epoch,
+            shards,
+            &mut self.connect,
+            &self.stop,
+            running,
+        );
+        self.running = running;
+        if all { Ok(()) } else { Err(AllocError) }
+    }
+
+    /// Puts a sample into the queue of a shard. It may wait for room.
+    pub fn put<R: Wait>(&mut self, rt: &R, shard: usize, logged: Logged) -> Result<(), Fault>
+        requires within { shard < length self.old.current }
+        requires later { (lane : Lane) (k : ℕ) (o : Place) → slice_get self.old.current shard ≡ Some lane → slice_get (places_in lane.put) k ≡ Some o → o.pos < logged.pos }
+        ensures rest { self.new ≡ record self.old { current = self.new.current } }
+        ensures ok { OnOk result (IsPut shard logged self.old.current self.new.current) }
+        ensures err { OnErr result (self.new ≡ self.old) }
+    {
+        if let Err(fault) = self.running[shard].put(rt, logged) {
+            return Err(fault);
+        }
+        Ok(())
+    }
+
+    /// Puts a Flush into each queue. It may wait for room.
+    pub fn mark<R: Wait>(&mut self, rt: &R) -> Result<(), Fault>
+        ensures rest { self.new ≡ record self.old { current = self.new.current } }
+        ensures marked { OnOk result (self.new.current ≡ map marked self.old.current) }
+        ensures same { AreSame self.old.current self.new.current }
+    {
+        mark_all(rt, &mut self.running)
+    }
+
+    /// Ends all shards at work once all that was put is resolved, and waits for their workers: the next epoch has no shard yet. It answers whether all that was put in all epochs is resolved.
+    pub fn close<R: Threads + Wait>(&mut self, rt: &R) -> bool
+        requires { self.old.epoch + 1 < 2 ^ 64 }
+        ensures closed { HasClosed self.old self.new }
+        ensures resolved { result ≡ true → AreResolved self.new.ended }
+    {
+        let running = replace(&mut self.running, Vec::new(self.alloc));
+        let ending = replace(&mut self.ending, Vec::new(self.alloc));
+        let joined = replace(&mut self.joined, Vec::new(self.alloc));
+        let ending = end_all(rt, running, ending, Kind::Reshard);
+        self.joined = join_all(rt, ending, joined);
+        self.epoch += 1;
+        all_resolved(&self.joined)
+    }
+
+    /// Ends all shards at work and waits for their workers, which are told to stop where the end is hard. It answers whether all that was put in all epochs is resolved.
+    pub fn finish<R: Threads + Wait>(self, rt: &R, kind: Kind) -> (Vec<Joined<C::T>>, bool)
+        ensures all { AreAll self result.0.items }
+        ensures worked { AreWorked C.T.tells C.T.seen result.0.items }
+        ensures setup { AreSetUp self.config (map lane_of result.0.items) }
+        ensures resolved { result.1 ≡ true → AreResolved result.0.items }
+        ensures cut { is_hard kind ≡ false → result.1 ≡ false → HasCut result.0.items }
+    {
+        let Fleet {
+            running,
+            ending,
+            joined,
+            stop,
+            ..
+        } = self;
+        if kind == Kind::Hard {
+            stop.store(true, Ordering::SeqCst);
+        }
+        let ending = end_all(rt, running, ending, kind);
+        let joined = join_all(rt, ending, joined);
+        let resolved = all_resolved(&joined);
+        (joined, resolved)
+    }
+}

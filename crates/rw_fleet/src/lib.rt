@@ -1,0 +1,17 @@
+//! The shards of a sender, each with its queue and a worker in a thread of its own: they are opened epoch by epoch, are put samples and marks, and are ended and joined.
+#![tactic(auto)]
+
+mod connect;
+mod ends;
+mod fleet;
+mod joined;
+mod lists;
+mod load;
+mod running;
+
+pub use connect::Connect;
+pub use ends::{Ends, Fed};
+pub use fleet::Fleet;
+pub use joined::{Finished, Joined};
+pub use load::Load;
+pub use running::Fault;

@@ -1,0 +1,117 @@
+//! What is done to all shards of an epoch.
+
+ghost use Rattle.std.specs.Prelude.{◌≡◌, ◌+◌, ◌≤◌, List, [], ◌++◌, map, OnOk, true, false, vec_len, vec_capacity};
+ghost use Rattle.rw_worker.specs.Report.{is_hard};
+ghost use Rattle.rw_fleet.specs.Lanes.{AreFresh, AreSame, AreSetUp, marked};
+ghost use Rattle.rw_fleet.specs.Work.{AreResolved, HasUnresolved, AreSoft, AreWorked, lane_of};
+
+use crate::connect::Connect;
+use crate::joined::Joined;
+use crate::running::{Ending, Fault, Running};
+use rw_ruled_queue::Kind;
+use rw_sender::Config;
+use rw_worker::Transport;
+use std::alloc::Global;
+use std::sync::atomic::AtomicBool;
+use std::sync::{Arc, Wait};
+use std::thread::Threads;
+
+/// Opens the queues of an epoch, and starts their workers. It answers false where one could not be had.
+pub(crate) fn open_all<C: Connect, R: Threads + Wait + Copy + Send + 'static>(
+    rt: &R,
+    alloc: Global,
+    config: &Config,
+    epoch: u64,
+    shards: u32,
+    connect: &mut C,
+    stop: &Arc<AtomicBool>,
+    mut running: Vec<Running<C::T>>,
+) -> (Vec<Running<C::T>>, bool)
+    requires none { running.items ≡ [] }
+    requires room { shards ≤ vec_capacity running }
+    ensures fresh { AreFresh epoch result.0.items }
+    ensures setup { AreSetUp config.now result.0.items }
+    ensures len { vec_len result.0 ≤ shards }
+    ensures all { result.1 ≡ true → vec_len result.0 ≡ shards }
+{
+    for shard in 0..shards {
+        let Ok(flag) = stop.clone() else {
+            return (running, false);
+        };
+        let Ok((transport, pause)) = connect.transport(epoch, shard) else {
+            return (running, false);
+        };
+        let Ok(opened) = Running::open(rt, alloc, config, epoch, shard, transport, pause, flag)
+        else {
+            return (running, false);
+        };
+        running.push_reserved(opened);
+    }
+    (running, true)
+}
+
+/// Puts a Flush into each queue, as far as the workers still take.
+pub(crate) fn mark_all<T: Transport + Send + Drop + 'static, R: Wait>(
+    rt: &R,
+    running: &mut Vec<Running<T>>,
+) -> Result<(), Fault>
+    ensures same { AreSame running.old.items running.new.items }
+    ensures len { (vec_len running.new ≡ vec_len running.old) × (vec_capacity running.new ≡ vec_capacity running.old) }
+    ensures all { OnOk result (running.new.items ≡ map marked running.old.items) }
+{
+    for k in 0..running.len() {
+        running[k].mark(rt)?;
+    }
+    Ok(())
+}
+
+/// Puts an End into each queue.
+pub(crate) fn end_all<T: Transport + Send + Drop + 'static, R: Wait>(
+    rt: &R,
+    running: Vec<Running<T>>,
+    mut ending: Vec<Ending<T>>,
+    kind: Kind,
+) -> Vec<Ending<T>>
+    requires none { ending.items ≡ [] }
+    requires room { vec_len running ≤ vec_capacity ending }
+    ensures len { vec_len result ≡ vec_len running }
+    ensures same { AreSame running.items result.items }
+    ensures soft { is_hard kind ≡ false → AreSoft result.items }
+{
+    for shard in running {
+        ending.push_reserved(shard.end(rt, kind));
+    }
+    ending
+}
+
+/// Waits for each worker.
+pub(crate) fn join_all<T: Transport + Send + Drop + 'static, R: Threads>(
+    rt: &R,
+    ending: Vec<Ending<T>>,
+    mut joined: Vec<Joined<T>>,
+) -> Vec<Joined<T>>
+    requires room { vec_len joined + vec_len ending ≤ vec_capacity joined }
+    requires worked { AreWorked T.tells T.seen joined.items }
+    ensures capacity { vec_capacity result ≡ vec_capacity joined }
+    ensures len { vec_len result ≡ vec_len joined + vec_len ending }
+    ensures same { (more : List _) × (result.items ≡ joined.items ++ more) × (map lane_of more ≡ ending.items) }
+    ensures worked { AreWorked T.tells T.seen result.items }
+{
+    for shard in ending {
+        joined.push_reserved(shard.join(rt));
+    }
+    joined
+}
+
+/// Whether all that was put into these queues is resolved.
+pub(crate) fn all_resolved<T: Transport>(joined: &Vec<Joined<T>>) -> bool
+    ensures all { result ≡ true → AreResolved joined.now.items }
+    ensures not_all { result ≡ false → HasUnresolved joined.now.items }
+{
+    for shard in joined.iter() {
+        if !shard.is_resolved() {
+            return false;
+        }
+    }
+    true
+}

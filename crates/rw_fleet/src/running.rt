@@ -1,0 +1,227 @@
+//! A shard at work, and one that is to end.
+
+ghost use Rattle.std.specs.Prelude.{◌≡◌, ◌<◌, ℕ, List, [], ◌∷◌, ◌++◌, IfOk, MatchResult, Some, false, slice_get};
+ghost use Rattle.rw_types.specs.declared.place.Place.{Place};
+ghost use Rattle.rw_shard_queue.specs.Items.{samples_in, places_in};
+ghost use Rattle.rw_fleet.specs.Lanes.{IsSetUp, put_as};
+ghost use Rattle.rw_worker.specs.Report.{is_hard};
+ghost use Rattle.rw_fleet.specs.Work.{lane_of, IsSoft, IsWorked};
+
+use crate::ends::{Fed, end_of, meet};
+use crate::joined::{Finished, Joined};
+use rw_feeder::Logged;
+use rw_ruled_queue::{Feed, Item, Kind, Open, open};
+use rw_sender::Config;
+use rw_types::Place;
+use rw_worker::{Begun, Pause, Transport, Worker, WorkerReport, spawn};
+use std::alloc::{AllocError, Global};
+use std::marker::Model;
+use std::snapshot::Snapshot;
+use std::sync::atomic::AtomicBool;
+use std::sync::{Arc, Wait};
+use std::thread::{PromisedHandle, Threads};
+
+/// Why a shard could not be put an item.
+#[derive(Clone, Copy, Debug, PartialEq, Eq)]
+pub enum Fault {
+    OutOfMemory,
+    /// The worker has gone.
+    Gone,
+}
+
+/// A shard at work. Contracts see what its worker is set up with, and what was put into its queue.
+#[derive(Drop)]
+pub(crate) struct Running<T: Transport + Send + Drop + 'static> {
+    epoch: u64,
+    shard: u32,
+    feed: Feed<Open>,
+    /// Of the samples that were put.
+    positions: Vec<u64>,
+    worker: Snapshot<Worker>,
+    handle: PromisedHandle<WorkerReport<T>, Begun<T>>,
+}
+
+impl<T: Transport + Send + Drop + 'static> Model for Running<T> {
+    ghost use Rattle.std.specs.Prelude.{◌≡◌, []};
+    ghost use Rattle.rw_fleet.specs.Lanes.{Lane};
+    ghost use Rattle.rw_fleet.specs.Work.{positions_in, IsSoft};
+
+    ghost Value = { Lane };
+
+    ghost view = { λ r. record { setup = r.worker.value; put = r.feed.put } };
+
+    ghost invariant = { λ r. (r.positions.items ≡ positions_in r.feed.put)
+        × (r.epoch ≡ r.feed.queue.epoch)
+        × (r.shard ≡ r.feed.queue.shard)
+        × (r.worker.value.queue ≡ r.feed.queue)
+        × (r.handle.promise.worker.value ≡ r.worker.value)
+        × (T.seen r.handle.promise.transport.value ≡ [])
+        × IsSoft r.feed.put };
+}
+
+/// A shard that is to end. Contracts see what its worker is set up with, and what was put into its queue.
+#[derive(Drop)]
+pub(crate) struct Ending<T: Transport + Send + Drop + 'static> {
+    fed: Fed,
+    positions: Vec<u64>,
+    worker: Snapshot<Worker>,
+    handle: PromisedHandle<WorkerReport<T>, Begun<T>>,
+}
+
+impl<T: Transport + Send + Drop + 'static> Model for Ending<T> {
+    ghost use Rattle.std.specs.Prelude.{◌≡◌, []};
+    ghost use Rattle.rw_fleet.specs.Lanes.{Lane};
+    ghost use Rattle.rw_fleet.specs.Work.{feeding, positions_in};
+
+    ghost Value = { Lane };
+
+    ghost view = { λ r. record { setup = r.worker.value; put = (feeding r.fed).put } };
+
+    ghost invariant = { λ r. (r.positions.items ≡ positions_in (feeding r.fed).put)
+        × (r.worker.value.queue ≡ (feeding r.fed).queue)
+        × (r.handle.promise.worker.value ≡ r.worker.value)
+        × (T.seen r.handle.promise.transport.value ≡ []) };
+}
+
+impl<T: Transport + Send + Drop + 'static> Running<T> {
+    /// Opens a queue, and starts its worker. The transport has made no exchange yet.
+    pub(crate) fn open<P: Pause + Send + Drop + 'static, R: Threads + Wait + Copy + Send + 'static>(
+        rt: &R,
+        alloc: Global,
+        config: &Config,
+        epoch: u64,
+        shard: u32,
+        transport: T,
+        pause: P,
+        stop: Arc<AtomicBool>,
+    ) -> Result<Running<T>, AllocError>
+        requires { T.seen transport ≡ [] }
+        ensures queue { IfOk result (λ r. (r.setup.queue.epoch ≡ epoch) × (r.setup.queue.shard ≡ shard)) }
+        ensures setup { IfOk result (λ r. IsSetUp config.now r.setup) }
+        ensures empty { IfOk result (λ r. r.put ≡ []) }
+    {
+        let capacity = config.fields().capacity.get() as usize;
+        let (feed, drain) = open(alloc, epoch, shard, capacity)?;
+        let Ok(worker) = Worker::new(alloc, config, epoch, shard, drain) else {
+            return Err(AllocError);
+        };
+        let begun = Snapshot::of(&worker);
+        let handle = spawn(rt, worker, transport, pause, stop)?;
+        Ok(Running {
+            epoch,
+            shard,
+            feed,
+            positions: Vec::new(alloc),
+            worker: begun,
+            handle,
+        })
+    }
+
+    /// How many samples were put.
+    pub(crate) fn count(&self) -> u64 {
+        self.positions.len() as u64
+    }
+
+    /// Puts a sample. It may wait for room.
+    pub(crate) fn put<R: Wait>(&mut self, rt: &R, logged: Logged) -> Result<(), Fault>
+        requires later { (k : ℕ) (o : Place) → slice_get (places_in self.old.put) k ≡ Some o → o.pos < logged.pos }
+        ensures setup { self.new.setup ≡ self.old.setup }
+        ensures put { MatchResult result (λ _. samples_in self.new.put ≡ samples_in self.old.put ++ put_as self.old logged ∷ []) (λ _. self.new ≡ self.old) }
+    {
+        let Logged {
+            pos,
+            series,
+            t,
+            word,
+            labels,
+        } = logged;
+        let seq = self.positions.len() as u64;
+        if seq >= 1 << 60 {
+            return Err(Fault::OutOfMemory);
+        }
+        if self.positions.reserve(1).is_err() {
+            return Err(Fault::OutOfMemory);
+        }
+        let place = Place {
+            epoch: self.epoch,
+            shard: self.shard,
+            seq,
+            pos,
+            series,
+        };
+        let item = Item::Sample(place, t, word, labels);
+        if let Err(_) = self.feed.put(rt, item) {
+            return Err(Fault::Gone);
+        }
+        self.positions.push_reserved(pos);
+        Ok(())
+    }
+
+    /// Puts a Flush. It may wait for room.
+    pub(crate) fn mark<R: Wait>(&mut self, rt: &R) -> Result<(), Fault>
+        ensures setup { self.new.setup ≡ self.old.setup }
+        ensures put { MatchResult result (λ _. self.new.put ≡ self.old.put ++ Item.Flush ∷ []) (λ _. self.new ≡ self.old) }
+    {
+        if let Err(_) = self.feed.put(rt, Item::Flush) {
+            return Err(Fault::Gone);
+        }
+        Ok(())
+    }
+
+    /// Puts an End, where the worker still takes. It may wait for room.
+    pub(crate) fn end<R: Wait>(self, rt: &R, kind: Kind) -> Ending<T>
+        ensures setup { result.setup ≡ self.setup }
+        ensures put { samples_in result.put ≡ samples_in self.put }
+        ensures soft { is_hard kind ≡ false → IsSoft result.put }
+    {
+        let Running {
+            epoch: _,
+            shard: _,
+            feed,
+            positions,
+            worker,
+            handle,
+        } = self;
+        let fed = end_of(rt, feed, kind);
+        Ending {
+            fed,
+            positions,
+            worker,
+            handle,
+        }
+    }
+}
+
+impl<T: Transport + Send + Drop + 'static> Ending<T> {
+    /// Waits for the worker to end.
+    pub(crate) fn join<R: Threads>(self, rt: &R) -> Joined<T>
+        ensures lane { lane_of result ≡ self }
+        ensures worked { IsWorked T.tells T.seen result }
+    {
+        let Ending {
+            fed,
+            positions,
+            worker,
+            handle,
+        } = self;
+        let WorkerReport {
+            end,
+            resolved,
+            stopped,
+            ledger,
+            transport,
+        } = handle.join(rt);
+        let ends = meet(rt, fed, end);
+        Joined {
+            worker,
+            positions,
+            part: ledger,
+            finished: Finished {
+                ends,
+                transport,
+                resolved,
+                stopped,
+            },
+        }
+    }
+}

@@ -1,0 +1,190 @@
+-- Placements with one sample or one epoch more.
+use Rattle.std.proofs.Common.{◌≡◌, ◌≢◌, ◌⊎◌, inl, inr, ℕ, zero, suc, ◌+◌, Bool, true, false, List, [], ◌∷◌, ◌++◌, length, map, Some, None, cond, refl, sym, ap, ◌∙◌, subst, append_assoc, append-nil, length-append, add-zero, zero-add, arith}
+use Rattle.std.specs.Prelude.{◌==◌, set, slice_get}
+use Rattle.std.proofs.lemmas.List.Elements.{filter-append}
+use Rattle.std.proofs.lemmas.Bool.{eq-eqb, eqb-true}
+use Rattle.rw_worker.specs.Setups.{Setup}
+use Rattle.rw_shard_queue.specs.Items.{Placed, samples_in}
+use Rattle.rw_fleet.specs.Lanes.{Lane, AreSame, AreFresh, IsPut, put_as}
+use Rattle.rw_feeder.specs.declared.logged.Logged.{Logged}
+use Rattle.rw_feeder.specs.Feeders.{sent_by}
+use Rattle.rw_feeder.specs.Logs.{Sent}
+use Rattle.rw_shipper.specs.Placement.{as_sent, put_in, shard_of, of_shard, IsDealt, Places, joined, IsPlacing, ArePlaced}
+
+pub same_length : (ps qs : List Lane) → AreSame ps qs → length qs ≡ length ps
+same_length [] [] h = refl
+same_length [] (y ∷ ys) h = absurd h
+same_length (x ∷ xs) [] h = absurd h
+same_length (x ∷ xs) (y ∷ ys) h = ap suc (same_length xs ys h.2)
+
+some_is : (a b : Lane) → Some a ≡ Some b → a ≡ b
+some_is a b e = cc
+
+same_get : (ps qs : List Lane) (k : ℕ) (q : Lane) → AreSame ps qs → slice_get qs k ≡ Some q → (p : Lane) × (slice_get ps k ≡ Some p) × (q.setup ≡ p.setup) × (put_in q ≡ put_in p)
+same_get [] [] k q h e = absurd (let n : None ≡ Some q = e in cc)
+same_get [] (y ∷ ys) k q h e = absurd h
+same_get (x ∷ xs) [] k q h e = absurd h
+same_get (x ∷ xs) (y ∷ ys) zero q h e =
+    let is : y ≡ q = some_is y q e in (x, refl, ap (λ (f : Lane). f.setup) (sym is) ∙ h.0, ap (λ (f : Lane). put_in f) (sym is) ∙ ap (map as_sent) h.1)
+same_get (x ∷ xs) (y ∷ ys) (suc k) q h e = same_get xs ys k q h.2 e
+
+same_nil : (ps qs : List Lane) → AreSame ps qs → qs ≡ [] → ps ≡ []
+same_nil [] qs h e = refl
+same_nil (p ∷ ps) qs h e = absurd (subst (λ l. AreSame (p ∷ ps) l) e h)
+
+-- the same shards with the same samples
+dealt_same : (e : ℕ) (ps qs : List Lane) (s : List Sent) → IsDealt e ps s → AreSame ps qs → IsDealt e qs s
+dealt_same e ps qs s d h = record {
+  each = λ k q at.
+      let p = same_get ps qs k q h at in
+      let was = d.each k p.0 p.1 in
+      (ap (λ (x : Setup). x.queue.epoch) p.2 ∙ was.0, ap (λ (x : Setup). x.queue.shard) p.2 ∙ was.1, p.3 ∙ was.2 ∙ ap (λ n. of_shard n k s) (sym (same_length ps qs h)));
+  none = λ is. d.none (same_nil ps qs h is);
+}
+
+-- one epoch more
+places_push : (e k : ℕ) (es : List (List Lane)) (qs : List Lane) (s t : List Sent) → Places e es s → k ≡ e + length es → IsDealt k qs t → Places e (es ++ qs ∷ []) (s ++ t)
+places_push e k [] qs s t h is d = (t, [], ap (λ l. l ++ t) h ∙ sym (append-nil t), subst (λ j. IsDealt j qs t) (is ∙ add-zero e) d, refl)
+places_push e k (x ∷ xs) qs s t h is d =
+    (h.0, h.1 ++ t, ap (λ l. l ++ t) h.2 ∙ append_assoc h.0 h.1 t, h.3, places_push (suc e) k xs qs h.1 t h.4 (omega arith) d)
+
+joined_push : (es : List (List Lane)) (qs : List Lane) → joined (es ++ qs ∷ []) ≡ joined es ++ qs
+joined_push [] qs = append-nil qs
+joined_push (x ∷ xs) qs = ap (λ l. x ++ l) (joined_push xs qs) ∙ sym (append_assoc x (joined xs) qs)
+
+-- all shards of the epoch ended
+pub placing_closed : (e more : ℕ) (ended current closed all : List Lane) (s : List Sent) → IsPlacing e ended current s → AreSame current closed → all ≡ ended ++ closed → more ≡ e + 1 → IsPlacing more all [] s
+placing_closed e more ended current closed all s h same is next = record {
+  epochs = h.epochs ++ closed ∷ [];
+  ended_is = is ∙ ap (λ l. l ++ closed) h.ended_is ∙ sym (joined_push h.epochs closed);
+  numbered = let a = h.numbered in omega (arith, length-append h.epochs (closed ∷ []));
+  before = s;
+  fresh = [];
+  all = sym (append-nil s);
+  placed = subst (Places 0 (h.epochs ++ closed ∷ [])) (sym h.all) (places_push 0 e h.epochs closed h.before h.fresh h.placed (h.numbered ∙ sym (zero-add (length h.epochs))) (dealt_same e current closed h.fresh h.dealt same));
+  dealt = record { each = λ k q at. absurd (let at' : None ≡ Some q = at in cc); none = λ _. refl };
+}
+
+-- no shard is at work: all have ended
+pub placing_whole : (e : ℕ) (ended : List Lane) (s : List Sent) → IsPlacing e ended [] s → ArePlaced ended s
+placing_whole e ended s h =
+    (h.epochs, h.ended_is, subst (Places 0 h.epochs) (sym (append-nil h.before) ∙ ap (λ l. h.before ++ l) (sym (h.dealt.none refl)) ∙ sym h.all) h.placed)
+
+-- the next epoch's shards, with nothing put
+pub placing_opened : (e : ℕ) (ended current : List Lane) (s : List Sent) → IsPlacing e ended [] s → AreFresh e current → IsPlacing e ended current s
+placing_opened e ended current s h new =
+    let none = h.dealt.none refl in record {
+      epochs = h.epochs;
+      ended_is = h.ended_is;
+      numbered = h.numbered;
+      before = h.before;
+      fresh = h.fresh;
+      all = h.all;
+      placed = h.placed;
+      dealt = record {
+        each = λ k q at. let is = new k q at in (is.0, is.1, ap (λ items. map as_sent (samples_in items)) is.2 ∙ ap (λ l. of_shard (length current) k l) (sym none));
+        none = λ _. none;
+      };
+    }
+
+module _ {A : Type 0} where
+  pub get_set : (xs : List A) (k j : ℕ) (y r : A) → slice_get (set xs k y) j ≡ Some r → ((j ≡ k) × (y ≡ r)) ⊎ ((j ≢ k) × (slice_get xs j ≡ Some r))
+  get_set [] k j y r e = absurd (let e' : None ≡ Some r = e in cc)
+  get_set (x ∷ xs) zero zero y r e = inl (refl, cc)
+  get_set (x ∷ xs) zero (suc j) y r e = inr ((λ h. absurd (omega arith)), e)
+  get_set (x ∷ xs) (suc k) zero y r e = inr ((λ h. absurd (omega arith)), e)
+  get_set (x ∷ xs) (suc k) (suc j) y r e = elim (get_set xs k j y r e) [ inl h ↦ inl (ap suc h.0, h.1) | inr h ↦ inr ((λ e'. h.0 (omega arith)), h.1) ]
+
+  pub set_length : (xs : List A) (k : ℕ) (y : A) → length (set xs k y) ≡ length xs
+  set_length [] k y = refl
+  set_length (x ∷ xs) zero y = refl
+  set_length (x ∷ xs) (suc k) y = ap suc (set_length xs k y)
+
+  set_some : (xs : List A) (k : ℕ) (y x : A) → slice_get xs k ≡ Some x → set xs k y ≡ [] → ⊥
+  set_some [] k y x at e = let at' : None ≡ Some x = at in absurd cc
+  set_some (z ∷ zs) zero y x at e = absurd cc
+  set_some (z ∷ zs) (suc k) y x at e = absurd cc
+
+false_of : (b : Bool) → (b ≡ true → ⊥) → b ≡ false
+false_of true h = absurd (h refl)
+false_of false h = refl
+
+not_eqb : (a b : ℕ) → a ≢ b → (a == b) ≡ false
+not_eqb a b not = false_of (a == b) (λ t. not (eqb-true a b t))
+
+shard_mine : (m j : ℕ) (s : List Sent) (x : Sent) → shard_of m x.series ≡ j → of_shard m j (s ++ x ∷ []) ≡ of_shard m j s ++ x ∷ []
+shard_mine m j s x is = filter-append (λ y. shard_of m y.series == j) s (x ∷ []) ∙ ap (λ b. of_shard m j s ++ cond b (x ∷ []) []) (eq-eqb (shard_of m x.series) j is)
+
+shard_other : (m j : ℕ) (s : List Sent) (x : Sent) → shard_of m x.series ≢ j → of_shard m j (s ++ x ∷ []) ≡ of_shard m j s
+shard_other m j s x not = filter-append (λ y. shard_of m y.series == j) s (x ∷ []) ∙ ap (λ b. of_shard m j s ++ cond b (x ∷ []) []) (not_eqb (shard_of m x.series) j not) ∙ append-nil (of_shard m j s)
+
+suc_of : (m n : ℕ) → m ≡ n + 1 → m ≡ suc n
+suc_of m n e = omega arith
+
+-- one sample more, in its shard's queue
+pub dealt_put : (e k : ℕ) (qs : List Lane) (s : List Sent) (q q' : Lane) (x : Sent) → IsDealt e qs s → slice_get qs k ≡ Some q → k ≡ shard_of (length qs) x.series → q'.setup ≡ q.setup
+    → put_in q' ≡ put_in q ++ x ∷ [] → IsDealt e (set qs k q') (s ++ x ∷ [])
+dealt_put e k qs s q q' x d at here same put =
+    let len = set_length qs k q' in record {
+      each = λ j r there. elim (get_set qs k j q' r there) [
+        | inl h ↦
+            let was = d.each k q at in
+            let is = sym h.1 in (
+              ap (λ (f : Lane). f.setup.queue.epoch) is ∙ ap (λ (u : Setup). u.queue.epoch) same ∙ was.0,
+              ap (λ (f : Lane). f.setup.queue.shard) is ∙ ap (λ (u : Setup). u.queue.shard) same ∙ was.1 ∙ sym h.0,
+              ap (λ (f : Lane). put_in f) is ∙ put ∙ ap (λ l. l ++ x ∷ []) was.2 ∙ ap (λ i. of_shard (length qs) i s ++ x ∷ []) (sym h.0) ∙ sym (shard_mine (length qs) j s x (sym here ∙ sym h.0)) ∙ ap (λ m. of_shard m j (s ++ x ∷ [])) (sym len),
+            )
+        | inr h ↦
+            let was = d.each j r h.1 in
+            (was.0, was.1, was.2 ∙ sym (shard_other (length qs) j s x (λ is. h.0 (sym is ∙ sym here))) ∙ ap (λ m. of_shard m j (s ++ x ∷ [])) (sym len))
+      ];
+      none = λ is. absurd (set_some qs k q' q at is);
+    }
+
+map_push : (xs : List Placed) (x : Placed) → map as_sent (xs ++ x ∷ []) ≡ map as_sent xs ++ as_sent x ∷ []
+map_push [] x = refl
+map_push (y ∷ ys) x = ap (λ l. as_sent y ∷ l) (map_push ys x)
+
+-- one sample more, which was put into the queue of its series' shard
+pub placing_put : (e k : ℕ) (ended qs after : List Lane) (s : List Sent) (x : Logged) (sample : Sent) → IsPlacing e ended qs s → IsPut k x qs after → sample ≡ sent_by x
+    → k ≡ shard_of (length qs) x.series → IsPlacing e ended after (s ++ sample ∷ [])
+placing_put e k ended qs after s x sample h put is here =
+    let x' : Sent = sent_by x in
+    let more : put_in put.now ≡ put_in put.was ++ x' ∷ [] = ap (map as_sent) put.put ∙ map_push (samples_in put.was.put) (put_as put.was x) in
+    let dealt = dealt_put e k qs h.fresh put.was put.now x' h.dealt put.at here put.setup more in
+    subst (λ (y : Sent). IsPlacing e ended after (s ++ y ∷ [])) (sym is) (record {
+      epochs = h.epochs;
+      ended_is = h.ended_is;
+      numbered = h.numbered;
+      before = h.before;
+      fresh = h.fresh ++ x' ∷ [];
+      all = ap (λ l. l ++ x' ∷ []) h.all ∙ append_assoc h.before h.fresh (x' ∷ []);
+      placed = h.placed;
+      dealt = subst (λ c. IsDealt e c (h.fresh ++ x' ∷ [])) (sym put.is) dealt;
+    })
+
+-- the shards at work are the same, with the same samples
+pub placing_same : (e : ℕ) (ended qs after : List Lane) (s : List Sent) → IsPlacing e ended qs s → AreSame qs after → IsPlacing e ended after s
+placing_same e ended qs after s h same = record {
+  epochs = h.epochs;
+  ended_is = h.ended_is;
+  numbered = h.numbered;
+  before = h.before;
+  fresh = h.fresh;
+  all = h.all;
+  placed = h.placed;
+  dealt = dealt_same e qs after h.fresh h.dealt same;
+}
+
+-- nothing was placed yet
+pub placing_begun : (ended current : List Lane) → ended ≡ [] → current ≡ [] → IsPlacing 0 ended current []
+placing_begun ended current a b = record {
+  epochs = [];
+  ended_is = a;
+  numbered = refl;
+  before = [];
+  fresh = [];
+  all = refl;
+  placed = refl;
+  dealt = subst (λ qs. IsDealt 0 qs []) (sym b) (record { each = λ k q at. absurd (let at' : None ≡ Some q = at in cc); none = λ _. refl });
+}

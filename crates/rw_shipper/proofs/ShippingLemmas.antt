@@ -1,0 +1,259 @@
+-- What a shipper keeps, with one entry more.
+use Rattle.std.proofs.Common.{◌≡◌, inl, inr, ℕ, ℤ, zero, suc, ◌+◌, ◌<◌, ◌≤◌, List, [], ◌∷◌, ◌++◌, length, map, Some, None, refl, sym, ap, ◌∙◌, subst, append_assoc, append-nil, arith}
+use Rattle.std.specs.Prelude.{◌%◌, Bool, true, false, slice_get, Option, Result, Ok, Err, OnOk, IfSome, is_err, is_some}
+use Rattle.rw_worker.specs.Transcript.{Exchange}
+use Rattle.rw_shipper.specs.declared.report.Report.{Report}
+use Rattle.rw_types.specs.Labels.{Labels}
+use Rattle.rw_types.specs.declared.entry.Entry.{Entry}
+use Rattle.rw_types.specs.declared.entry.Entry.TheVariants as entry
+use Rattle.rw_types.specs.declared.place.Place.{Place}
+use Rattle.rw_relabel.specs.Rules.{RuleConfig}
+use Rattle.rw_series_cache.specs.Known.{Standing, Unknown, Bad, Filtered, Kept, known}
+use Rattle.rw_series_cache.specs.Numbers.{series_of}
+use Rattle.rw_shard_queue.specs.Items.{places_in}
+use Rattle.rw_fleet.specs.Lanes.{Lane, AreFresh, AreSame, IsPut}
+use Rattle.rw_fleet.specs.Work.{lane_of, AreResolved, HasCut}
+use Rattle.rw_fleet.specs.declared.running.Fault.{Fault}
+use Rattle.rw_fleet.specs.Fleets.{Shards, AreAll, HasClosed}
+use Rattle.rw_fleet.specs.declared.joined.Finished.{Finished}
+use Rattle.rw_fleet.specs.declared.joined.Joined.{Joined}
+use Rattle.rw_feeder.specs.declared.logged.Logged.{Logged}
+use Rattle.rw_feeder.specs.Feeders.{Sorting, HasPlaced, HasRead, sent_by}
+use Rattle.rw_feeder.specs.Logs.{Sent, gather_from, sent_as, sent_of, sent}
+use Rattle.rw_shipper.specs.Placement.{shard_of, IsPlacing, ArePlaced}
+use Rattle.rw_codes.specs.Pieces.{Piece, reading}
+use Rattle.rw_codes.specs.Segments.{segment}
+use Rattle.rw_codes.specs.declared.tail_fault.TailFault.{TailFault}
+use Rattle.rw_sender.specs.declared.outcome.Outcome.{Outcome}
+use Rattle.rw_sender.specs.declared.outcome.Outcome.TheVariants as outcome
+use Rattle.rw_shipper.specs.Reports.{finished_of, abandoned_in, end_of, IsAbandoned, IsAbandonedAt, ListsCut}
+use Rattle.rw_shipper.specs.Shipping.{Shipping, PlacesAll, IsReady, IsRead, GoesOn, HasCompared, Ends, HasStopped}
+use Rattle.rw_shipper.proofs.PlacementLemmas.{same_length, placing_put, placing_closed, placing_whole, placing_opened, placing_begun, placing_same, set_length}
+use Rattle.rw_shipper.proofs.BelowLemmas.{placing_below}
+use Rattle.rw_shipper.proofs.ListingLemmas.{lanes_append}
+
+module _ {A : Type 0} (f : List Entry → Entry → List A) where
+  from_push : (before es : List Entry) (e : Entry) → gather_from f before (es ++ e ∷ []) ≡ gather_from f before es ++ f (before ++ es) e
+  from_push before [] e = append-nil (f before e) ∙ ap (λ b. f b e) (sym (append-nil before))
+  from_push before (x ∷ xs) e =
+      ap (λ l. f before x ++ l) (from_push (before ++ x ∷ []) xs e)
+      ∙ ap (λ b. f before x ++ (gather_from f (before ++ x ∷ []) xs ++ f b e)) (append_assoc before (x ∷ []) xs)
+      ∙ sym (append_assoc (f before x) (gather_from f (before ++ x ∷ []) xs) (f (before ++ x ∷ xs) e))
+
+-- the samples with those of the entry that was placed
+placed_samples : (old new : Sorting) (e : Entry) (samples : List Sent) → HasPlaced old new → old.hand ≡ e ∷ [] → sent_of old.rules old.placed e ≡ samples → sent new.rules new.placed ≡ sent old.rules old.placed ++ samples
+placed_samples old new e samples placed hand is =
+    ap (λ (s : Sorting). sent s.rules s.placed) placed
+    ∙ ap (λ h. sent old.rules (old.placed ++ h)) hand
+    ∙ from_push (sent_of old.rules) [] old.placed e
+    ∙ ap (λ l. sent old.rules old.placed ++ l) is
+
+module _ {T : Type 0} where
+  -- an entry was placed that is not sent
+  pub places_none : (old new : Sorting) (fleet : Shards T) (e : Entry) → HasPlaced old new → old.hand ≡ e ∷ [] → sent_of old.rules old.placed e ≡ [] → PlacesAll old fleet → PlacesAll new fleet
+  places_none old new fleet e placed hand is h =
+      subst (λ s. IsPlacing fleet.epoch (map lane_of fleet.ended) fleet.current s) (sym (placed_samples old new e [] placed hand is ∙ append-nil (sent old.rules old.placed))) h
+
+  -- a sample was put
+  pub places_sent : (old held new : Sorting) (was now : Shards T) (e : Entry) (l : Logged) (k m : ℕ) → held ≡ old → HasPlaced held new → old.hand ≡ e ∷ [] → sent_of old.rules old.placed e ≡ sent_by l ∷ [] → now ≡ record was { current = now.current }
+      → IsPut k l was.current now.current → k ≡ l.series % m → m ≡ length was.current → PlacesAll old was → PlacesAll new now
+  places_sent old held new was now e l k m same placed hand is rest put here len h =
+      let after : HasPlaced old new = placed ∙ ap (λ (s : Sorting). record s { placed = s.placed ++ s.hand; hand = [] }) same in
+      let at : k ≡ shard_of (length was.current) l.series = here ∙ ap (λ n. l.series % n) len in
+      let next = placing_put was.epoch k (map lane_of was.ended) was.current now.current (sent old.rules old.placed) l (sent_by l) h put refl at in
+      subst (λ (f : Shards T). PlacesAll new f) (sym rest) (subst (λ s. IsPlacing was.epoch (map lane_of was.ended) now.current s) (sym (placed_samples old new e (sent_by l ∷ []) after hand is)) next)
+
+  -- the entries placed so far stay
+  pub goes_same : (old new : Sorting) (was : Shards T) → new ≡ old → GoesOn old new was was
+  goes_same old new was same = record {
+    rules = ap (λ (s : Sorting). s.rules) same;
+    pieces = ap (λ (s : Sorting). s.pieces) same;
+    more = [];
+    grown = ap (λ (s : Sorting). s.placed) same ∙ sym (append-nil old.placed);
+    fleet = refl;
+    len = refl;
+  }
+
+  pub goes_placed : (old held new : Sorting) (was now : Shards T) → held ≡ old → HasPlaced held new → now ≡ record was { current = now.current } → length now.current ≡ length was.current → GoesOn old new was now
+  goes_placed old held new was now same placed rest len =
+      let after : HasPlaced old new = placed ∙ ap (λ (s : Sorting). record s { placed = s.placed ++ s.hand; hand = [] }) same in record {
+        rules = ap (λ (s : Sorting). s.rules) after;
+        pieces = ap (λ (s : Sorting). s.pieces) after;
+        more = old.hand;
+        grown = ap (λ (s : Sorting). s.placed) after;
+        fleet = rest;
+        len = len;
+      }
+
+  pub goes_on : (a b c : Sorting) (x y z : Shards T) → GoesOn a b x y → GoesOn b c y z → GoesOn a c x z
+  goes_on a b c x y z h g = record {
+    rules = g.rules ∙ h.rules;
+    pieces = g.pieces ∙ h.pieces;
+    more = h.more ++ g.more;
+    grown = g.grown ∙ ap (λ l. l ++ g.more) h.grown ∙ append_assoc a.placed h.more g.more;
+    fleet = g.fleet ∙ ap (λ (s : Shards T). record s { current = z.current }) h.fleet;
+    len = g.len ∙ h.len;
+  }
+
+  -- an entry in hand changes nothing of the rest
+  pub goes_read : (old new : Sorting) (e : Entry) (was : Shards T) → new ≡ record old { hand = e ∷ [] } → GoesOn old new was was
+  goes_read old new e was is = record {
+    rules = ap (λ (s : Sorting). s.rules) is;
+    pieces = ap (λ (s : Sorting). s.pieces) is;
+    more = [];
+    grown = ap (λ (s : Sorting). s.placed) is ∙ sym (append-nil old.placed);
+    fleet = refl;
+    len = refl;
+  }
+
+put_length : (k : ℕ) (l : Logged) (old new : List Lane) → IsPut k l old new → length new ≡ length old
+put_length k l old new put = ap length put.is ∙ set_length old k put.now
+
+module _ {T : Type 0} where
+  pub put_len : (k : ℕ) (l : Logged) (was now : Shards T) → IsPut k l was.current now.current → length now.current ≡ length was.current
+  put_len k l was now put = put_length k l was.current now.current put
+
+sent_as_pos : (pos : ℕ) (series : List Labels) (t : ℤ) (word : ℕ) (k : Standing) (x : Sent) → sent_as pos series t word k ≡ x ∷ [] → pos ≡ x.pos
+sent_as_pos pos series t word (Kept l) x is = ap (λ (s : Sent). s.pos) (first _ x is)
+  where
+    first : (a b : Sent) → a ∷ [] ≡ b ∷ [] → a ≡ b
+    first a b e = cc
+sent_as_pos pos series t word Unknown x is = absurd (cc)
+sent_as_pos pos series t word (Bad f) x is = absurd (cc)
+sent_as_pos pos series t word Filtered x is = absurd (cc)
+
+sent_pos : (rules : List RuleConfig) (before : List Entry) (e : Entry) (x : Sent) → sent_of rules before e ≡ x ∷ [] → length before ≡ x.pos
+sent_pos rules before (entry.Def reference labels) x is = absurd (cc)
+sent_pos rules before (entry.Sample reference t word) x is = sent_as_pos (length before) (series_of rules before) t word (known rules before reference) x is
+
+module _ {T : Type 0} where
+  -- a sample stands behind all that were put before it
+  pub stands_behind : (old : Sorting) (was : Shards T) (e : Entry) (l : Logged) (j : ℕ) → PlacesAll old was → sent_of old.rules old.placed e ≡ sent_by l ∷ []
+      → (lane : Lane) (k : ℕ) (o : Place) → slice_get was.current j ≡ Some lane → slice_get (places_in lane.put) k ≡ Some o → o.pos < l.pos
+  stands_behind old was e l j h is lane k o at there =
+      subst (λ n. o.pos < n) (sent_pos old.rules old.placed e (sent_by l) is) (placing_below was.epoch (length old.placed) j (map lane_of was.ended) was.current old.rules old.placed lane h refl at k o there)
+
+module _ {T : Type 0} where
+  -- all shards at work have ended
+  pub places_closed : (log : Sorting) (was : Shards T) (more : ℕ) (all : List (Joined T)) → PlacesAll log was → AreAll was all → more ≡ was.epoch + 1 → IsPlacing more (map lane_of all) [] (sent log.rules log.placed)
+  places_closed log was more all h ended next =
+      placing_closed was.epoch more (map lane_of was.ended) was.current (map lane_of ended.0) (map lane_of all) (sent log.rules log.placed) h ended.2 (ap (map lane_of) ended.1 ∙ lanes_append was.ended ended.0) next
+
+  pub places_whole : (log : Sorting) (was : Shards T) (all : List (Joined T)) → PlacesAll log was → AreAll was all → ArePlaced (map lane_of all) (sent log.rules log.placed)
+  places_whole log was all h ended = placing_whole (was.epoch + 1) (map lane_of all) (sent log.rules log.placed) (places_closed log was (was.epoch + 1) all h ended refl)
+
+  pub places_shut : (log : Sorting) (was closed : Shards T) → PlacesAll log was → HasClosed was closed → PlacesAll log closed
+  places_shut log was closed h shut =
+      subst (λ ls. IsPlacing closed.epoch (map lane_of closed.ended) ls (sent log.rules log.placed)) (sym shut.2) (places_closed log was closed.epoch closed.ended h shut.3 shut.1)
+
+  -- and the next ones are opened
+  pub places_opened : (log : Sorting) (closed opened : Shards T) → PlacesAll log closed → closed.current ≡ [] → opened ≡ record closed { current = opened.current } → AreFresh opened.epoch opened.current → PlacesAll log opened
+  places_opened log closed opened h none is fresh =
+      let epoch : opened.epoch ≡ closed.epoch = ap (λ (s : Shards T). s.epoch) is in
+      let before = subst (λ ls. IsPlacing closed.epoch (map lane_of closed.ended) ls (sent log.rules log.placed)) none h in
+      let new = subst (λ e. AreFresh e opened.current) epoch fresh in
+      subst (λ (f : Shards T). PlacesAll log f) (sym is) (placing_opened closed.epoch (map lane_of closed.ended) opened.current (sent log.rules log.placed) before new)
+
+  -- nothing was placed yet
+  pub places_begun : (log : Sorting) (closed opened : Shards T) → log.placed ≡ [] → closed.epoch ≡ 0 → closed.ended ≡ [] → closed.current ≡ [] → opened ≡ record closed { current = opened.current } → AreFresh opened.epoch opened.current → PlacesAll log opened
+  places_begun log closed opened placed epoch ended none is fresh =
+      let begun : IsPlacing 0 (map lane_of closed.ended) closed.current [] = placing_begun (map lane_of closed.ended) closed.current (ap (map lane_of) ended) none in
+      let at : IsPlacing closed.epoch (map lane_of closed.ended) closed.current [] = subst (λ e. IsPlacing e (map lane_of closed.ended) closed.current []) (sym epoch) begun in
+      places_opened log closed opened (subst (λ es. IsPlacing closed.epoch (map lane_of closed.ended) closed.current (sent log.rules es)) (sym placed) at) none is fresh
+
+  -- marks leave the samples
+  pub places_same : (log : Sorting) (was now : Shards T) → PlacesAll log was → now ≡ record was { current = now.current } → AreSame was.current now.current → PlacesAll log now
+  places_same log was now h is same =
+      subst (λ (f : Shards T). PlacesAll log f) (sym is) (placing_same was.epoch (map lane_of was.ended) was.current now.current (sent log.rules log.placed) h same)
+
+  -- a shipper that had not failed has not failed with the next shards
+  pub ready_next : (log : Sorting) (was now : Shards T) (f : Option Fault) (n : ℕ) → IsReady log was f → length now.current ≡ n → 1 ≤ n → IsReady log now f
+  ready_next log was now None n h len some = (h.0, omega arith)
+  ready_next log was now (Some f) n h len some = tt
+
+  pub ready_same : (log : Sorting) (was now : Shards T) (f : Option Fault) → IsReady log was f → AreSame was.current now.current → IsReady log now f
+  ready_same log was now None h same = (h.0, let n = same_length was.current now.current same in let some = h.1 in omega arith)
+  ready_same log was now (Some f) h same = tt
+
+module _ {T : Type 0} (tells : T → Type 0) (seen : T → List Exchange) where
+  pub stopped_seen : (inside s : Shipping T) (r : Report T) → inside ≡ s → HasStopped tells seen inside r → HasStopped tells seen s r
+  stopped_seen inside s r is h = subst (λ x. HasStopped tells seen x r) is h
+
+pub on_ok : {A E : Type 0} (r : Result A E) (P : Type 0) → is_err r ≡ false → OnOk r P → P
+on_ok (Ok x) P e h = h
+on_ok (Err x) P e h = absurd (cc)
+
+-- nothing was fed yet
+pub read_begun : (log : Sorting) (rules : List RuleConfig) → log ≡ record { rules = rules; pieces = []; placed = []; hand = [] } → HasRead log.pieces log.placed None
+unfolding reading segment
+read_begun log rules is = subst (λ (l : Sorting). HasRead l.pieces l.placed None) (sym is) (record { all = refl; fault_is = refl })
+
+pub read_of : (log : Sorting) (f : Option Fault) (damage : Option TailFault) → IsRead log f damage → f ≡ None → HasRead log.pieces log.placed damage
+read_of log f damage h is = subst (λ (x : Option Fault). IsRead log x damage) is h
+
+-- the entries placed so far stay, with a piece more
+pub grown_fed : {T : Type 0} (old fed new : Sorting) (was now : Shards T) (ps : List Piece) → fed ≡ record old { pieces = ps } → GoesOn fed new was now → (more : List Entry) × (new.placed ≡ old.placed ++ more)
+grown_fed old fed new was now ps is h = (h.more, h.grown ∙ ap (λ (s : Sorting). s.placed ++ h.more) is)
+
+pub grown_same : (old new : Sorting) → new ≡ old → (more : List Entry) × (new.placed ≡ old.placed ++ more)
+grown_same old new is = ([], ap (λ (s : Sorting). s.placed) is ∙ sym (append-nil old.placed))
+
+module _ {T : Type 0} where
+  pub compared_shut : (was shut : Shards T) → HasClosed was shut → HasCompared was shut
+  compared_shut was shut h = (h.3, inl h.2)
+
+  pub compared_open : (was shut now : Shards T) → HasClosed was shut → now ≡ record shut { current = now.current } → AreResolved shut.ended → HasCompared was now
+  compared_open was shut now h is resolved =
+      let ended : now.ended ≡ shut.ended = ap (λ (s : Shards T). s.ended) is in
+      (subst (λ js. AreAll was js) (sym ended) h.3, inr (subst (λ (js : List (Joined T)). AreResolved js) (sym ended) resolved))
+
+  abandons : (s : Shipping T) (js : List (Joined T)) (placed : ℕ) (samples : List ℕ) (o : Outcome) → IsAbandonedAt placed samples o → placed ≡ length s.log.placed → samples ≡ abandoned_in js → Ends s js o
+  abandons s js placed samples (outcome.Complete end) h a b = absurd h
+  abandons s js placed samples (outcome.Abandoned p l) h a b = (h.0 ∙ a, h.1 ∙ b)
+  abandons s js placed samples (outcome.Damaged f) h a b = absurd h
+
+  ends_whole : (s : Shipping T) (js : List (Joined T)) (placed : ℕ) (damage : Option TailFault) → placed ≡ length s.log.placed → HasRead s.log.pieces s.log.placed damage → AreResolved js → Ends s js (end_of placed damage)
+  ends_whole s js placed None a read resolved = (a, read, resolved)
+  ends_whole s js placed (Some f) a read resolved = (read, resolved)
+
+  pub ends_so : (s : Shipping T) (js : List (Joined T)) (is_hard is_resolved : Bool) (placed : ℕ) (damage : Option TailFault) (samples : List ℕ) (o : Outcome) → placed ≡ length s.log.placed → samples ≡ abandoned_in js
+      → (is_resolved ≡ true → AreResolved js) → (is_hard ≡ false → HasRead s.log.pieces s.log.placed damage)
+      → (is_hard ≡ true → IsAbandonedAt placed samples o) → (is_resolved ≡ false → IsAbandonedAt placed samples o) → (is_hard ≡ false → is_resolved ≡ true → o ≡ end_of placed damage) → Ends s js o
+  ends_so s js true is_resolved placed damage samples o a b resolved read hard apart whole = abandons s js placed samples o (hard refl) a b
+  ends_so s js false false placed damage samples o a b resolved read hard apart whole = abandons s js placed samples o (apart refl) a b
+  ends_so s js false true placed damage samples o a b resolved read hard apart whole =
+      subst (Ends s js) (sym (whole refl refl)) (ends_whole s js placed damage a (read refl) (resolved refl))
+
+pub is_abandoned : (placed : ℕ) (samples : List ℕ) (o : Outcome) → IsAbandonedAt placed samples o → IsAbandoned o
+is_abandoned placed samples (outcome.Complete end) h = h
+is_abandoned placed samples (outcome.Abandoned p l) h = tt
+is_abandoned placed samples (outcome.Damaged f) h = h
+
+pub none_of : {A : Type 0} (o : Option A) → is_some o ≡ false → o ≡ None
+none_of None e = refl
+none_of (Some x) e = absurd (cc)
+
+pub if_some : {A : Type 0} (o : Option A) (P : Type 0) → (is_some o ≡ true → P) → IfSome o (λ _. P)
+if_some None P h = tt
+if_some (Some x) P h = h refl
+
+ends_apart : (placed : ℕ) (damage : Option TailFault) → IsAbandoned (end_of placed damage) → ⊥
+ends_apart placed None h = h
+ends_apart placed (Some f) h = h
+
+module _ {T : Type 0} where
+  joined_is : (a b : Joined T) → Some a ≡ Some b → a ≡ b
+  joined_is a b e = cc
+
+  at_finished : (js : List (Joined T)) (k : ℕ) (j : Joined T) → slice_get js k ≡ Some j → slice_get (map finished_of js) k ≡ Some j.finished
+  at_finished [] k j at = absurd (let at' : None ≡ Some j = at in cc)
+  at_finished (x ∷ xs) zero j at = ap (λ (y : Joined T). Some y.finished) (joined_is x j at)
+  at_finished (x ∷ xs) (suc k) j at = at_finished xs k j at
+
+  -- the work that was to end with all, and was abandoned, has a queue that was cut
+  pub lists_cut : (js : List (Joined T)) (fs : List (Finished T)) (resolved : Bool) (placed : ℕ) (damage : Option TailFault) (o : Outcome) → fs ≡ map finished_of js → (resolved ≡ false → HasCut js) → (resolved ≡ true → o ≡ end_of placed damage)
+      → IsAbandoned o → ListsCut fs
+  lists_cut js fs true placed damage o is cut whole left = absurd (ends_apart placed damage (subst IsAbandoned (whole refl) left))
+  lists_cut js fs false placed damage o is cut whole left =
+      let c = cut refl in
+      subst ListsCut (sym is) (c.0, c.1.finished, at_finished js c.0 c.1 c.2, c.3)

@@ -1,0 +1,234 @@
+-- Samples that are placed are spread.
+use Rattle.std.proofs.Common.{◌≡◌, ◌⊎◌, inl, inr, ℕ, ℤ, zero, suc, ◌+◌, ◌<◌, ◌≤◌, Bool, true, false, List, [], ◌∷◌, ◌++◌, length, Some, None, cond, refl, sym, ap, ◌∙◌, subst, length-append, zero-add, arith}
+use Rattle.std.specs.Prelude.{◌==◌, filter, slice_get, ⊤}
+use Rattle.std.proofs.lemmas.Bool.{eq-eqb, eqb-true}
+use Rattle.rw_types.specs.Labels.{Labels}
+use Rattle.rw_types.specs.declared.entry.Entry.{Entry}
+use Rattle.rw_types.specs.declared.entry.Entry.TheVariants as entry
+use Rattle.rw_relabel.specs.Rules.{RuleConfig}
+use Rattle.rw_series_cache.specs.Known.{Standing, Unknown, Bad, Filtered, Kept, known}
+use Rattle.rw_series_cache.specs.Numbers.{series_of}
+use Rattle.rw_fleet.specs.Lanes.{Lane}
+use Rattle.rw_feeder.specs.Logs.{Sent, gather_from, sent_as, sent_of, sent}
+use Rattle.rw_shipper.specs.Placement.{put_in, shard_of, IsDealt, Places, joined, ArePlaced}
+use Rattle.rw_shipper.specs.Spread.{IsOneOf, AllAbove, Rise, IsShard, IsSpread}
+
+one_left : (x : Sent) (xs ys : List Sent) → IsOneOf x xs → IsOneOf x (xs ++ ys)
+one_left x [] ys h = absurd h
+one_left x (y ∷ xs) ys (inl e) = inl e
+one_left x (y ∷ xs) ys (inr h) = inr (one_left x xs ys h)
+
+one_right : (x : Sent) (xs ys : List Sent) → IsOneOf x ys → IsOneOf x (xs ++ ys)
+one_right x [] ys h = h
+one_right x (y ∷ xs) ys h = inr (one_right x xs ys h)
+
+one_append : (x : Sent) (xs ys : List Sent) → IsOneOf x (xs ++ ys) → IsOneOf x xs ⊎ IsOneOf x ys
+one_append x [] ys h = inr h
+one_append x (y ∷ xs) ys (inl e) = inl (inl e)
+one_append x (y ∷ xs) ys (inr h) = elim (one_append x xs ys h) [ inl a ↦ inl (inr a) | inr b ↦ inr b ]
+
+one_cond : (b : Bool) (x y : Sent) (ys : List Sent) → IsOneOf x (cond b (y ∷ ys) ys) → ((b ≡ true) × (x ≡ y)) ⊎ IsOneOf x ys
+one_cond true x y ys (inl e) = inl (refl, e)
+one_cond true x y ys (inr h) = inr h
+one_cond false x y ys h = inr h
+
+one_filter : (p : Sent → Bool) (x : Sent) (xs : List Sent) → IsOneOf x (filter p xs) → IsOneOf x xs × (p x ≡ true)
+one_filter p x [] h = absurd h
+one_filter p x (y ∷ ys) h = elim (one_cond (p y) x y (filter p ys) h) [
+  | inl a ↦ (inl a.1, ap p a.1 ∙ a.0)
+  | inr b ↦ (inr (one_filter p x ys b).0, (one_filter p x ys b).1)
+]
+
+one_kept : (b : Bool) (x y : Sent) (ys : List Sent) → IsOneOf x ys → IsOneOf x (cond b (y ∷ ys) ys)
+one_kept true x y ys h = inr h
+one_kept false x y ys h = h
+
+one_passes : (p : Sent → Bool) (x : Sent) (xs : List Sent) → IsOneOf x xs → p x ≡ true → IsOneOf x (filter p xs)
+one_passes p x [] h is = absurd h
+one_passes p x (y ∷ ys) (inl e) is = subst (λ b. IsOneOf x (cond b (y ∷ filter p ys) (filter p ys))) (sym (ap p (sym e) ∙ is)) (inl e)
+one_passes p x (y ∷ ys) (inr h) is = one_kept (p y) x y (filter p ys) (one_passes p x ys h is)
+
+above_one : (n : ℕ) (x : Sent) (xs : List Sent) → AllAbove n xs → IsOneOf x xs → n < x.pos
+above_one n x [] a h = absurd h
+above_one n x (y ∷ ys) a (inl e) = subst (λ (z : Sent). n < z.pos) (sym e) a.0
+above_one n x (y ∷ ys) a (inr h) = above_one n x ys a.1 h
+
+above_left : (n : ℕ) (xs ys : List Sent) → AllAbove n (xs ++ ys) → AllAbove n xs
+above_left n [] ys a = tt
+above_left n (x ∷ xs) ys a = (a.0, above_left n xs ys a.1)
+
+above_right : (n : ℕ) (xs ys : List Sent) → AllAbove n (xs ++ ys) → AllAbove n ys
+above_right n [] ys a = a
+above_right n (x ∷ xs) ys a = above_right n xs ys a.1
+
+above_append : (n : ℕ) (xs ys : List Sent) → AllAbove n xs → AllAbove n ys → AllAbove n (xs ++ ys)
+above_append n [] ys a b = b
+above_append n (x ∷ xs) ys a b = (a.0, above_append n xs ys a.1 b)
+
+above_cond : (n : ℕ) (b : Bool) (x : Sent) (xs : List Sent) → n < x.pos → AllAbove n xs → AllAbove n (cond b (x ∷ xs) xs)
+above_cond n true x xs lt a = (lt, a)
+above_cond n false x xs lt a = a
+
+above_filter : (n : ℕ) (p : Sent → Bool) (xs : List Sent) → AllAbove n xs → AllAbove n (filter p xs)
+above_filter n p [] a = tt
+above_filter n p (x ∷ xs) a = above_cond n (p x) x (filter p xs) a.0 (above_filter n p xs a.1)
+
+above_less : (n m : ℕ) (xs : List Sent) → n < m → AllAbove m xs → AllAbove n xs
+above_less n m [] lt a = tt
+above_less n m (x ∷ xs) lt a = (let b = a.0 in omega arith, above_less n m xs lt a.1)
+
+rise_left : (xs ys : List Sent) → Rise (xs ++ ys) → Rise xs
+rise_left [] ys r = tt
+rise_left (x ∷ xs) ys r = (above_left x.pos xs ys r.0, rise_left xs ys r.1)
+
+rise_right : (xs ys : List Sent) → Rise (xs ++ ys) → Rise ys
+rise_right [] ys r = r
+rise_right (x ∷ xs) ys r = rise_right xs ys r.1
+
+rise_across : (xs ys : List Sent) (x y : Sent) → Rise (xs ++ ys) → IsOneOf x xs → IsOneOf y ys → x.pos < y.pos
+rise_across [] ys x y r h g = absurd h
+rise_across (z ∷ zs) ys x y r (inl e) g = subst (λ (w : Sent). w.pos < y.pos) (sym e) (above_one z.pos y ys (above_right z.pos zs ys r.0) g)
+rise_across (z ∷ zs) ys x y r (inr h) g = rise_across zs ys x y r.1 h g
+
+rise_cond : (b : Bool) (x : Sent) (xs : List Sent) → AllAbove x.pos xs → Rise xs → Rise (cond b (x ∷ xs) xs)
+rise_cond true x xs a r = (a, r)
+rise_cond false x xs a r = r
+
+rise_filter : (p : Sent → Bool) (xs : List Sent) → Rise xs → Rise (filter p xs)
+rise_filter p [] r = tt
+rise_filter p (x ∷ xs) r = rise_cond (p x) x (filter p xs) (above_filter x.pos p xs r.0) (rise_filter p xs r.1)
+
+-- two samples at one position are one
+rise_same : (xs : List Sent) (x y : Sent) → Rise xs → IsOneOf x xs → IsOneOf y xs → x.pos ≡ y.pos → x ≡ y
+rise_same [] x y r h g e = absurd h
+rise_same (z ∷ zs) x y r (inl a) (inl b) e = a ∙ sym b
+rise_same (z ∷ zs) x y r (inl a) (inr g) e = let lt = above_one z.pos y zs r.0 g in let is : x.pos ≡ z.pos = ap (λ (w : Sent). w.pos) a in absurd (omega arith)
+rise_same (z ∷ zs) x y r (inr h) (inl b) e = let lt = above_one z.pos x zs r.0 h in let is : y.pos ≡ z.pos = ap (λ (w : Sent). w.pos) b in absurd (omega arith)
+rise_same (z ∷ zs) x y r (inr h) (inr g) e = rise_same zs x y r.1 h g e
+
+lane_at : (xs : List Lane) (k : ℕ) → k < length xs → (l : Lane) × (slice_get xs k ≡ Some l)
+lane_at [] k lt = absurd (omega arith)
+lane_at (x ∷ xs) zero lt = (x, refl)
+lane_at (x ∷ xs) (suc k) lt = lane_at xs k (omega arith)
+
+lanes_is : (a b : List Lane) → Some a ≡ Some b → a ≡ b
+lanes_is a b e = cc
+
+-- what the shards of one epoch were put, out of all
+record HasPart (e : ℕ) (lanes : List Lane) (samples : List Sent) : Type 0 where
+  number : ℕ
+  number_is : number ≡ e
+  part : List Sent
+  dealt : IsDealt number lanes part
+  among : (x : Sent) → IsOneOf x part → IsOneOf x samples
+  rises : Rise samples → Rise part
+
+part_of : (b e : ℕ) (es : List (List Lane)) (lanes : List Lane) (samples : List Sent) → Places b es samples → slice_get es e ≡ Some lanes → HasPart (b + e) lanes samples
+part_of b e [] lanes samples h at = absurd (let at' : None ≡ Some lanes = at in cc)
+part_of b zero (x ∷ xs) lanes samples h at = record {
+  number = b;
+  number_is = omega arith;
+  part = h.0;
+  dealt = subst (λ ls. IsDealt b ls h.0) (lanes_is x lanes at) h.3;
+  among = λ y one. subst (IsOneOf y) (sym h.2) (one_left y h.0 h.1 one);
+  rises = λ r. rise_left h.0 h.1 (subst Rise h.2 r);
+}
+part_of b (suc e) (x ∷ xs) lanes samples h at =
+    let p = part_of (suc b) e xs lanes h.1 h.4 at in
+    record {
+      number = p.number;
+      number_is = let is = p.number_is in omega arith;
+      part = p.part;
+      dealt = p.dealt;
+      among = λ y one. subst (IsOneOf y) (sym h.2) (one_right y h.0 h.1 (p.among y one));
+      rises = λ r. p.rises (rise_right h.0 h.1 (subst Rise h.2 r));
+    }
+
+-- a sample of an epoch stands in the shard of its series
+dealt_one : (n : ℕ) (lanes : List Lane) (part : List Sent) (x : Sent) → IsDealt n lanes part → IsOneOf x part → (k : ℕ) × (l : Lane) × (slice_get lanes k ≡ Some l) × IsOneOf x (put_in l)
+dealt_one n [] part x d one = absurd (subst (IsOneOf x) (d.none refl) one)
+dealt_one n (a ∷ ls) part x d one =
+    let k = shard_of (length (a ∷ ls)) x.series in
+    let at = lane_at (a ∷ ls) k (omega arith) in
+    (k, at.0, at.1, subst (IsOneOf x) (sym (d.each k at.0 at.1).2) (one_passes (λ s. shard_of (length (a ∷ ls)) s.series == k) x part one (eq-eqb k k refl)))
+
+each_one : (b : ℕ) (es : List (List Lane)) (samples : List Sent) (x : Sent) → Places b es samples → IsOneOf x samples → (e : ℕ) × (k : ℕ) × (lanes : List Lane) × (l : Lane) × IsShard es e k lanes l × IsOneOf x (put_in l)
+each_one b [] samples x h one = absurd (subst (IsOneOf x) h one)
+each_one b (y ∷ ys) samples x h one = elim (one_append x h.0 h.1 (subst (IsOneOf x) h.2 one)) [
+  | inl a ↦ (let d = dealt_one b y h.0 x h.3 a in (0, d.0, y, d.1, (refl, d.2), d.3))
+  | inr c ↦ (let r = each_one (suc b) ys h.1 x h.4 c in (suc r.0, r.1, r.2, r.3, r.4, r.5))
+]
+
+-- what stands in a shard is of its epoch, and of its series
+shard_one : (n k : ℕ) (lanes : List Lane) (part : List Sent) (l : Lane) (x : Sent) → IsDealt n lanes part → slice_get lanes k ≡ Some l → IsOneOf x (put_in l) → IsOneOf x part × (k ≡ shard_of (length lanes) x.series)
+shard_one n k lanes part l x d at one =
+    let f = one_filter (λ s. shard_of (length lanes) s.series == k) x part (subst (IsOneOf x) (d.each k l at).2 one) in
+    (f.0, sym (eqb-true (shard_of (length lanes) x.series) k f.1))
+
+later_one : (b e f j k : ℕ) (es : List (List Lane)) (samples : List Sent) (lanes others : List Lane) (l m : Lane) (x y : Sent) → Places b es samples → Rise samples
+    → IsShard es e j lanes l → IsShard es f k others m → IsOneOf x (put_in l) → IsOneOf y (put_in m) → e < f → x.pos < y.pos
+later_one b e f j k [] samples lanes others l m x y h r s t one two lt = absurd (let at : None ≡ Some lanes = s.0 in cc)
+later_one b e zero j k (z ∷ zs) samples lanes others l m x y h r s t one two lt = absurd (omega arith)
+later_one b zero (suc f) j k (z ∷ zs) samples lanes others l m x y h r s t one two lt =
+    let d = subst (λ ls. IsDealt b ls h.0) (lanes_is z lanes s.0) h.3 in
+    let p = part_of (suc b) f zs others h.1 h.4 t.0 in
+    rise_across h.0 h.1 x y (subst Rise h.2 r) (shard_one b j lanes h.0 l x d s.1 one).0 (p.among y (shard_one p.number k others p.part m y p.dealt t.1 two).0)
+later_one b (suc e) (suc f) j k (z ∷ zs) samples lanes others l m x y h r s t one two lt =
+    later_one (suc b) e f j k zs h.1 lanes others l m x y h.4 (rise_right h.0 h.1 (subst Rise h.2 r)) s t one two (omega arith)
+
+pub spread_of : (es : List (List Lane)) (samples : List Sent) → Places 0 es samples → Rise samples → IsSpread es samples
+spread_of es samples h r = record {
+  numbered = λ e k lanes l s. let p = part_of 0 e es lanes samples h s.0 in let q = p.dealt.each k l s.1 in (q.0 ∙ p.number_is ∙ zero-add e, q.1);
+  rises = λ e k lanes l s. let p = part_of 0 e es lanes samples h s.0 in subst Rise (sym (p.dealt.each k l s.1).2) (rise_filter (λ x. shard_of (length lanes) x.series == k) p.part (p.rises r));
+  each = λ x one. each_one 0 es samples x h one;
+  no_other = λ e k lanes l x s one. let p = part_of 0 e es lanes samples h s.0 in let q = shard_one p.number k lanes p.part l x p.dealt s.1 one in (p.among x q.0, q.1);
+  once = λ e j k lanes l m x y s t one two same.
+      let p = part_of 0 e es lanes samples h s.0 in
+      let a = shard_one p.number j lanes p.part l x p.dealt s.1 one in
+      let c = shard_one p.number k lanes p.part m y p.dealt t.1 two in
+      a.1 ∙ ap (λ (z : Sent). shard_of (length lanes) z.series) (rise_same p.part x y (p.rises r) a.0 c.0 same) ∙ sym c.1;
+  later = λ e f j k lanes others l m x y s t one two lt. later_one 0 e f j k es samples lanes others l m x y h r s t one two lt;
+}
+
+-- from a position on
+abbrev AllFrom : ℕ → List Sent → Type 0
+AllFrom n [] = ⊤
+AllFrom n (x ∷ xs) = (n ≤ x.pos) × AllFrom n xs
+
+from_less : (n m : ℕ) (xs : List Sent) → n ≤ m → AllFrom m xs → AllFrom n xs
+from_less n m [] le h = tt
+from_less n m (x ∷ xs) le h = (let b = h.0 in omega arith, from_less n m xs le h.1)
+
+from_above : (n m : ℕ) (xs : List Sent) → n < m → AllFrom m xs → AllAbove n xs
+from_above n m [] lt h = tt
+from_above n m (x ∷ xs) lt h = (let b = h.0 in omega arith, from_above n m xs lt h.1)
+
+-- one sample at most, at this position, and later ones
+abbrev IsAt : ℕ → List Sent → Type 0
+IsAt n [] = ⊤
+IsAt n (x ∷ []) = x.pos ≡ n
+IsAt n (x ∷ y ∷ xs) = ⊥
+
+at_rise : (n m : ℕ) (xs ys : List Sent) → IsAt n xs → m ≡ n + 1 → AllFrom m ys → Rise ys → Rise (xs ++ ys) × AllFrom n (xs ++ ys)
+at_rise n m [] ys at up h r = (r, from_less n m ys (omega arith) h)
+at_rise n m (x ∷ []) ys at up h r = ((from_above x.pos m ys (omega arith) h, r), (omega arith, from_less n m ys (omega arith) h))
+at_rise n m (x ∷ y ∷ xs) ys at up h r = absurd at
+
+at_as : (pos : ℕ) (series : List Labels) (t : ℤ) (word : ℕ) (k : Standing) → IsAt pos (sent_as pos series t word k)
+at_as pos series t word (Kept l) = refl
+at_as pos series t word Unknown = tt
+at_as pos series t word (Bad f) = tt
+at_as pos series t word Filtered = tt
+
+at_of : (rules : List RuleConfig) (before : List Entry) (e : Entry) → IsAt (length before) (sent_of rules before e)
+at_of rules before (entry.Def reference labels) = tt
+at_of rules before (entry.Sample reference t word) = at_as (length before) (series_of rules before) t word (known rules before reference)
+
+from_rise : (rules : List RuleConfig) (before es : List Entry) → Rise (gather_from (sent_of rules) before es) × AllFrom (length before) (gather_from (sent_of rules) before es)
+from_rise rules before [] = (tt, tt)
+from_rise rules before (e ∷ es) =
+    let r = from_rise rules (before ++ e ∷ []) es in
+    at_rise (length before) (length (before ++ e ∷ [])) (sent_of rules before e) (gather_from (sent_of rules) (before ++ e ∷ []) es) (at_of rules before e) (length-append before (e ∷ [])) r.1 r.0
+
+pub placed_spread : (lanes : List Lane) (rules : List RuleConfig) (es : List Entry) → ArePlaced lanes (sent rules es) → (epochs : List (List Lane)) × (lanes ≡ joined epochs) × IsSpread epochs (sent rules es)
+placed_spread lanes rules es h = (h.0, h.1, spread_of h.0 (sent rules es) h.2 (from_rise rules [] es).0)

@@ -1,0 +1,26 @@
+use Rattle.std.proofs.Common.{sym, ap, ◌∙◌, subst, arith}
+use Rattle.rw_sender.specs.declared.config.ConfigFields.{ConfigFields}
+use Rattle.rw_feeder.specs.Feeders.{Sorting}
+use Rattle.rw_fleet.specs.Lanes.{AreFresh}
+use Rattle.rw_fleet.specs.Fleets.{Shards}
+use Rattle.rw_shipper.proofs.ShippingLemmas.{places_begun, read_begun, on_ok}
+use Rattle.rw_shipper.proofs.shipper.Shipper.start.Goals as goal
+
+pub invariant_of-result : goal.invariant_of-result
+invariant_of-result g c =
+    let fleet = c.in_ok-fleet.ensures in
+    let feeder = c.new-2.ensures in
+    let all = on_ok c.open.result _ (sym c.is_err.ensures.value ∙ c.if-is_err.false) c.open.ensures.all in
+    let low = c.get-shards.ensures.low in (
+      places_begun c.new-2.result c.in_ok-fleet.fleet c.open.new.self (ap (λ (s : Sorting). s.placed) feeder) (ap (λ (s : Shards _). s.epoch) fleet) (ap (λ (s : Shards _). s.ended) fleet) (ap (λ (s : Shards _). s.current) fleet) c.open.ensures.rest c.open.ensures.fresh,
+      (ap (λ (s : Sorting). s.hand) feeder, omega arith),
+      read_begun c.new-2.result _ feeder,
+    )
+
+pub returns-clause-opened : goal.returns-clause-opened
+returns-clause-opened g c =
+    let fleet = c.in_ok-fleet.ensures in
+    let rest = c.open.ensures.rest in
+    let epoch = ap (λ (s : Shards _). s.epoch) rest ∙ ap (λ (s : Shards _). s.epoch) fleet in
+    let all = on_ok c.open.result _ (sym c.is_err.ensures.value ∙ c.if-is_err.false) c.open.ensures.all in
+    (epoch, ap (λ (s : Shards _). s.ended) rest ∙ ap (λ (s : Shards _). s.ended) fleet, all ∙ c.get-shards.ensures.number ∙ ap (λ (f : ConfigFields). f.shards) c.fields.ensures.fields, subst (λ e. AreFresh e c.open.new.self.current) epoch c.open.ensures.fresh)

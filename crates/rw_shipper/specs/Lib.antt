@@ -1,0 +1,4 @@
+pub mod Placement
+pub mod Spread
+pub mod Reports
+pub mod Shipping

@@ -1,0 +1,94 @@
+-- What a report lists, and the room for it.
+use Rattle.std.specs.Prelude.{slice_get, false, ◌≡◌, ◌≤◌, ◌+◌, ℕ, Bool, true, List, [], ◌∷◌, ◌++◌, length, map, drop, vec_len, vec_capacity, Option, Some, None, ⊤}
+use Rattle.rw_codes.specs.declared.tail_fault.TailFault.{TailFault}
+use Rattle.rw_ledger.specs.Names.{Named}
+use Rattle.rw_sender.specs.declared.outcome.Outcome.{Outcome}
+use Rattle.rw_sender.specs.declared.outcome.Outcome.TheVariants.{Complete, Abandoned, Damaged}
+use Rattle.rw_shard_queue.specs.Items.{samples_in}
+use Rattle.rw_worker.specs.Transcript.{Exchange}
+use Rattle.rw_fleet.specs.Lanes.{Lane, AreSetUp}
+use Rattle.rw_fleet.specs.Work.{lane_of, AreResolved, AreWorked, IsCut, HasCut}
+use Rattle.rw_fleet.specs.Fleets.{Shards, AreAll}
+use Rattle.rw_fleet.specs.declared.joined.Joined.{Joined}
+use Rattle.rw_fleet.specs.declared.joined.Finished.{Finished}
+use Rattle.rw_shipper.specs.declared.lists.Lists.{Lists}
+
+abbrev pub finished_of : {T : Type 0} → Joined T → Finished T
+finished_of j = j.finished
+
+abbrev pub part_of : {T : Type 0} → Joined T → Named
+part_of j = j.part
+
+-- the positions of the samples that a shard was put and that are not resolved
+abbrev pub abandoned_of : {T : Type 0} → Joined T → List ℕ
+abandoned_of j = drop j.finished.resolved j.positions.items
+
+abbrev pub abandoned_in : {T : Type 0} → List (Joined T) → List ℕ
+abandoned_in [] = []
+abandoned_in (j ∷ js) = abandoned_of j ++ abandoned_in js
+
+-- how many samples shards were put
+abbrev pub samples_of : List Lane → ℕ
+samples_of [] = 0
+samples_of (l ∷ ls) = length (samples_in l.put) + samples_of ls
+
+abbrev pub positions_of : {T : Type 0} → List (Joined T) → ℕ
+positions_of [] = 0
+positions_of (j ∷ js) = length j.positions.items + positions_of js
+
+-- there is room for what these shards list
+abbrev pub HasRoom : {T : Type 0} → Lists T → List (Joined T) → Type 0
+HasRoom lists js = (vec_len lists.parts + length js ≤ vec_capacity lists.parts) × (vec_len lists.workers + length js ≤ vec_capacity lists.workers) × (vec_len lists.samples + positions_of js ≤ vec_capacity lists.samples)
+
+-- there may be more room
+abbrev pub IsGrown : {T : Type 0} → Lists T → Lists T → Type 0
+IsGrown old new =
+    (vec_len new.parts ≡ vec_len old.parts) × (vec_len new.workers ≡ vec_len old.workers) × (vec_len new.samples ≡ vec_len old.samples)
+    × (vec_capacity old.parts ≤ vec_capacity new.parts) × (vec_capacity old.workers ≤ vec_capacity new.workers) × (vec_capacity old.samples ≤ vec_capacity new.samples)
+
+-- these shards are listed behind what stood there
+abbrev pub ListsAfter : {T : Type 0} → Lists T → List (Joined T) → Lists T → Type 0
+ListsAfter old js new = (new.parts.items ≡ old.parts.items ++ map part_of js) × (new.workers.items ≡ old.workers.items ++ map finished_of js) × (new.samples.items ≡ old.samples.items ++ abandoned_in js)
+
+-- nothing is listed, and there is room for the shards, one part more, and all samples that were put
+pub record IsRoomFor {T : Type 0} (s : Shards T) (lists : Lists T) (parts samples : ℕ) : Type 0 where
+  pub no_parts : vec_len lists.parts ≡ 0
+  pub no_workers : vec_len lists.workers ≡ 0
+  pub no_samples : vec_len lists.samples ≡ 0
+  pub shards_within : length s.ended + length s.current + 1 ≤ parts
+  pub parts_within : parts ≤ vec_capacity lists.parts
+  pub workers_within : parts ≤ vec_capacity lists.workers
+  pub put_within : samples_of (map lane_of s.ended) + samples_of s.current ≤ samples
+  pub samples_within : samples ≤ vec_capacity lists.samples
+
+-- All shards have ended, and are listed behind one part more.
+pub record HasListed {T : Type 0} (tells : T → Type 0) (seen : T → List Exchange) (s : Shards T) (part : Named) (lists : Lists T) (hard resolved : Bool) : Type 0 where
+  pub joined : List (Joined T)
+  pub all : AreAll s joined
+  pub worked : AreWorked tells seen joined
+  pub setup : AreSetUp s.config (map lane_of joined)
+  pub parts : lists.parts.items ≡ part ∷ map part_of joined
+  pub workers : lists.workers.items ≡ map finished_of joined
+  pub samples : lists.samples.items ≡ abandoned_in joined
+  pub is_resolved : resolved ≡ true → AreResolved joined
+  pub cut : hard ≡ false → resolved ≡ false → HasCut joined
+
+-- how a log that was read to its end, or to its fault, has ended
+abbrev pub end_of : ℕ → Option TailFault → Outcome
+end_of placed None = Complete placed
+end_of placed (Some f) = Damaged f
+
+-- the work was stopped with so many entries placed, and these samples not resolved
+abbrev pub IsAbandonedAt : ℕ → List ℕ → Outcome → Type 0
+IsAbandonedAt placed positions (Complete end) = ⊥
+IsAbandonedAt placed positions (Abandoned entries samples) = (entries ≡ placed) × (samples.items ≡ positions)
+IsAbandonedAt placed positions (Damaged f) = ⊥
+
+abbrev pub IsAbandoned : Outcome → Type 0
+IsAbandoned (Complete end) = ⊥
+IsAbandoned (Abandoned placed samples) = ⊤
+IsAbandoned (Damaged f) = ⊥
+
+-- one of these queues was cut: one of its ends was gone before the other, or its worker read the stop flag as set
+abbrev pub ListsCut : {T : Type 0} → List (Finished T) → Type 0
+ListsCut {T} fs = (k : ℕ) × (f : Finished T) × (slice_get fs k ≡ Some f) × IsCut f

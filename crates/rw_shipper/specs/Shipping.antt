@@ -1,0 +1,102 @@
+-- What contracts see of a shipper.
+use Rattle.std.specs.Prelude.{◌≡◌, ◌⊎◌, ◌<◌, List, [], ◌∷◌, ◌++◌, length, map, Option, Some, None, Result, Ok, Err, ⊤}
+use Rattle.rw_worker.specs.Transcript.{Exchange}
+use Rattle.rw_fleet.specs.Lanes.{AreSetUp}
+use Rattle.rw_fleet.specs.Work.{lane_of, AreResolved, AreWorked}
+use Rattle.rw_fleet.specs.Fleets.{Shards, AreAll}
+use Rattle.rw_fleet.specs.declared.running.Fault.{Fault}
+use Rattle.rw_fleet.specs.declared.running.Fault.TheVariants as queue_fault
+use Rattle.rw_types.specs.declared.entry.Entry.{Entry}
+use Rattle.rw_codes.specs.Pieces.{Piece}
+use Rattle.rw_codes.specs.declared.tail_fault.TailFault.{TailFault}
+use Rattle.rw_ledger.specs.Names.{Named}
+use Rattle.rw_sender.specs.declared.outcome.Outcome.{Outcome}
+use Rattle.rw_sender.specs.declared.outcome.Outcome.TheVariants as outcome
+use Rattle.rw_fleet.specs.declared.joined.Joined.{Joined}
+use Rattle.rw_feeder.specs.Feeders.{Sorting, HasRead}
+use Rattle.rw_feeder.specs.Logs.{sent, named, dropped, filtered}
+use Rattle.rw_shipper.specs.Placement.{IsPlacing, ArePlaced}
+use Rattle.rw_shipper.specs.declared.place.Progress.{Progress}
+use Rattle.rw_shipper.specs.declared.place.Progress.TheVariants.{Placed, End}
+use Rattle.rw_shipper.specs.declared.place.Progress.TheVariants as progress
+use Rattle.rw_shipper.specs.declared.report.Report.{Report}
+use Rattle.rw_shipper.specs.Reports.{finished_of, part_of, abandoned_in}
+use Rattle.rw_shipper.specs.declared.shipper.FeedFault.{FeedFault}
+use Rattle.rw_shipper.specs.declared.shipper.FeedFault.TheVariants.{OutOfMemory, Damaged, Gone}
+
+-- the log as far as it was placed, the shards, and the fault by which it failed
+pub record Shipping (T : Type 0) : Type 0 where
+  pub log : Sorting
+  pub fleet : Shards T
+  pub fault : Option Fault
+
+-- the shards of all epochs were put the samples of the entries placed
+abbrev pub PlacesAll : {T : Type 0} → Sorting → Shards T → Type 0
+PlacesAll log fleet = IsPlacing fleet.epoch (map lane_of fleet.ended) fleet.current (sent log.rules log.placed)
+
+-- while it has not failed no entry waits, and there is a shard
+abbrev pub IsReady : {T : Type 0} → Sorting → Shards T → Option Fault → Type 0
+IsReady log fleet None = (log.hand ≡ []) × (0 < length fleet.current)
+IsReady log fleet (Some f) = ⊤
+
+-- while it has not failed all entries were placed, and this is the fault after them
+abbrev pub IsRead : Sorting → Option Fault → Option TailFault → Type 0
+IsRead log None damage = HasRead log.pieces log.placed damage
+IsRead log (Some f) damage = ⊤
+
+-- each shard of the epoch has ended, and what it was put was compared with what its worker took, before the next epoch has a queue
+abbrev pub HasCompared : {T : Type 0} → Shards T → Shards T → Type 0
+HasCompared old new = AreAll old new.ended × ((new.current ≡ []) ⊎ AreResolved new.ended)
+
+-- more entries may have been placed, and their samples put: the rest is as it was
+pub record GoesOn {T : Type 0} (old new : Sorting) (was now : Shards T) : Type 0 where
+  pub rules : new.rules ≡ old.rules
+  pub pieces : new.pieces ≡ old.pieces
+  pub more : List Entry
+  pub grown : new.placed ≡ old.placed ++ more
+  pub fleet : now ≡ record was { current = now.current }
+  pub len : length now.current ≡ length was.current
+
+-- what one step of the feeder came to
+abbrev pub Steps : Sorting → Progress → Type 0
+Steps log Placed = log.hand ≡ []
+Steps log End = (log.hand ≡ []) × HasRead log.pieces log.placed None
+Steps log (progress.Damaged f) = (log.hand ≡ []) × HasRead log.pieces log.placed (Some f)
+
+abbrev pub answer_to : Fault → FeedFault
+answer_to queue_fault.OutOfMemory = OutOfMemory
+answer_to queue_fault.Gone = Gone
+
+-- what a feed that met no earlier fault answers
+abbrev pub Feeds : {T : Type 0} → Shipping T → Result (Unit {0}) FeedFault → Type 0
+Feeds s (Ok u) = HasRead s.log.pieces s.log.placed None × (s.fault ≡ None)
+Feeds s (Err (Damaged f)) = HasRead s.log.pieces s.log.placed (Some f) × (s.fault ≡ None)
+Feeds s (Err OutOfMemory) = s.fault ≡ Some queue_fault.OutOfMemory
+Feeds s (Err Gone) = s.fault ≡ Some queue_fault.Gone
+
+-- the piece joins those that were fed; where memory was refused it may not have
+abbrev pub Joins : Sorting → Sorting → Piece → Result (Unit {0}) FeedFault → Type 0
+Joins old new piece (Ok u) = new.pieces ≡ old.pieces ++ piece ∷ []
+Joins old new piece (Err (Damaged f)) = new.pieces ≡ old.pieces ++ piece ∷ []
+Joins old new piece (Err Gone) = new.pieces ≡ old.pieces ++ piece ∷ []
+Joins old new piece (Err OutOfMemory) = (new.pieces ≡ old.pieces) ⊎ (new.pieces ≡ old.pieces ++ piece ∷ [])
+
+-- how the work has ended: all is resolved, or these samples are not
+abbrev pub Ends : {T : Type 0} → Shipping T → List (Joined T) → Outcome → Type 0
+Ends s js (outcome.Complete end) = (end ≡ length s.log.placed) × HasRead s.log.pieces s.log.placed None × AreResolved js
+Ends s js (outcome.Damaged f) = HasRead s.log.pieces s.log.placed (Some f) × AreResolved js
+Ends s js (outcome.Abandoned placed samples) = (placed ≡ length s.log.placed) × (samples.items ≡ abandoned_in js)
+
+-- The shards of all epochs were put the samples of the entries placed, and did what their workers report; the other samples are named, or counted.
+pub record HasStopped {T : Type 0} (tells : T → Type 0) (seen : T → List Exchange) (s : Shipping T) (r : Report T) : Type 0 where
+  pub joined : List (Joined T)
+  pub own : Named
+  pub workers : r.workers.items ≡ map finished_of joined
+  pub parts : r.parts.items ≡ own ∷ map part_of joined
+  pub samples : ArePlaced (map lane_of joined) (sent s.log.rules s.log.placed)
+  pub worked : AreWorked tells seen joined
+  pub setup : AreSetUp s.fleet.config (map lane_of joined)
+  pub all : AreAll s.fleet joined
+  pub names : own.names ≡ named (dropped s.log.rules s.log.placed)
+  pub filter_count : r.filtered ≡ length (filtered s.log.rules s.log.placed)
+  pub ends : Ends s joined r.outcome

@@ -1,0 +1,15 @@
+//! The sender in threads: what comes of a log is put into the queues of its shards, each with a worker of its own.
+#![tactic(auto)]
+
+mod laws;
+mod listed_fleet;
+mod lists;
+mod place;
+mod report;
+mod shipper;
+
+pub use laws::samples_are_spread;
+pub use report::Report;
+pub use rw_fleet::{Connect, Ends, Fault, Fed, Finished, Load};
+pub use rw_sender::Outcome;
+pub use shipper::{FeedFault, Shipper};

@@ -1,0 +1,313 @@
+//! The shipper.
+
+ghost use Rattle.std.specs.Prelude.{◌≡◌, ◌⊎◌, List, true, false, ◌+◌, ◌≤◌, ◌<◌, [], ◌∷◌, ◌++◌, length, map, None, Some, Err, IfOk, IfErr, IfSome, OnOk};
+ghost use Rattle.rw_wal_tail.specs.Fed.{piece_of};
+ghost use Rattle.rw_fleet.specs.Lanes.{AreFresh, marked};
+ghost use Rattle.rw_fleet.specs.Work.{AreResolved};
+ghost use Rattle.rw_types.specs.declared.entry.Entry.{Entry};
+ghost use Rattle.rw_shipper.specs.Reports.{IsAbandoned, IsAbandonedAt, ListsCut, end_of};
+ghost use Rattle.rw_shipper.specs.Shipping.{answer_to, Feeds, Joins, HasCompared, HasStopped};
+
+use crate::listed_fleet::ListedFleet;
+use crate::lists::Lists;
+use crate::place::place_all;
+use crate::report::Report;
+use rw_feeder::Feeder;
+use rw_fleet::{Connect, Fault, Load};
+use rw_ledger::Ledger;
+use rw_relabel::Rules;
+use rw_ruled_queue::Kind;
+use rw_sender::{Config, ConfigFields, Outcome};
+use rw_wal_tail::{Piece, TailFault};
+use std::alloc::{AllocError, Global};
+use std::marker::Model;
+use std::sync::Wait;
+use std::thread::Threads;
+
+/// Why a call of a shipper did not do all that it was to do.
+#[derive(Clone, Copy, Debug, PartialEq, Eq)]
+pub enum FeedFault {
+    /// Memory or a thread was refused. The shipper has failed: it answers this from then on.
+    OutOfMemory,
+    /// The log has this fault. All entries before it were placed.
+    Damaged(TailFault),
+    /// A worker has gone. The shipper has failed: it answers this from then on.
+    Gone,
+}
+
+fn answer_to(fault: Fault) -> FeedFault
+    ensures { result ≡ answer_to fault }
+{
+    match fault {
+        Fault::OutOfMemory => FeedFault::OutOfMemory,
+        Fault::Gone => FeedFault::Gone,
+    }
+}
+
+/// By which End the shards are ended.
+fn kind_of(is_hard: bool) -> Kind
+    ensures { is_hard ≡ false → result ≡ Kind.Orderly }
+{
+    if is_hard { Kind::Hard } else { Kind::Orderly }
+}
+
+/// How the work has ended: hard, or with samples that are not resolved, or else with all that the log has.
+fn outcome_of(
+    is_hard: bool,
+    is_resolved: bool,
+    placed: u64,
+    damage: Option<TailFault>,
+    samples: Vec<u64>,
+) -> Outcome
+    ensures hard { is_hard ≡ true → IsAbandonedAt placed samples.items result }
+    ensures apart { is_resolved ≡ false → IsAbandonedAt placed samples.items result }
+    ensures whole { is_hard ≡ false → is_resolved ≡ true → result ≡ end_of placed damage }
+{
+    if is_hard {
+        return Outcome::Abandoned { placed, samples };
+    }
+    if !is_resolved {
+        return Outcome::Abandoned { placed, samples };
+    }
+    match damage {
+        Some(fault) => Outcome::Damaged(fault),
+        None => Outcome::Complete(placed),
+    }
+}
+
+/// Takes the rules out of a configuration, which the workers do not need.
+fn split_rules(alloc: Global, config: Config) -> (Config, Rules)
+    ensures config { result.0 ≡ record config { rules = [] } }
+    ensures rules { result.1 ≡ config.rules }
+{
+    let _ = config.fields();
+    let ConfigFields {
+        target,
+        shards,
+        min_shards,
+        max_shards,
+        capacity,
+        batch,
+        min_backoff_ms,
+        max_backoff_ms,
+        timeout_ms,
+        rules,
+    } = config.into_fields();
+    let fields = ConfigFields {
+        target,
+        shards,
+        min_shards,
+        max_shards,
+        capacity,
+        batch,
+        min_backoff_ms,
+        max_backoff_ms,
+        timeout_ms,
+        rules: Rules::new(Vec::new(alloc)),
+    };
+    let Some(config) = Config::new(fields) else {
+        unreachable!()
+    };
+    (config, rules)
+}
+
+/// Reads a log as it grows, and puts its samples into the queues of their shards, each with a worker in a thread of its own.
+///
+/// Contracts see the log as far as it was placed, the shards with what they were put, and the fault by which the shipper has failed.
+#[derive(Drop)]
+pub struct Shipper<C: Connect + Drop> {
+    feeder: Feeder,
+    fleet: ListedFleet<C>,
+    /// By which it has failed.
+    fault: Option<Fault>,
+    /// Of the log, as far as it was fed while the shipper had not failed.
+    damage: Option<TailFault>,
+}
+
+impl<C: Connect + Drop> Model for Shipper<C> {
+    ghost use Rattle.std.specs.Coded.{codes};
+    ghost use Rattle.std.specs.FinMap as names;
+    ghost use Rattle.rw_shipper.specs.Shipping.{Shipping, PlacesAll, IsReady, IsRead};
+
+    ghost Value = { Shipping C.T };
+
+    ghost coded = { Prim.hlevel (codes, names.code) };
+
+    ghost view = { λ s. record { log = s.feeder; fleet = s.fleet; fault = s.fault } };
+
+    ghost invariant = { λ s. PlacesAll s.feeder s.fleet × IsReady s.feeder s.fleet s.fault × IsRead s.feeder s.fault s.damage };
+}
+
+impl<C: Connect + Drop> Shipper<C> {
+    /// Opens epoch 0 with as many shards as are configured, and starts their workers. Where memory or a thread is refused the workers that were started are stopped and joined.
+    pub fn start<R: Threads + Wait + Copy + Send + 'static>(
+        rt: &R,
+        alloc: Global,
+        config: Config,
+        connect: C,
+    ) -> Result<Shipper<C>, AllocError>
+        ensures log { IfOk result (λ s. s.log ≡ record { rules = config.rules; pieces = []; placed = []; hand = [] }) }
+        ensures config { IfOk result (λ s. s.fleet.config ≡ record config { rules = [] }) }
+        ensures opened { IfOk result (λ s. (s.fleet.epoch ≡ 0) × (s.fleet.ended ≡ []) × (length s.fleet.current ≡ config.shards) × AreFresh 0 s.fleet.current) }
+        ensures fault { IfOk result (λ s. s.fault ≡ None) }
+    {
+        let shards = config.fields().shards.get() as u32;
+        let (config, rules) = split_rules(alloc, config);
+        let mut fleet = ListedFleet::new(alloc, config, connect)?;
+        if fleet.open(rt, shards).is_err() {
+            let _ = fleet.finish(rt, Kind::Hard, Ledger::new(alloc));
+            return Err(AllocError);
+        }
+        Ok(Shipper {
+            feeder: Feeder::new(alloc, rules),
+            fleet,
+            fault: None,
+            damage: None,
+        })
+    }
+
+    /// Places the entries that the log has with one piece more. It may wait for room in a queue.
+    pub fn feed<R: Wait>(&mut self, rt: &R, piece: Piece) -> Result<(), FeedFault>
+        ensures failed { IfSome self.old.fault (λ f. (result ≡ Err (answer_to f)) × (self.new ≡ self.old)) }
+        ensures fed { self.old.fault ≡ None → Feeds self.new result }
+        ensures pieces { self.old.fault ≡ None → Joins self.old.log self.new.log (piece_of piece) result }
+        ensures grown { (more : List Entry) × (self.new.log.placed ≡ self.old.log.placed ++ more) }
+        ensures rules { self.new.log.rules ≡ self.old.log.rules }
+        ensures rest { self.new.fleet ≡ record self.old.fleet { current = self.new.fleet.current } }
+    {
+        if let Some(fault) = self.fault {
+            return Err(answer_to(fault));
+        }
+        if self.feeder.feed(&piece).is_err() {
+            self.fault = Some(Fault::OutOfMemory);
+            return Err(FeedFault::OutOfMemory);
+        }
+        match place_all(rt, &mut self.feeder, &mut self.fleet) {
+            Ok(None) => {
+                self.damage = None;
+                Ok(())
+            }
+            Ok(Some(fault)) => {
+                self.damage = Some(fault);
+                Err(FeedFault::Damaged(fault))
+            }
+            Err(fault) => {
+                self.fault = Some(fault);
+                Err(answer_to(fault))
+            }
+        }
+    }
+
+    /// Puts one Flush into each queue of the epoch. It may wait for room in a queue.
+    pub fn flush<R: Wait>(&mut self, rt: &R) -> Result<(), FeedFault>
+        ensures failed { IfSome self.old.fault (λ f. (result ≡ Err (answer_to f)) × (self.new ≡ self.old)) }
+        ensures marked { OnOk result (self.new ≡ record self.old { fleet = record self.old.fleet { current = map marked self.old.fleet.current } }) }
+        ensures fails { IfErr result (λ e. IfSome self.new.fault (λ f. e ≡ answer_to f)) }
+    {
+        if let Some(fault) = self.fault {
+            return Err(answer_to(fault));
+        }
+        if let Err(fault) = self.fleet.mark(rt) {
+            self.fault = Some(fault);
+            return Err(answer_to(fault));
+        }
+        Ok(())
+    }
+
+    /// Ends the epoch, once all that was put is resolved, and opens the next one with so many shards.
+    pub fn reshard<R: Threads + Wait + Copy + Send + 'static>(
+        &mut self,
+        rt: &R,
+        shards: u32,
+    ) -> Result<(), FeedFault>
+        requires some { 1 ≤ shards }
+        requires most { shards ≤ 1000 }
+        ensures failed { IfSome self.old.fault (λ f. (result ≡ Err (answer_to f)) × (self.new ≡ self.old)) }
+        ensures log { self.new.log ≡ self.old.log }
+        ensures config { self.new.fleet.config ≡ self.old.fleet.config }
+        ensures opened { OnOk result ((self.new.fleet.epoch ≡ self.old.fleet.epoch + 1) × (length self.new.fleet.current ≡ shards) × AreFresh self.new.fleet.epoch self.new.fleet.current) }
+        ensures drained { OnOk result (AreResolved self.new.fleet.ended) }
+        ensures compared { (self.new.fleet ≡ self.old.fleet) ⊎ HasCompared self.old.fleet self.new.fleet }
+        ensures fault { OnOk result (self.new.fault ≡ None) }
+    {
+        if let Some(fault) = self.fault {
+            return Err(answer_to(fault));
+        }
+        if self.fleet.epoch() == u64::MAX {
+            self.fault = Some(Fault::OutOfMemory);
+            return Err(FeedFault::OutOfMemory);
+        }
+        if !self.fleet.close(rt) {
+            self.fault = Some(Fault::Gone);
+            return Err(FeedFault::Gone);
+        }
+        if self.fleet.open(rt, shards).is_err() {
+            self.fault = Some(Fault::OutOfMemory);
+            return Err(FeedFault::OutOfMemory);
+        }
+        Ok(())
+    }
+
+    /// How many entries were placed.
+    pub fn entries_read(&self) -> u64
+        ensures { result ≡ length self.now.log.placed }
+    {
+        self.feeder.count()
+    }
+
+    /// How far the samples have come, as far as the shipper knows: advice on how many shards are wanted. A sample of a shard at work counts as resolved once there is no place left where it could wait.
+    pub fn load(&self) -> Load {
+        self.fleet.load()
+    }
+
+    /// Ends all shards, and waits for their workers.
+    fn stop<R: Threads + Wait>(self, rt: &R, is_hard: bool, placed: u64) -> Report<C::T>
+        requires placed { placed ≡ length self.log.placed }
+        requires ready { is_hard ≡ false → self.fault ≡ None }
+        ensures stopped { HasStopped C.T.tells C.T.seen self result }
+        ensures hard { is_hard ≡ true → IsAbandoned result.outcome }
+        ensures cut { is_hard ≡ false → IsAbandoned result.outcome → ListsCut result.workers.items }
+    {
+        let Shipper {
+            feeder,
+            fleet,
+            fault: _,
+            damage,
+        } = self;
+        let (part, filtered) = feeder.finish();
+        let kind = kind_of(is_hard);
+        let (lists, is_resolved) = fleet.finish(rt, kind, part);
+        let Lists {
+            parts,
+            workers,
+            samples,
+        } = lists;
+        let outcome = outcome_of(is_hard, is_resolved, placed, damage, samples);
+        Report {
+            outcome,
+            parts,
+            filtered,
+            workers,
+        }
+    }
+
+    /// Ends all shards once all that was put is resolved, and waits for their workers. `end` is the number of entries placed. A shipper that has failed is stopped at once.
+    pub fn stop_orderly<R: Threads + Wait>(self, rt: &R, end: u64) -> Report<C::T>
+        requires { end ≡ length self.log.placed }
+        ensures stopped { HasStopped C.T.tells C.T.seen self result }
+        ensures failed { IfSome self.fault (λ _. IsAbandoned result.outcome) }
+        ensures cut { self.fault ≡ None → IsAbandoned result.outcome → ListsCut result.workers.items }
+    {
+        let is_hard = self.fault.is_some();
+        self.stop(rt, is_hard, end)
+    }
+
+    /// Ends all shards at once, and waits for their workers.
+    pub fn stop_hard<R: Threads + Wait>(self, rt: &R) -> Report<C::T>
+        ensures stopped { HasStopped C.T.tells C.T.seen self result }
+        ensures hard { IsAbandoned result.outcome }
+    {
+        let placed = self.entries_read();
+        self.stop(rt, true, placed)
+    }
+}
