@@ -9,14 +9,18 @@ ghost use Rattle.std.specs.Process as process;
 ghost use Rattle.rw_tool.specs.Printed.{exit_status};
 ghost use Rattle.rwship.specs.Statuses.{unset_status};
 
-use clap::error::ErrorKind;
+use clap::error::ErrorKind as WordsErrorKind;
 use rw_receive::run_receive;
 use rw_replay::run_replay;
+use rw_send::{TcpConnect, run_send, segment_files};
+use rw_settings::Settings;
+use rw_tcp::look_up;
 use rw_tool::{ToolFault, run_body, run_log, run_log_dir, run_plan};
 use rw_types::{Bounded, Std};
 use settings::{Unset, settings_in};
 use std::env;
-use std::net::TcpListener;
+use std::io::ErrorKind;
+use std::net::{SocketAddr, TcpListener};
 use std::process::ExitCode;
 use std::sync::Wait;
 use std::thread::Threads;
@@ -54,7 +58,7 @@ fn unset(rt: &HostRuntime, fault: Unset) -> ExitCode
 
 /// The text of the command-line parser: help and version on standard output with status 0, and else what is wrong with the words.
 fn unparsed(rt: &HostRuntime, error: clap::Error) -> ExitCode {
-    if error.kind() == ErrorKind::OutOfMemory {
+    if error.kind() == WordsErrorKind::OutOfMemory {
         return ended(rt, Err(ToolFault::OutOfMemory));
     }
     match error.print(rt) {
@@ -110,6 +114,46 @@ fn body(rt: &HostRuntime, hex: bool) -> ExitCode {
     ended(rt, run_body(rt.alloc(), &mut input, &mut output, hex))
 }
 
+/// The addresses of a receiver. A failed look-up is a fault of the device.
+fn addresses_of(rt: &HostRuntime, to: Address<'_>) -> Result<Vec<SocketAddr>, ToolFault> {
+    match look_up(rt, rt.alloc(), to.host, to.port) {
+        Ok(addresses) => Ok(addresses),
+        Err(error) if error.kind() == ErrorKind::OutOfMemory => Err(ToolFault::OutOfMemory),
+        Err(_) => Err(ToolFault::Device),
+    }
+}
+
+/// Ships the segments of a folder to a receiver, and prints the report.
+fn ship<R: Threads + Wait + Copy + Send + 'static>(
+    rt: &HostRuntime,
+    threads: &R,
+    settings: Settings,
+    dir: &str,
+    to: Address<'_>,
+) -> Result<(), ToolFault> {
+    let alloc = rt.alloc();
+    let addresses = addresses_of(rt, to)?;
+    let timeout_ms = settings.config.fields().timeout_ms;
+    let connect = TcpConnect::new(alloc, *rt, addresses, timeout_ms);
+    let segments = segment_files(rt, dir)?;
+    let mut output = Std::new(rt.stdout());
+    run_send(threads, alloc, settings, segments, connect, &mut output)
+}
+
+/// The same, by the settings in a file.
+fn send<R: Threads + Wait + Copy + Send + 'static>(
+    rt: &HostRuntime,
+    threads: &R,
+    settings: Option<&str>,
+    dir: &str,
+    to: Address<'_>,
+) -> ExitCode {
+    match settings_in(rt, settings) {
+        Ok(settings) => ended(rt, ship(rt, threads, settings, dir, to)),
+        Err(fault) => unset(rt, fault),
+    }
+}
+
 /// Serves connections, and prints what they left.
 fn receive<R: Threads + Wait + Sync>(
     rt: &HostRuntime,
@@ -138,24 +182,30 @@ fn receive<R: Threads + Wait + Sync>(
 }
 
 /// Does what the words ask for.
-fn perform<R: Threads + Wait + Sync>(rt: &HostRuntime, threads: &R, task: &Task<'_>) -> ExitCode {
+fn perform<R: Threads + Wait + Copy + Send + Sync + 'static>(
+    rt: &HostRuntime,
+    threads: &R,
+    task: &Task<'_>,
+) -> ExitCode {
     match task {
         Task::Body { hex } => body(rt, *hex),
         Task::Log { hex, pages, dir } => log(rt, *hex, *pages, *dir),
         Task::Plan { settings, hex } => plan(rt, *settings, *hex),
         Task::Replay { settings } => replay(rt, *settings),
+        Task::Send { settings, dir, to } => send(rt, threads, *settings, dir, *to),
         Task::Receive {
             settings,
             listen,
             connections,
         } => receive(rt, threads, *settings, *listen, *connections),
-        // not offered yet
-        Task::Send { .. } => ExitCode::from(BAD_WORDS),
     }
 }
 
 /// Reads the words and does what they ask for.
-fn run<R: Threads + Wait + Sync>(rt: &HostRuntime, threads: &R) -> Result<ExitCode, ToolFault> {
+fn run<R: Threads + Wait + Copy + Send + Sync + 'static>(
+    rt: &HostRuntime,
+    threads: &R,
+) -> Result<ExitCode, ToolFault> {
     let alloc = rt.alloc();
     let words: Vec<String> = match env::args(rt) {
         Ok(words) => words.collect(alloc)?,

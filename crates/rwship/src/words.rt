@@ -137,7 +137,7 @@ fn receive_command<'a>(alloc: Global) -> Result<Command<'a>, AllocError> {
         .arg(connections)
 }
 
-/// The commands that are offered: those that run.
+/// All commands.
 pub fn command_line<'a>(alloc: Global) -> Result<Command<'a>, AllocError> {
     Command::new(alloc, "rwship")
         .version("0.1.0")
@@ -147,6 +147,7 @@ pub fn command_line<'a>(alloc: Global) -> Result<Command<'a>, AllocError> {
         .subcommand(log_command(alloc)?)?
         .subcommand(plan_command(alloc)?)?
         .subcommand(replay_command(alloc)?)?
+        .subcommand(send_command(alloc)?)?
         .subcommand(receive_command(alloc)?)
 }
 

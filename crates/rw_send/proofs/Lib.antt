@@ -1,0 +1,5 @@
+pub mod AnswerLemmas
+pub mod PartLemmas
+pub mod PrintLemmas
+pub mod SegmentLemmas
+pub mod SureLemmas

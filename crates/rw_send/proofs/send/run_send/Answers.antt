@@ -1,0 +1,21 @@
+use Rattle.std.proofs.Common.{Err, inl, inr}
+use Rattle.rw_tool.specs.declared.fault.ToolFault.TheVariants.{OutOfMemory, Log, Device}
+use Rattle.rw_send.proofs.PrintLemmas.{printed, printed_part, printed_so, printed_whole, same_fault}
+use Rattle.rw_send.proofs.send.run_send.Goals as goal
+
+pub returns-in_err-print_report-clause-device : goal.returns-in_err-print_report-clause-device
+returns-in_err-print_report-clause-device g c = λ e.
+    let d = c.in_err-print_report.ensures.device (same_fault _ _ _ c.from_residual-in_err-print_report.ensures.1 e) in
+    inr (d.0, printed_part c.in_ok-report.ensures d.1)
+
+pub returns-clause-complete : goal.returns-clause-complete
+returns-clause-complete g c = printed_whole _ (printed _ _ c.in_ok-report.ensures c.in_ok-print_report.ensures.ok)
+
+pub returns-clause-damaged : goal.returns-clause-damaged
+returns-clause-damaged g c = λ f e. printed_so (Err (Log f)) e (printed _ _ c.in_ok-report.ensures c.in_ok-print_report.ensures.ok)
+
+pub returns-clause-memory : goal.returns-clause-memory
+returns-clause-memory g c = λ e. inr (printed_so (Err OutOfMemory) e (printed _ _ c.in_ok-report.ensures c.in_ok-print_report.ensures.ok))
+
+pub returns-clause-device : goal.returns-clause-device
+returns-clause-device g c = λ e. inl (printed_so (Err Device) e (printed _ _ c.in_ok-report.ensures c.in_ok-print_report.ensures.ok))

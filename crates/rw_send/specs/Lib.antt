@@ -1,0 +1,4 @@
+pub mod Folders
+pub mod ReportText
+pub mod Segments
+pub mod Sending

@@ -1,0 +1,99 @@
+-- What a run of the command `send` does.
+use Rattle.std.specs.Prelude.{◌≡◌, ℕ, Bool, true, List, [], ◌∷◌, Option, None, Some, Result, Ok, Err, ⊤}
+use Rattle.std.specs.Io.KnownBytes.{Appends}
+use Rattle.rw_codes.specs.Pieces.{Piece}
+use Rattle.rw_feeder.specs.Feeders.{HasRead}
+use Rattle.rw_sender.specs.declared.config.ConfigFields.{ConfigFields}
+use Rattle.rw_sender.specs.declared.outcome.Outcome.{Outcome}
+use Rattle.rw_sender.specs.declared.outcome.Outcome.TheVariants as outcome
+use Rattle.rw_worker.specs.Transcript.{Exchange}
+use Rattle.rw_shipper.specs.Reports.{IsAbandoned}
+use Rattle.rw_shipper.specs.Shipping.{Shipping, HasStopped}
+use Rattle.rw_shipper.specs.declared.report.Report.{Report}
+use Rattle.rw_shipper.specs.declared.shipper.FeedFault.{FeedFault}
+use Rattle.rw_shipper.specs.declared.shipper.FeedFault.TheVariants as feed
+use Rattle.rw_tool.specs.declared.fault.ToolFault.{ToolFault}
+use Rattle.rw_tool.specs.declared.fault.ToolFault.TheVariants as fault
+use Rattle.rw_send.specs.declared.halt.Halt.{Halt}
+use Rattle.rw_send.specs.declared.halt.Halt.TheVariants as halt
+use Rattle.rw_send.specs.ReportText.{IsTextOf, WritesPart}
+use Rattle.rw_send.specs.Segments.{IsBeginningOf, IsLogOf}
+
+-- a shipper that was configured so was fed these pieces, and this is the report of its stop
+pub record IsReportOf {T : Type 0} (tells : T → Type 0) (seen : T → List Exchange) (c : ConfigFields) (pieces : List Piece) (r : Report T) : Type 0 where
+  pub shipping : Shipping T
+  pub rules : shipping.log.rules ≡ c.rules
+  pub config : shipping.fleet.config ≡ record c { rules = [] }
+  pub pieces_are : shipping.log.pieces ≡ pieces
+  pub stopped : HasStopped tells seen shipping r
+
+abbrev pub IsComplete : Outcome → Type 0
+IsComplete (outcome.Complete end) = ⊤
+IsComplete (outcome.Abandoned placed samples) = ⊥
+IsComplete (outcome.Damaged f) = ⊥
+
+-- how a shipper's orderly stop is answered
+abbrev pub answer_to : Outcome → Result (Unit {0}) ToolFault
+answer_to (outcome.Complete end) = Ok tt
+answer_to (outcome.Abandoned placed samples) = Err fault.OutOfMemory
+answer_to (outcome.Damaged f) = Err (fault.Log f)
+
+-- How a run answers whose report has this outcome: all is well only where the log was fed whole and the outcome is complete, a fault of the log
+-- is that of the outcome, and otherwise the work is abandoned; for a device's fault only where one can fail.
+abbrev pub Answers : (whole unsure : Type 0) → Outcome → Result (Unit {0}) ToolFault → Type 0
+Answers whole unsure o (Ok u) = IsComplete o × whole
+Answers whole unsure o (Err (fault.Log f)) = o ≡ outcome.Damaged f
+Answers whole unsure o (Err fault.OutOfMemory) = IsAbandoned o
+Answers whole unsure o (Err fault.Device) = IsAbandoned o × unsure
+Answers whole unsure o (Err (fault.Line n)) = ⊥
+Answers whole unsure o (Err fault.SegmentFull) = ⊥
+
+-- no read of these readers can fail
+abbrev pub AreSure : List Bool → Type 0
+AreSure [] = ⊤
+AreSure (sure ∷ sures) = (sure ≡ true) × AreSure sures
+
+-- A beginning of the segments that readers had left, which are sure or not, was shipped, with this report and this answer.
+pub record IsSent {T : Type 0} (tells : T → Type 0) (seen : T → List Exchange) (c : ConfigFields) (lefts : List (Option (List ℕ))) (sures : List Bool) (r : Report T) (answer : Result (Unit {0}) ToolFault) : Type 0 where
+  pub pieces : List Piece
+  pub begins : IsBeginningOf lefts pieces
+  pub report : IsReportOf tells seen c pieces r
+  pub answers : Answers (IsLogOf lefts pieces) (AreSure sures → ⊥) r.outcome answer
+
+-- and the text of the report was written
+pub record IsPrinted {T : Type 0} (tells : T → Type 0) (seen : T → List Exchange) (c : ConfigFields) (lefts : List (Option (List ℕ))) (sures : List Bool) (before after : Option (List ℕ)) (answer : Result (Unit {0}) ToolFault) : Type 0 where
+  pub report : Report T
+  pub sent : IsSent tells seen c lefts sures report answer
+  pub text : List ℕ
+  pub text_of : IsTextOf report text
+  pub written : Appends before after text
+
+-- a beginning of it was written
+pub record IsPrintedPart {T : Type 0} (tells : T → Type 0) (seen : T → List Exchange) (c : ConfigFields) (lefts : List (Option (List ℕ))) (sures : List Bool) (before after : Option (List ℕ)) : Type 0 where
+  pub answer : Result (Unit {0}) ToolFault
+  pub report : Report T
+  pub sent : IsSent tells seen c lefts sures report answer
+  pub part : WritesPart report before after
+
+-- the rules and the configuration stay
+abbrev pub IsKept : {T : Type 0} → Shipping T → Shipping T → Type 0
+IsKept old new = (new.log.rules ≡ old.log.rules) × (new.fleet.config ≡ old.fleet.config)
+
+-- why reading ends
+abbrev pub halt_of : FeedFault → Halt
+halt_of feed.OutOfMemory = halt.Failed
+halt_of (feed.Damaged f) = halt.Damaged f
+halt_of feed.Gone = halt.Failed
+
+-- for this fault the work is stopped at once; a damaged log is shipped as far as it goes
+abbrev pub hard_fault : Result (Unit {0}) Halt → Option ToolFault
+hard_fault (Ok u) = None
+hard_fault (Err (halt.Damaged f)) = None
+hard_fault (Err halt.Failed) = Some fault.OutOfMemory
+hard_fault (Err halt.Unreadable) = Some fault.Device
+
+-- the log has the fault for which reading ends
+abbrev pub IsHalted : {T : Type 0} → Shipping T → Halt → Type 0
+IsHalted s (halt.Damaged f) = HasRead s.log.pieces s.log.placed (Some f)
+IsHalted s halt.Failed = ⊤
+IsHalted s halt.Unreadable = ⊤

@@ -1,0 +1,169 @@
+//! The files of a log in a folder.
+
+ghost use Rattle.std.specs.Prelude.{◌≡◌, ◌<◌, ◌^◌, ℕ, MatchOption};
+ghost use Rattle.std.specs.Io.{ReadsAtMost};
+ghost use Rattle.std.specs.List.Sorted.{IsPermutation, IsSortedBy};
+ghost use Rattle.rw_send.specs.Folders.{IsNameOf, comes_before};
+
+use rw_text::read_number;
+use rw_tool::ToolFault;
+use rw_types::{Failed, Source, Std};
+use std::alloc::{AllocError, Global};
+use std::fs::File;
+use std::io::ErrorKind;
+use std::path::{Path, PathBuf};
+use std::rt::Files;
+use std::{fs, io};
+
+/// The longest name of a segment.
+const MAX_DIGITS: usize = 8;
+
+/// A file of a log, which is opened when it is first read.
+#[derive(Drop)]
+pub struct SegmentFile<R> {
+    rt: R,
+    path: PathBuf,
+    /// Once it was opened.
+    file: Option<Std<File>>,
+    failed: bool,
+}
+
+impl<R: Files<File = File>> SegmentFile<R> {
+    /// The file at a path.
+    fn at(rt: R, path: PathBuf) -> SegmentFile<R> {
+        SegmentFile {
+            rt,
+            path,
+            file: None,
+            failed: false,
+        }
+    }
+
+    /// No file.
+    fn unreadable(rt: R, alloc: Global) -> SegmentFile<R> {
+        SegmentFile {
+            rt,
+            path: PathBuf::new(alloc),
+            file: None,
+            failed: true,
+        }
+    }
+
+    fn read_on(&mut self, buf: &mut [u8]) -> Result<usize, Failed>
+        ensures { ReadsAtMost result buf.new }
+    {
+        let mut file = match self.file.take() {
+            Some(file) => file,
+            None => match fs::open(&self.rt, self.path.as_path()) {
+                Ok(file) => Std::new(file),
+                Err(_) => return Err(Failed),
+            },
+        };
+        let count = file.read(buf)?;
+        self.file = Some(file);
+        Ok(count)
+    }
+}
+
+impl<R: Files<File = File>> Source for SegmentFile<R> {
+    ghost use Rattle.std.specs.Prelude.{None, false};
+
+    ghost remaining = { λ _. None };
+
+    ghost has_failed = { λ f. f.failed };
+
+    ghost is_sure = { λ _. false };
+
+    fn read(&mut self, buf: &mut [u8]) -> Result<usize, Failed> {
+        if self.failed {
+            return Err(Failed);
+        }
+        let outcome = self.read_on(buf);
+        self.failed = outcome.is_err();
+        outcome
+    }
+}
+
+/// The name of a segment's file, and its number.
+#[derive(Drop)]
+pub(crate) struct SegmentName {
+    pub(crate) number: u64,
+    pub(crate) name: String,
+}
+
+/// The number of a segment by the name of its file; none where it is no name of a segment.
+fn number_of(name: &str) -> Option<u64>
+    ensures { MatchOption result ((n : ℕ) → n < 2 ^ 64 → IsNameOf name.now n → ⊥) (IsNameOf name.now) }
+{
+    if name.len() > MAX_DIGITS {
+        return None;
+    }
+    read_number(name.as_bytes())
+}
+
+fn put_in_order(names: &mut Vec<SegmentName>)
+    ensures permutation { IsPermutation names.old.items names.new.items }
+    ensures sorted { IsSortedBy comes_before names.new.items }
+{
+    names.sort_unstable_by_key(|segment| (segment.number, segment.name.len()));
+}
+
+/// Why a folder cannot be read.
+fn fault_of(error: &io::Error) -> ToolFault {
+    match error.kind() {
+        ErrorKind::OutOfMemory => ToolFault::OutOfMemory,
+        _ => ToolFault::Device,
+    }
+}
+
+/// The names of a folder's segments, in order.
+fn names_in<R: Files + AllocGlobal + Copy>(
+    rt: &R,
+    dir: &str,
+) -> Result<Vec<SegmentName>, ToolFault> {
+    let alloc = rt.alloc();
+    let entries = match fs::read_dir(rt, dir) {
+        Ok(entries) => entries,
+        Err(error) => return Err(fault_of(&error)),
+    };
+    let mut names = Vec::new(alloc);
+    for entry in entries {
+        match entry {
+            Ok(entry) => {
+                let name = entry.file_name();
+                if let Some(number) = number_of(name) {
+                    let name = String::from_str(alloc, name)?;
+                    if names.push(SegmentName { number, name }).is_err() {
+                        return Err(ToolFault::OutOfMemory);
+                    }
+                }
+            }
+            // no UTF-8
+            Err(error) if error.kind() == ErrorKind::InvalidFilename => {}
+            Err(error) => return Err(fault_of(&error)),
+        }
+    }
+    put_in_order(&mut names);
+    Ok(names)
+}
+
+/// The segments of a log in a folder, in the order of their numbers: the files whose names are one to eight decimal digits, and of two names
+/// of one number the shorter first. Other names are passed over. Of a folder that cannot be read there is one segment, which cannot be read.
+pub fn segment_files<R: Files<File = File> + AllocGlobal + Copy>(
+    rt: &R,
+    dir: &str,
+) -> Result<Vec<SegmentFile<R>>, AllocError> {
+    let alloc = rt.alloc();
+    let mut files = Vec::new(alloc);
+    match names_in(rt, dir) {
+        Ok(names) => {
+            for segment in names {
+                let path = Path::new(dir).join(alloc, segment.name.as_str())?;
+                files.push(SegmentFile::at(*rt, path))?;
+            }
+        }
+        Err(ToolFault::OutOfMemory) => return Err(AllocError),
+        Err(_) => files.push(SegmentFile::unreadable(*rt, alloc))?,
+    }
+    Ok(files)
+}

@@ -1,0 +1,14 @@
+//! The sender: segments of a log shipped over many shards, and the report of it printed.
+#![tactic(auto)]
+
+mod connect;
+mod files;
+mod halt;
+mod printing;
+mod send;
+mod sharding;
+mod shipping;
+
+pub use connect::TcpConnect;
+pub use files::{SegmentFile, segment_files};
+pub use send::run_send;

@@ -1,0 +1,98 @@
+//! A report is printed.
+
+ghost use Rattle.std.specs.Prelude.{◌≡◌, ◌++◌, ◌⊎◌, ℕ, List, flat_map, true, false, Err, IfOk, IfErr, OnOk};
+ghost use Rattle.std.specs.Io.KnownBytes.{Appends};
+ghost use Rattle.rw_script.specs.StateText.{dropped_text, ending_of};
+ghost use Rattle.rw_send.specs.ReportText.{AreByPosition, IsEnding, IsTextOf, WritesPart, names_in};
+ghost use Rattle.rw_tool.specs.declared.fault.ToolFault.TheVariants.{OutOfMemory, Device};
+
+use rw_ledger::{Ledger, Reason};
+use rw_script::{push_dropped, push_ending, push_filtered};
+use rw_shipper::{Outcome, Report};
+use rw_tool::ToolFault;
+use rw_types::{Sink, write_all};
+use std::alloc::{AllocError, Global};
+
+/// The dropped samples of all parts.
+fn all_names(alloc: Global, parts: &[Ledger]) -> Result<Vec<(u64, Reason)>, AllocError>
+    ensures { IfOk result (λ names. names.items ≡ names_in parts.now) }
+{
+    let mut names = Vec::new(alloc);
+    for part in parts {
+        names.extend_from_slice(part.iter().as_slice())?;
+    }
+    Ok(names)
+}
+
+/// The dropped samples of all parts, by position.
+fn names_by_position(alloc: Global, parts: &[Ledger]) -> Result<Vec<(u64, Reason)>, AllocError>
+    ensures { IfOk result (λ names. AreByPosition (names_in parts.now) names.items) }
+{
+    let mut names = all_names(alloc, parts)?;
+    names.sort_unstable_by_key(|name| name.0);
+    Ok(names)
+}
+
+/// The same outcome, with its samples by position.
+fn by_position(outcome: Outcome) -> Outcome
+    ensures { IsEnding outcome (ending_of result) }
+{
+    match outcome {
+        Outcome::Complete(end) => Outcome::Complete(end),
+        Outcome::Abandoned {
+            placed,
+            mut samples,
+        } => {
+            samples.sort_unstable();
+            Outcome::Abandoned { placed, samples }
+        }
+        Outcome::Damaged(fault) => Outcome::Damaged(fault),
+    }
+}
+
+/// Adds the lines of these dropped samples.
+fn push_all_dropped(out: &mut Vec<u8>, names: &[(u64, Reason)]) -> Result<(), AllocError>
+    ensures { OnOk result (out.new.items ≡ out.old.items ++ flat_map dropped_text names.now) }
+{
+    for name in names {
+        push_dropped(out, name)?;
+    }
+    Ok(())
+}
+
+/// The text of a report.
+fn text_of<T: Drop>(alloc: Global, report: Report<T>) -> Result<Vec<u8>, AllocError>
+    ensures { IfOk result (λ text. IsTextOf report text.items) }
+{
+    let Report {
+        outcome,
+        parts,
+        filtered,
+        workers,
+    } = report;
+    drop(workers);
+    let names = names_by_position(alloc, &parts)?;
+    let outcome = by_position(outcome);
+    let mut text = Vec::new(alloc);
+    push_all_dropped(&mut text, &names)?;
+    push_filtered(&mut text, filtered)?;
+    push_ending(&mut text, Some(&outcome))?;
+    Ok(text)
+}
+
+/// Writes the text of a report.
+pub(crate) fn print_report<T: Drop, W: Sink>(
+    alloc: Global,
+    report: Report<T>,
+    writer: &mut W,
+) -> Result<(), ToolFault>
+    ensures ok { OnOk result ((text : List ℕ) × IsTextOf report text × Appends (W.contents writer.old) (W.contents writer.new) text) }
+    ensures sound { OnOk result (W.has_failed writer.old ≡ false → W.has_failed writer.new ≡ false) }
+    ensures faults { IfErr result (λ e. (e ≡ OutOfMemory) ⊎ (e ≡ Device)) }
+    ensures memory { result ≡ Err OutOfMemory → writer.new ≡ writer.old }
+    ensures device { result ≡ Err Device → (W.has_failed writer.new ≡ true) × WritesPart report (W.contents writer.old) (W.contents writer.new) }
+{
+    let text = text_of(alloc, report)?;
+    write_all(writer, &text)?;
+    Ok(())
+}

@@ -1,0 +1,128 @@
+//! The command `send`, over any readers, connections and writer.
+
+ghost use Rattle.std.specs.Prelude.{◌≡◌, ◌⊎◌, ℕ, map, Ok, Err, true, false, IfOk, IfErr, IsOk, OnOk};
+ghost use Rattle.rw_codes.specs.declared.tail_fault.TailFault.{TailFault};
+ghost use Rattle.rw_shipper.specs.Shipping.{HasStopped};
+ghost use Rattle.rw_tool.specs.declared.fault.ToolFault.TheVariants.{OutOfMemory, Log, Line, SegmentFull, Device};
+ghost use Rattle.rw_send.specs.Sending.{answer_to, hard_fault, Answers, IsHalted, IsPrinted, IsPrintedPart, IsSent};
+
+use crate::halt::Halt;
+use crate::printing::print_report;
+use crate::sharding::Sharding;
+use crate::shipping::ship_all;
+use rw_sender::Config;
+use rw_settings::Settings;
+use rw_shipper::{Connect, Outcome, Report, Shipper};
+use rw_tool::ToolFault;
+use rw_types::{Sink, Source};
+use std::alloc::{AllocError, Global};
+use std::sync::Wait;
+use std::thread::Threads;
+
+/// What came of shipping.
+#[derive(Drop)]
+pub(crate) struct Sent<T> {
+    pub(crate) report: Report<T>,
+    pub(crate) answer: Result<(), ToolFault>,
+}
+
+/// How a run answers whose shipper was stopped orderly.
+fn answer_to(outcome: &Outcome) -> Result<(), ToolFault>
+    ensures { result ≡ answer_to outcome.now }
+{
+    match outcome {
+        Outcome::Complete(_) => Ok(()),
+        Outcome::Abandoned { .. } => Err(ToolFault::OutOfMemory),
+        Outcome::Damaged(fault) => Err(ToolFault::Log(*fault)),
+    }
+}
+
+/// The fault for which a shipper is stopped at once.
+fn hard_fault(shipped: Result<(), Halt>) -> Option<ToolFault>
+    ensures { result ≡ hard_fault shipped }
+{
+    match shipped {
+        Ok(()) | Err(Halt::Damaged(_)) => None,
+        Err(Halt::Failed) => Some(ToolFault::OutOfMemory),
+        Err(Halt::Unreadable) => Some(ToolFault::Device),
+    }
+}
+
+/// Stops a shipper whose log was fed whole or to a halt.
+fn stopped<R: Threads + Wait, C: Connect + Drop>(
+    rt: &R,
+    shipper: Shipper<C>,
+    shipped: Result<(), Halt>,
+) -> Sent<C::T>
+    requires { IfErr shipped (IsHalted shipper) }
+    ensures stopped { HasStopped C.T.tells C.T.seen shipper result.report }
+    ensures answers { Answers (IsOk shipped) (shipped ≡ Err Halt.Unreadable) result.report.outcome result.answer }
+{
+    match hard_fault(shipped) {
+        None => {
+            let end = shipper.entries_read();
+            let report = shipper.stop_orderly(rt, end);
+            let answer = answer_to(&report.outcome);
+            Sent { report, answer }
+        }
+        Some(fault) => Sent {
+            report: shipper.stop_hard(rt),
+            answer: Err(fault),
+        },
+    }
+}
+
+/// Ships segments, and stops.
+fn ship<R: Threads + Wait + Copy + Send + 'static, S: Source + Drop, C: Connect + Drop>(
+    rt: &R,
+    alloc: Global,
+    config: Config,
+    segments: Vec<S>,
+    connect: C,
+) -> Result<Sent<C::T>, AllocError>
+    ensures { IfOk result (λ s. IsSent C.T.tells C.T.seen config (map S.remaining segments.items) (map S.is_sure segments.items) s.report s.answer) }
+{
+    let sharding = Sharding::of(&config);
+    let mut shipper = Shipper::start(rt, alloc, config, connect)?;
+    let shipped = ship_all(rt, alloc, &mut shipper, sharding, segments);
+    Ok(stopped(rt, shipper, shipped))
+}
+
+/// Ships the segments of a log in their order, stops, and prints the report: `dropped POS REASON` by position, `filtered COUNT`,
+/// `abandoned POS` by position, and `report ..`, each line ended by LF. Of what was read the labels of series, the positions of samples and
+/// the dropped samples are kept, and nothing else.
+///
+/// A segment is fed as it is read, in pieces of at most 64 KiB. After each one the number of shards is changed to what is wanted under the load.
+/// A log fault ends the reading, and what stands before it is still shipped. Where memory or a thread is refused, a worker has gone or a
+/// segment cannot be read, the work is stopped at once. Where it could not start, or the report could not be printed for want of memory,
+/// nothing is printed. Waits until the receiver has answered for all that was read, or the work is stopped.
+pub fn run_send<
+    R: Threads + Wait + Copy + Send + 'static,
+    S: Source + Drop,
+    C: Connect + Drop,
+    W: Sink,
+>(
+    rt: &R,
+    alloc: Global,
+    settings: Settings,
+    segments: Vec<S>,
+    connect: C,
+    writer: &mut W,
+) -> Result<(), ToolFault>
+    ensures complete { OnOk result (IsPrinted C.T.tells C.T.seen settings.config (map S.remaining segments.items) (map S.is_sure segments.items) (W.contents writer.old) (W.contents writer.new) (Ok tt)) }
+    ensures sound { OnOk result (W.has_failed writer.old ≡ false → W.has_failed writer.new ≡ false) }
+    ensures damaged { (f : TailFault) → result ≡ Err (Log f) → IsPrinted C.T.tells C.T.seen settings.config (map S.remaining segments.items) (map S.is_sure segments.items) (W.contents writer.old) (W.contents writer.new) (Err (Log f)) }
+    ensures memory { result ≡ Err OutOfMemory → (writer.new ≡ writer.old)
+        ⊎ IsPrinted C.T.tells C.T.seen settings.config (map S.remaining segments.items) (map S.is_sure segments.items) (W.contents writer.old) (W.contents writer.new) (Err OutOfMemory) }
+
+    // A segment cannot be read, or the writer holds a beginning of the report.
+    ensures device { result ≡ Err Device → IsPrinted C.T.tells C.T.seen settings.config (map S.remaining segments.items) (map S.is_sure segments.items) (W.contents writer.old) (W.contents writer.new) (Err Device)
+        ⊎ ((W.has_failed writer.new ≡ true) × IsPrintedPart C.T.tells C.T.seen settings.config (map S.remaining segments.items) (map S.is_sure segments.items) (W.contents writer.old) (W.contents writer.new)) }
+    ensures no_line { (n : ℕ) → result ≡ Err (Line n) → ⊥ }
+    ensures no_full { result ≡ Err SegmentFull → ⊥ }
+{
+    let Settings { config, limits: _ } = settings;
+    let Sent { report, answer } = ship(rt, alloc, config, segments, connect)?;
+    print_report(alloc, report, writer)?;
+    answer
+}

@@ -1,0 +1,83 @@
+//! How many shards a sender works with.
+
+ghost use Rattle.std.specs.Prelude.{◌≡◌, ◌≢◌, ◌≤◌, None, IfOk, OnOk, OnErr, length};
+ghost use Rattle.rw_reshard.specs.Wanted.{wanted};
+
+use crate::halt::Halt;
+use rw_reshard::want;
+use rw_sender::Config;
+use rw_shipper::{Connect, Load, Shipper};
+use std::sync::Wait;
+use std::thread::Threads;
+
+/// How many shards there are, and the fewest and the most that there may be.
+#[derive(Clone, Copy, Debug)]
+pub(crate) struct Sharding {
+    pub(crate) shards: u32,
+    pub(crate) fewest: u32,
+    pub(crate) most: u32,
+    ghost some: { 1 ≤ shards },
+    ghost range: { (1 ≤ fewest) × (fewest ≤ most) × (most ≤ 1000) },
+}
+
+impl Sharding {
+    ghost use Rattle.std.specs.Prelude.{◌≡◌};
+
+    /// As a sender is configured.
+    pub(crate) fn of(config: &Config) -> Sharding
+        ensures shards { result.shards ≡ config.now.shards }
+        ensures fewest { result.fewest ≡ config.now.min_shards }
+        ensures most { result.most ≡ config.now.max_shards }
+    {
+        let fields = config.fields();
+        Sharding {
+            shards: fields.shards.get() as u32,
+            fewest: fields.min_shards.get() as u32,
+            most: fields.max_shards.get() as u32,
+        }
+    }
+
+    /// As many shards as are wanted under this load.
+    fn under(self, load: Load) -> Sharding
+        ensures shards { result.shards ≡ wanted self.shards load.placed load.resolved load.backlog self.fewest self.most }
+        ensures fewest { result.fewest ≡ self.fewest }
+        ensures most { result.most ≡ self.most }
+    {
+        let shards = want(
+            self.shards,
+            load.placed,
+            load.resolved,
+            load.backlog,
+            self.fewest,
+            self.most,
+        );
+        Sharding {
+            shards,
+            fewest: self.fewest,
+            most: self.most,
+        }
+    }
+}
+
+/// Changes the number of shards to what is wanted under this load, where that is another one.
+pub(crate) fn resharded<R: Threads + Wait + Copy + Send + 'static, C: Connect + Drop>(
+    rt: &R,
+    shipper: &mut Shipper<C>,
+    sharding: Sharding,
+    load: Load,
+) -> Result<Sharding, Halt>
+    ensures wanted { IfOk result (λ s. s.shards ≡ wanted sharding.shards load.placed load.resolved load.backlog sharding.fewest sharding.most) }
+    ensures range { IfOk result (λ s. (s.fewest ≡ sharding.fewest) × (s.most ≡ sharding.most)) }
+    ensures same { IfOk result (λ s. s.shards ≡ sharding.shards → shipper.new ≡ shipper.old) }
+    ensures opened { IfOk result (λ s. s.shards ≢ sharding.shards → length shipper.new.fleet.current ≡ s.shards) }
+    ensures log { shipper.new.log ≡ shipper.old.log }
+    ensures config { shipper.new.fleet.config ≡ shipper.old.fleet.config }
+    ensures sound { shipper.old.fault ≡ None → OnOk result (shipper.new.fault ≡ None) }
+    ensures err { OnErr result (result ≡ Err Halt.Failed) }
+{
+    let next = sharding.under(load);
+    if next.shards != sharding.shards && shipper.reshard(rt, next.shards).is_err() {
+        return Err(Halt::Failed);
+    }
+    Ok(next)
+}
