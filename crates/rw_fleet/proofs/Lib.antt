@@ -1,4 +1,5 @@
 pub mod PutLemmas
+pub mod WindowLemmas
 pub mod ListLemmas
 pub mod LaneLemmas
 pub mod JoinedLemmas

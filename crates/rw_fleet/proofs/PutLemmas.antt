@@ -44,9 +44,9 @@ map_length (p ∷ ps) = ap suc (map_length ps)
 pub positions_length : (xs : List Item) (ps : List ℕ) → ps ≡ positions_in xs → length ps ≡ length (places_in xs)
 positions_length xs ps is = ap length is ∙ map_length (places_in xs)
 
-pub positions_more : (xs zs : List Item) (x : Item) (p : Place) (was here now : List ℕ) → zs ≡ xs ++ x ∷ [] → places_in (x ∷ []) ≡ p ∷ [] → was ≡ positions_in xs → here ≡ was → now ≡ here ++ p.pos ∷ [] → now ≡ positions_in zs
-positions_more xs zs x p was here now is one old same new =
-    new ∙ ap (λ l. l ++ p.pos ∷ []) (same ∙ old) ∙ sym (ap (λ l. map (λ (q : Place). q.pos) (places_in l)) is ∙ ap (map (λ (q : Place). q.pos)) (places_append xs (x ∷ []) ∙ ap (λ ps. places_in xs ++ ps) one) ∙ map_append (places_in xs) (p ∷ []))
+pub positions_more : (xs zs : List Item) (x : Item) (p : Place) (was now : List ℕ) → zs ≡ xs ++ x ∷ [] → places_in (x ∷ []) ≡ p ∷ [] → was ≡ positions_in xs → now ≡ was ++ p.pos ∷ [] → now ≡ positions_in zs
+positions_more xs zs x p was now is one old new =
+    new ∙ ap (λ l. l ++ p.pos ∷ []) old ∙ sym (ap (λ l. map (λ (q : Place). q.pos) (places_in l)) is ∙ ap (map (λ (q : Place). q.pos)) (places_append xs (x ∷ []) ∙ ap (λ ps. places_in xs ++ ps) one) ∙ map_append (places_in xs) (p ∷ []))
 
 -- the next sample of a shard, part by part
 pub as_put : (lane : Lane) (s : Logged) (epoch shard seq : ℕ) (t : ℤ) → epoch ≡ lane.setup.queue.epoch → shard ≡ lane.setup.queue.shard → seq ≡ length (places_in lane.put) → t ≡ s.t

@@ -1,5 +1,5 @@
 -- The last item of a queue, and what it says of the worker.
-use Rattle.std.proofs.Common.{◌≡◌, ◌⊎◌, inl, inr, ℕ, zero, suc, ◌+◌, ◌<◌, below_more, Bool, true, false, List, [], ◌∷◌, ◌++◌, length, map, Some, None, refl, sym, ap, ◌∙◌, subst, eq-eqb}
+use Rattle.std.proofs.Common.{◌≡◌, ◌⊎◌, inl, inr, ℕ, zero, suc, ◌+◌, ◌<◌, below_more, Bool, true, false, List, [], ◌∷◌, ◌++◌, length, map, Some, None, refl, sym, ap, ◌∙◌, subst, drop, length-drop, arith, eq-eqb}
 use Rattle.std.specs.Prelude.{slice_get, ◌==◌, ◌&&◌}
 use Rattle.rw_shard_queue.specs.Items.{samples_in}
 use Rattle.rw_shard_queue.specs.declared.item.Item.{Item}
@@ -105,14 +105,16 @@ module _ {T : Type 0} where
 
 module _ {T : Type 0} (tells : T → Type 0) (seen : T → List Exchange) where
   -- a worker that took the End, which was not hard, and did not stop, has resolved all
-  pub report_done : (setup : Setup) (begun : T) (r : WorkerReport T) (ends : Ends) (positions : List ℕ) → IsReport tells seen setup begun r → taken_of ends ≡ (drain_of r.end).taken → (is_compared ends ≡ true → IsEndTaken r.end)
-      → positions ≡ positions_in (put_of ends) → is_compared ends ≡ true → r.stopped ≡ false → IsSoft (put_of ends) → (is_compared ends && (r.resolved == length positions)) ≡ true
-  report_done setup begun r (Apart f e) positions h taken ended is compared live soft = absurd (cc)
-  report_done setup begun r (Compared w) positions h taken ended is compared live soft =
+  pub report_done : (setup : Setup) (begun : T) (r : WorkerReport T) (ends : Ends) (left : List ℕ) → IsReport tells seen setup begun r → taken_of ends ≡ (drain_of r.end).taken → (is_compared ends ≡ true → IsEndTaken r.end)
+      → left ≡ drop r.resolved (positions_in (put_of ends)) → is_compared ends ≡ true → r.stopped ≡ false → IsSoft (put_of ends) → (is_compared ends && (length left == 0)) ≡ true
+  report_done setup begun r (Apart f e) left h taken ended is compared live soft = absurd (cc)
+  report_done setup begun r (Compared w) left h taken ended is compared live soft =
       let orderly = orderly_of r.end h.steps w.items (ended refl) h.hard (h.made.items ∙ sym taken) soft in
       let whole = h.whole live orderly in
-      let count : r.resolved ≡ length positions = h.counted ∙ ap length whole ∙ ap (λ xs. length (samples_in xs)) (sym taken) ∙ sym (ap length is ∙ positions_samples w.items) in
-      eq-eqb r.resolved (length positions) count
+      let count : r.resolved ≡ length (positions_in w.items) = h.counted ∙ ap length whole ∙ ap (λ xs. length (samples_in xs)) (sym taken) ∙ sym (positions_samples w.items) in
+      let len = ap length is ∙ length-drop r.resolved (positions_in w.items) in
+      let none : length left ≡ 0 = omega arith in
+      eq-eqb (length left) 0 none
 
   worked_at : (js : List (Joined T)) (k : ℕ) (j : Joined T) → AreWorked tells seen js → slice_get js k ≡ Some j → IsWorked tells seen j
   worked_at [] k j h at = absurd (let at' : None ≡ Some j = at in cc)

@@ -13,9 +13,9 @@ pub record Lane : Type 0 where
   pub setup : Setup
   pub put : List Item
 
--- a worker sends as it was configured
+-- a worker sends as it was configured, out of a queue of that capacity
 abbrev pub IsSetUp : ConfigFields → Setup → Type 0
-IsSetUp config setup = (setup.target ≡ config.target) × (setup.batch ≡ config.batch)
+IsSetUp config setup = (setup.target ≡ config.target) × (setup.batch ≡ config.batch) × (setup.queue.capacity ≡ config.capacity)
 
 abbrev pub AreSetUp : ConfigFields → List Lane → Type 0
 AreSetUp config [] = ⊤

@@ -1,3 +1,4 @@
+pub mod Positions
 pub mod Lanes
 pub mod Work
 pub mod Fleets

@@ -1,5 +1,5 @@
 -- What a shard did, once its worker's thread has ended.
-use Rattle.std.specs.Prelude.{◌≡◌, ◌⊎◌, ℕ, ◌==◌, ◌&&◌, Bool, true, false, List, [], ◌∷◌, ◌++◌, length, map, Some, slice_get, ⊤}
+use Rattle.std.specs.Prelude.{◌≡◌, ◌⊎◌, ℕ, ◌+◌, ◌≤◌, ◌==◌, ◌&&◌, Bool, true, false, List, [], ◌∷◌, ◌++◌, length, map, drop, Some, slice_get, ⊤}
 use Rattle.rw_types.specs.declared.place.Place.{Place}
 use Rattle.rw_shard_queue.specs.Items.{places_in}
 use Rattle.rw_shard_queue.specs.declared.item.Item.{Item}
@@ -51,7 +51,7 @@ is_compared (Apart f end) = false
 
 -- all that was put was taken, and is resolved
 abbrev pub is_resolved : {T : Type 0} → Joined T → Bool
-is_resolved j = is_compared j.finished.ends && (j.finished.resolved == length j.positions.items)
+is_resolved j = is_compared j.finished.ends && (length j.abandoned.items == 0)
 
 -- the last item is not an End at which nothing more is sent
 abbrev pub IsSoft : List Item → Type 0
@@ -66,7 +66,7 @@ abbrev pub IsEndTaken : TakingEnd → Type 0
 IsEndTaken (taking.Ended kind d) = ⊤
 IsEndTaken (taking.Killed d) = ⊥
 
--- A shard's ends and counts are what a worker of this queue reported, over a transport that had told nothing.
+-- A shard's ends and counts are what a worker of this queue reported, over a transport that had told nothing. The samples behind those resolved are abandoned: no more than the queue holds, and a batch.
 pub record IsWorked {T : Type 0} (tells : T → Type 0) (seen : T → List Exchange) (j : Joined T) : Type 0 where
   pub begun : T
   pub end : TakingEnd
@@ -75,7 +75,8 @@ pub record IsWorked {T : Type 0} (tells : T → Type 0) (seen : T → List Excha
   pub taken : taken_of j.finished.ends ≡ (drain_of end).taken
   pub begins : IsTakenOf j.finished.ends
   pub report : IsReport tells seen j.worker.value begun (record { end = end; resolved = j.finished.resolved; stopped = j.finished.stopped; ledger = j.part; transport = j.finished.transport })
-  pub counted : j.positions.items ≡ positions_in (put_of j.finished.ends)
+  pub abandoned : j.abandoned.items ≡ drop j.finished.resolved (positions_in (put_of j.finished.ends))
+  pub few : length j.abandoned.items ≤ j.worker.value.queue.capacity + j.worker.value.batch
   pub done : is_compared j.finished.ends ≡ true → j.finished.stopped ≡ false → IsSoft (put_of j.finished.ends) → is_resolved j ≡ true
 
 abbrev pub AreWorked : {T : Type 0} → (T → Type 0) → (T → List Exchange) → List (Joined T) → Type 0

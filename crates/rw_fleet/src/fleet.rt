@@ -94,13 +94,24 @@ impl<C: Connect + Drop> Fleet<C> {
         self.epoch
     }
 
+    /// How many of the samples that a shard was put may wait to be resolved.
+    pub fn window(&self) -> usize
+        ensures { result ≡ self.now.config.capacity + self.now.config.batch }
+    {
+        let fields = self.config.fields();
+        fields.capacity.get() as usize + fields.batch.get() as usize
+    }
+
     /// How far the samples have come. Of a shard at work as many may wait as its queue and one batch hold.
     pub fn load(&self) -> Load {
-        let fields = self.config.fields();
-        let waiting = fields.capacity.get().saturating_add(fields.batch.get());
+        let waiting = self.window() as u64;
         let mut load = Load::none();
         for shard in self.joined.iter() {
-            load = load.with(shard.positions.len() as u64, shard.finished.resolved);
+            let resolved = shard.finished.resolved;
+            load = load.with(
+                resolved.saturating_add(shard.abandoned.len() as u64),
+                resolved,
+            );
         }
         for shard in self.running.iter() {
             let placed = shard.count();
@@ -167,6 +178,8 @@ impl<C: Connect + Drop> Fleet<C> {
     pub fn close<R: Threads + Wait>(&mut self, rt: &R) -> bool
         requires { self.old.epoch + 1 < 2 ^ 64 }
         ensures closed { HasClosed self.old self.new }
+        ensures worked { AreWorked C.T.tells C.T.seen self.new.ended }
+        ensures setup { AreSetUp self.new.config (map lane_of self.new.ended) }
         ensures resolved { result ≡ true → AreResolved self.new.ended }
     {
         let running = replace(&mut self.running, Vec::new(self.alloc));

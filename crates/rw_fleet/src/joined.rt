@@ -1,6 +1,6 @@
 //! A shard whose worker has ended.
 
-ghost use Rattle.std.specs.Prelude.{◌≡◌, drop};
+ghost use Rattle.std.specs.Prelude.{◌≡◌};
 ghost use Rattle.rw_fleet.specs.Work.{is_resolved};
 
 use crate::ends::Ends;
@@ -24,8 +24,8 @@ pub struct Finished<T> {
 pub struct Joined<T> {
     /// What the worker was set up with.
     pub worker: Snapshot<Worker>,
-    /// The positions of the samples that were put.
-    pub positions: Vec<u64>,
+    /// The positions of the samples that were put and are not resolved.
+    pub abandoned: Vec<u64>,
     /// The refused samples, each with the status of its batch.
     pub part: Ledger,
     pub finished: Finished<T>,
@@ -37,19 +37,8 @@ impl<T: Transport> Joined<T> {
         ensures { result ≡ is_resolved self.now }
     {
         if let Ends::Compared(_) = &self.finished.ends {
-            return self.finished.resolved == self.positions.len() as u64;
+            return self.abandoned.is_empty();
         }
         false
-    }
-
-    /// The positions of the samples that were put and are not resolved.
-    pub fn abandoned(&self) -> &[u64]
-        ensures { result.now ≡ drop self.now.finished.resolved self.now.positions.items }
-    {
-        let all = self.positions.as_slice();
-        if self.finished.resolved >= all.len() as u64 {
-            return &all[all.len()..];
-        }
-        &all[self.finished.resolved as usize..]
     }
 }

@@ -8,6 +8,7 @@ mod joined;
 mod lists;
 mod load;
 mod running;
+mod window;
 
 pub use connect::Connect;
 pub use ends::{Ends, Fed};

@@ -9,6 +9,7 @@ ghost use Rattle.rw_fleet.specs.Work.{lane_of, IsSoft, IsWorked};
 
 use crate::ends::{Fed, end_of, meet};
 use crate::joined::{Finished, Joined};
+use crate::window::Window;
 use rw_feeder::Logged;
 use rw_ruled_queue::{Feed, Item, Kind, Open, open};
 use rw_sender::Config;
@@ -36,13 +37,13 @@ pub(crate) struct Running<T: Transport + Send + Drop + 'static> {
     shard: u32,
     feed: Feed<Open>,
     /// Of the samples that were put.
-    positions: Vec<u64>,
+    window: Window,
     worker: Snapshot<Worker>,
     handle: PromisedHandle<WorkerReport<T>, Begun<T>>,
 }
 
 impl<T: Transport + Send + Drop + 'static> Model for Running<T> {
-    ghost use Rattle.std.specs.Prelude.{◌≡◌, []};
+    ghost use Rattle.std.specs.Prelude.{◌≡◌, ◌+◌, []};
     ghost use Rattle.rw_fleet.specs.Lanes.{Lane};
     ghost use Rattle.rw_fleet.specs.Work.{positions_in, IsSoft};
 
@@ -50,26 +51,27 @@ impl<T: Transport + Send + Drop + 'static> Model for Running<T> {
 
     ghost view = { λ r. record { setup = r.worker.value; put = r.feed.put } };
 
-    ghost invariant = { λ r. (r.positions.items ≡ positions_in r.feed.put)
+    ghost invariant = { λ r. (r.window.all ≡ positions_in r.feed.put)
         × (r.epoch ≡ r.feed.queue.epoch)
         × (r.shard ≡ r.feed.queue.shard)
         × (r.worker.value.queue ≡ r.feed.queue)
         × (r.handle.promise.worker.value ≡ r.worker.value)
         × (T.seen r.handle.promise.transport.value ≡ [])
-        × IsSoft r.feed.put };
+        × IsSoft r.feed.put
+        × (r.window.most ≡ r.worker.value.queue.capacity + r.worker.value.batch) };
 }
 
 /// A shard that is to end. Contracts see what its worker is set up with, and what was put into its queue.
 #[derive(Drop)]
 pub(crate) struct Ending<T: Transport + Send + Drop + 'static> {
     fed: Fed,
-    positions: Vec<u64>,
+    window: Window,
     worker: Snapshot<Worker>,
     handle: PromisedHandle<WorkerReport<T>, Begun<T>>,
 }
 
 impl<T: Transport + Send + Drop + 'static> Model for Ending<T> {
-    ghost use Rattle.std.specs.Prelude.{◌≡◌, []};
+    ghost use Rattle.std.specs.Prelude.{◌≡◌, ◌+◌, []};
     ghost use Rattle.rw_fleet.specs.Lanes.{Lane};
     ghost use Rattle.rw_fleet.specs.Work.{feeding, positions_in};
 
@@ -77,10 +79,11 @@ impl<T: Transport + Send + Drop + 'static> Model for Ending<T> {
 
     ghost view = { λ r. record { setup = r.worker.value; put = (feeding r.fed).put } };
 
-    ghost invariant = { λ r. (r.positions.items ≡ positions_in (feeding r.fed).put)
+    ghost invariant = { λ r. (r.window.all ≡ positions_in (feeding r.fed).put)
         × (r.worker.value.queue ≡ (feeding r.fed).queue)
         × (r.handle.promise.worker.value ≡ r.worker.value)
-        × (T.seen r.handle.promise.transport.value ≡ []) };
+        × (T.seen r.handle.promise.transport.value ≡ [])
+        × (r.window.most ≡ r.worker.value.queue.capacity + r.worker.value.batch) };
 }
 
 impl<T: Transport + Send + Drop + 'static> Running<T> {
@@ -100,7 +103,9 @@ impl<T: Transport + Send + Drop + 'static> Running<T> {
         ensures setup { IfOk result (λ r. IsSetUp config.now r.setup) }
         ensures empty { IfOk result (λ r. r.put ≡ []) }
     {
-        let capacity = config.fields().capacity.get() as usize;
+        let fields = config.fields();
+        let capacity = fields.capacity.get() as usize;
+        let window = Window::new(alloc, capacity + fields.batch.get() as usize)?;
         let (feed, drain) = open(alloc, epoch, shard, capacity)?;
         let Ok(worker) = Worker::new(alloc, config, epoch, shard, drain) else {
             return Err(AllocError);
@@ -111,7 +116,7 @@ impl<T: Transport + Send + Drop + 'static> Running<T> {
             epoch,
             shard,
             feed,
-            positions: Vec::new(alloc),
+            window,
             worker: begun,
             handle,
         })
@@ -119,7 +124,7 @@ impl<T: Transport + Send + Drop + 'static> Running<T> {
 
     /// How many samples were put.
     pub(crate) fn count(&self) -> u64 {
-        self.positions.len() as u64
+        self.window.len()
     }
 
     /// Puts a sample. It may wait for room.
@@ -135,11 +140,8 @@ impl<T: Transport + Send + Drop + 'static> Running<T> {
             word,
             labels,
         } = logged;
-        let seq = self.positions.len() as u64;
+        let seq = self.window.len();
         if seq >= 1 << 60 {
-            return Err(Fault::OutOfMemory);
-        }
-        if self.positions.reserve(1).is_err() {
             return Err(Fault::OutOfMemory);
         }
         let place = Place {
@@ -153,7 +155,7 @@ impl<T: Transport + Send + Drop + 'static> Running<T> {
         if let Err(_) = self.feed.put(rt, item) {
             return Err(Fault::Gone);
         }
-        self.positions.push_reserved(pos);
+        self.window.push(pos);
         Ok(())
     }
 
@@ -178,14 +180,14 @@ impl<T: Transport + Send + Drop + 'static> Running<T> {
             epoch: _,
             shard: _,
             feed,
-            positions,
+            window,
             worker,
             handle,
         } = self;
         let fed = end_of(rt, feed, kind);
         Ending {
             fed,
-            positions,
+            window,
             worker,
             handle,
         }
@@ -200,7 +202,7 @@ impl<T: Transport + Send + Drop + 'static> Ending<T> {
     {
         let Ending {
             fed,
-            positions,
+            window,
             worker,
             handle,
         } = self;
@@ -212,9 +214,10 @@ impl<T: Transport + Send + Drop + 'static> Ending<T> {
             transport,
         } = handle.join(rt);
         let ends = meet(rt, fed, end);
+        let abandoned = window.behind(resolved);
         Joined {
             worker,
-            positions,
+            abandoned,
             part: ledger,
             finished: Finished {
                 ends,

@@ -7,10 +7,11 @@ use Rattle.crossbeam_channel.specs.Claims.{Pass, view}
 use Rattle.rw_shard_queue.specs.declared.item.Item.{Item}
 use Rattle.rw_ruled_queue.specs.declared.rule.Log.{Log}
 
--- which queue it is: the shard and its epoch, and what no other channel shares with it
+-- which queue it is: the shard and its epoch, how many items it holds at most, and what no other channel shares with it
 pub record QueueId : Type 0 where
   pub epoch : ℕ
   pub shard : ℕ
+  pub capacity : ℕ
   pub table : TableId
   pub key : Badge (Key Item)
 
@@ -19,7 +20,7 @@ abbrev pub log_of : Pass Item Log → Log
 log_of p = view p
 
 abbrev pub queue_of : Pass Item Log → QueueId
-queue_of p = record { epoch = (log_of p).epoch; shard = (log_of p).shard; table = p.table_id; key = p.me.0.of }
+queue_of p = record { epoch = (log_of p).epoch; shard = (log_of p).shard; capacity = (log_of p).capacity; table = p.table_id; key = p.me.0.of }
 
 -- the end that puts: its queue, how many items the queue holds at most, and what was put
 pub record Feeding : Type 0 where

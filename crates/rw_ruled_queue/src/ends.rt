@@ -36,7 +36,7 @@ impl<S: Stage> Model for Feed<S> {
 
     ghost view = { λ f. record { queue = queue_of f.pass; capacity = ruled_capacity (sends_on f.sender); put = (log_of f.pass).put } };
 
-    ghost invariant = { λ f. IsSeatAt (sends_on f.sender) f.pass × (log_of f.pass ≡ feeder (log_of f.pass).epoch (log_of f.pass).shard (log_of f.pass).put) × IsHistory (log_of f.pass).epoch (log_of f.pass).shard (log_of f.pass).put × S.stands (log_of f.pass).put };
+    ghost invariant = { λ f. IsSeatAt (sends_on f.sender) f.pass × (log_of f.pass ≡ feeder (log_of f.pass).epoch (log_of f.pass).shard (log_of f.pass).capacity (log_of f.pass).put) × IsHistory (log_of f.pass).epoch (log_of f.pass).shard (log_of f.pass).put × S.stands (log_of f.pass).put × ((log_of f.pass).capacity ≡ ruled_capacity (sends_on f.sender)) };
 }
 
 /// The end that takes. Contracts see its queue and what was taken.
@@ -59,7 +59,7 @@ impl<S: Stage> Model for Drain<S> {
 
     ghost view = { λ d. record { queue = queue_of d.pass; taken = (log_of d.pass).taken } };
 
-    ghost invariant = { λ d. MatchOption d.receiver S.let_go (λ r. IsSeatAt (receives_on r) d.pass) × (d.pass.me.1 ≡ []) × (log_of d.pass ≡ drainer (log_of d.pass).epoch (log_of d.pass).shard (log_of d.pass).taken) × IsHistory (log_of d.pass).epoch (log_of d.pass).shard (log_of d.pass).taken × S.stands (log_of d.pass).taken };
+    ghost invariant = { λ d. MatchOption d.receiver S.let_go (λ r. IsSeatAt (receives_on r) d.pass) × (d.pass.me.1 ≡ []) × (log_of d.pass ≡ drainer (log_of d.pass).epoch (log_of d.pass).shard (log_of d.pass).capacity (log_of d.pass).taken) × IsHistory (log_of d.pass).epoch (log_of d.pass).shard (log_of d.pass).taken × S.stands (log_of d.pass).taken };
 }
 
 /// What a take gives, with the end as it then is.
@@ -173,9 +173,10 @@ fn open_named<Q: Naming>(
     capacity: usize,
 ) -> Result<(Feed<Open>, Drain<Open>), AllocError>
     requires capacity { 0 < capacity }
-    requires name { (epoch ≡ Q.epoch) × (shard ≡ Q.shard) }
+    requires name { (epoch ≡ Q.epoch) × (shard ≡ Q.shard) × (capacity ≡ Q.capacity) }
     ensures same { IfOk result (λ r. r.0.queue ≡ r.1.queue) }
     ensures queue { IfOk result (λ r. (r.0.queue.epoch ≡ epoch) × (r.0.queue.shard ≡ shard) × (r.0.capacity ≡ capacity)) }
+    ensures most { IfOk result (λ r. r.0.queue.capacity ≡ capacity) }
     ensures empty { IfOk result (λ r. (r.0.put ≡ []) × (r.1.taken ≡ [])) }
 {
     let (sender, receiver, mut pass) = bounded_with::<Item, Log, InOrder, Global>(alloc, capacity)?;
@@ -203,6 +204,7 @@ pub fn open(
     requires { 0 < capacity }
     ensures same { IfOk result (λ r. r.0.queue ≡ r.1.queue) }
     ensures queue { IfOk result (λ r. (r.0.queue.epoch ≡ epoch) × (r.0.queue.shard ≡ shard) × (r.0.capacity ≡ capacity)) }
+    ensures most { IfOk result (λ r. r.0.queue.capacity ≡ capacity) }
     ensures empty { IfOk result (λ r. (r.0.put ≡ []) × (r.1.taken ≡ [])) }
 {
     open_named::<Brand>(alloc, epoch, shard, capacity)

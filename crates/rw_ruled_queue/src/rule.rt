@@ -1,4 +1,4 @@
-//! The rule of a queue: what was put is what was taken and then what the channel holds.
+//! The rule of a queue: what was put is what was taken and then what the channel holds, which is no more than its capacity.
 
 ghost use Rattle.std.specs.Prelude.{ℕ};
 
@@ -13,21 +13,26 @@ pub struct Log {
     pub drains: bool,
     pub epoch: u64,
     pub shard: u32,
+    pub capacity: usize,
     pub put: LinkedList<Item>,
     pub taken: LinkedList<Item>,
 }
 
-/// Names a shard of an epoch.
+/// Names a shard of an epoch, and the capacity of its queue.
 pub trait Naming {
     ghost epoch: { ℕ };
 
     ghost shard: { ℕ };
+
+    ghost capacity: { ℕ };
 }
 
 impl Naming for Brand {
     ghost epoch = { 0 };
 
     ghost shard = { 0 };
+
+    ghost capacity = { 0 };
 }
 
 /// The rule.
@@ -50,9 +55,9 @@ impl<Q: Naming> Split<Log> for Opens<Q> {
     ghost use Rattle.std.specs.Prelude.{[]};
     ghost use Rattle.rw_ruled_queue.specs.Rule.{feeder, drainer};
 
-    ghost left = { λ v. feeder Q.epoch Q.shard [] };
+    ghost left = { λ v. feeder Q.epoch Q.shard Q.capacity [] };
 
-    ghost right = { λ v. drainer Q.epoch Q.shard [] };
+    ghost right = { λ v. drainer Q.epoch Q.shard Q.capacity [] };
 }
 
 /// Gives the ends of a queue in use to two hands.
@@ -61,9 +66,9 @@ pub struct Parts;
 impl Split<Log> for Parts {
     ghost use Rattle.rw_ruled_queue.specs.Rule.{feeder, drainer};
 
-    ghost left = { λ v. feeder v.epoch v.shard v.put };
+    ghost left = { λ v. feeder v.epoch v.shard v.capacity v.put };
 
-    ghost right = { λ v. drainer v.epoch v.shard v.taken };
+    ghost right = { λ v. drainer v.epoch v.shard v.capacity v.taken };
 }
 
 /// Brings both ends into one hand.
@@ -72,7 +77,7 @@ pub struct Meets;
 impl Join<Log> for Meets {
     ghost use Rattle.rw_ruled_queue.specs.Rule.{both, nobody};
 
-    ghost both = { λ v w. both v.epoch v.shard v.put w.taken };
+    ghost both = { λ v w. both v.epoch v.shard v.capacity v.put w.taken };
 
     ghost spent = { nobody };
 }
@@ -84,7 +89,7 @@ impl Outcome<Item, Log> for Puts {
     ghost use Rattle.std.specs.Prelude.{◌≡◌, ◌++◌, ◌∷◌, []};
     ghost use Rattle.rw_ruled_queue.specs.Rule.{feeder};
 
-    ghost then = { λ v x w. w ≡ feeder v.epoch v.shard (v.put ++ x ∷ []) };
+    ghost then = { λ v x w. w ≡ feeder v.epoch v.shard v.capacity (v.put ++ x ∷ []) };
 }
 
 impl Lesson<Item, Log> for Puts {

@@ -1,6 +1,6 @@
 //! What the two ends of a queue tell of each other.
 
-ghost use Rattle.std.specs.Prelude.{◌≡◌};
+ghost use Rattle.std.specs.Prelude.{◌≡◌, ◌+◌, ◌≤◌, length};
 ghost use Rattle.rw_shard_queue.specs.History.{IsHistory, IsEnded};
 ghost use Rattle.rw_ruled_queue.specs.Ends.{IsBeginning};
 
@@ -28,7 +28,7 @@ impl Model for Whole {
 
     ghost view = { λ w. record { queue = queue_of w.pass; items = (log_of w.pass).put } };
 
-    ghost invariant = { λ w. log_of w.pass ≡ both (log_of w.pass).epoch (log_of w.pass).shard (log_of w.pass).put (log_of w.pass).put };
+    ghost invariant = { λ w. log_of w.pass ≡ both (log_of w.pass).epoch (log_of w.pass).shard (log_of w.pass).capacity (log_of w.pass).put (log_of w.pass).put };
 }
 
 /// Keeps the two ends of an ended queue together: what was put is what was taken. It waits for nobody.
@@ -59,11 +59,12 @@ pub fn compare<R>(_rt: &R, feed: Feed<Ended>, drain: Drain<Ended>) -> Whole
     }
 }
 
-/// The two ends of a queue as they were: what was taken is a beginning of what was put. It waits for nobody.
+/// The two ends of a queue as they were: what was taken is a beginning of what was put, and what is left fits the queue. It waits for nobody.
 pub fn begins<S: Stage, T: Stage>(feed: Feed<S>, drain: Drain<T>) -> (Feed<S>, Drain<T>)
     requires { feed.queue ≡ drain.queue }
     ensures same { (result.0 ≡ feed) × (result.1 ≡ drain) }
     ensures begins { IsBeginning drain.taken feed.put }
+    ensures within { length feed.put ≤ length drain.taken + feed.queue.capacity }
 {
     let Feed {
         sender,

@@ -2,4 +2,5 @@ pub mod AnswerLemmas
 pub mod PartLemmas
 pub mod PrintLemmas
 pub mod SegmentLemmas
+pub mod ShortLemmas
 pub mod SureLemmas

@@ -1,5 +1,5 @@
 -- The pieces of a log that stands in several segments.
-use Rattle.std.specs.Prelude.{◌≡◌, ℕ, Bool, true, false, List, [], ◌∷◌, ◌++◌, Option, Some, None, ⊤}
+use Rattle.std.specs.Prelude.{◌≡◌, ℕ, ◌≤◌, Bool, true, false, List, [], ◌∷◌, ◌++◌, length, Option, Some, None, ⊤}
 use Rattle.std.specs.Io.KnownBytes.{Consumes}
 use Rattle.rw_codes.specs.Pieces.{Piece, bytes, next_segment}
 
@@ -11,6 +11,15 @@ texts_after text (next_segment ∷ pieces) = text ∷ texts_after [] pieces
 
 abbrev pub texts : List Piece → List (List ℕ)
 texts pieces = texts_after [] pieces
+
+-- a piece has at most 64 KiB
+abbrev pub IsShort : Piece → Type 0
+IsShort (bytes b) = length b ≤ 65536
+IsShort next_segment = ⊤
+
+abbrev pub AreShort : List Piece → Type 0
+AreShort [] = ⊤
+AreShort (piece ∷ pieces) = IsShort piece × AreShort pieces
 
 -- a reader gave all that it had left, where that is known
 abbrev pub IsAllOf : Option (List ℕ) → List ℕ → Type 0

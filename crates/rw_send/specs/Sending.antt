@@ -17,7 +17,7 @@ use Rattle.rw_tool.specs.declared.fault.ToolFault.TheVariants as fault
 use Rattle.rw_send.specs.declared.halt.Halt.{Halt}
 use Rattle.rw_send.specs.declared.halt.Halt.TheVariants as halt
 use Rattle.rw_send.specs.ReportText.{IsTextOf, WritesPart}
-use Rattle.rw_send.specs.Segments.{IsBeginningOf, IsLogOf}
+use Rattle.rw_send.specs.Segments.{AreShort, IsBeginningOf, IsLogOf}
 
 -- a shipper that was configured so was fed these pieces, and this is the report of its stop
 pub record IsReportOf {T : Type 0} (tells : T → Type 0) (seen : T → List Exchange) (c : ConfigFields) (pieces : List Piece) (r : Report T) : Type 0 where
@@ -53,10 +53,11 @@ abbrev pub AreSure : List Bool → Type 0
 AreSure [] = ⊤
 AreSure (sure ∷ sures) = (sure ≡ true) × AreSure sures
 
--- A beginning of the segments that readers had left, which are sure or not, was shipped, with this report and this answer.
+-- A beginning of the segments that readers had left, which are sure or not, was shipped in short pieces, with this report and this answer.
 pub record IsSent {T : Type 0} (tells : T → Type 0) (seen : T → List Exchange) (c : ConfigFields) (lefts : List (Option (List ℕ))) (sures : List Bool) (r : Report T) (answer : Result (Unit {0}) ToolFault) : Type 0 where
   pub pieces : List Piece
   pub begins : IsBeginningOf lefts pieces
+  pub short : AreShort pieces
   pub report : IsReportOf tells seen c pieces r
   pub answers : Answers (IsLogOf lefts pieces) (AreSure sures → ⊥) r.outcome answer
 

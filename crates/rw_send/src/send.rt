@@ -89,8 +89,8 @@ fn ship<R: Threads + Wait + Copy + Send + 'static, S: Source + Drop, C: Connect 
 }
 
 /// Ships the segments of a log in their order, stops, and prints the report: `dropped POS REASON` by position, `filtered COUNT`,
-/// `abandoned POS` by position, and `report ..`, each line ended by LF. Of what was read the labels of series, the positions of samples and
-/// the dropped samples are kept, and nothing else.
+/// `abandoned POS` by position, and `report ..`, each line ended by LF. Of what was read the labels of series, the samples that wait to be
+/// answered for and the dropped ones are kept, and nothing else.
 ///
 /// A segment is fed as it is read, in pieces of at most 64 KiB. After each one the number of shards is changed to what is wanted under the load.
 /// A log fault ends the reading, and what stands before it is still shipped. Where memory or a thread is refused, a worker has gone or a

@@ -1,8 +1,8 @@
 //! The segments of a log are fed to a shipper.
 
-ghost use Rattle.std.specs.Prelude.{◌≡◌, ◌⊎◌, [], map, true, false, None, Ok, Err, IfOk, IfErr, OnOk, OnErr, vec_len};
+ghost use Rattle.std.specs.Prelude.{◌≡◌, ◌≤◌, ◌⊎◌, [], length, map, true, false, None, Ok, Err, IfOk, IfErr, OnOk, OnErr, vec_len};
 ghost use Rattle.std.specs.Io.KnownBytes.{Consumes, IsAtEnd};
-ghost use Rattle.rw_send.specs.Segments.{Begins, IsBeginningOf, IsFed, IsFedMore, IsFedPart, IsLogOf};
+ghost use Rattle.rw_send.specs.Segments.{AreShort, Begins, IsBeginningOf, IsFed, IsFedMore, IsFedPart, IsLogOf};
 ghost use Rattle.rw_send.specs.Sending.{AreSure, IsHalted, IsKept};
 ghost use Rattle.rw_send.specs.declared.halt.Halt.TheVariants.{Unreadable};
 
@@ -27,6 +27,7 @@ fn zeros(alloc: Global) -> Result<Vec<u8>, AllocError>
 /// Reads some bytes of a segment; none at its end.
 fn read_piece<S: Source>(alloc: Global, segment: &mut S) -> Result<Vec<u8>, Halt>
     ensures bytes { IfOk result (λ v. Consumes (S.remaining segment.old) (S.remaining segment.new) v.items) }
+    ensures short { IfOk result (λ v. length v.items ≤ PIECE_BYTES) }
     ensures end { IfOk result (λ v. vec_len v ≡ 0 → IsAtEnd (S.remaining segment.new)) }
     ensures sure { S.is_sure segment.old ≡ true → (S.is_sure segment.new ≡ true) × (result ≡ Err Unreadable → ⊥) }
     ensures err { IfErr result (λ h. (h ≡ Halt.Failed) ⊎ (h ≡ Unreadable)) }
@@ -46,6 +47,7 @@ fn ship_piece<R: Wait, S: Source, C: Connect + Drop>(
 ) -> Result<bool, Halt>
     requires { shipper.old.fault ≡ None }
     ensures kept { IsKept shipper.old shipper.new }
+    ensures short { AreShort shipper.old.log.pieces → AreShort shipper.new.log.pieces }
     ensures sound { OnOk result (shipper.new.fault ≡ None) }
     ensures more { result ≡ Ok true → IsFedMore (S.remaining segment.old) (S.remaining segment.new) shipper.old.log.pieces shipper.new.log.pieces }
     ensures end { result ≡ Ok false → Consumes (S.remaining segment.old) (S.remaining segment.new) [] × IsAtEnd (S.remaining segment.new) × (shipper.new.log.pieces ≡ shipper.old.log.pieces) }
@@ -70,6 +72,7 @@ fn ship_segment<R: Wait, S: Source + Drop, C: Connect + Drop>(
 ) -> Result<(), Halt>
     requires { shipper.old.fault ≡ None }
     ensures kept { IsKept shipper.old shipper.new }
+    ensures short { AreShort shipper.old.log.pieces → AreShort shipper.new.log.pieces }
     ensures sound { OnOk result (shipper.new.fault ≡ None) }
     ensures whole { OnOk result (IsFed (S.remaining segment) shipper.old.log.pieces shipper.new.log.pieces) }
     ensures part { OnErr result (IsFedPart (S.remaining segment) shipper.old.log.pieces shipper.new.log.pieces) }
@@ -93,6 +96,7 @@ fn begin_segment<R: Wait, C: Connect + Drop>(
 ) -> Result<(), Halt>
     requires { shipper.old.fault ≡ None }
     ensures kept { IsKept shipper.old shipper.new }
+    ensures short { AreShort shipper.old.log.pieces → AreShort shipper.new.log.pieces }
     ensures sound { OnOk result (shipper.new.fault ≡ None) }
     ensures begun { OnOk result (Begins is_first shipper.old.log.pieces shipper.new.log.pieces) }
     ensures part { OnErr result ((shipper.new.log.pieces ≡ shipper.old.log.pieces) ⊎ Begins is_first shipper.old.log.pieces shipper.new.log.pieces) }
@@ -121,6 +125,7 @@ pub(crate) fn ship_all<
     requires begun { shipper.old.log.pieces ≡ [] }
     requires sound { shipper.old.fault ≡ None }
     ensures kept { IsKept shipper.old shipper.new }
+    ensures short { AreShort shipper.new.log.pieces }
     ensures whole { OnOk result (IsLogOf (map S.remaining segments.items) shipper.new.log.pieces) }
     ensures begins { IsBeginningOf (map S.remaining segments.items) shipper.new.log.pieces }
     ensures halted { IfErr result (IsHalted shipper.new) }

@@ -1,82 +1,25 @@
--- How many samples shards were put, and the room for what is listed of them.
-use Rattle.std.proofs.Common.{false, ◌≡◌, ℕ, zero, suc, ◌+◌, ◌≤◌, List, [], ◌∷◌, ◌++◌, length, map, Some, None, refl, sym, ap, ◌∙◌, subst, append_assoc, append-nil, length-append, arith}
-use Rattle.std.specs.Prelude.{set, slice_get, drop, vec_len, vec_capacity, Bool, true, Result, Ok, is_ok, if◌then◌else◌}
-use Rattle.std.proofs.lemmas.List.{length-drop}
-use Rattle.rw_shard_queue.specs.Items.{Placed, samples_in}
-use Rattle.rw_shard_queue.specs.declared.item.Item.{Item}
-use Rattle.rw_shard_queue.specs.declared.item.Item.TheVariants as item
+-- How many samples of shards are not resolved, and the room for what is listed of them.
+use Rattle.std.proofs.Common.{◌≡◌, ℕ, zero, suc, ◌+◌, ◌≤◌, List, [], ◌∷◌, ◌++◌, length, map, Some, None, refl, sym, ap, ◌∙◌, subst, append_assoc, append-nil, length-append, arith}
+use Rattle.std.specs.Prelude.{◌*◌, ◌==◌, ◌&&◌, vec_len, vec_capacity, Bool, true, false, Result, Ok, is_ok, if◌then◌else◌}
+use Rattle.std.proofs.Math.Nat.{suc-mul, zero-mul, mul_comm, mul-le-mul_right}
+use Rattle.std.proofs.lemmas.Bool.Decides.{nat_tests}
+use Rattle.rw_sender.specs.declared.config.ConfigFields.{ConfigFields}
 use Rattle.rw_worker.specs.Transcript.{Exchange}
 use Rattle.rw_ledger.specs.Names.{Named}
-use Rattle.rw_fleet.specs.Lanes.{Lane, AreFresh, AreSame, AreSetUp, IsPut, put_as}
-use Rattle.rw_fleet.specs.Work.{lane_of, put_of, positions_in, AreResolved, AreWorked, HasCut}
+use Rattle.rw_fleet.specs.Lanes.{AreSame, AreSetUp, IsPut}
+use Rattle.rw_fleet.specs.Work.{lane_of, is_compared, is_resolved, AreResolved, AreWorked, HasCut}
 use Rattle.rw_fleet.specs.Fleets.{Shards, AreAll, HasClosed}
 use Rattle.rw_fleet.specs.declared.joined.Joined.{Joined}
 use Rattle.rw_feeder.specs.declared.logged.Logged.{Logged}
-use Rattle.rw_shipper.specs.Reports.{finished_of, part_of, abandoned_of, abandoned_in, samples_of, positions_of, HasListed, HasRoom, IsGrown, ListsAfter, IsRoomFor}
+use Rattle.rw_shipper.specs.Reports.{finished_of, part_of, abandoned_in, window_of, HasListed, HasRoom, IsGrown, ListsAfter, IsRoomFor}
 use Rattle.rw_shipper.specs.declared.lists.Lists.{Lists}
 use Rattle.rw_shipper.proofs.PlacementLemmas.{same_length, set_length}
-
-drop_within : (n : ℕ) (xs : List ℕ) → length (drop n xs) ≤ length xs
-drop_within n xs = let e = length-drop n xs in omega arith
-
-sum_of : (a b c d : ℕ) → d ≡ b + c → a + d ≡ (a + b) + c
-sum_of a b c d e = omega arith
-
-one_first : (a b c : ℕ) → a ≡ b + 1 → a + c ≡ (b + c) + 1
-one_first a b c e = omega arith
-
-one_later : (a b c : ℕ) → b ≡ c + 1 → a + b ≡ (a + c) + 1
-one_later a b c e = omega arith
 
 within : (a b c : ℕ) → a ≤ b → b ≤ c → a ≤ c
 within a b c h g = omega arith
 
 behind : (a b c : ℕ) → a + b ≤ c → b ≤ c
 behind a b c h = omega arith
-
-plus_zero : (n : ℕ) → n ≡ 0 → 0 + n ≡ 0
-plus_zero n e = omega arith
-
-zero_plus : (n : ℕ) → n ≡ 0 + n
-zero_plus n = omega arith
-
-samples_append : (xs ys : List Lane) → samples_of (xs ++ ys) ≡ samples_of xs + samples_of ys
-samples_append [] ys = zero_plus (samples_of ys)
-samples_append (x ∷ xs) ys = sum_of (length (samples_in x.put)) (samples_of xs) (samples_of ys) (samples_of (xs ++ ys)) (samples_append xs ys)
-
-same_samples : (ps qs : List Lane) → AreSame ps qs → samples_of qs ≡ samples_of ps
-same_samples [] [] h = refl
-same_samples [] (y ∷ ys) h = absurd h
-same_samples (x ∷ xs) [] h = absurd h
-same_samples (x ∷ xs) (y ∷ ys) h = ap (λ l. length l + samples_of ys) h.1 ∙ ap (λ n. length (samples_in x.put) + n) (same_samples xs ys h.2)
-
-lane_is : (a b : Lane) → Some a ≡ Some b → a ≡ b
-lane_is a b e = cc
-
-set_samples : (xs : List Lane) (k : ℕ) (was now : Lane) → slice_get xs k ≡ Some was → length (samples_in now.put) ≡ length (samples_in was.put) + 1 → samples_of (set xs k now) ≡ samples_of xs + 1
-set_samples [] k was now at len = absurd (let at' : None ≡ Some was = at in cc)
-set_samples (x ∷ xs) zero was now at len =
-    one_first (length (samples_in now.put)) (length (samples_in x.put)) (samples_of xs) (len ∙ ap (λ (l : Lane). length (samples_in l.put) + 1) (sym (lane_is x was at)))
-set_samples (x ∷ xs) (suc k) was now at len = one_later (length (samples_in x.put)) (samples_of (set xs k now)) (samples_of xs) (set_samples xs k was now at len)
-
-snoc_length : (xs : List Placed) (x : Placed) → length (xs ++ x ∷ []) ≡ length xs + 1
-snoc_length xs x = let e = length-append xs (x ∷ []) in omega arith
-
-put_samples : (k : ℕ) (s : Logged) (old new : List Lane) → IsPut k s old new → samples_of new ≡ samples_of old + 1
-put_samples k s old new put = ap samples_of put.is ∙ set_samples old k put.was put.now put.at (ap length put.put ∙ snoc_length (samples_in put.was.put) (put_as put.was s))
-
-no_samples : (ls : List Lane) → ((k : ℕ) (l : Lane) → slice_get ls k ≡ Some l → l.put ≡ []) → samples_of ls ≡ 0
-no_samples [] h = refl
-no_samples (x ∷ xs) h = ap (λ items. length (samples_in items) + samples_of xs) (h zero x refl) ∙ plus_zero (samples_of xs) (no_samples xs (λ k l at. h (suc k) l at))
-
-fresh_samples : (e : ℕ) (ls : List Lane) → AreFresh e ls → samples_of ls ≡ 0
-fresh_samples e ls h = no_samples ls (λ k l at. (h k l at).2)
-
-positions_length : (xs : List Item) → length (positions_in xs) ≡ length (samples_in xs)
-positions_length [] = refl
-positions_length (item.Sample p t w l ∷ xs) = ap suc (positions_length xs)
-positions_length (item.Flush ∷ xs) = positions_length xs
-positions_length (item.End kind ∷ xs) = positions_length xs
 
 module _ {A : Type 0} where
   pub nil_of : (xs : List A) → length xs ≡ 0 → xs ≡ []
@@ -90,11 +33,6 @@ module _ {A : Type 0} where
   none_left all done rest is none = is ∙ ap (λ l. done ++ l) none ∙ append-nil done
 
 module _ {T : Type 0} where
-  worked_samples : (tells : T → Type 0) (seen : T → List Exchange) (js : List (Joined T)) → AreWorked tells seen js → positions_of js ≡ samples_of (map lane_of js)
-  worked_samples tells seen [] h = refl
-  worked_samples tells seen (j ∷ js) h =
-      ap (λ n. n + positions_of js) (ap length h.0.counted ∙ positions_length (put_of j.finished.ends)) ∙ ap (λ n. length (samples_in (put_of j.finished.ends)) + n) (worked_samples tells seen js h.1)
-
   pub lanes_append : (xs ys : List (Joined T)) → map lane_of (xs ++ ys) ≡ map lane_of xs ++ map lane_of ys
   lanes_append [] ys = refl
   lanes_append (x ∷ xs) ys = ap (λ l. lane_of x ∷ l) (lanes_append xs ys)
@@ -107,23 +45,79 @@ module _ {T : Type 0} where
   all_length s js all =
       ap length all.1 ∙ length-append s.ended all.0 ∙ ap (λ n. length s.ended + n) (sym (lanes_length all.0) ∙ same_length s.current (map lane_of all.0) all.2)
 
-  all_samples : (s : Shards T) (js : List (Joined T)) → AreAll s js → samples_of (map lane_of js) ≡ samples_of (map lane_of s.ended) + samples_of s.current
-  all_samples s js all =
-      ap (λ l. samples_of (map lane_of l)) all.1 ∙ ap samples_of (lanes_append s.ended all.0) ∙ samples_append (map lane_of s.ended) (map lane_of all.0)
-      ∙ ap (λ n. samples_of (map lane_of s.ended) + n) (same_samples s.current (map lane_of all.0) all.2)
+  pub abandoned_append : (xs ys : List (Joined T)) → abandoned_in (xs ++ ys) ≡ abandoned_in xs ++ abandoned_in ys
+  abandoned_append [] ys = refl
+  abandoned_append (x ∷ xs) ys = ap (λ l. x.abandoned.items ++ l) (abandoned_append xs ys) ∙ sym (append_assoc x.abandoned.items (abandoned_in xs) (abandoned_in ys))
 
-  -- more room leaves enough
-  pub room_grown : (s : Shards T) (a b : Lists T) (p n : ℕ) → IsRoomFor s a p n → IsGrown a b → IsRoomFor s b p n
-  room_grown s a b p n h g = record {
-    no_parts = g.0 ∙ h.no_parts;
-    no_workers = g.1 ∙ h.no_workers;
-    no_samples = g.2 ∙ h.no_samples;
-    shards_within = h.shards_within;
-    parts_within = within p _ _ h.parts_within g.3;
-    workers_within = within p _ _ h.workers_within g.4;
-    put_within = h.put_within;
-    samples_within = within n _ _ h.samples_within g.5;
-  }
+  -- in each shard no more wait than its window
+  few_in : (tells : T → Type 0) (seen : T → List Exchange) (config : ConfigFields) (js : List (Joined T)) → AreWorked tells seen js → AreSetUp config (map lane_of js) → length (abandoned_in js) ≤ length js * window_of config
+  few_in tells seen config [] w a = omega arith
+  few_in tells seen config (j ∷ js) w a =
+      let rest = few_in tells seen config js w.1 a.1 in
+      let one = w.0.few in
+      let batch = a.0.1 in
+      let capacity = a.0.2 in
+      let all = length-append j.abandoned.items (abandoned_in js) in
+      let sum = suc-mul (length js) (window_of config) in
+      omega arith
+
+  worked_behind : (tells : T → Type 0) (seen : T → List Exchange) (xs ys : List (Joined T)) → AreWorked tells seen (xs ++ ys) → AreWorked tells seen ys
+  worked_behind tells seen [] ys h = h
+  worked_behind tells seen (x ∷ xs) ys h = worked_behind tells seen xs ys h.1
+
+  set_up_behind : (config : ConfigFields) (xs ys : List (Joined T)) → AreSetUp config (map lane_of (xs ++ ys)) → AreSetUp config (map lane_of ys)
+  set_up_behind config [] ys h = h
+  set_up_behind config (x ∷ xs) ys h = set_up_behind config xs ys h.1
+
+  -- what waits where all have ended
+  all_left : (tells : T → Type 0) (seen : T → List Exchange) (s : Shards T) (js : List (Joined T)) → AreAll s js → AreWorked tells seen js → AreSetUp s.config (map lane_of js)
+      → length (abandoned_in js) ≤ length (abandoned_in s.ended) + length s.current * window_of s.config
+  all_left tells seen s js all worked setup =
+      let more = all.0 in
+      let few = few_in tells seen s.config more (worked_behind tells seen s.ended more (subst (AreWorked tells seen) all.1 worked)) (set_up_behind s.config s.ended more (subst (λ (l : List (Joined T)). AreSetUp s.config (map lane_of l)) all.1 setup)) in
+      let same : length more * window_of s.config ≡ length s.current * window_of s.config = ap (λ n. n * window_of s.config) (sym (lanes_length more) ∙ same_length s.current (map lane_of more) all.2) in
+      let len = ap (λ (l : List (Joined T)). length (abandoned_in l)) all.1 ∙ ap length (abandoned_append s.ended more) in
+      let sum = length-append (abandoned_in s.ended) (abandoned_in more) in
+      omega arith
+
+  nothing_left : (j : Joined T) → is_resolved j ≡ true → length j.abandoned.items ≡ 0
+  nothing_left j h = both_true (is_compared j.finished.ends) (length j.abandoned.items) h
+    where
+      both_true : (b : Bool) (n : ℕ) → (b && (n == 0)) ≡ true → n ≡ 0
+      both_true true n e = grind (arith, nat_tests)
+      both_true false n e = absurd (cc)
+
+  pub resolved_left : (js : List (Joined T)) → AreResolved js → length (abandoned_in js) ≡ 0
+  resolved_left [] h = refl
+  resolved_left (j ∷ js) h =
+      let one = nothing_left j (h zero j refl) in
+      let rest = resolved_left js (λ k i at. h (suc k) i at) in
+      let all = length-append j.abandoned.items (abandoned_in js) in
+      omega arith
+
+  -- more room leaves enough, for as many shards
+  pub room_grown : (was now : Shards T) (a b : Lists T) (p n : ℕ) → IsRoomFor was a p n → now ≡ record was { current = now.current } → length now.current ≡ length was.current → IsGrown a b → IsRoomFor now b p n
+  room_grown was now a b p n h is same g =
+      let ended : length now.ended ≡ length was.ended = ap (λ (s : Shards T). length s.ended) is in
+      let left : length (abandoned_in now.ended) ≡ length (abandoned_in was.ended) = ap (λ (s : Shards T). length (abandoned_in s.ended)) is in
+      let windows : length now.current * window_of now.config ≡ length was.current * window_of was.config = λ i. same i * window_of (is i).config in
+      let shards = h.shards_within in
+      let most = h.left_within in record {
+        no_parts = g.0 ∙ h.no_parts;
+        no_workers = g.1 ∙ h.no_workers;
+        no_samples = g.2 ∙ h.no_samples;
+        shards_within = omega arith;
+        parts_within = within p _ _ h.parts_within g.3;
+        workers_within = within p _ _ h.workers_within g.4;
+        left_within = omega arith;
+        samples_within = within n _ _ h.samples_within g.5;
+      }
+
+  grown_none : (a : Lists T) → IsGrown a a
+  grown_none a = (refl, refl, refl, omega arith, omega arith, omega arith)
+
+  pub grown_twice : (a b c : Lists T) → IsGrown a b → IsGrown b c → IsGrown a c
+  grown_twice a b c g h = (h.0 ∙ g.0, h.1 ∙ g.1, h.2 ∙ g.2, within _ _ _ g.3 h.3, within _ _ _ g.4 h.4, within _ _ _ g.5 h.5)
 
   -- no shard is at work, and there is room for one part
   pub room_begun : (s : Shards T) (a b : Lists T) → s.ended ≡ [] → s.current ≡ [] → (vec_len a.parts ≡ 0) × (vec_len a.workers ≡ 0) × (vec_len a.samples ≡ 0) → IsGrown a b
@@ -131,8 +125,8 @@ module _ {T : Type 0} where
   room_begun s a b ended current none g ca cb =
       let e : length s.ended ≡ 0 = ap length ended in
       let c : length s.current ≡ 0 = ap length current in
-      let f : samples_of (map lane_of s.ended) ≡ 0 = ap (λ (js : List (Joined T)). samples_of (map lane_of js)) ended in
-      let d : samples_of s.current ≡ 0 = ap samples_of current in
+      let f : length (abandoned_in s.ended) ≡ 0 = ap (λ (js : List (Joined T)). length (abandoned_in js)) ended in
+      let d : length s.current * window_of s.config ≡ 0 = ap (λ n. n * window_of s.config) c ∙ zero-mul (window_of s.config) in
       let x = g.0 in
       let y = g.1 in
       let z = none.0 in
@@ -143,128 +137,105 @@ module _ {T : Type 0} where
         shards_within = omega arith;
         parts_within = omega arith;
         workers_within = omega arith;
-        put_within = omega arith;
+        left_within = omega arith;
         samples_within = omega arith;
       }
 
   -- the shards of the next epoch
-  pub room_opened : (was now : Shards T) (a b : Lists T) (p q n shards : ℕ) → IsRoomFor was a p n → now ≡ record was { current = now.current } → length now.current ≤ shards → AreFresh now.epoch now.current → q ≡ p + shards
-      → IsGrown a b → vec_len b.parts + q ≤ vec_capacity b.parts → vec_len b.workers + q ≤ vec_capacity b.workers → IsRoomFor now b q n
-  room_opened was now a b p q n shards h is most fresh up g ca cb =
-      let ended : now.ended ≡ was.ended = ap (λ (s : Shards T). s.ended) is in
-      let count : length now.ended ≡ length was.ended = ap length ended in
-      let sum : samples_of (map lane_of now.ended) ≡ samples_of (map lane_of was.ended) = ap (λ (js : List (Joined T)). samples_of (map lane_of js)) ended in
-      let none = fresh_samples now.epoch now.current fresh in
-      let grown = room_grown was a b p n h g in record {
-        no_parts = grown.no_parts;
-        no_workers = grown.no_workers;
-        no_samples = grown.no_samples;
-        shards_within = let w = h.shards_within in omega arith;
-        parts_within = behind _ q _ ca;
-        workers_within = behind _ q _ cb;
-        put_within = let w = h.put_within in omega arith;
-        samples_within = grown.samples_within;
+  pub room_opened : (was now : Shards T) (a d b : Lists T) (p q n m shards : ℕ) → IsRoomFor was a p n → now ≡ record was { current = now.current } → was.current ≡ [] → length now.current ≤ shards → q ≡ p + shards → m ≡ n + window_of was.config * shards
+      → IsGrown a d → vec_len d.parts + q ≤ vec_capacity d.parts → vec_len d.workers + q ≤ vec_capacity d.workers → IsGrown d b → vec_len b.samples + m ≤ vec_capacity b.samples → IsRoomFor now b q m
+  room_opened was now a d b p q n m shards h is none most up more g ca cb e cs =
+      let ended : length now.ended ≡ length was.ended = ap (λ (s : Shards T). length s.ended) is in
+      let left : length (abandoned_in now.ended) ≡ length (abandoned_in was.ended) = ap (λ (s : Shards T). length (abandoned_in s.ended)) is in
+      let windows : length now.current * window_of now.config ≡ length now.current * window_of was.config = ap (λ (s : Shards T). length now.current * window_of s.config) is in
+      let wide : length now.current * window_of was.config ≤ shards * window_of was.config = mul-le-mul_right (window_of was.config) most in
+      let turned = mul_comm shards (window_of was.config) in
+      let w = h.shards_within in
+      let l = h.left_within in record {
+        no_parts = e.0 ∙ g.0 ∙ h.no_parts;
+        no_workers = e.1 ∙ g.1 ∙ h.no_workers;
+        no_samples = e.2 ∙ g.2 ∙ h.no_samples;
+        shards_within = let first = ap length none in omega arith;
+        parts_within = within q _ _ (behind _ q _ ca) e.3;
+        workers_within = within q _ _ (behind _ q _ cb) e.4;
+        left_within = omega arith;
+        samples_within = behind _ m _ cs;
       }
 
-  -- one sample more
-  pub room_put : (was now : Shards T) (a b : Lists T) (p n m k : ℕ) (l : Logged) → IsRoomFor was a p n → now ≡ record was { current = now.current } → IsPut k l was.current now.current → m ≡ n + 1
-      → IsGrown a b → vec_len b.samples + m ≤ vec_capacity b.samples → IsRoomFor now b p m
-  room_put was now a b p n m k l h is put up g room =
-      let ended : now.ended ≡ was.ended = ap (λ (s : Shards T). s.ended) is in
-      let count : length now.ended ≡ length was.ended = ap length ended in
-      let sum : samples_of (map lane_of now.ended) ≡ samples_of (map lane_of was.ended) = ap (λ (js : List (Joined T)). samples_of (map lane_of js)) ended in
-      let len = ap length put.is ∙ set_length was.current k put.now in
-      let one = put_samples k l was.current now.current put in
-      let grown = room_grown was a b p n h g in record {
-        no_parts = grown.no_parts;
-        no_workers = grown.no_workers;
-        no_samples = grown.no_samples;
-        shards_within = let w = h.shards_within in omega arith;
-        parts_within = grown.parts_within;
-        workers_within = grown.workers_within;
-        put_within = let w = h.put_within in omega arith;
-        samples_within = behind _ m _ room;
-      }
+  -- one shard was put a sample, or none was
+  pub room_put : (was now : Shards T) (a : Lists T) (p n k : ℕ) (l : Logged) → IsRoomFor was a p n → now ≡ record was { current = now.current } → IsPut k l was.current now.current → IsRoomFor now a p n
+  room_put was now a p n k l h is put = room_grown was now a a p n h is (ap length put.is ∙ set_length was.current k put.now) (grown_none a)
 
-  -- more room, for a sample that was not put
-  pub room_kept : (was now : Shards T) (a b : Lists T) (p n : ℕ) → IsRoomFor was a p n → now ≡ was → IsGrown a b → IsRoomFor now b p n
-  room_kept was now a b p n h is g = subst (λ (s : Shards T). IsRoomFor s b p n) (sym is) (room_grown was a b p n h g)
+  pub room_kept : (was now : Shards T) (a : Lists T) (p n : ℕ) → IsRoomFor was a p n → now ≡ was → IsRoomFor now a p n
+  room_kept was now a p n h is = subst (λ (s : Shards T). IsRoomFor s a p n) (sym is) h
 
   -- the same shards, each with the same samples
   pub room_same : (was now : Shards T) (a : Lists T) (p n : ℕ) → IsRoomFor was a p n → now ≡ record was { current = now.current } → AreSame was.current now.current → IsRoomFor now a p n
-  room_same was now a p n h is same =
-      let ended : now.ended ≡ was.ended = ap (λ (s : Shards T). s.ended) is in
-      let count : length now.ended ≡ length was.ended = ap length ended in
-      let sum : samples_of (map lane_of now.ended) ≡ samples_of (map lane_of was.ended) = ap (λ (js : List (Joined T)). samples_of (map lane_of js)) ended in
-      let len = same_length was.current now.current same in
-      let put = same_samples was.current now.current same in record {
-        no_parts = h.no_parts;
-        no_workers = h.no_workers;
-        no_samples = h.no_samples;
-        shards_within = let w = h.shards_within in omega arith;
-        parts_within = h.parts_within;
-        workers_within = h.workers_within;
-        put_within = let w = h.put_within in omega arith;
-        samples_within = h.samples_within;
-      }
+  room_same was now a p n h is same = room_grown was now a a p n h is (same_length was.current now.current same) (grown_none a)
 
   -- all shards have ended
-  pub room_closed : (was now : Shards T) (a : Lists T) (p n : ℕ) → IsRoomFor was a p n → HasClosed was now → IsRoomFor now a p n
-  room_closed was now a p n h shut =
+  pub room_closed : (was now : Shards T) (a : Lists T) (p n m : ℕ) → IsRoomFor was a p n → HasClosed was now → length (abandoned_in now.ended) ≤ m → m ≤ n → IsRoomFor now a p m
+  room_closed was now a p n m h shut left fewer =
       let none : length now.current ≡ 0 = ap length shut.2 in
-      let nothing : samples_of now.current ≡ 0 = ap samples_of shut.2 in
+      let windows : length now.current * window_of now.config ≡ 0 = ap (λ k. k * window_of now.config) none ∙ zero-mul (window_of now.config) in
       let len = all_length was now.ended shut.3 in
-      let put = all_samples was now.ended shut.3 in record {
+      let w = h.shards_within in record {
         no_parts = h.no_parts;
         no_workers = h.no_workers;
         no_samples = h.no_samples;
-        shards_within = let w = h.shards_within in omega arith;
+        shards_within = omega arith;
         parts_within = h.parts_within;
         workers_within = h.workers_within;
-        put_within = let w = h.put_within in omega arith;
-        samples_within = h.samples_within;
+        left_within = omega arith;
+        samples_within = within m n _ fewer h.samples_within;
       }
+
+  pub left_closed : (tells : T → Type 0) (seen : T → List Exchange) (was now : Shards T) (a : Lists T) (p n : ℕ) → IsRoomFor was a p n → HasClosed was now → AreWorked tells seen now.ended → AreSetUp now.config (map lane_of now.ended) → length (abandoned_in now.ended) ≤ n
+  left_closed tells seen was now a p n h shut worked setup =
+      within _ _ n (all_left tells seen was now.ended shut.3 worked (subst (λ (c : ConfigFields). AreSetUp c (map lane_of now.ended)) shut.0 setup)) h.left_within
 
   -- for a part there is room, and then for the shards
   pub room_first : (s : Shards T) (a : Lists T) (p n : ℕ) → IsRoomFor s a p n → vec_len a.parts + 1 ≤ vec_capacity a.parts
   room_first s a p n h = let w = h.shards_within in let l = h.no_parts in let c = h.parts_within in omega arith
 
-  pub room_all : (tells : T → Type 0) (seen : T → List Exchange) (s : Shards T) (a b : Lists T) (p n : ℕ) (js : List (Joined T)) → IsRoomFor s a p n → AreAll s js → AreWorked tells seen js
+  pub room_all : (tells : T → Type 0) (seen : T → List Exchange) (s : Shards T) (a b : Lists T) (p n : ℕ) (js : List (Joined T)) → IsRoomFor s a p n → AreAll s js → AreWorked tells seen js → AreSetUp s.config (map lane_of js)
       → vec_len b.parts ≡ vec_len a.parts + 1 → vec_capacity b.parts ≡ vec_capacity a.parts → vec_len b.workers ≡ vec_len a.workers → vec_capacity b.workers ≡ vec_capacity a.workers
       → vec_len b.samples ≡ vec_len a.samples → vec_capacity b.samples ≡ vec_capacity a.samples → HasRoom b js
-  room_all tells seen s a b p n js h all worked la ca lb cb lc cc' =
+  room_all tells seen s a b p n js h all worked setup la ca lb cb lc cc' =
       let len = all_length s js all in
-      let put = worked_samples tells seen js worked ∙ all_samples s js all in
+      let left = all_left tells seen s js all worked setup in
       let pl = h.no_parts in
       let wl = h.no_workers in
       let sl = h.no_samples in
       let sw = h.shards_within in
       let pw = h.parts_within in
       let ww = h.workers_within in
-      let uw = h.put_within in
+      let uw = h.left_within in
       let vw = h.samples_within in
       (omega arith, omega arith, omega arith)
 
   -- for the samples of one shard there is room
-  pub room_one : (a : Lists T) (j : Joined T) → HasRoom a (j ∷ []) → vec_len a.samples + length (abandoned_of j) ≤ vec_capacity a.samples
-  room_one a j h =
-      let d = drop_within j.finished.resolved j.positions.items in
-      let r : vec_len a.samples + (length j.positions.items + 0) ≤ vec_capacity a.samples = h.2 in
-      omega arith
+  pub room_one : (a : Lists T) (j : Joined T) → HasRoom a (j ∷ []) → vec_len a.samples + length j.abandoned.items ≤ vec_capacity a.samples
+  room_one a j h = let one = length-append j.abandoned.items [] in let r = h.2 in omega arith
+
+  pub room_next : (a : Lists T) (j : Joined T) (js : List (Joined T)) → HasRoom a (j ∷ js) → HasRoom a (j ∷ [])
+  room_next a j js h =
+      let one = length-append j.abandoned.items [] in
+      let all = length-append j.abandoned.items (abandoned_in js) in
+      let p = h.0 in
+      let w = h.1 in
+      let s = h.2 in
+      (omega arith, omega arith, omega arith)
 
   -- one shard was listed
   pub room_added : (a b : Lists T) (j : Joined T) (js : List (Joined T)) → HasRoom a (j ∷ js) → vec_len b.parts ≡ vec_len a.parts + 1 → vec_capacity b.parts ≡ vec_capacity a.parts → vec_len b.workers ≡ vec_len a.workers + 1
-      → vec_capacity b.workers ≡ vec_capacity a.workers → vec_len b.samples ≡ vec_len a.samples + length (abandoned_of j) → vec_capacity a.samples ≤ vec_capacity b.samples → HasRoom b js
+      → vec_capacity b.workers ≡ vec_capacity a.workers → vec_len b.samples ≡ vec_len a.samples + length j.abandoned.items → vec_capacity a.samples ≤ vec_capacity b.samples → HasRoom b js
   room_added a b j js h pl pc wl wc sl sc =
-      let d = drop_within j.finished.resolved j.positions.items in
+      let all = length-append j.abandoned.items (abandoned_in js) in
       let p = h.0 in
       let w = h.1 in
-      let s : vec_len a.samples + (length j.positions.items + positions_of js) ≤ vec_capacity a.samples = h.2 in
+      let s = h.2 in
       (omega arith, omega arith, omega arith)
-
-  abandoned_append : (xs ys : List (Joined T)) → abandoned_in (xs ++ ys) ≡ abandoned_in xs ++ abandoned_in ys
-  abandoned_append [] ys = refl
-  abandoned_append (x ∷ xs) ys = ap (λ l. abandoned_of x ++ l) (abandoned_append xs ys) ∙ sym (append_assoc (abandoned_of x) (abandoned_in xs) (abandoned_in ys))
 
   map_append : {B : Type 0} (f : Joined T → B) (xs ys : List (Joined T)) → map f (xs ++ ys) ≡ map f xs ++ map f ys
   map_append f [] ys = refl

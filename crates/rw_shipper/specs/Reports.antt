@@ -1,12 +1,12 @@
 -- What a report lists, and the room for it.
-use Rattle.std.specs.Prelude.{slice_get, false, ◌≡◌, ◌≤◌, ◌+◌, ℕ, Bool, true, List, [], ◌∷◌, ◌++◌, length, map, drop, vec_len, vec_capacity, Option, Some, None, ⊤}
+use Rattle.std.specs.Prelude.{slice_get, false, ◌≡◌, ◌≤◌, ◌+◌, ◌*◌, ℕ, Bool, true, List, [], ◌∷◌, ◌++◌, length, map, vec_len, vec_capacity, Option, Some, None, ⊤}
 use Rattle.rw_codes.specs.declared.tail_fault.TailFault.{TailFault}
 use Rattle.rw_ledger.specs.Names.{Named}
+use Rattle.rw_sender.specs.declared.config.ConfigFields.{ConfigFields}
 use Rattle.rw_sender.specs.declared.outcome.Outcome.{Outcome}
 use Rattle.rw_sender.specs.declared.outcome.Outcome.TheVariants.{Complete, Abandoned, Damaged}
-use Rattle.rw_shard_queue.specs.Items.{samples_in}
 use Rattle.rw_worker.specs.Transcript.{Exchange}
-use Rattle.rw_fleet.specs.Lanes.{Lane, AreSetUp}
+use Rattle.rw_fleet.specs.Lanes.{AreSetUp}
 use Rattle.rw_fleet.specs.Work.{lane_of, AreResolved, AreWorked, IsCut, HasCut}
 use Rattle.rw_fleet.specs.Fleets.{Shards, AreAll}
 use Rattle.rw_fleet.specs.declared.joined.Joined.{Joined}
@@ -19,26 +19,18 @@ finished_of j = j.finished
 abbrev pub part_of : {T : Type 0} → Joined T → Named
 part_of j = j.part
 
--- the positions of the samples that a shard was put and that are not resolved
-abbrev pub abandoned_of : {T : Type 0} → Joined T → List ℕ
-abandoned_of j = drop j.finished.resolved j.positions.items
-
+-- the positions of the samples that shards were put and that are not resolved
 abbrev pub abandoned_in : {T : Type 0} → List (Joined T) → List ℕ
 abandoned_in [] = []
-abandoned_in (j ∷ js) = abandoned_of j ++ abandoned_in js
+abandoned_in (j ∷ js) = j.abandoned.items ++ abandoned_in js
 
--- how many samples shards were put
-abbrev pub samples_of : List Lane → ℕ
-samples_of [] = 0
-samples_of (l ∷ ls) = length (samples_in l.put) + samples_of ls
-
-abbrev pub positions_of : {T : Type 0} → List (Joined T) → ℕ
-positions_of [] = 0
-positions_of (j ∷ js) = length j.positions.items + positions_of js
+-- how many of the samples that a shard was put may wait to be resolved
+abbrev pub window_of : ConfigFields → ℕ
+window_of config = config.capacity + config.batch
 
 -- there is room for what these shards list
 abbrev pub HasRoom : {T : Type 0} → Lists T → List (Joined T) → Type 0
-HasRoom lists js = (vec_len lists.parts + length js ≤ vec_capacity lists.parts) × (vec_len lists.workers + length js ≤ vec_capacity lists.workers) × (vec_len lists.samples + positions_of js ≤ vec_capacity lists.samples)
+HasRoom lists js = (vec_len lists.parts + length js ≤ vec_capacity lists.parts) × (vec_len lists.workers + length js ≤ vec_capacity lists.workers) × (vec_len lists.samples + length (abandoned_in js) ≤ vec_capacity lists.samples)
 
 -- there may be more room
 abbrev pub IsGrown : {T : Type 0} → Lists T → Lists T → Type 0
@@ -50,7 +42,7 @@ IsGrown old new =
 abbrev pub ListsAfter : {T : Type 0} → Lists T → List (Joined T) → Lists T → Type 0
 ListsAfter old js new = (new.parts.items ≡ old.parts.items ++ map part_of js) × (new.workers.items ≡ old.workers.items ++ map finished_of js) × (new.samples.items ≡ old.samples.items ++ abandoned_in js)
 
--- nothing is listed, and there is room for the shards, one part more, and all samples that were put
+-- nothing is listed, and there is room for the shards, one part more, and all samples that are not resolved
 pub record IsRoomFor {T : Type 0} (s : Shards T) (lists : Lists T) (parts samples : ℕ) : Type 0 where
   pub no_parts : vec_len lists.parts ≡ 0
   pub no_workers : vec_len lists.workers ≡ 0
@@ -58,7 +50,7 @@ pub record IsRoomFor {T : Type 0} (s : Shards T) (lists : Lists T) (parts sample
   pub shards_within : length s.ended + length s.current + 1 ≤ parts
   pub parts_within : parts ≤ vec_capacity lists.parts
   pub workers_within : parts ≤ vec_capacity lists.workers
-  pub put_within : samples_of (map lane_of s.ended) + samples_of s.current ≤ samples
+  pub left_within : length (abandoned_in s.ended) + length s.current * window_of s.config ≤ samples
   pub samples_within : samples ≤ vec_capacity lists.samples
 
 -- All shards have ended, and are listed behind one part more.

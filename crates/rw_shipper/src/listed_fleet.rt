@@ -28,7 +28,7 @@ pub(crate) struct ListedFleet<C: Connect + Drop> {
     lists: Lists<C::T>,
     /// For how many parts there is room.
     parts: usize,
-    /// For how many samples there is room.
+    /// For how many samples that are not resolved there is room.
     samples: usize,
 }
 
@@ -102,8 +102,16 @@ impl<C: Connect + Drop> ListedFleet<C> {
         let Some(parts) = self.parts.checked_add(shards as usize) else {
             return Err(AllocError);
         };
+        let Some(more) = self.fleet.window().checked_mul(shards as usize) else {
+            return Err(AllocError);
+        };
+        let Some(samples) = self.samples.checked_add(more) else {
+            return Err(AllocError);
+        };
         self.lists.reserve_shards(parts)?;
+        self.lists.reserve_samples(samples)?;
         self.parts = parts;
+        self.samples = samples;
         self.fleet.open(rt, shards)
     }
 
@@ -115,16 +123,9 @@ impl<C: Connect + Drop> ListedFleet<C> {
         ensures ok { OnOk result (IsPut shard logged self.old.current self.new.current) }
         ensures err { OnErr result (self.new ≡ self.old) }
     {
-        let Some(samples) = self.samples.checked_add(1) else {
-            return Err(Fault::OutOfMemory);
-        };
-        if self.lists.reserve_samples(samples).is_err() {
-            return Err(Fault::OutOfMemory);
-        }
         if let Err(fault) = self.fleet.put(rt, shard, logged) {
             return Err(fault);
         }
-        self.samples = samples;
         Ok(())
     }
 
@@ -143,7 +144,11 @@ impl<C: Connect + Drop> ListedFleet<C> {
         ensures closed { HasClosed self.old self.new }
         ensures resolved { result ≡ true → AreResolved self.new.ended }
     {
-        self.fleet.close(rt)
+        if !self.fleet.close(rt) {
+            return false;
+        }
+        self.samples = 0;
+        true
     }
 
     /// Ends all shards at work and waits for their workers, which are told to stop where the end is hard. It lists what the shards did behind a part of the ledger, and answers whether all that was put in all epochs is resolved.

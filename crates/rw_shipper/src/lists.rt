@@ -52,7 +52,9 @@ impl<T: Transport + Drop> Lists<T> {
         ensures listed { ListsAfter self.old (shard ∷ []) self.new }
         ensures room { (js : List _) → HasRoom self.old (shard ∷ js) → HasRoom self.new js }
     {
-        self.samples.extend_from_slice(shard.abandoned()).unwrap();
+        self.samples
+            .extend_from_slice(shard.abandoned.as_slice())
+            .unwrap();
         let Joined { part, finished, .. } = shard;
         self.parts.push_reserved(part);
         self.workers.push_reserved(finished);

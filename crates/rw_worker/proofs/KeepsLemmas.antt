@@ -1,5 +1,5 @@
 -- What holds of a worker's shard after each step.
-use Rattle.std.proofs.Common.{◌≡◌, ℕ, ◌+◌, ◌-◌, ◌<◌, Bool, true, false, true≢false, not, ◌&&◌, ◌||◌, nat_le, List, [], ◌∷◌, ◌++◌, length, Result, Ok, Err, refl, sym, ap, ◌∙◌, subst, append_assoc, append-nil, zero-add, arith, cond}
+use Rattle.std.proofs.Common.{◌≡◌, ℕ, ◌+◌, ◌-◌, ◌<◌, ◌≤◌, Bool, true, false, true≢false, not, ◌&&◌, ◌||◌, nat_le, List, [], ◌∷◌, ◌++◌, length, Result, Ok, Err, refl, sym, ap, ◌∙◌, subst, append_assoc, append-nil, length-append, zero-add, arith, cond}
 use Rattle.std.proofs.lemmas.Bool.{eq-eqb}
 use Rattle.std.proofs.lemmas.Bool.Decides.{nat_tests}
 use Rattle.std.specs.Ordering.{nat_cmp}
@@ -35,6 +35,7 @@ pub record Keeps (target : Target) (epoch shard n : ℕ) (items : List Item) (ex
   pub idle : w.core.waiting ≡ false
   pub taken_is : w.core.taken ≡ samples_in items
   pub whole : w.core.taken ≡ w.core.resolved ++ (w.core.batch ++ w.core.builder)
+  pub fits : length w.core.batch + length w.core.builder ≤ n
   pub one : is_empty w.core.batch ≡ false → w.core.builder ≡ []
   pub due_some : is_due w.core ≡ true → is_empty w.core.builder ≡ false
   pub room : w.ledger.room ≡ length w.core.batch
@@ -141,6 +142,10 @@ still n items es w h can =
     subst (λ (r : List Placed). IsTranscriptOf w.core.target n items es [] r w.core.resolved w.ledger.names) (growing-not w.core p.0 d)
     (subst (λ (u : List Placed). IsTranscriptOf w.core.target n items es u (growing w.core) w.core.resolved w.ledger.names) (unsettled-not w.core p.0 d) h)
 
+-- one sample more fits a builder that is not full
+room_left : (full n k : ℕ) → full ≡ n → nat_le full k ≡ false → k < n
+room_left full n k e h = grind (arith, nat_tests)
+
 module _ (target : Target) (epoch shard n : ℕ) (items : List Item) (es : List Exchange) (c : Core) (l : Named) where
   abbrev Before : Type 0
   Before = Keeps target epoch shard n items es (working c l)
@@ -158,6 +163,7 @@ module _ (target : Target) (epoch shard n : ℕ) (items : List Item) (es : List 
         idle = h.idle;
         taken_is = h.taken_is ∙ sym (append-nil (samples_in items)) ∙ ap (λ ys. samples_in items ++ ys) (sym none) ∙ sym (samples_in-append items (x ∷ []));
         whole = h.whole;
+        fits = h.fits;
         one = h.one;
         due_some = λ d. not_true (is_empty c.builder) (sym (mark_due c ended p.1) ∙ d);
         room = h.room;
@@ -182,6 +188,7 @@ module _ (target : Target) (epoch shard n : ℕ) (items : List Item) (es : List 
         idle = h.idle;
         taken_is = ap (λ xs. xs ++ y ∷ []) h.taken_is ∙ ap (λ zs. samples_in items ++ zs) (sym sample) ∙ sym (samples_in-append items (x ∷ []));
         whole = ap (λ xs. xs ++ y ∷ []) h.whole ∙ append_assoc c.resolved (c.batch ++ c.builder) (y ∷ []) ∙ ap (λ zs. c.resolved ++ zs) (append_assoc c.batch c.builder (y ∷ []));
+        fits = let none = ap length (none_of c.batch p.0) in let left = room_left c.full n (length c.builder) h.full_is p.1 in let longer = length-append c.builder (y ∷ []) in omega arith;
         one = λ e. absurd (true≢false (sym p.0 ∙ e));
         due_some = λ d. pushed_some c.builder y;
         room = h.room;
@@ -224,6 +231,7 @@ module _ (target : Target) (epoch shard n : ℕ) (items : List Item) (es : List 
         idle = refl;
         taken_is = h.taken_is;
         whole = h.whole ∙ ap (λ xs. c.resolved ++ (xs ++ c.builder)) none ∙ ap (λ xs. c.resolved ++ xs) (sym (append-nil c.builder));
+        fits = let none' = ap length none in let most = h.fits in omega arith;
         one = λ e. refl;
         due_some = λ d. absurd (not_due h.some h.full_is d);
         room = ap (λ k. k + length c.builder) (h.room ∙ ap length none) ∙ zero-add (length c.builder);
@@ -281,6 +289,7 @@ module _ (target : Target) (epoch shard n : ℕ) (items : List Item) (es : List 
         idle = refl;
         taken_is = h.taken_is;
         whole = h.whole ∙ sym (append_assoc c.resolved c.batch c.builder);
+        fits = let most = h.fits in omega arith;
         one = λ e. absurd (true≢false e);
         due_some = idle;
         room = room_is ∙ (let r = h.room in omega arith);
@@ -314,6 +323,7 @@ module _ (target : Target) (epoch shard n : ℕ) (items : List Item) (es : List 
         idle = refl;
         taken_is = h.taken_is;
         whole = h.whole;
+        fits = h.fits;
         one = h.one;
         due_some = h.due_some;
         room = h.room;
@@ -401,6 +411,7 @@ keeps-start target epoch shard n some = record {
   idle = refl;
   taken_is = refl;
   whole = refl;
+  fits = omega arith;
   one = λ e. refl;
   due_some = λ d. absurd (fresh n some (sym (or_false (nat_le n 0)) ∙ d));
   room = refl;

@@ -1,5 +1,5 @@
 -- A worker that made one step more, and what it reports.
-use Rattle.std.proofs.Common.{◌≡◌, ◌+◌, ◌<◌, ◌≤◌, ◌^◌, Bool, true, false, true≢false, not, ◌&&◌, ◌||◌, nat_le, List, [], ◌∷◌, ◌++◌, length, Result, Ok, Err, OnOk, OnErr, refl, sym, ap, ◌∙◌, subst, append-nil, length-append, arith}
+use Rattle.std.proofs.Common.{◌≡◌, ℕ, ◌+◌, ◌<◌, ◌≤◌, ◌^◌, Bool, true, false, true≢false, not, ◌&&◌, ◌||◌, nat_le, List, [], ◌∷◌, ◌++◌, length, Result, Ok, Err, OnOk, OnErr, refl, sym, ap, ◌∙◌, subst, append-nil, length-append, arith}
 use Rattle.std.specs.declared.alloc.AllocError.{AllocError}
 use Rattle.std.proofs.lemmas.List.{length-map}
 use Rattle.std.specs.Ordering.{nat_cmp}
@@ -39,6 +39,15 @@ due_of killed none true k e h = refl
 due_of true none false k e h = absurd (true≢false k)
 due_of false true false k e h = absurd (true≢false h)
 due_of false false false k e h = absurd (true≢false (sym e))
+
+-- no more than a batch waits
+few_left : (n resolved : ℕ) (c : Core) (items : List Item) → c.taken ≡ samples_in items → c.taken ≡ c.resolved ++ (c.batch ++ c.builder) → length c.batch + length c.builder ≤ n → resolved ≡ length c.resolved → length (samples_in items) ≤ resolved + n
+few_left n resolved c items taken whole fits counted =
+    let same = ap length taken in
+    let all = ap length whole in
+    let parts = length-append c.resolved (c.batch ++ c.builder) in
+    let waits = length-append c.batch c.builder in
+    omega arith
 
 module _ {T : Type 0} (tells : T → Type 0) (seen : T → List Exchange) (setup : Setup) (begun : T) where
   abbrev KeepsAt : Draining → List Step → Working → Type 0
@@ -234,12 +243,13 @@ module _ {T : Type 0} (tells : T → Type 0) (seen : T → List Exchange) (setup
   -- a report of these steps
   reports : (r : WorkerReport T) (ss : List Step) → 0 < setup.batch → HasMade tells seen setup begun (drain_of r.end) r.transport ss → r.resolved ≡ length (after (start_of setup) ss).core.resolved → r.ledger.names ≡ (after (start_of setup) ss).ledger.names
       → (r.stopped ≡ false → IsOrderly r.end → (after (start_of setup) ss).core.resolved ≡ samples_in (drain_of r.end).taken) → StopsAtHard r.end ss → IsReport tells seen setup begun r
-  reports r ss some made counted names whole hard = record {
+  reports r ss some made counted names whole hard = let k = keeps-made (drain_of r.end) r.transport ss some made in record {
     steps = ss;
     made = made;
-    worked = (keeps-made (drain_of r.end) r.transport ss some made).worked;
-    target = (keeps-made (drain_of r.end) r.transport ss some made).target_is;
+    worked = k.worked;
+    target = k.target_is;
     counted = counted;
+    few = few_left setup.batch r.resolved (after (start_of setup) ss).core (drain_of r.end).taken k.taken_is k.whole k.fits counted;
     names = names;
     whole = whole;
     hard = hard;

@@ -1,5 +1,5 @@
 -- How far a worker is, and what it reports of its run.
-use Rattle.std.specs.Prelude.{◌≡◌, ◌<◌, Bool, true, false, List, [], ◌∷◌, ◌++◌, length, ⊤}
+use Rattle.std.specs.Prelude.{◌≡◌, ◌+◌, ◌<◌, ◌≤◌, Bool, true, false, List, [], ◌∷◌, ◌++◌, length, ⊤}
 use Rattle.rw_shard_queue.specs.Items.{samples_in}
 use Rattle.rw_shard_queue.specs.History.{IsHistory}
 use Rattle.rw_shard_queue.specs.declared.item.Item.TheVariants as item
@@ -81,13 +81,14 @@ module _ {T : Type 0} (tells : T → Type 0) (seen : T → List Exchange) (setup
     pub sending : IsSending (intake_drain s.intake) s.sending
     pub closed : IsClosed s.intake s.sending.core
 
-  -- What a worker reports. The state of its shard is that after its steps, of which the exchanges are the transcript of what was taken.
+  -- What a worker reports. The state of its shard is that after its steps, of which the exchanges are the transcript of what was taken. No more than a batch of that is not resolved.
   pub record IsReport (r : WorkerReport T) : Type 0 where
     pub steps : List Step
     pub made : HasMade (drain_of r.end) r.transport steps
     pub worked : IsWorked setup.batch (drain_of r.end).taken (exchanges_of steps) (after (start_of setup) steps)
     pub target : (after (start_of setup) steps).core.target ≡ setup.target
     pub counted : r.resolved ≡ length (after (start_of setup) steps).core.resolved
+    pub few : length (samples_in (drain_of r.end).taken) ≤ r.resolved + setup.batch
     pub names : r.ledger.names ≡ (after (start_of setup) steps).ledger.names
     pub whole : r.stopped ≡ false → IsOrderly r.end → (after (start_of setup) steps).core.resolved ≡ samples_in (drain_of r.end).taken
     pub hard : StopsAtHard r.end steps

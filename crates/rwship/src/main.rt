@@ -10,6 +10,7 @@ ghost use Rattle.rw_tool.specs.Printed.{exit_status};
 ghost use Rattle.rwship.specs.Statuses.{unset_status};
 
 use clap::error::ErrorKind as WordsErrorKind;
+use rw_address::Address;
 use rw_receive::run_receive;
 use rw_replay::run_replay;
 use rw_send::{TcpConnect, run_send, segment_files};
@@ -24,7 +25,7 @@ use std::net::{SocketAddr, TcpListener};
 use std::process::ExitCode;
 use std::sync::Wait;
 use std::thread::Threads;
-use words::{Address, Task, command_line, task_of};
+use words::{Task, command_line, task_of};
 
 /// The exit status for words and settings that the program does not take.
 const BAD_WORDS: u8 = 2;

@@ -1,17 +1,9 @@
 //! The command line: what each command is called, which options it takes, and what the words ask for.
 
-ghost use Rattle.std.specs.Prelude.{◌<◌, IfSome};
-
 use clap::{Arg, ArgAction, ArgMatches, Command, value_parser};
+use rw_address::{Address, read_address};
 use rw_types::Bounded;
 use std::alloc::{AllocError, Global};
-
-/// A host, to be looked up, and a port.
-#[derive(Clone, Copy, Debug)]
-pub struct Address<'a> {
-    pub host: &'a str,
-    pub port: u16,
-}
 
 /// What the words ask for. A file or a folder is a path; a missing `settings` stands for the defaults.
 #[derive(Clone, Copy, Debug)]
@@ -151,20 +143,6 @@ pub fn command_line<'a>(alloc: Global) -> Result<Command<'a>, AllocError> {
         .subcommand(receive_command(alloc)?)
 }
 
-/// HOST:PORT, split at its last colon. The port is decimal.
-fn address_of(text: &str) -> Option<Address<'_>>
-    ensures { IfSome result (λ a. 0 < a.port) }
-{
-    let (host, port) = text.rsplit_once(':')?;
-    if !port.bytes().all(|b| b.is_ascii_digit()) {
-        return None;
-    }
-    match port.parse::<u16>() {
-        Ok(0) | Err(_) => None,
-        Ok(port) => Some(Address { host, port }),
-    }
-}
-
 /// What a command's options ask for.
 fn task_named<'a>(name: &str, options: &ArgMatches<'a>) -> Option<Task<'a>> {
     let hex = options.get_flag("hex");
@@ -181,11 +159,11 @@ fn task_named<'a>(name: &str, options: &ArgMatches<'a>) -> Option<Task<'a>> {
         b"send" => Some(Task::Send {
             settings,
             dir: options.get_str("dir")?,
-            to: address_of(options.get_str("to")?)?,
+            to: read_address(options.get_str("to")?)?,
         }),
         b"receive" => Some(Task::Receive {
             settings,
-            listen: address_of(options.get_str("listen")?)?,
+            listen: read_address(options.get_str("listen")?)?,
             connections: Bounded::new(options.get_one::<u16>("connections")? as u64)?,
         }),
         _ => None,

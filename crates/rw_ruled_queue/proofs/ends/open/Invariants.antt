@@ -1,4 +1,4 @@
 use Rattle.rw_ruled_queue.proofs.ends.open.Given as goal
 
 abbrev pub ghosts-open_named : goal.ghosts-open_named
-ghosts-open_named a = record { epoch = a.epoch; shard = a.shard }
+ghosts-open_named a = record { epoch = a.epoch; shard = a.shard; capacity = a.capacity }

@@ -6,4 +6,4 @@ pub absorb-requires-clause-rule : goal.absorb-requires-clause-rule
 absorb-requires-clause-rule g c = closes _ _ _ _ c.feed.invariant.1 c.drain.invariant.2
 
 pub another-other-requires-clause-rule : goal.another-other-requires-clause-rule
-another-other-requires-clause-rule g c = parts _ _ (met _ _ _ _ _ (c.learn_as.ensures.channel.2 ∙ c.absorb.ensures.rule))
+another-other-requires-clause-rule g c = parts _ _ (met _ _ _ _ _ _ (c.learn_as.ensures.channel.2 ∙ c.absorb.ensures.rule))

@@ -7,6 +7,7 @@ pub returns : goal.returns
 returns g c = record {
   pieces = c.ship_all-shipped.new.shipper.log.pieces;
   begins = c.ship_all-shipped.ensures.begins;
+  short = c.ship_all-shipped.ensures.short;
   report = record {
     shipping = c.ship_all-shipped.new.shipper;
     rules = c.ship_all-shipped.ensures.kept.0 ∙ ap (λ (l : Sorting). l.rules) c.in_ok-shipper.ensures.log;

@@ -1,6 +1,7 @@
-use Rattle.std.proofs.Common.{◌≡◌, ◌∷◌, length, ap, ◌∙◌, arith}
+use Rattle.std.proofs.Common.{◌≡◌, ◌∷◌, length, sym, ap, ◌∙◌, subst, arith}
 use Rattle.std.specs.Vec.Iter.{into_iter_items}
 use Rattle.rw_feeder.specs.Feeders.{Sorting}
+use Rattle.rw_send.specs.Segments.{AreShort}
 use Rattle.rw_send.proofs.PartLemmas.{begins_on, halted_at_begin, halted_within}
 use Rattle.rw_send.proofs.SegmentLemmas.{going_step}
 use Rattle.rw_send.proofs.SureLemmas.{sure_rest}
@@ -14,6 +15,7 @@ loop-segment-preserved g c =
     let fed = c.in_ok-ship_segment.ensures.kept in
     record {
       kept = (ap (λ (l : Sorting). l.rules) c.in_ok-sharding.ensures.log ∙ fed.0 ∙ begun.0 ∙ was.0, c.in_ok-sharding.ensures.config ∙ fed.1 ∙ begun.1 ∙ was.1);
+      short = subst AreShort (sym (ap (λ (l : Sorting). l.pieces) c.in_ok-sharding.ensures.log)) (c.in_ok-ship_segment.ensures.short (c.in_ok-begin_segment.ensures.short c.loop-segment.invariant.short));
       going = going_step _ _ _ _ _ _ _ _ _ _ steps c.loop-segment.invariant.going c.in_ok-begin_segment.ensures.begun c.in_ok-ship_segment.ensures.whole
           (ap (λ (l : Sorting). l.pieces) c.in_ok-sharding.ensures.log);
       sound = c.in_ok-sharding.ensures.sound c.in_ok-ship_segment.ensures.sound;

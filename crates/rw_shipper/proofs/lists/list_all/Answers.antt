@@ -1,6 +1,6 @@
 use Rattle.std.proofs.Common.{◌∷◌, ◌++◌, [], length, sym, ap, ◌∙◌, subst, arith}
 use Rattle.rw_shipper.specs.Reports.{HasRoom, ListsAfter}
-use Rattle.rw_shipper.proofs.ListingLemmas.{lists_none, lists_more, moved, none_left, nil_of}
+use Rattle.rw_shipper.proofs.ListingLemmas.{room_next, lists_none, lists_more, moved, none_left, nil_of}
 use Rattle.rw_shipper.proofs.lists.list_all.Goals as goal
 
 pub loop-shard-init : goal.loop-shard-init
@@ -28,3 +28,6 @@ returns g c =
     let i = c.loop-shard.invariant in
     let step = c.in-None.ensures.steps in
     subst (λ js. ListsAfter c.args.lists js c.loop-shard.lists) (sym (none_left _ _ _ i.2.1 (nil_of _ (sym i.0 ∙ step.0)))) i.2.2
+
+pub add-requires : goal.add-requires
+add-requires g c = room_next c.loop-shard.lists c.in-Some.shard _ (subst (HasRoom c.loop-shard.lists) c.in-Some.ensures.steps.0 c.loop-shard.invariant.1)

@@ -47,3 +47,11 @@ returns-clause-closed g c =
       nil,
       (j.0, j.1 ∙ ap (λ w. vec_items w ++ j.0) was ∙ ap (λ (s : Shards _). s.ended ++ j.0) v, subst (AreSame c.args.self.now.current) (sym j.2) current),
     )
+
+pub returns-clause-setup : goal.returns-clause-setup
+returns-clause-setup g c =
+    let i = c.self.invariant in
+    let j = c.join_all.ensures.same in
+    let was = c.replace-joined.ensures.value in
+    let same = subst (λ (l : List Lane). AreSame l c.end_all-ending.result.items) (ap vec_items c.replace-running.ensures.value) c.end_all-ending.ensures.same in
+    set_up_closed c.self.inside.config _ _ _ _ _ i.1 i.2 same (j.1 ∙ ap (λ v. vec_items v ++ j.0) was) j.2

@@ -6,6 +6,7 @@ use Rattle.std.specs.Prelude.{slice_get}
 use Rattle.rw_ruled_queue.specs.Ends.{QueueId}
 use Rattle.rw_shard_queue.specs.Items.{Placed, samples_in, places_in}
 use Rattle.rw_fleet.specs.Lanes.{Lane, put_as}
+use Rattle.rw_fleet.specs.Positions.{Positions}
 use Rattle.rw_fleet.proofs.PutLemmas.{samples_more, positions_more, positions_length, as_put}
 use Rattle.rw_fleet.proofs.SoftLemmas.{soft_push}
 use Rattle.rw_fleet.proofs.running.Running.put.Goals as goal
@@ -14,19 +15,19 @@ pub invariant_of-self-2 : goal.invariant_of-self-2
 invariant_of-self-2 g c =
     let i = c.self.invariant in
     let queue = sym c.put.ensures.queue.0 in
-    (positions_more _ _ _ _ _ _ _ c.in_default.ensures.put refl i.0 c.reserve.ensures.items c.push_reserved.ensures.items, i.1 ∙ ap (λ (q : QueueId). q.epoch) queue, i.2 ∙ ap (λ (q : QueueId). q.shard) queue, i.3 ∙ queue, i.4, i.5, soft_push _ _ _ c.in_default.ensures.put refl)
+    (positions_more _ _ _ _ _ _ c.in_default.ensures.put refl i.0 (ap (λ (p : Positions). p.all) c.push.ensures), i.1 ∙ ap (λ (q : QueueId). q.epoch) queue, i.2 ∙ ap (λ (q : QueueId). q.shard) queue, i.3 ∙ queue, i.4, i.5, soft_push _ _ _ c.in_default.ensures.put refl, ap (λ (p : Positions). p.most) c.push.ensures ∙ i.7)
 
 pub put-requires : goal.put-requires
 put-requires g c =
     let i = c.self.invariant in
-    let len : c.len-seq.result ≡ length (places_in c.self.inside.feed.put) = c.len-seq.ensures ∙ c.self.inside.positions.ok.0 ∙ positions_length c.self.inside.feed.put _ i.0 in
+    let len : c.len-seq.result ≡ length (places_in c.self.inside.feed.put) = c.len-seq.ensures ∙ positions_length c.self.inside.feed.put _ i.0 in
     (i.1, i.2, len, subst (λ n. n < 1152921504606846976) len c.if-seq.false, (λ k o at. c.requires.later k o (subst (λ (l : Lane). slice_get (places_in l.put) k ≡ Some o) c.self.view_is at)))
 
 pub returns-clause-put : goal.returns-clause-put
 returns-clause-put g c =
     let i = c.self.invariant in
     let fits : SFits w64 c.args.logged.t = search rules in
-    let len : c.len-seq.result ≡ length (places_in c.self.inside.feed.put) = c.len-seq.ensures ∙ c.self.inside.positions.ok.0 ∙ positions_length c.self.inside.feed.put _ i.0 in
+    let len : c.len-seq.result ≡ length (places_in c.self.inside.feed.put) = c.len-seq.ensures ∙ positions_length c.self.inside.feed.put _ i.0 in
     let queue = sym i.3 in
     let lane : Lane = record { setup = c.self.inside.worker.value; put = c.self.inside.feed.put } in
     samples_more _ _ _ c.in_default.ensures.put

@@ -13,7 +13,7 @@ pub list_all-requires : goal.list_all-requires
 list_all-requires g c =
     let all = c.finish-joined.ensures in
     let p = c.push_reserved.ensures in
-    room_all g.C.T.Transport.tells g.C.T.Transport.seen c.self.inside.fleet c.self.inside.lists (record { parts = c.push_reserved.new.self; workers = c.self.inside.lists.workers; samples = c.self.inside.lists.samples }) c.self.inside.parts c.self.inside.samples c.finish-joined.result.0.items c.self.invariant all.all all.worked p.len p.capacity refl refl refl refl
+    room_all g.C.T.Transport.tells g.C.T.Transport.seen c.self.inside.fleet c.self.inside.lists (record { parts = c.push_reserved.new.self; workers = c.self.inside.lists.workers; samples = c.self.inside.lists.samples }) c.self.inside.parts c.self.inside.samples c.finish-joined.result.0.items c.self.invariant all.all all.worked all.setup p.len p.capacity refl refl refl refl
 
 pub returns : goal.returns
 returns g c =

@@ -1,0 +1,15 @@
+-- HOST:PORT, as a word of the command line.
+use Rattle.std.specs.Prelude.{◌≡◌, ℕ, ◌<◌, ◌≤◌, List, ◌∷◌, ◌++◌}
+use Rattle.rw_text.specs.Numbers.{IsNumber}
+
+-- decimal digits of a number from 1 to 65535
+pub record IsPort (text : List ℕ) (port : ℕ) : Type 0 where
+  pub is_number : IsNumber text port
+  pub some : 0 < port
+  pub most : port ≤ 65535
+
+-- a host, a colon and a port, whose digits hold no colon
+pub record IsAddress (text host : List ℕ) (port : ℕ) : Type 0 where
+  pub digits : List ℕ
+  pub parts : text ≡ host ++ 58 ∷ digits
+  pub is_port : IsPort digits port

@@ -1,0 +1,46 @@
+//! HOST:PORT, the address of a receiver as a word of the command line.
+#![tactic(auto)]
+
+ghost use Rattle.std.specs.Prelude.{◌≡◌, ℕ, List, MatchOption};
+ghost use Rattle.rw_address.specs.Addresses.{IsPort, IsAddress};
+
+use rw_text::read_number;
+
+/// A host, to be looked up, and a port from 1 to 65,535.
+#[derive(Clone, Copy, Debug)]
+pub struct Address<'a> {
+    pub host: &'a str,
+    pub port: u16,
+}
+
+fn port_of(digits: &[u8]) -> Option<u16>
+    ensures { MatchOption result ((port : ℕ) → IsPort digits.now port → ⊥) (IsPort digits.now) }
+{
+    let Some(port) = read_number(digits) else {
+        return None;
+    };
+    if port == 0 || port > 65_535 {
+        return None;
+    }
+    Some(port as u16)
+}
+
+/// Reads HOST:PORT, which is split at its last colon, so that a host may hold colons (`::1`). The port is in decimal digits.
+pub fn read_address(text: &str) -> Option<Address<'_>>
+    ensures { MatchOption result
+        ((host : List ℕ) (port : ℕ) → IsAddress text.now host port → ⊥)
+        (λ a. IsAddress text.now a.host.now a.port) }
+{
+    let Some((host, digits)) = text.rsplit_once(':') else {
+        return None;
+    };
+    let Some(port) = port_of(digits.as_bytes()) else {
+        return None;
+    };
+    Some(Address { host, port })
+}
+
+/// A text is one address at most.
+pub fn address_is_one()
+    ensures { (text host other : List ℕ) (port another : ℕ) → IsAddress text host port → IsAddress text other another → (host ≡ other) × (port ≡ another) }
+{}
