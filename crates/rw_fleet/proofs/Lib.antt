@@ -4,3 +4,4 @@ pub mod ListLemmas
 pub mod LaneLemmas
 pub mod JoinedLemmas
 pub mod SoftLemmas
+pub mod LoadLemmas

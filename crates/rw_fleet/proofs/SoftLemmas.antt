@@ -80,10 +80,10 @@ positions_samples (item.Sample p t w l ∷ xs) = ap suc (positions_samples xs)
 positions_samples (item.Flush ∷ xs) = positions_samples xs
 positions_samples (item.End kind ∷ xs) = positions_samples xs
 
-cut_cases : (compared stopped resolved : Bool) → (compared ≡ true → stopped ≡ false → resolved ≡ true) → resolved ≡ false → (compared ≡ false) ⊎ (stopped ≡ true)
-cut_cases false stopped resolved h e = inl refl
-cut_cases true true resolved h e = inr refl
-cut_cases true false resolved h e = let all : resolved ≡ true = h refl refl in absurd (cc)
+cut_cases : {A : Type 0} (compared stopped resolved : Bool) → (compared ≡ false → A) → (compared ≡ true → stopped ≡ false → resolved ≡ true) → resolved ≡ false → A ⊎ (stopped ≡ true)
+cut_cases false stopped resolved apart h e = inl (apart refl)
+cut_cases true true resolved apart h e = inr refl
+cut_cases true false resolved apart h e = let all : resolved ≡ true = h refl refl in absurd (cc)
 
 module _ {T : Type 0} where
   pub soft_closed : (was now more : List (Joined T)) (ending : List Lane) → AreSoft (map lane_of was) → AreSoft ending → now ≡ was ++ more → map lane_of more ≡ ending → AreSoft (map lane_of now)
@@ -125,4 +125,4 @@ module _ {T : Type 0} (tells : T → Type 0) (seen : T → List Exchange) where
   pub has_cut : (js : List (Joined T)) → AreWorked tells seen js → AreSoft (map lane_of js) → HasUnresolved js → HasCut js
   has_cut js worked soft u =
       let w = worked_at js u.0 u.1 worked u.2 in
-      (u.0, u.1, u.2, cut_cases (is_compared u.1.finished.ends) u.1.finished.stopped (is_resolved u.1) (λ compared live. w.done compared live (soft_at js u.0 u.1 soft u.2)) u.3)
+      (u.0, u.1, u.2, cut_cases (is_compared u.1.finished.ends) u.1.finished.stopped (is_resolved u.1) w.apart (λ compared live. w.done compared live (soft_at js u.0 u.1 soft u.2)) u.3)

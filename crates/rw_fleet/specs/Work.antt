@@ -49,6 +49,13 @@ abbrev pub is_compared : Ends → Bool
 is_compared (Compared w) = true
 is_compared (Apart f end) = false
 
+-- one of the ends was gone before the other: no End could be put, or it was not taken
+abbrev pub IsApart : Ends → Type 0
+IsApart (Compared w) = ⊥
+IsApart (Apart (fed.Open f) end) = ⊤
+IsApart (Apart (fed.Ended f) (taking.Ended kind d)) = ⊥
+IsApart (Apart (fed.Ended f) (taking.Killed d)) = ⊤
+
 -- all that was put was taken, and is resolved
 abbrev pub is_resolved : {T : Type 0} → Joined T → Bool
 is_resolved j = is_compared j.finished.ends && (length j.abandoned.items == 0)
@@ -77,6 +84,7 @@ pub record IsWorked {T : Type 0} (tells : T → Type 0) (seen : T → List Excha
   pub report : IsReport tells seen j.worker.value begun (record { end = end; resolved = j.finished.resolved; stopped = j.finished.stopped; ledger = j.part; transport = j.finished.transport })
   pub abandoned : j.abandoned.items ≡ drop j.finished.resolved (positions_in (put_of j.finished.ends))
   pub few : length j.abandoned.items ≤ j.worker.value.queue.capacity + j.worker.value.batch
+  pub apart : is_compared j.finished.ends ≡ false → IsApart j.finished.ends
   pub done : is_compared j.finished.ends ≡ true → j.finished.stopped ≡ false → IsSoft (put_of j.finished.ends) → is_resolved j ≡ true
 
 abbrev pub AreWorked : {T : Type 0} → (T → Type 0) → (T → List Exchange) → List (Joined T) → Type 0
@@ -88,7 +96,7 @@ AreResolved {T} js = (k : ℕ) (j : Joined T) → slice_get js k ≡ Some j → 
 
 -- one of the ends was gone before the other, or the worker read the stop flag as set
 abbrev pub IsCut : {T : Type 0} → Finished T → Type 0
-IsCut f = (is_compared f.ends ≡ false) ⊎ (f.stopped ≡ true)
+IsCut f = IsApart f.ends ⊎ (f.stopped ≡ true)
 
 -- one of these queues was cut
 abbrev pub HasCut : {T : Type 0} → List (Joined T) → Type 0

@@ -3,7 +3,7 @@
 ghost use Rattle.std.specs.Prelude.{◌≡◌, ◌+◌, ◌≤◌, length, true, false};
 ghost use Rattle.rw_shard_queue.specs.Items.{samples_in, places_in};
 ghost use Rattle.rw_worker.specs.Report.{drain_of, is_hard};
-ghost use Rattle.rw_fleet.specs.Work.{feeding, queue_of, put_of, taken_of, is_compared, IsTakenOf, IsSoft, IsEndTaken};
+ghost use Rattle.rw_fleet.specs.Work.{feeding, queue_of, put_of, taken_of, is_compared, IsApart, IsTakenOf, IsSoft, IsEndTaken};
 
 use rw_ruled_queue::{Ended, Feed, Kind, Open, Whole, begins, compare};
 use rw_worker::TakingEnd;
@@ -48,6 +48,7 @@ pub(crate) fn meet<R>(rt: &R, fed: Fed, end: TakingEnd) -> Ends
     ensures taken { taken_of result ≡ (drain_of end).taken }
     ensures begins { IsTakenOf result }
     ensures ended { is_compared result ≡ true → IsEndTaken end }
+    ensures apart { is_compared result ≡ false → IsApart result }
     ensures within { length (places_in (put_of result)) ≤ length (places_in (taken_of result)) + (feeding fed).queue.capacity }
 {
     match (fed, end) {

@@ -7,10 +7,13 @@ ghost use Rattle.rw_fleet.specs.Lanes.{Lane, AreFresh, AreSame, AreSetUp, IsPut,
 ghost use Rattle.rw_worker.specs.Report.{is_hard};
 ghost use Rattle.rw_fleet.specs.Work.{AreResolved, AreWorked, HasCut, lane_of};
 ghost use Rattle.rw_fleet.specs.Fleets.{AreAll, HasClosed};
+ghost use Rattle.rw_fleet.specs.Loads.{load_in, window_of};
 
 use crate::connect::Connect;
 use crate::joined::Joined;
-use crate::lists::{all_resolved, end_all, join_all, mark_all, open_all};
+use crate::lists::{
+    all_resolved, end_all, join_all, load_at_work, load_of_ended, mark_all, open_all,
+};
 use crate::load::Load;
 use crate::running::{Ending, Fault, Running};
 use rw_feeder::Logged;
@@ -96,28 +99,18 @@ impl<C: Connect + Drop> Fleet<C> {
 
     /// How many of the samples that a shard was put may wait to be resolved.
     pub fn window(&self) -> usize
-        ensures { result ≡ self.now.config.capacity + self.now.config.batch }
+        ensures { result ≡ window_of self.now.config }
     {
         let fields = self.config.fields();
         fields.capacity.get() as usize + fields.batch.get() as usize
     }
 
     /// How far the samples have come. Of a shard at work as many may wait as its queue and one batch hold.
-    pub fn load(&self) -> Load {
-        let waiting = self.window() as u64;
-        let mut load = Load::none();
-        for shard in self.joined.iter() {
-            let resolved = shard.finished.resolved;
-            load = load.with(
-                resolved.saturating_add(shard.abandoned.len() as u64),
-                resolved,
-            );
-        }
-        for shard in self.running.iter() {
-            let placed = shard.count();
-            load = load.with(placed, placed.saturating_sub(waiting));
-        }
-        load
+    pub fn load(&self) -> Load
+        ensures { result ≡ load_in self.now }
+    {
+        let ended = load_of_ended(&self.joined);
+        load_at_work(ended, &self.running, self.window() as u64)
     }
 
     /// Opens the queues of so many shards, and starts their workers. Where that is refused some may be at work.
@@ -181,6 +174,7 @@ impl<C: Connect + Drop> Fleet<C> {
         ensures worked { AreWorked C.T.tells C.T.seen self.new.ended }
         ensures setup { AreSetUp self.new.config (map lane_of self.new.ended) }
         ensures resolved { result ≡ true → AreResolved self.new.ended }
+        ensures cut { result ≡ false → HasCut self.new.ended }
     {
         let running = replace(&mut self.running, Vec::new(self.alloc));
         let ending = replace(&mut self.ending, Vec::new(self.alloc));

@@ -1,12 +1,15 @@
 //! What is done to all shards of an epoch.
 
-ghost use Rattle.std.specs.Prelude.{◌≡◌, ◌+◌, ◌≤◌, List, [], ◌++◌, map, OnOk, true, false, vec_len, vec_capacity};
+ghost use Rattle.std.specs.Prelude.{◌≡◌, ◌+◌, ◌≤◌, ℕ, List, [], ◌++◌, map, OnOk, true, false, vec_len, vec_capacity};
+ghost use Rattle.std.specs.List.{sum_by};
 ghost use Rattle.rw_worker.specs.Report.{is_hard};
 ghost use Rattle.rw_fleet.specs.Lanes.{AreFresh, AreSame, AreSetUp, marked};
+ghost use Rattle.rw_fleet.specs.Loads.{load_of, resolved_in, left_in, resolved_at_work, left_at_work};
 ghost use Rattle.rw_fleet.specs.Work.{AreResolved, HasUnresolved, AreSoft, AreWorked, lane_of};
 
 use crate::connect::Connect;
 use crate::joined::Joined;
+use crate::load::Load;
 use crate::running::{Ending, Fault, Running};
 use rw_ruled_queue::Kind;
 use rw_sender::Config;
@@ -114,4 +117,32 @@ pub(crate) fn all_resolved<T: Transport>(joined: &Vec<Joined<T>>) -> bool
         }
     }
     true
+}
+
+/// How far the samples of shards that have ended have come.
+pub(crate) fn load_of_ended<T: Transport>(joined: &Vec<Joined<T>>) -> Load
+    ensures { result ≡ load_of (sum_by resolved_in joined.now.items) (sum_by left_in joined.now.items) }
+{
+    let mut load = Load::none();
+    for shard in joined.iter() {
+        load = load.with(shard.finished.resolved, shard.abandoned.len() as u64);
+    }
+    load
+}
+
+/// A load with that of these shards at work, of each of which as many samples may wait as `window` says.
+pub(crate) fn load_at_work<T: Transport + Send + Drop + 'static>(
+    ended: Load,
+    running: &Vec<Running<T>>,
+    window: u64,
+) -> Load
+    ensures { (r l : ℕ) → ended ≡ load_of r l → result ≡ load_of (r + sum_by (resolved_at_work window) running.now.items) (l + sum_by (left_at_work window) running.now.items) }
+{
+    let mut load = ended;
+    for shard in running.iter() {
+        let count = shard.count();
+        let left = count.min(window);
+        load = load.with(count - left, left);
+    }
+    load
 }

@@ -1,5 +1,8 @@
 //! How far the samples of all shards have come.
 
+ghost use Rattle.std.specs.Prelude.{◌≡◌, ◌+◌, ℕ};
+ghost use Rattle.rw_fleet.specs.Loads.{load_of};
+
 /// How far the samples of all shards have come, as far as the one who puts them knows.
 #[derive(Clone, Copy, Debug, PartialEq, Eq)]
 pub struct Load {
@@ -12,7 +15,9 @@ pub struct Load {
 }
 
 impl Load {
-    pub(crate) fn none() -> Load {
+    pub(crate) fn none() -> Load
+        ensures { result ≡ load_of 0 0 }
+    {
         Load {
             placed: 0,
             resolved: 0,
@@ -20,12 +25,14 @@ impl Load {
         }
     }
 
-    /// With one shard more, which was put so many samples.
-    pub(crate) fn with(self, placed: u64, resolved: u64) -> Load {
+    /// With one shard more, of whose samples so many are resolved, and so many are left that may not be.
+    pub(crate) fn with(self, resolved: u64, left: u64) -> Load
+        ensures { (r l : ℕ) → self ≡ load_of r l → result ≡ load_of (r + resolved) (l + left) }
+    {
         Load {
-            placed: self.placed.saturating_add(placed),
+            placed: self.placed.saturating_add(resolved).saturating_add(left),
             resolved: self.resolved.saturating_add(resolved),
-            backlog: self.backlog.saturating_add(placed.saturating_sub(resolved)),
+            backlog: self.backlog.saturating_add(left),
         }
     }
 }

@@ -4,6 +4,7 @@ ghost use Rattle.std.specs.Prelude.{◌≡◌, ◌<◌, ℕ, List, [], ◌∷◌
 ghost use Rattle.rw_types.specs.declared.place.Place.{Place};
 ghost use Rattle.rw_shard_queue.specs.Items.{samples_in, places_in};
 ghost use Rattle.rw_fleet.specs.Lanes.{IsSetUp, put_as};
+ghost use Rattle.rw_fleet.specs.Loads.{count_in};
 ghost use Rattle.rw_worker.specs.Report.{is_hard};
 ghost use Rattle.rw_fleet.specs.Work.{lane_of, IsSoft, IsWorked};
 
@@ -123,7 +124,9 @@ impl<T: Transport + Send + Drop + 'static> Running<T> {
     }
 
     /// How many samples were put.
-    pub(crate) fn count(&self) -> u64 {
+    pub(crate) fn count(&self) -> u64
+        ensures { result ≡ count_in self.now }
+    {
         self.window.len()
     }
 

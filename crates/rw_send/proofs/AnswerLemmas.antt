@@ -19,11 +19,18 @@ orderly : {T : Type 0} (s : Shipping T) (js : List (Joined T)) (shipped : Result
 orderly s js (Ok u) (outcome.Complete end) h soft e = (tt, refl)
 orderly s js (Ok u) (outcome.Abandoned placed samples) h soft e = tt
 orderly s js (Ok u) (outcome.Damaged f) h soft e = refl
-orderly s js (Err (halt.Damaged g)) (outcome.Complete end) h soft e = some_is_not_none _ g h.fault_is e.1.fault_is
+orderly s js (Err (halt.Damaged g)) (outcome.Complete end) h soft e = some_is_not_none _ g h.0.fault_is e.1.fault_is
 orderly s js (Err (halt.Damaged g)) (outcome.Abandoned placed samples) h soft e = tt
 orderly s js (Err (halt.Damaged g)) (outcome.Damaged f) h soft e = refl
 orderly s js (Err halt.Failed) o h soft e = some_is_not_none _ _ refl soft
 orderly s js (Err halt.Unreadable) o h soft e = some_is_not_none _ _ refl soft
+
+-- a shipper that is stopped orderly has not failed
+pub goes_on : {T : Type 0} (s : Shipping T) (shipped : Result (Unit {0}) Halt) → IfErr shipped (IsHalted s) → OnOk shipped (s.fault ≡ None) → hard_fault shipped ≡ None → s.fault ≡ None
+goes_on s (Ok u) h live soft = live
+goes_on s (Err (halt.Damaged f)) h live soft = h.1
+goes_on s (Err halt.Failed) h live soft = some_is_not_none _ _ refl soft
+goes_on s (Err halt.Unreadable) h live soft = some_is_not_none _ _ refl soft
 
 pub answers_orderly : {T : Type 0} (s : Shipping T) (js : List (Joined T)) (shipped : Result (Unit {0}) Halt) (o : Outcome) (answer : Result (Unit {0}) ToolFault)
     → IfErr shipped (IsHalted s) → hard_fault shipped ≡ None → Ends s js o → answer ≡ answer_to o → Answers (IsOk shipped) (shipped ≡ Err halt.Unreadable) o answer

@@ -93,8 +93,8 @@ hard_fault (Err (halt.Damaged f)) = None
 hard_fault (Err halt.Failed) = Some fault.OutOfMemory
 hard_fault (Err halt.Unreadable) = Some fault.Device
 
--- the log has the fault for which reading ends
+-- the log has the fault for which reading ends, and the shipper goes on
 abbrev pub IsHalted : {T : Type 0} → Shipping T → Halt → Type 0
-IsHalted s (halt.Damaged f) = HasRead s.log.pieces s.log.placed (Some f)
+IsHalted s (halt.Damaged f) = HasRead s.log.pieces s.log.placed (Some f) × (s.fault ≡ None)
 IsHalted s halt.Failed = ⊤
 IsHalted s halt.Unreadable = ⊤

@@ -1,7 +1,8 @@
 //! The command `send`, over any readers, connections and writer.
 
-ghost use Rattle.std.specs.Prelude.{◌≡◌, ◌⊎◌, ℕ, map, Ok, Err, true, false, IfOk, IfErr, IsOk, OnOk};
+ghost use Rattle.std.specs.Prelude.{◌≡◌, ◌⊎◌, ℕ, None, map, Ok, Err, true, false, IfOk, IfErr, IsOk, OnOk};
 ghost use Rattle.rw_codes.specs.declared.tail_fault.TailFault.{TailFault};
+ghost use Rattle.rw_shipper.specs.Reports.{IsAbandoned, ListsCut};
 ghost use Rattle.rw_shipper.specs.Shipping.{HasStopped};
 ghost use Rattle.rw_tool.specs.declared.fault.ToolFault.TheVariants.{OutOfMemory, Log, Line, SegmentFull, Device};
 ghost use Rattle.rw_send.specs.Sending.{answer_to, hard_fault, Answers, IsHalted, IsPrinted, IsPrintedPart, IsSent};
@@ -54,8 +55,10 @@ fn stopped<R: Threads + Wait, C: Connect + Drop>(
     shipper: Shipper<C>,
     shipped: Result<(), Halt>,
 ) -> Sent<C::T>
-    requires { IfErr shipped (IsHalted shipper) }
+    requires halted { IfErr shipped (IsHalted shipper) }
+    requires live { OnOk shipped (shipper.fault ≡ None) }
     ensures stopped { HasStopped C.T.tells C.T.seen shipper result.report }
+    ensures cut { hard_fault shipped ≡ None → IsAbandoned result.report.outcome → ListsCut result.report.workers.items }
     ensures answers { Answers (IsOk shipped) (shipped ≡ Err Halt.Unreadable) result.report.outcome result.answer }
 {
     match hard_fault(shipped) {

@@ -66,10 +66,11 @@ pub(crate) fn resharded<R: Threads + Wait + Copy + Send + 'static, C: Connect + 
     sharding: Sharding,
     load: Load,
 ) -> Result<Sharding, Halt>
+    requires { length shipper.old.fleet.current ≡ sharding.shards }
     ensures wanted { IfOk result (λ s. s.shards ≡ wanted sharding.shards load.placed load.resolved load.backlog sharding.fewest sharding.most) }
     ensures range { IfOk result (λ s. (s.fewest ≡ sharding.fewest) × (s.most ≡ sharding.most)) }
     ensures same { IfOk result (λ s. s.shards ≡ sharding.shards → shipper.new ≡ shipper.old) }
-    ensures opened { IfOk result (λ s. s.shards ≢ sharding.shards → length shipper.new.fleet.current ≡ s.shards) }
+    ensures opened { IfOk result (λ s. length shipper.new.fleet.current ≡ s.shards) }
     ensures log { shipper.new.log ≡ shipper.old.log }
     ensures config { shipper.new.fleet.config ≡ shipper.old.fleet.config }
     ensures sound { shipper.old.fault ≡ None → OnOk result (shipper.new.fault ≡ None) }

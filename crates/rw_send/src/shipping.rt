@@ -48,6 +48,7 @@ fn ship_piece<R: Wait, S: Source, C: Connect + Drop>(
     requires { shipper.old.fault ≡ None }
     ensures kept { IsKept shipper.old shipper.new }
     ensures short { AreShort shipper.old.log.pieces → AreShort shipper.new.log.pieces }
+    ensures len { length shipper.new.fleet.current ≡ length shipper.old.fleet.current }
     ensures sound { OnOk result (shipper.new.fault ≡ None) }
     ensures more { result ≡ Ok true → IsFedMore (S.remaining segment.old) (S.remaining segment.new) shipper.old.log.pieces shipper.new.log.pieces }
     ensures end { result ≡ Ok false → Consumes (S.remaining segment.old) (S.remaining segment.new) [] × IsAtEnd (S.remaining segment.new) × (shipper.new.log.pieces ≡ shipper.old.log.pieces) }
@@ -73,6 +74,7 @@ fn ship_segment<R: Wait, S: Source + Drop, C: Connect + Drop>(
     requires { shipper.old.fault ≡ None }
     ensures kept { IsKept shipper.old shipper.new }
     ensures short { AreShort shipper.old.log.pieces → AreShort shipper.new.log.pieces }
+    ensures len { length shipper.new.fleet.current ≡ length shipper.old.fleet.current }
     ensures sound { OnOk result (shipper.new.fault ≡ None) }
     ensures whole { OnOk result (IsFed (S.remaining segment) shipper.old.log.pieces shipper.new.log.pieces) }
     ensures part { OnErr result (IsFedPart (S.remaining segment) shipper.old.log.pieces shipper.new.log.pieces) }
@@ -97,6 +99,7 @@ fn begin_segment<R: Wait, C: Connect + Drop>(
     requires { shipper.old.fault ≡ None }
     ensures kept { IsKept shipper.old shipper.new }
     ensures short { AreShort shipper.old.log.pieces → AreShort shipper.new.log.pieces }
+    ensures len { length shipper.new.fleet.current ≡ length shipper.old.fleet.current }
     ensures sound { OnOk result (shipper.new.fault ≡ None) }
     ensures begun { OnOk result (Begins is_first shipper.old.log.pieces shipper.new.log.pieces) }
     ensures part { OnErr result ((shipper.new.log.pieces ≡ shipper.old.log.pieces) ⊎ Begins is_first shipper.old.log.pieces shipper.new.log.pieces) }
@@ -124,8 +127,10 @@ pub(crate) fn ship_all<
 ) -> Result<(), Halt>
     requires begun { shipper.old.log.pieces ≡ [] }
     requires sound { shipper.old.fault ≡ None }
+    requires shards { length shipper.old.fleet.current ≡ sharding.shards }
     ensures kept { IsKept shipper.old shipper.new }
     ensures short { AreShort shipper.new.log.pieces }
+    ensures live { OnOk result (shipper.new.fault ≡ None) }
     ensures whole { OnOk result (IsLogOf (map S.remaining segments.items) shipper.new.log.pieces) }
     ensures begins { IsBeginningOf (map S.remaining segments.items) shipper.new.log.pieces }
     ensures halted { IfErr result (IsHalted shipper.new) }

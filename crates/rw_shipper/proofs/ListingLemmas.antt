@@ -1,5 +1,5 @@
 -- How many samples of shards are not resolved, and the room for what is listed of them.
-use Rattle.std.proofs.Common.{◌≡◌, ℕ, zero, suc, ◌+◌, ◌≤◌, List, [], ◌∷◌, ◌++◌, length, map, Some, None, refl, sym, ap, ◌∙◌, subst, append_assoc, append-nil, length-append, arith}
+use Rattle.std.proofs.Common.{◌≡◌, ℕ, zero, suc, ◌+◌, ◌≤◌, List, [], ◌∷◌, ◌++◌, length, map, refl, sym, ap, ◌∙◌, subst, append_assoc, append-nil, length-append, arith}
 use Rattle.std.specs.Prelude.{◌*◌, ◌==◌, ◌&&◌, vec_len, vec_capacity, Bool, true, false, Result, Ok, is_ok, if◌then◌else◌}
 use Rattle.std.proofs.Math.Nat.{suc-mul, zero-mul, mul_comm, mul-le-mul_right}
 use Rattle.std.proofs.lemmas.Bool.Decides.{nat_tests}
@@ -11,7 +11,8 @@ use Rattle.rw_fleet.specs.Work.{lane_of, is_compared, is_resolved, AreResolved, 
 use Rattle.rw_fleet.specs.Fleets.{Shards, AreAll, HasClosed}
 use Rattle.rw_fleet.specs.declared.joined.Joined.{Joined}
 use Rattle.rw_feeder.specs.declared.logged.Logged.{Logged}
-use Rattle.rw_shipper.specs.Reports.{finished_of, part_of, abandoned_in, window_of, HasListed, HasRoom, IsGrown, ListsAfter, IsRoomFor}
+use Rattle.rw_fleet.specs.Loads.{window_of}
+use Rattle.rw_shipper.specs.Reports.{finished_of, part_of, abandoned_in, HasListed, HasRoom, IsGrown, ListsAfter, IsRoomFor}
 use Rattle.rw_shipper.specs.declared.lists.Lists.{Lists}
 use Rattle.rw_shipper.proofs.PlacementLemmas.{same_length, set_length}
 

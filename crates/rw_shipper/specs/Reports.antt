@@ -2,13 +2,13 @@
 use Rattle.std.specs.Prelude.{slice_get, false, ◌≡◌, ◌≤◌, ◌+◌, ◌*◌, ℕ, Bool, true, List, [], ◌∷◌, ◌++◌, length, map, vec_len, vec_capacity, Option, Some, None, ⊤}
 use Rattle.rw_codes.specs.declared.tail_fault.TailFault.{TailFault}
 use Rattle.rw_ledger.specs.Names.{Named}
-use Rattle.rw_sender.specs.declared.config.ConfigFields.{ConfigFields}
 use Rattle.rw_sender.specs.declared.outcome.Outcome.{Outcome}
 use Rattle.rw_sender.specs.declared.outcome.Outcome.TheVariants.{Complete, Abandoned, Damaged}
 use Rattle.rw_worker.specs.Transcript.{Exchange}
 use Rattle.rw_fleet.specs.Lanes.{AreSetUp}
 use Rattle.rw_fleet.specs.Work.{lane_of, AreResolved, AreWorked, IsCut, HasCut}
 use Rattle.rw_fleet.specs.Fleets.{Shards, AreAll}
+use Rattle.rw_fleet.specs.Loads.{window_of}
 use Rattle.rw_fleet.specs.declared.joined.Joined.{Joined}
 use Rattle.rw_fleet.specs.declared.joined.Finished.{Finished}
 use Rattle.rw_shipper.specs.declared.lists.Lists.{Lists}
@@ -23,10 +23,6 @@ part_of j = j.part
 abbrev pub abandoned_in : {T : Type 0} → List (Joined T) → List ℕ
 abandoned_in [] = []
 abandoned_in (j ∷ js) = j.abandoned.items ++ abandoned_in js
-
--- how many of the samples that a shard was put may wait to be resolved
-abbrev pub window_of : ConfigFields → ℕ
-window_of config = config.capacity + config.batch
 
 -- there is room for what these shards list
 abbrev pub HasRoom : {T : Type 0} → Lists T → List (Joined T) → Type 0

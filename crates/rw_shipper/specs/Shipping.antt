@@ -67,6 +67,11 @@ abbrev pub answer_to : Fault → FeedFault
 answer_to queue_fault.OutOfMemory = OutOfMemory
 answer_to queue_fault.Gone = Gone
 
+-- it has failed, by what the answer says
+abbrev pub FailsBy : Option Fault → FeedFault → Type 0
+FailsBy None e = ⊥
+FailsBy (Some f) e = e ≡ answer_to f
+
 -- what a feed that met no earlier fault answers
 abbrev pub Feeds : {T : Type 0} → Shipping T → Result (Unit {0}) FeedFault → Type 0
 Feeds s (Ok u) = HasRead s.log.pieces s.log.placed None × (s.fault ≡ None)

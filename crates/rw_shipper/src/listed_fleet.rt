@@ -1,11 +1,12 @@
 //! The shards, with room for all that a report lists of them.
 
-ghost use Rattle.std.specs.Prelude.{◌≡◌, ◌+◌, ◌<◌, ◌≤◌, ◌^◌, ℕ, [], length, map, IfOk, OnOk, OnErr, Some, true, slice_get};
+ghost use Rattle.std.specs.Prelude.{◌≡◌, ◌+◌, ◌<◌, ◌≤◌, ◌^◌, ℕ, [], length, map, IfOk, OnOk, OnErr, Some, true, false, slice_get};
 ghost use Rattle.rw_types.specs.declared.place.Place.{Place};
 ghost use Rattle.rw_shard_queue.specs.Items.{places_in};
 ghost use Rattle.rw_fleet.specs.Lanes.{Lane, AreFresh, AreSame, IsPut, marked};
-ghost use Rattle.rw_fleet.specs.Work.{AreResolved};
+ghost use Rattle.rw_fleet.specs.Work.{AreResolved, HasCut};
 ghost use Rattle.rw_fleet.specs.Fleets.{HasClosed};
+ghost use Rattle.rw_fleet.specs.Loads.{load_in};
 ghost use Rattle.rw_worker.specs.Report.{is_hard};
 ghost use Rattle.rw_shipper.specs.Reports.{HasListed};
 
@@ -83,7 +84,9 @@ impl<C: Connect + Drop> ListedFleet<C> {
     }
 
     /// How far the samples have come, as far as the one who puts them knows.
-    pub(crate) fn load(&self) -> Load {
+    pub(crate) fn load(&self) -> Load
+        ensures { result ≡ load_in self.now }
+    {
         self.fleet.load()
     }
 
@@ -143,6 +146,7 @@ impl<C: Connect + Drop> ListedFleet<C> {
         requires { self.old.epoch + 1 < 2 ^ 64 }
         ensures closed { HasClosed self.old self.new }
         ensures resolved { result ≡ true → AreResolved self.new.ended }
+        ensures cut { result ≡ false → HasCut self.new.ended }
     {
         if !self.fleet.close(rt) {
             return false;

@@ -3,10 +3,11 @@
 ghost use Rattle.std.specs.Prelude.{◌≡◌, ◌⊎◌, List, true, false, ◌+◌, ◌≤◌, ◌<◌, [], ◌∷◌, ◌++◌, length, map, None, Some, Err, IfOk, IfErr, IfSome, OnOk};
 ghost use Rattle.rw_wal_tail.specs.Fed.{piece_of};
 ghost use Rattle.rw_fleet.specs.Lanes.{AreFresh, marked};
-ghost use Rattle.rw_fleet.specs.Work.{AreResolved};
+ghost use Rattle.rw_fleet.specs.Work.{AreResolved, HasCut};
+ghost use Rattle.rw_fleet.specs.Loads.{load_in};
 ghost use Rattle.rw_types.specs.declared.entry.Entry.{Entry};
 ghost use Rattle.rw_shipper.specs.Reports.{IsAbandoned, IsAbandonedAt, ListsCut, end_of};
-ghost use Rattle.rw_shipper.specs.Shipping.{answer_to, Feeds, Joins, HasCompared, HasStopped};
+ghost use Rattle.rw_shipper.specs.Shipping.{answer_to, FailsBy, Feeds, Joins, HasCompared, HasStopped};
 
 use crate::listed_fleet::ListedFleet;
 use crate::lists::Lists;
@@ -46,7 +47,8 @@ fn answer_to(fault: Fault) -> FeedFault
 
 /// By which End the shards are ended.
 fn kind_of(is_hard: bool) -> Kind
-    ensures { is_hard ≡ false → result ≡ Kind.Orderly }
+    ensures hard { is_hard ≡ true → result ≡ Kind.Hard }
+    ensures orderly { is_hard ≡ false → result ≡ Kind.Orderly }
 {
     if is_hard { Kind::Hard } else { Kind::Orderly }
 }
@@ -174,6 +176,7 @@ impl<C: Connect + Drop> Shipper<C> {
         ensures grown { (more : List Entry) × (self.new.log.placed ≡ self.old.log.placed ++ more) }
         ensures rules { self.new.log.rules ≡ self.old.log.rules }
         ensures rest { self.new.fleet ≡ record self.old.fleet { current = self.new.fleet.current } }
+        ensures len { length self.new.fleet.current ≡ length self.old.fleet.current }
     {
         if let Some(fault) = self.fault {
             return Err(answer_to(fault));
@@ -202,7 +205,7 @@ impl<C: Connect + Drop> Shipper<C> {
     pub fn flush<R: Wait>(&mut self, rt: &R) -> Result<(), FeedFault>
         ensures failed { IfSome self.old.fault (λ f. (result ≡ Err (answer_to f)) × (self.new ≡ self.old)) }
         ensures marked { OnOk result (self.new ≡ record self.old { fleet = record self.old.fleet { current = map marked self.old.fleet.current } }) }
-        ensures fails { IfErr result (λ e. IfSome self.new.fault (λ f. e ≡ answer_to f)) }
+        ensures fails { IfErr result (FailsBy self.new.fault) }
     {
         if let Some(fault) = self.fault {
             return Err(answer_to(fault));
@@ -227,8 +230,10 @@ impl<C: Connect + Drop> Shipper<C> {
         ensures config { self.new.fleet.config ≡ self.old.fleet.config }
         ensures opened { OnOk result ((self.new.fleet.epoch ≡ self.old.fleet.epoch + 1) × (length self.new.fleet.current ≡ shards) × AreFresh self.new.fleet.epoch self.new.fleet.current) }
         ensures drained { OnOk result (AreResolved self.new.fleet.ended) }
+        ensures gone { self.old.fault ≡ None → result ≡ Err FeedFault.Gone → HasCut self.new.fleet.ended }
         ensures compared { (self.new.fleet ≡ self.old.fleet) ⊎ HasCompared self.old.fleet self.new.fleet }
         ensures fault { OnOk result (self.new.fault ≡ None) }
+        ensures fails { IfErr result (FailsBy self.new.fault) }
     {
         if let Some(fault) = self.fault {
             return Err(answer_to(fault));
@@ -256,7 +261,9 @@ impl<C: Connect + Drop> Shipper<C> {
     }
 
     /// How far the samples have come, as far as the shipper knows: advice on how many shards are wanted. A sample of a shard at work counts as resolved once there is no place left where it could wait.
-    pub fn load(&self) -> Load {
+    pub fn load(&self) -> Load
+        ensures { result ≡ load_in self.now.fleet }
+    {
         self.fleet.load()
     }
 

@@ -1,12 +1,18 @@
 //! Requests over TCP connections.
 
-ghost use Rattle.std.specs.Prelude.{◌<◌, IfOk, vec_len};
+ghost use Rattle.std.specs.Prelude.{◌≡◌, ◌<◌, ◌*◌, IfOk, IsOk, IsSome, vec_len};
+ghost use Rattle.std.specs.Io.KnownBytes.{Appends};
+ghost use Rattle.rw_retry.specs.Judgements.{judgement_of};
+ghost use Rattle.rw_sender.specs.declared.replies.ReplyRead.TheVariants as read;
+ghost use Rattle.rw_retry.specs.declared.judgement.Judgement.TheVariants as judgement;
+ghost use Rattle.rw_tcp.specs.Hearing.{Hears};
 
 use crate::reply::ask;
-use rw_types::{Bounded, Std};
+use rw_types::{Bounded, Sink, Source, Std};
 use rw_worker::{Lost, Reply, Transport};
 use std::alloc::Global;
 use std::io;
+use std::marker::Model;
 use std::net::{Net, SocketAddr, TcpStream, ToSocketAddrs};
 use std::time::Duration;
 
@@ -27,13 +33,22 @@ pub fn look_up<N: Net>(net: &N, alloc: Global, host: &str, port: u16) -> io::Res
 /// Sends each request over a connection of its own, to the first of its addresses that answers.
 ///
 /// Whatever fails is `Lost`: to connect, to write and to read, each also by a wait that is longer than the timeout, and a reply that is none.
-/// It tells of no exchange, since nobody can know what a socket really took.
+/// It tells of no exchange, since nobody can know what a socket really took. Contracts see the addresses and the timeout.
 #[derive(Drop)]
 pub struct TcpTransport<N> {
     alloc: Global,
     net: N,
     addresses: Vec<SocketAddr>,
     timeout: Duration,
+}
+
+impl<N> Model for TcpTransport<N> {
+    ghost use Rattle.std.specs.Duration.{as_nanos};
+    ghost use Rattle.rw_tcp.specs.Receivers.{Receiver};
+
+    ghost Value = { Receiver };
+
+    ghost view = { λ t. record { addresses = t.addresses.items; timeout = as_nanos t.timeout } };
 }
 
 impl<N: Net<Stream = TcpStream>> TcpTransport<N> {
@@ -43,7 +58,10 @@ impl<N: Net<Stream = TcpStream>> TcpTransport<N> {
         net: N,
         addresses: Vec<SocketAddr>,
         timeout_ms: Bounded<1, 3_600_000>,
-    ) -> TcpTransport<N> {
+    ) -> TcpTransport<N>
+        ensures addresses { result.addresses ≡ addresses.items }
+        ensures timeout { result.timeout ≡ timeout_ms * 1_000_000 }
+    {
         TcpTransport {
             alloc,
             net,
@@ -71,6 +89,37 @@ impl<N: Net<Stream = TcpStream>> TcpTransport<N> {
     }
 }
 
+/// Sends a request over the two directions of a connection. Whatever fails is `Lost`.
+fn exchange_over<R: Source, W: Sink>(
+    alloc: Global,
+    reader: &mut R,
+    writer: &mut W,
+    request: &[u8],
+) -> Result<Reply, Lost>
+    ensures reply { IfOk result (λ r. Hears (R.remaining reader.old) (R.remaining reader.new) (read.Status r.status)) }
+    ensures written { IfOk result (λ r. judgement_of r.status ≡ judgement.Done → Appends (W.contents writer.old) (W.contents writer.new) request.now) }
+{
+    match ask(alloc, reader, writer, request) {
+        Ok(reply) => Ok(reply),
+        Err(_) => Err(Lost),
+    }
+}
+
+/// Sends a request over a connection, where there is one.
+fn exchange_through(alloc: Global, stream: Option<TcpStream>, request: &[u8]) -> Result<Reply, Lost>
+    ensures { IsOk result → IsSome stream }
+{
+    let Some(stream) = stream else {
+        return Err(Lost);
+    };
+    exchange_over(
+        alloc,
+        &mut Std::new(&stream),
+        &mut Std::new(&stream),
+        request,
+    )
+}
+
 impl<N: Net<Stream = TcpStream>> Transport for TcpTransport<N> {
     ghost use Rattle.std.specs.Prelude.{[]};
 
@@ -79,14 +128,6 @@ impl<N: Net<Stream = TcpStream>> Transport for TcpTransport<N> {
     ghost seen = { λ _. [] };
 
     fn exchange(&mut self, request: &[u8]) -> Result<Reply, Lost> {
-        let Some(stream) = self.connect() else {
-            return Err(Lost);
-        };
-        let mut reader = Std::new(&stream);
-        let mut writer = Std::new(&stream);
-        match ask(self.alloc, &mut reader, &mut writer, request) {
-            Ok(reply) => Ok(reply),
-            Err(_) => Err(Lost),
-        }
+        exchange_through(self.alloc, self.connect(), request)
     }
 }

@@ -244,19 +244,33 @@ fn a_set_stop_flag_ends_the_tries(rt: HostRuntime) -> Result<(), Fail> {
     Ok(())
 }
 
-/// In batches of one, of two and of 2,000 samples the Flush makes two batches.
+#[test]
+fn nothing_is_taken_once_the_stop_flag_is_set(rt: HostRuntime) -> Result<(), Fail> {
+    let alloc = rt.alloc();
+    let worker = with_one(&rt, alloc)?;
+    let stop = Arc::new(alloc, AtomicBool::new(true))?;
+    let transport = script(alloc, &[], &stop, 0)?;
+    let work = work_through(&rt, alloc, worker, transport, &stop);
+    assert!(rt; work.stopped);
+    assert!(rt; work.is_killed);
+    assert_eq!(rt; work.resolved, 0);
+    assert!(rt; work.transport.notes().is_empty());
+    Ok(())
+}
+
+/// In batches of one, of two and of 2,000 samples the Flush makes two batches. The pauses of each begin anew.
 #[test]
 fn refused_samples_are_named(rt: HostRuntime) -> Result<(), Fail> {
     let alloc = rt.alloc();
     for batch in [Bounded::of(1), Bounded::of(2), Bounded::of(2000)] {
         let worker = with_two(&rt, alloc, batch)?;
-        let work = run(&rt, alloc, worker, &[429, 400, 204], 0)?;
+        let work = run(&rt, alloc, worker, &[429, 400, 503, 204], 0)?;
         assert!(rt; work.is_orderly);
         assert_eq!(rt; work.resolved, 2);
-        assert_eq!(rt; work.transport.notes().len(), 3);
+        assert_eq!(rt; work.transport.notes().len(), 4);
         assert_eq!(rt; work.ledger.total(), 1);
         assert_eq!(rt; work.ledger.get(5), Some(Reason::Status(400)));
-        assert_eq!(rt; work.milliseconds.as_slice(), [30].as_slice());
+        assert_eq!(rt; work.milliseconds.as_slice(), [30, 30].as_slice());
     }
     Ok(())
 }

@@ -16,6 +16,7 @@ loop-segment-preserved g c =
     record {
       kept = (ap (λ (l : Sorting). l.rules) c.in_ok-sharding.ensures.log ∙ fed.0 ∙ begun.0 ∙ was.0, c.in_ok-sharding.ensures.config ∙ fed.1 ∙ begun.1 ∙ was.1);
       short = subst AreShort (sym (ap (λ (l : Sorting). l.pieces) c.in_ok-sharding.ensures.log)) (c.in_ok-ship_segment.ensures.short (c.in_ok-begin_segment.ensures.short c.loop-segment.invariant.short));
+      shards = c.in_ok-sharding.ensures.opened;
       going = going_step _ _ _ _ _ _ _ _ _ _ steps c.loop-segment.invariant.going c.in_ok-begin_segment.ensures.begun c.in_ok-ship_segment.ensures.whole
           (ap (λ (l : Sorting). l.pieces) c.in_ok-sharding.ensures.log);
       sound = c.in_ok-sharding.ensures.sound c.in_ok-ship_segment.ensures.sound;

@@ -9,6 +9,7 @@ abbrev pub invariant-loop-segment : goal.invariant-loop-segment
 invariant-loop-segment g l = record {
   kept : IsKept l.fn.shipper l.shipper;
   short : AreShort l.shipper.log.pieces;
+  shards : length l.shipper.fleet.current ≡ l.sharding.shards;
   going : IsGoing (map g.S.Source.remaining l.fn.segments.items) (map g.S.Source.remaining (into_iter_items l.segment-iterator)) l.is_first l.shipper.log.pieces;
   sound : l.shipper.fault ≡ None;
   sure : AreSure (map g.S.Source.is_sure l.fn.segments.items) → AreSure (map g.S.Source.is_sure (into_iter_items l.segment-iterator));

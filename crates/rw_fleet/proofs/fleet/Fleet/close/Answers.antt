@@ -3,7 +3,7 @@ use Rattle.std.specs.Vec.{vec_items}
 use Rattle.rw_fleet.specs.Lanes.{Lane, AreSame, AreSetUp}
 use Rattle.rw_fleet.specs.Fleets.{Shards}
 use Rattle.rw_fleet.proofs.JoinedLemmas.{set_up_closed}
-use Rattle.rw_fleet.proofs.SoftLemmas.{soft_closed}
+use Rattle.rw_fleet.proofs.SoftLemmas.{soft_closed, has_cut}
 use Rattle.rw_fleet.proofs.fleet.Fleet.close.Goals as goal
 
 pub invariant_of-self : goal.invariant_of-self
@@ -55,3 +55,9 @@ returns-clause-setup g c =
     let was = c.replace-joined.ensures.value in
     let same = subst (λ (l : List Lane). AreSame l c.end_all-ending.result.items) (ap vec_items c.replace-running.ensures.value) c.end_all-ending.ensures.same in
     set_up_closed c.self.inside.config _ _ _ _ _ i.1 i.2 same (j.1 ∙ ap (λ v. vec_items v ++ j.0) was) j.2
+
+pub returns-clause-cut : goal.returns-clause-cut
+returns-clause-cut g c = λ unresolved.
+    let j = c.join_all.ensures.same in
+    let was = c.replace-joined.ensures.value in
+    has_cut g.C.T.Transport.tells g.C.T.Transport.seen _ c.join_all.ensures.worked (soft_closed _ _ _ _ c.self.invariant.7 (c.end_all-ending.ensures.soft refl) (j.1 ∙ ap (λ v. vec_items v ++ j.0) was) j.2) (c.all_resolved.ensures.not_all unresolved)

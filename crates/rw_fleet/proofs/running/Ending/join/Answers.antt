@@ -33,5 +33,6 @@ returns-clause-worked g c =
       report = rw (sym i.2) c.join-end.ensures;
       abandoned = left;
       few = few_left c.self.inside.window.most setup.queue.capacity setup.batch c.join-end.result.resolved all _ i.4 within c.behind-abandoned.ensures;
+      apart = m.apart;
       done = report_done g.T.Transport.tells g.T.Transport.seen setup c.self.inside.handle.promise.transport.value c.join-end.result c.meet-ends.result c.behind-abandoned.result.items (rw (sym i.2) c.join-end.ensures) m.taken m.ended left;
     }

@@ -30,4 +30,4 @@ returns-clause-hard g c = λ hard. is_abandoned c.args.placed _ _ (c.outcome_of-
 pub returns-clause-cut : goal.returns-clause-cut
 returns-clause-cut g c = λ soft left.
     let l = c.finish-lists.ensures in
-    lists_cut l.joined _ c.finish-lists.result.1 c.args.placed c.self.inside.damage _ l.workers (l.cut (ap is_hard (c.kind_of-kind.ensures soft))) (c.outcome_of-outcome.ensures.whole soft) left
+    lists_cut l.joined _ c.finish-lists.result.1 c.args.placed c.self.inside.damage _ l.workers (l.cut (ap is_hard (c.kind_of-kind.ensures.orderly soft))) (c.outcome_of-outcome.ensures.whole soft) left

@@ -1,0 +1,47 @@
+//! Segments of a log.
+
+use rw_tool::run_log;
+use rw_types::{Failed, Room, Source};
+use std::alloc::Global;
+use std::test::Fail;
+
+/// One sample, the value 1 at 1000 of `{__name__="up"}`.
+pub(crate) const UP: &[u8] = b"series 1 {__name__=\"up\"}\nsample 1 1000 1\n";
+
+/// The segment of log text.
+pub(crate) fn segment(alloc: Global, text: &[u8]) -> Result<Vec<u8>, Fail> {
+    let mut reader = text;
+    let mut writer = Room::new(alloc, 32_768)?;
+    match run_log(alloc, &mut reader, &mut writer, false, 1) {
+        Ok(()) => Ok(writer.into_bytes()),
+        Err(_) => Err(Fail::from("no log text")),
+    }
+}
+
+/// A reader that gives a text and then fails.
+#[derive(Drop)]
+pub(crate) struct Torn<'a> {
+    pub(crate) text: &'a [u8],
+    pub(crate) failed: bool,
+}
+
+impl<'a> Source for Torn<'a> {
+    ghost use Rattle.std.specs.Prelude.{None, false};
+
+    ghost remaining = { λ _. None };
+
+    ghost has_failed = { λ t. t.failed };
+
+    ghost is_sure = { λ _. false };
+
+    fn read(&mut self, buf: &mut [u8]) -> Result<usize, Failed> {
+        if self.failed || self.text.is_empty() {
+            self.failed = true;
+            return Err(Failed);
+        }
+        let count = self.text.len().min(buf.len());
+        buf[..count].copy_from_slice(&self.text[..count]);
+        self.text = &self.text[count..];
+        Ok(count)
+    }
+}

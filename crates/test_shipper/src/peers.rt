@@ -1,0 +1,134 @@
+//! Receivers within memory.
+
+use http::StatusCode;
+use rw_shipper::Connect;
+use rw_worker::{Lost, Pause, Reply, Transport};
+use std::alloc::{AllocError, Global};
+use std::sync::Arc;
+use std::sync::atomic::{AtomicBool, Ordering};
+use std::thread;
+
+/// How often a gate looks before it gives up.
+const TURNS: u32 = 10_000_000;
+
+/// Takes no time, so that a sender tries again at once.
+#[derive(Drop)]
+pub(crate) struct Quick;
+
+impl Pause for Quick {
+    fn pause(&mut self, _ms: u64) {}
+}
+
+/// Through which one worker waits until another one was answered.
+#[derive(Drop)]
+struct Gate {
+    is_held: bool,
+    has_answered: Arc<AtomicBool>,
+}
+
+impl Gate {
+    /// Whether it was opened in time.
+    fn opens(&self) -> bool {
+        for _ in 0..TURNS {
+            if self.has_answered.load(Ordering::SeqCst) {
+                return true;
+            }
+            thread::yield_now();
+        }
+        false
+    }
+
+    /// Whether the worker may go on, which opens the gate for the one that is held.
+    fn passes(&self) -> bool {
+        if self.is_held {
+            return self.opens();
+        }
+        self.has_answered.store(true, Ordering::SeqCst);
+        true
+    }
+}
+
+/// It notes each request for which there is memory, and answers all of them by one status. One that waits at a gate in vain loses its request.
+#[derive(Drop)]
+pub(crate) struct Peer {
+    alloc: Global,
+    status: StatusCode,
+    gate: Option<Gate>,
+    requests: Vec<Vec<u8>>,
+}
+
+impl Peer {
+    /// The requests so far.
+    pub(crate) fn requests(&self) -> &[Vec<u8>] {
+        &self.requests
+    }
+
+    fn note(&mut self, request: &[u8]) {
+        if let Ok(request) = request.to_vec(self.alloc) {
+            let _ = self.requests.push(request);
+        }
+    }
+}
+
+impl Transport for Peer {
+    ghost use Rattle.std.specs.Prelude.{[]};
+
+    ghost tells = { λ _. ⊥ };
+
+    ghost seen = { λ _. [] };
+
+    fn exchange(&mut self, request: &[u8]) -> Result<Reply, Lost> {
+        self.note(request);
+        if let Some(gate) = &self.gate {
+            if !gate.passes() {
+                self.gate = None;
+                return Err(Lost);
+            }
+        }
+        Ok(Reply {
+            status: self.status,
+        })
+    }
+}
+
+/// A receiver for each shard. For the epochs after the first few there is no memory.
+#[derive(Drop)]
+pub(crate) struct Peers {
+    pub(crate) alloc: Global,
+    pub(crate) status: StatusCode,
+    pub(crate) epochs: u64,
+    /// The shard that is held until another one was answered.
+    pub(crate) held: Option<u32>,
+    pub(crate) has_answered: Arc<AtomicBool>,
+}
+
+impl Peers {
+    fn gate(&self, shard: u32) -> Result<Option<Gate>, AllocError> {
+        match self.held {
+            Some(held) => Ok(Some(Gate {
+                is_held: shard == held,
+                has_answered: self.has_answered.clone()?,
+            })),
+            None => Ok(None),
+        }
+    }
+}
+
+impl Connect for Peers {
+    type T = Peer;
+
+    type P = Quick;
+
+    fn transport(&mut self, epoch: u64, shard: u32) -> Result<(Peer, Quick), AllocError> {
+        if epoch >= self.epochs {
+            return Err(AllocError);
+        }
+        let peer = Peer {
+            alloc: self.alloc,
+            status: self.status,
+            gate: self.gate(shard)?,
+            requests: Vec::new(self.alloc),
+        };
+        Ok((peer, Quick))
+    }
+}
