@@ -3,16 +3,17 @@
 use rw_receive::run_receive;
 use rw_sender::{Target, request_bytes};
 use rw_settings::{Settings, read_settings};
-use rw_tcp::{TcpTransport, look_up};
+use rw_tcp::{Sleep, TcpTransport, look_up};
 use rw_tool::ToolFault;
 use rw_types::{Bounded, Room};
-use rw_worker::{Lost, Reply, Transport};
+use rw_worker::{Lost, Pause, Reply, Transport};
 use std::alloc::{AllocError, Global};
 use std::io::{Read, Write};
 use std::net::{Net, Shutdown, SocketAddr, TcpListener, TcpStream};
 use std::sync::Wait;
 use std::test::Fail;
 use std::thread::Threads;
+use std::time::{Duration, Instant};
 use std::{io, thread};
 
 const UP_AT_1000: &[u8] = b"received {__name__=\"up\"} 1000=1\n";
@@ -206,6 +207,41 @@ fn a_busy_receiver_takes_the_next_request(rt: HostRuntime) -> Result<(), Fail> {
     assert_eq!(rt; ended, Ok(()));
     assert_eq!(rt; receiver.printed.as_slice(), UP_AT_1000);
     assert_eq!(rt; statuses, [Some(429), Some(204)]);
+    Ok(())
+}
+
+/// An address where nobody listens any more.
+fn deserted<N: Net<Stream = TcpStream, Listener = TcpListener>>(net: &N) -> io::Result<SocketAddr> {
+    TcpListener::bind(net, "127.0.0.1:0")?.local_addr()
+}
+
+#[test]
+fn the_next_address_is_tried(rt: HostRuntime) -> Result<(), Fail> {
+    let alloc = rt.alloc();
+    let request = request_of(alloc, &UP_BODY)?;
+    let mut receiver = listen(&rt, alloc, b"", Bounded::of(1))?;
+    let addresses = vec![in alloc; deserted(&rt)?, receiver.address]?;
+    let mut transport = TcpTransport::new(alloc, rt, addresses, Bounded::of(10_000));
+    let (status, ended) = received_from(
+        &rt,
+        alloc,
+        &mut receiver,
+        || status_of(&mut transport, &request),
+    );
+    assert_eq!(rt; ended, Ok(()));
+    assert_eq!(rt; receiver.printed.as_slice(), UP_AT_1000);
+    assert_eq!(rt; status, Some(204));
+    Ok(())
+}
+
+/// Not less, and not seconds.
+#[test]
+fn a_pause_lasts_so_many_milliseconds(rt: HostRuntime) -> Result<(), Fail> {
+    let start = Instant::now(&rt)?;
+    Sleep::new(rt).pause(10);
+    let gone = start.elapsed(&rt)?;
+    assert!(rt; gone >= Duration::from_millis(10));
+    assert!(rt; gone < Duration::from_secs(10));
     Ok(())
 }
 
