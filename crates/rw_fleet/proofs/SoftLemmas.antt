@@ -1,9 +1,10 @@
 -- The last item of a queue, and what it says of the worker.
 use Rattle.std.proofs.Common.{◌≡◌, ◌⊎◌, inl, inr, ℕ, zero, suc, ◌+◌, ◌<◌, below_more, Bool, true, false, List, [], ◌∷◌, ◌++◌, length, map, Some, None, refl, sym, ap, ◌∙◌, subst, drop, length-drop, arith, eq-eqb}
 use Rattle.std.specs.Prelude.{slice_get, ◌==◌, ◌&&◌}
-use Rattle.rw_shard_queue.specs.Items.{samples_in}
+use Rattle.rw_shard_queue.specs.Items.{samples_in, is_end}
 use Rattle.rw_shard_queue.specs.declared.item.Item.{Item}
 use Rattle.rw_shard_queue.specs.declared.item.Item.TheVariants as item
+use Rattle.rw_shard_queue.specs.declared.item.Kind.{Kind}
 use Rattle.rw_shard_queue.specs.declared.item.Kind.TheVariants.{Orderly, Reshard, Hard}
 use Rattle.rw_worker.specs.Report.{is_hard, drain_of, IsOrderly, StopsAtHard, IsReport}
 use Rattle.rw_worker.specs.Setups.{Setup}
@@ -15,9 +16,9 @@ use Rattle.rw_worker.specs.declared.report.WorkerReport.{WorkerReport}
 use Rattle.rw_fleet.specs.declared.ends.Ends.{Ends}
 use Rattle.rw_fleet.specs.declared.ends.Ends.TheVariants.{Compared, Apart}
 use Rattle.rw_fleet.specs.declared.joined.Joined.{Joined}
-use Rattle.rw_fleet.specs.Lanes.{Lane}
-use Rattle.rw_fleet.specs.Work.{put_of, taken_of, positions_in, lane_of, is_compared, is_resolved, IsSoft, AreSoft, IsEndTaken, IsWorked, AreWorked, HasCut, HasUnresolved}
-use Rattle.rw_fleet.proofs.ListLemmas.{map_append}
+use Rattle.rw_fleet.specs.Lanes.{Lane, put_into}
+use Rattle.rw_fleet.specs.Work.{put_of, taken_of, positions_in, lane_of, is_compared, is_resolved, put_by, finished_of, IsSoft, AreSoft, IsUnended, IsEndedBy, AreEndedBy, IsEndTaken, IsWorked, AreWorked, HasCut, HasUnresolved}
+use Rattle.rw_fleet.proofs.ListLemmas.{map_append, map_push}
 
 abbrev last_of : Item → List Item → Item
 last_of x [] = x
@@ -30,33 +31,54 @@ last_snoc d (y ∷ ys) x = last_snoc y ys x
 same_last : (xs ys : List Item) (x y : Item) → xs ++ x ∷ [] ≡ ys ++ y ∷ [] → x ≡ y
 same_last xs ys x y e = sym (last_snoc x xs x) ∙ ap (last_of x) e ∙ last_snoc x ys y
 
-abbrev pub is_hard_end : Item → Bool
-is_hard_end (item.Sample p t w l) = false
-is_hard_end item.Flush = false
-is_hard_end (item.End kind) = is_hard kind
-
 no_last : (xs : List Item) (x : Item) → [] ≡ xs ++ x ∷ [] → ⊥
 no_last [] x e = cc
 no_last (y ∷ ys) x e = cc
 
-pub soft_nil : (xs : List Item) → xs ≡ [] → IsSoft xs
-soft_nil xs is = λ before e. no_last before (item.End Hard) (sym is ∙ e)
+pub unended_nil : (xs : List Item) → xs ≡ [] → IsUnended xs
+unended_nil xs is = λ kind before e. no_last before (item.End kind) (sym is ∙ e)
 
-pub soft_push : (xs zs : List Item) (x : Item) → zs ≡ xs ++ x ∷ [] → is_hard_end x ≡ false → IsSoft zs
-soft_push xs zs x is soft = λ before e.
-    let last : x ≡ item.End Hard = same_last xs before x (item.End Hard) (sym is ∙ e) in
-    let hard : true ≡ false = subst (λ y. is_hard_end y ≡ false) last soft in
+pub unended_push : (xs zs : List Item) (x : Item) → zs ≡ xs ++ x ∷ [] → is_end x ≡ false → IsUnended zs
+unended_push xs zs x is bare = λ kind before e.
+    let last : x ≡ item.End kind = same_last xs before x (item.End kind) (sym is ∙ e) in
+    let end : true ≡ false = subst (λ y. is_end y ≡ false) last bare in
     absurd (cc)
 
-pub soft_same : (xs zs : List Item) → zs ≡ xs → IsSoft xs → IsSoft zs
-soft_same xs zs is soft = subst IsSoft (sym is) soft
+pub unended_same : (xs zs : List Item) → zs ≡ xs → IsUnended xs → IsUnended zs
+unended_same xs zs is bare = subst IsUnended (sym is) bare
+
+kind_is : (a b : Kind) → item.End a ≡ item.End b → a ≡ b
+kind_is a b e = cc
+
+-- an End was put
+pub ended_push : (kind : Kind) (xs zs : List Item) → zs ≡ xs ++ item.End kind ∷ [] → IsEndedBy kind zs
+ended_push kind xs zs is = λ other before e. sym (kind_is kind other (same_last xs before (item.End kind) (item.End other) (sym is ∙ e)))
+
+-- none could be put
+pub ended_none : (kind : Kind) (xs zs : List Item) → zs ≡ xs → IsUnended xs → IsEndedBy kind zs
+ended_none kind xs zs is bare = λ other before e. absurd (bare other before (sym is ∙ e))
+
+ended_append : (kind : Kind) (xs ys : List (List Item)) → AreEndedBy kind xs → AreEndedBy kind ys → AreEndedBy kind (xs ++ ys)
+ended_append kind [] ys h a = a
+ended_append kind (x ∷ xs) ys h a = (h.0, ended_append kind xs ys h.1 a)
+
+pub ended_more : (kind : Kind) (ls after : List Lane) (l : Lane) → after ≡ ls ++ l ∷ [] → AreEndedBy kind (map put_into ls) → IsEndedBy kind l.put → AreEndedBy kind (map put_into after)
+ended_more kind ls after l is h a = subst (AreEndedBy kind) (sym (ap (map put_into) is ∙ map_push put_into ls l)) (ended_append kind (map put_into ls) (l.put ∷ []) h (a, tt))
+
+pub ended_nil : (kind : Kind) (ls : List Lane) → ls ≡ [] → AreEndedBy kind (map put_into ls)
+ended_nil kind ls is = subst (λ l. AreEndedBy kind (map put_into l)) (sym is) tt
+
+ended_soft : (kind : Kind) (put : List Item) → is_hard kind ≡ false → IsEndedBy kind put → IsSoft put
+ended_soft kind put soft h = λ before e. let hard : true ≡ false = ap is_hard (h Hard before e) ∙ soft in absurd (cc)
+
+-- an End that is not hard asks for all
+pub soft_all : (kind : Kind) (ls : List Lane) → is_hard kind ≡ false → AreEndedBy kind (map put_into ls) → AreSoft ls
+soft_all kind [] soft h = tt
+soft_all kind (l ∷ ls) soft h = (ended_soft kind l.put soft h.0, soft_all kind ls soft h.1)
 
 pub soft_append : (ls ms : List Lane) → AreSoft ls → AreSoft ms → AreSoft (ls ++ ms)
 soft_append [] ms h a = a
 soft_append (x ∷ xs) ms h a = (h.0, soft_append xs ms h.1 a)
-
-pub soft_more : (ls after : List Lane) (l : Lane) → after ≡ ls ++ l ∷ [] → AreSoft ls → IsSoft l.put → AreSoft after
-soft_more ls after l is h a = subst AreSoft (sym is) (soft_append ls (l ∷ []) h (a, tt))
 
 pub soft_none : (ls : List Lane) → ls ≡ [] → AreSoft ls
 soft_none ls is = subst AreSoft (sym is) tt
@@ -89,6 +111,18 @@ module _ {T : Type 0} where
   pub soft_closed : (was now more : List (Joined T)) (ending : List Lane) → AreSoft (map lane_of was) → AreSoft ending → now ≡ was ++ more → map lane_of more ≡ ending → AreSoft (map lane_of now)
   soft_closed was now more ending a b is lanes =
       subst AreSoft (sym (ap (map lane_of) is ∙ map_append lane_of was more)) (soft_append (map lane_of was) (map lane_of more) a (subst AreSoft (sym lanes) b))
+
+  ended_lanes : (js : List (Joined T)) → map put_by (map finished_of js) ≡ map put_into (map lane_of js)
+  ended_lanes [] = refl
+  ended_lanes (j ∷ js) = ap (λ l. put_of j.finished.ends ∷ l) (ended_lanes js)
+
+  -- the shards behind those that had ended got this End
+  pub ended_closed : (kind : Kind) (was now more : List (Joined T)) (ending : List Lane) → now ≡ was ++ more → map lane_of more ≡ ending → AreEndedBy kind (map put_into ending) → AreEndedBy kind (drop (length was) (map put_by (map finished_of now)))
+  ended_closed kind was now more ending is lanes h = subst (λ js. AreEndedBy kind (drop (length was) (map put_by (map finished_of js)))) (sym is) (go was)
+    where
+      go : (js : List (Joined T)) → AreEndedBy kind (drop (length js) (map put_by (map finished_of (js ++ more))))
+      go [] = subst (AreEndedBy kind) (sym (ended_lanes more ∙ ap (map put_into) lanes)) h
+      go (x ∷ xs) = go xs
 
   joined_is : (a b : Joined T) → Some a ≡ Some b → a ≡ b
   joined_is a b e = cc

@@ -1,9 +1,12 @@
 -- The shards of all epochs.
-use Rattle.std.specs.Prelude.{◌≡◌, ℕ, ◌+◌, List, [], ◌++◌, map}
+use Rattle.std.specs.Prelude.{◌≡◌, ℕ, ◌+◌, List, [], ◌++◌, length, map, drop}
 use Rattle.rw_sender.specs.declared.config.ConfigFields.{ConfigFields}
 use Rattle.rw_fleet.specs.Lanes.{Lane, AreSame}
-use Rattle.rw_fleet.specs.Work.{lane_of}
+use Rattle.rw_fleet.specs.Work.{AreEndedBy, lane_of, put_by, finished_of}
 use Rattle.rw_fleet.specs.declared.joined.Joined.{Joined}
+use Rattle.rw_fleet.specs.declared.joined.Finished.{Finished}
+use Rattle.rw_shard_queue.specs.declared.item.Kind.{Kind}
+use Rattle.rw_shard_queue.specs.declared.item.Kind.TheVariants.{Reshard}
 
 -- how the workers are set up, the epoch, the shards at work, and those that have ended, oldest first
 pub record Shards (T : Type 0) : Type 0 where
@@ -16,6 +19,10 @@ pub record Shards (T : Type 0) : Type 0 where
 abbrev pub AreAll : {T : Type 0} → Shards T → List (Joined T) → Type 0
 AreAll {T} s joined = (more : List (Joined T)) × (joined ≡ s.ended ++ more) × AreSame s.current (map lane_of more)
 
--- all shards at work have ended, and the next epoch has none yet
+-- each shard that was at work and was put an End was put one of this kind
+abbrev pub EndBy : {T : Type 0} → Kind → Shards T → List (Finished T) → Type 0
+EndBy kind s finished = AreEndedBy kind (drop (length s.ended) (map put_by finished))
+
+-- all shards at work have ended by an End that asks for all that was put, and the next epoch has none yet
 abbrev pub HasClosed : {T : Type 0} → Shards T → Shards T → Type 0
-HasClosed old new = (new.config ≡ old.config) × (new.epoch ≡ old.epoch + 1) × (new.current ≡ []) × AreAll old new.ended
+HasClosed old new = (new.config ≡ old.config) × (new.epoch ≡ old.epoch + 1) × (new.current ≡ []) × AreAll old new.ended × EndBy Reshard old (map finished_of new.ended)

@@ -13,6 +13,9 @@ pub record Lane : Type 0 where
   pub setup : Setup
   pub put : List Item
 
+abbrev pub put_into : Lane → List Item
+put_into lane = lane.put
+
 -- a worker sends as it was configured, out of a queue of that capacity
 abbrev pub IsSetUp : ConfigFields → Setup → Type 0
 IsSetUp config setup = (setup.target ≡ config.target) × (setup.batch ≡ config.batch) × (setup.queue.capacity ≡ config.capacity)

@@ -4,6 +4,7 @@ use Rattle.rw_types.specs.declared.place.Place.{Place}
 use Rattle.rw_shard_queue.specs.Items.{places_in}
 use Rattle.rw_shard_queue.specs.declared.item.Item.{Item}
 use Rattle.rw_shard_queue.specs.declared.item.Item.TheVariants as item
+use Rattle.rw_shard_queue.specs.declared.item.Kind.{Kind}
 use Rattle.rw_shard_queue.specs.declared.item.Kind.TheVariants.{Hard}
 use Rattle.rw_ruled_queue.specs.Ends.{Feeding, QueueId, IsBeginning}
 use Rattle.rw_worker.specs.Report.{IsReport, drain_of}
@@ -63,6 +64,25 @@ is_resolved j = is_compared j.finished.ends && (length j.abandoned.items == 0)
 -- the last item is not an End at which nothing more is sent
 abbrev pub IsSoft : List Item → Type 0
 IsSoft put = (before : List Item) → put ≡ before ++ item.End Hard ∷ [] → ⊥
+
+-- the last item is no End
+abbrev pub IsUnended : List Item → Type 0
+IsUnended put = (kind : Kind) (before : List Item) → put ≡ before ++ item.End kind ∷ [] → ⊥
+
+-- where the last item is an End, it is of this kind
+abbrev pub IsEndedBy : Kind → List Item → Type 0
+IsEndedBy kind put = (other : Kind) (before : List Item) → put ≡ before ++ item.End other ∷ [] → other ≡ kind
+
+-- and so in each of these queues
+abbrev pub AreEndedBy : Kind → List (List Item) → Type 0
+AreEndedBy kind [] = ⊤
+AreEndedBy kind (put ∷ puts) = IsEndedBy kind put × AreEndedBy kind puts
+
+abbrev pub put_by : {T : Type 0} → Finished T → List Item
+put_by f = put_of f.ends
+
+abbrev pub finished_of : {T : Type 0} → Joined T → Finished T
+finished_of j = j.finished
 
 abbrev pub AreSoft : List Lane → Type 0
 AreSoft [] = ⊤

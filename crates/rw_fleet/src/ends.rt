@@ -2,8 +2,8 @@
 
 ghost use Rattle.std.specs.Prelude.{◌≡◌, ◌+◌, ◌≤◌, length, true, false};
 ghost use Rattle.rw_shard_queue.specs.Items.{samples_in, places_in};
-ghost use Rattle.rw_worker.specs.Report.{drain_of, is_hard};
-ghost use Rattle.rw_fleet.specs.Work.{feeding, queue_of, put_of, taken_of, is_compared, IsApart, IsTakenOf, IsSoft, IsEndTaken};
+ghost use Rattle.rw_worker.specs.Report.{drain_of};
+ghost use Rattle.rw_fleet.specs.Work.{feeding, queue_of, put_of, taken_of, is_compared, IsApart, IsTakenOf, IsUnended, IsEndedBy, IsEndTaken};
 
 use rw_ruled_queue::{Ended, Feed, Kind, Open, Whole, begins, compare};
 use rw_worker::TakingEnd;
@@ -32,7 +32,7 @@ pub(crate) fn end_of<R: Wait>(rt: &R, feed: Feed<Open>, kind: Kind) -> Fed
     ensures queue { (feeding result).queue ≡ feed.queue }
     ensures places { places_in (feeding result).put ≡ places_in feed.put }
     ensures samples { samples_in (feeding result).put ≡ samples_in feed.put }
-    ensures soft { is_hard kind ≡ false → IsSoft feed.put → IsSoft (feeding result).put }
+    ensures ended { IsUnended feed.put → IsEndedBy kind (feeding result).put }
 {
     match feed.end(rt, kind) {
         Ok(feed) => Fed::Ended(feed),

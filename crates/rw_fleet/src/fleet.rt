@@ -5,8 +5,8 @@ ghost use Rattle.rw_types.specs.declared.place.Place.{Place};
 ghost use Rattle.rw_shard_queue.specs.Items.{places_in};
 ghost use Rattle.rw_fleet.specs.Lanes.{Lane, AreFresh, AreSame, AreSetUp, IsPut, marked};
 ghost use Rattle.rw_worker.specs.Report.{is_hard};
-ghost use Rattle.rw_fleet.specs.Work.{AreResolved, AreWorked, HasCut, lane_of};
-ghost use Rattle.rw_fleet.specs.Fleets.{AreAll, HasClosed};
+ghost use Rattle.rw_fleet.specs.Work.{AreResolved, AreWorked, HasCut, lane_of, finished_of};
+ghost use Rattle.rw_fleet.specs.Fleets.{AreAll, EndBy, HasClosed};
 ghost use Rattle.rw_fleet.specs.Loads.{load_in, window_of};
 
 use crate::connect::Connect;
@@ -190,6 +190,7 @@ impl<C: Connect + Drop> Fleet<C> {
         ensures all { AreAll self result.0.items }
         ensures worked { AreWorked C.T.tells C.T.seen result.0.items }
         ensures setup { AreSetUp self.config (map lane_of result.0.items) }
+        ensures ended { EndBy kind self (map finished_of result.0.items) }
         ensures resolved { result.1 ≡ true → AreResolved result.0.items }
         ensures cut { is_hard kind ≡ false → result.1 ≡ false → HasCut result.0.items }
     {

@@ -2,10 +2,9 @@
 
 ghost use Rattle.std.specs.Prelude.{◌≡◌, ◌+◌, ◌≤◌, ℕ, List, [], ◌++◌, map, OnOk, true, false, vec_len, vec_capacity};
 ghost use Rattle.std.specs.List.{sum_by};
-ghost use Rattle.rw_worker.specs.Report.{is_hard};
-ghost use Rattle.rw_fleet.specs.Lanes.{AreFresh, AreSame, AreSetUp, marked};
+ghost use Rattle.rw_fleet.specs.Lanes.{AreFresh, AreSame, AreSetUp, marked, put_into};
 ghost use Rattle.rw_fleet.specs.Loads.{load_of, resolved_in, left_in, resolved_at_work, left_at_work};
-ghost use Rattle.rw_fleet.specs.Work.{AreResolved, HasUnresolved, AreSoft, AreWorked, lane_of};
+ghost use Rattle.rw_fleet.specs.Work.{AreResolved, HasUnresolved, AreEndedBy, AreWorked, lane_of};
 
 use crate::connect::Connect;
 use crate::joined::Joined;
@@ -79,7 +78,7 @@ pub(crate) fn end_all<T: Transport + Send + Drop + 'static, R: Wait>(
     requires room { vec_len running ≤ vec_capacity ending }
     ensures len { vec_len result ≡ vec_len running }
     ensures same { AreSame running.items result.items }
-    ensures soft { is_hard kind ≡ false → AreSoft result.items }
+    ensures ended { AreEndedBy kind (map put_into result.items) }
 {
     for shard in running {
         ending.push_reserved(shard.end(rt, kind));

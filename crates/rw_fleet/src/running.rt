@@ -1,12 +1,11 @@
 //! A shard at work, and one that is to end.
 
-ghost use Rattle.std.specs.Prelude.{◌≡◌, ◌<◌, ℕ, List, [], ◌∷◌, ◌++◌, IfOk, MatchResult, Some, false, slice_get};
+ghost use Rattle.std.specs.Prelude.{◌≡◌, ◌<◌, ℕ, List, [], ◌∷◌, ◌++◌, IfOk, MatchResult, Some, slice_get};
 ghost use Rattle.rw_types.specs.declared.place.Place.{Place};
 ghost use Rattle.rw_shard_queue.specs.Items.{samples_in, places_in};
 ghost use Rattle.rw_fleet.specs.Lanes.{IsSetUp, put_as};
 ghost use Rattle.rw_fleet.specs.Loads.{count_in};
-ghost use Rattle.rw_worker.specs.Report.{is_hard};
-ghost use Rattle.rw_fleet.specs.Work.{lane_of, IsSoft, IsWorked};
+ghost use Rattle.rw_fleet.specs.Work.{lane_of, IsEndedBy, IsWorked};
 
 use crate::ends::{Fed, end_of, meet};
 use crate::joined::{Finished, Joined};
@@ -46,7 +45,7 @@ pub(crate) struct Running<T: Transport + Send + Drop + 'static> {
 impl<T: Transport + Send + Drop + 'static> Model for Running<T> {
     ghost use Rattle.std.specs.Prelude.{◌≡◌, ◌+◌, []};
     ghost use Rattle.rw_fleet.specs.Lanes.{Lane};
-    ghost use Rattle.rw_fleet.specs.Work.{positions_in, IsSoft};
+    ghost use Rattle.rw_fleet.specs.Work.{positions_in, IsUnended};
 
     ghost Value = { Lane };
 
@@ -58,7 +57,7 @@ impl<T: Transport + Send + Drop + 'static> Model for Running<T> {
         × (r.worker.value.queue ≡ r.feed.queue)
         × (r.handle.promise.worker.value ≡ r.worker.value)
         × (T.seen r.handle.promise.transport.value ≡ [])
-        × IsSoft r.feed.put
+        × IsUnended r.feed.put
         × (r.window.most ≡ r.worker.value.queue.capacity + r.worker.value.batch) };
 }
 
@@ -177,7 +176,7 @@ impl<T: Transport + Send + Drop + 'static> Running<T> {
     pub(crate) fn end<R: Wait>(self, rt: &R, kind: Kind) -> Ending<T>
         ensures setup { result.setup ≡ self.setup }
         ensures put { samples_in result.put ≡ samples_in self.put }
-        ensures soft { is_hard kind ≡ false → IsSoft result.put }
+        ensures ended { IsEndedBy kind result.put }
     {
         let Running {
             epoch: _,

@@ -7,12 +7,14 @@ use Rattle.rw_sender.specs.declared.config.ConfigFields.{ConfigFields}
 use Rattle.rw_worker.specs.Transcript.{Exchange}
 use Rattle.rw_ledger.specs.Names.{Named}
 use Rattle.rw_fleet.specs.Lanes.{AreSame, AreSetUp, IsPut}
-use Rattle.rw_fleet.specs.Work.{lane_of, is_compared, is_resolved, AreResolved, AreWorked, HasCut}
-use Rattle.rw_fleet.specs.Fleets.{Shards, AreAll, HasClosed}
+use Rattle.rw_shard_queue.specs.declared.item.Kind.{Kind}
+use Rattle.rw_worker.specs.Report.{is_hard}
+use Rattle.rw_fleet.specs.Work.{lane_of, finished_of, is_compared, is_resolved, AreResolved, AreWorked, HasCut}
+use Rattle.rw_fleet.specs.Fleets.{Shards, AreAll, EndBy, HasClosed}
 use Rattle.rw_fleet.specs.declared.joined.Joined.{Joined}
 use Rattle.rw_feeder.specs.declared.logged.Logged.{Logged}
 use Rattle.rw_fleet.specs.Loads.{window_of}
-use Rattle.rw_shipper.specs.Reports.{finished_of, part_of, abandoned_in, HasListed, HasRoom, IsGrown, ListsAfter, IsRoomFor}
+use Rattle.rw_shipper.specs.Reports.{part_of, abandoned_in, HasListed, HasRoom, IsGrown, ListsAfter, IsRoomFor}
 use Rattle.rw_shipper.specs.declared.lists.Lists.{Lists}
 use Rattle.rw_shipper.proofs.PlacementLemmas.{same_length, set_length}
 
@@ -246,20 +248,23 @@ module _ {T : Type 0} where
   lists_none a = (sym (append-nil a.parts.items), sym (append-nil a.workers.items), sym (append-nil a.samples.items))
 
   -- all is listed behind one part
-  pub listed_all : (tells : T → Type 0) (seen : T → List Exchange) (s : Shards T) (part : Named) (a b c : Lists T) (hard r : Bool) (js : List (Joined T)) → length a.parts.items ≡ 0 → length a.workers.items ≡ 0 → length a.samples.items ≡ 0
+  pub listed_all : (tells : T → Type 0) (seen : T → List Exchange) (s : Shards T) (part : Named) (a b c : Lists T) (kind : Kind) (r : Bool) (js : List (Joined T)) → length a.parts.items ≡ 0 → length a.workers.items ≡ 0 → length a.samples.items ≡ 0
       → b.parts.items ≡ a.parts.items ++ part ∷ [] → b.workers.items ≡ a.workers.items → b.samples.items ≡ a.samples.items → ListsAfter b js c
-      → AreAll s js → AreWorked tells seen js → AreSetUp s.config (map lane_of js) → (r ≡ true → AreResolved js) → (hard ≡ false → r ≡ false → HasCut js) → HasListed tells seen s part c hard r
-  listed_all tells seen s part a b c hard r js np nw ns bp bw bs after all worked setup resolved cut = record {
-    joined = js;
-    all = all;
-    worked = worked;
-    setup = setup;
-    parts = after.0 ∙ ap (λ l. l ++ map part_of js) (bp ∙ ap (λ l. l ++ part ∷ []) (nil_of a.parts.items np));
-    workers = after.1 ∙ ap (λ l. l ++ map finished_of js) (bw ∙ nil_of a.workers.items nw);
-    samples = after.2 ∙ ap (λ l. l ++ abandoned_in js) (bs ∙ nil_of a.samples.items ns);
-    is_resolved = resolved;
-    cut = cut;
-  }
+      → AreAll s js → AreWorked tells seen js → AreSetUp s.config (map lane_of js) → (r ≡ true → AreResolved js) → (is_hard kind ≡ false → r ≡ false → HasCut js) → EndBy kind s (map finished_of js) → HasListed tells seen s part c kind r
+  listed_all tells seen s part a b c kind r js np nw ns bp bw bs after all worked setup resolved cut ended =
+      let workers : c.workers.items ≡ map finished_of js = after.1 ∙ ap (λ l. l ++ map finished_of js) (bw ∙ nil_of a.workers.items nw) in
+      record {
+        joined = js;
+        all = all;
+        worked = worked;
+        setup = setup;
+        parts = after.0 ∙ ap (λ l. l ++ map part_of js) (bp ∙ ap (λ l. l ++ part ∷ []) (nil_of a.parts.items np));
+        workers = workers;
+        samples = after.2 ∙ ap (λ l. l ++ abandoned_in js) (bs ∙ nil_of a.samples.items ns);
+        is_resolved = resolved;
+        cut = cut;
+        ended = subst (EndBy kind s) (sym workers) ended;
+      }
 
   -- what is listed, and then more
   pub lists_more : (a b c : Lists T) (xs ys : List (Joined T)) → ListsAfter a xs b → ListsAfter b ys c → ListsAfter a (xs ++ ys) c

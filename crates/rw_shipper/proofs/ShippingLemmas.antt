@@ -11,10 +11,11 @@ use Rattle.rw_relabel.specs.Rules.{RuleConfig}
 use Rattle.rw_series_cache.specs.Known.{Standing, Unknown, Bad, Filtered, Kept, known}
 use Rattle.rw_series_cache.specs.Numbers.{series_of}
 use Rattle.rw_shard_queue.specs.Items.{places_in}
+use Rattle.rw_shard_queue.specs.declared.item.Kind.TheVariants.{Reshard}
 use Rattle.rw_fleet.specs.Lanes.{Lane, AreFresh, AreSame, IsPut}
-use Rattle.rw_fleet.specs.Work.{lane_of, AreResolved, HasCut}
+use Rattle.rw_fleet.specs.Work.{lane_of, finished_of, AreResolved, HasCut}
 use Rattle.rw_fleet.specs.declared.running.Fault.{Fault}
-use Rattle.rw_fleet.specs.Fleets.{Shards, AreAll, HasClosed}
+use Rattle.rw_fleet.specs.Fleets.{Shards, AreAll, EndBy, HasClosed}
 use Rattle.rw_fleet.specs.declared.joined.Finished.{Finished}
 use Rattle.rw_fleet.specs.declared.joined.Joined.{Joined}
 use Rattle.rw_feeder.specs.declared.logged.Logged.{Logged}
@@ -26,7 +27,7 @@ use Rattle.rw_codes.specs.Segments.{segment}
 use Rattle.rw_codes.specs.declared.tail_fault.TailFault.{TailFault}
 use Rattle.rw_sender.specs.declared.outcome.Outcome.{Outcome}
 use Rattle.rw_sender.specs.declared.outcome.Outcome.TheVariants as outcome
-use Rattle.rw_shipper.specs.Reports.{finished_of, abandoned_in, end_of, IsAbandoned, IsAbandonedAt, ListsCut}
+use Rattle.rw_shipper.specs.Reports.{abandoned_in, end_of, IsAbandoned, IsAbandonedAt, ListsCut}
 use Rattle.rw_shipper.specs.Shipping.{Shipping, PlacesAll, IsReady, IsRead, GoesOn, HasCompared, Ends, HasStopped}
 use Rattle.rw_shipper.proofs.PlacementLemmas.{same_length, placing_put, placing_closed, placing_whole, placing_opened, placing_begun, placing_same, set_length}
 use Rattle.rw_shipper.proofs.BelowLemmas.{placing_below}
@@ -200,12 +201,12 @@ grown_same old new is = ([], ap (λ (s : Sorting). s.placed) is ∙ sym (append-
 
 module _ {T : Type 0} where
   pub compared_shut : (was shut : Shards T) → HasClosed was shut → HasCompared was shut
-  compared_shut was shut h = (h.3, inl h.2)
+  compared_shut was shut h = (h.3, h.4, inl h.2)
 
   pub compared_open : (was shut now : Shards T) → HasClosed was shut → now ≡ record shut { current = now.current } → AreResolved shut.ended → HasCompared was now
   compared_open was shut now h is resolved =
       let ended : now.ended ≡ shut.ended = ap (λ (s : Shards T). s.ended) is in
-      (subst (λ js. AreAll was js) (sym ended) h.3, inr (subst (λ (js : List (Joined T)). AreResolved js) (sym ended) resolved))
+      (subst (λ js. AreAll was js) (sym ended) h.3, subst (λ (js : List (Joined T)). EndBy Reshard was (map finished_of js)) (sym ended) h.4, inr (subst (λ (js : List (Joined T)). AreResolved js) (sym ended) resolved))
 
   abandons : (s : Shipping T) (js : List (Joined T)) (placed : ℕ) (samples : List ℕ) (o : Outcome) → IsAbandonedAt placed samples o → placed ≡ length s.log.placed → samples ≡ abandoned_in js → Ends s js o
   abandons s js placed samples (outcome.Complete end) h a b = absurd h

@@ -6,15 +6,15 @@ use Rattle.rw_sender.specs.declared.outcome.Outcome.{Outcome}
 use Rattle.rw_sender.specs.declared.outcome.Outcome.TheVariants.{Complete, Abandoned, Damaged}
 use Rattle.rw_worker.specs.Transcript.{Exchange}
 use Rattle.rw_fleet.specs.Lanes.{AreSetUp}
-use Rattle.rw_fleet.specs.Work.{lane_of, AreResolved, AreWorked, IsCut, HasCut}
-use Rattle.rw_fleet.specs.Fleets.{Shards, AreAll}
+use Rattle.rw_shard_queue.specs.declared.item.Kind.{Kind}
+use Rattle.rw_shard_queue.specs.declared.item.Kind.TheVariants.{Orderly, Hard}
+use Rattle.rw_worker.specs.Report.{is_hard}
+use Rattle.rw_fleet.specs.Work.{lane_of, finished_of, AreResolved, AreWorked, IsCut, HasCut}
+use Rattle.rw_fleet.specs.Fleets.{Shards, AreAll, EndBy}
 use Rattle.rw_fleet.specs.Loads.{window_of}
 use Rattle.rw_fleet.specs.declared.joined.Joined.{Joined}
 use Rattle.rw_fleet.specs.declared.joined.Finished.{Finished}
 use Rattle.rw_shipper.specs.declared.lists.Lists.{Lists}
-
-abbrev pub finished_of : {T : Type 0} → Joined T → Finished T
-finished_of j = j.finished
 
 abbrev pub part_of : {T : Type 0} → Joined T → Named
 part_of j = j.part
@@ -49,8 +49,8 @@ pub record IsRoomFor {T : Type 0} (s : Shards T) (lists : Lists T) (parts sample
   pub left_within : length (abandoned_in s.ended) + length s.current * window_of s.config ≤ samples
   pub samples_within : samples ≤ vec_capacity lists.samples
 
--- All shards have ended, and are listed behind one part more.
-pub record HasListed {T : Type 0} (tells : T → Type 0) (seen : T → List Exchange) (s : Shards T) (part : Named) (lists : Lists T) (hard resolved : Bool) : Type 0 where
+-- All shards have ended, those at work by this End, and are listed behind one part more.
+pub record HasListed {T : Type 0} (tells : T → Type 0) (seen : T → List Exchange) (s : Shards T) (part : Named) (lists : Lists T) (kind : Kind) (resolved : Bool) : Type 0 where
   pub joined : List (Joined T)
   pub all : AreAll s joined
   pub worked : AreWorked tells seen joined
@@ -59,7 +59,13 @@ pub record HasListed {T : Type 0} (tells : T → Type 0) (seen : T → List Exch
   pub workers : lists.workers.items ≡ map finished_of joined
   pub samples : lists.samples.items ≡ abandoned_in joined
   pub is_resolved : resolved ≡ true → AreResolved joined
-  pub cut : hard ≡ false → resolved ≡ false → HasCut joined
+  pub cut : is_hard kind ≡ false → resolved ≡ false → HasCut joined
+  pub ended : EndBy kind s lists.workers.items
+
+-- by which End the shards are ended
+abbrev pub kind_of : Bool → Kind
+kind_of true = Hard
+kind_of false = Orderly
 
 -- how a log that was read to its end, or to its fault, has ended
 abbrev pub end_of : ℕ → Option TailFault → Outcome

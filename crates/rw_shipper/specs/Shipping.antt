@@ -2,8 +2,9 @@
 use Rattle.std.specs.Prelude.{◌≡◌, ◌⊎◌, ◌<◌, List, [], ◌∷◌, ◌++◌, length, map, Option, Some, None, Result, Ok, Err, ⊤}
 use Rattle.rw_worker.specs.Transcript.{Exchange}
 use Rattle.rw_fleet.specs.Lanes.{AreSetUp}
-use Rattle.rw_fleet.specs.Work.{lane_of, AreResolved, AreWorked}
-use Rattle.rw_fleet.specs.Fleets.{Shards, AreAll}
+use Rattle.rw_shard_queue.specs.declared.item.Kind.TheVariants.{Reshard}
+use Rattle.rw_fleet.specs.Work.{lane_of, finished_of, AreResolved, AreWorked}
+use Rattle.rw_fleet.specs.Fleets.{Shards, AreAll, EndBy}
 use Rattle.rw_fleet.specs.declared.running.Fault.{Fault}
 use Rattle.rw_fleet.specs.declared.running.Fault.TheVariants as queue_fault
 use Rattle.rw_types.specs.declared.entry.Entry.{Entry}
@@ -20,7 +21,7 @@ use Rattle.rw_shipper.specs.declared.place.Progress.{Progress}
 use Rattle.rw_shipper.specs.declared.place.Progress.TheVariants.{Placed, End}
 use Rattle.rw_shipper.specs.declared.place.Progress.TheVariants as progress
 use Rattle.rw_shipper.specs.declared.report.Report.{Report}
-use Rattle.rw_shipper.specs.Reports.{finished_of, part_of, abandoned_in}
+use Rattle.rw_shipper.specs.Reports.{part_of, abandoned_in}
 use Rattle.rw_shipper.specs.declared.shipper.FeedFault.{FeedFault}
 use Rattle.rw_shipper.specs.declared.shipper.FeedFault.TheVariants.{OutOfMemory, Damaged, Gone}
 
@@ -44,9 +45,9 @@ abbrev pub IsRead : Sorting → Option Fault → Option TailFault → Type 0
 IsRead log None damage = HasRead log.pieces log.placed damage
 IsRead log (Some f) damage = ⊤
 
--- each shard of the epoch has ended, and what it was put was compared with what its worker took, before the next epoch has a queue
+-- each shard of the epoch has ended, by an End that asks for all, and what it was put was compared with what its worker took, before the next epoch has a queue
 abbrev pub HasCompared : {T : Type 0} → Shards T → Shards T → Type 0
-HasCompared old new = AreAll old new.ended × ((new.current ≡ []) ⊎ AreResolved new.ended)
+HasCompared old new = AreAll old new.ended × EndBy Reshard old (map finished_of new.ended) × ((new.current ≡ []) ⊎ AreResolved new.ended)
 
 -- more entries may have been placed, and their samples put: the rest is as it was
 pub record GoesOn {T : Type 0} (old new : Sorting) (was now : Shards T) : Type 0 where

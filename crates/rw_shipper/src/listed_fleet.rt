@@ -7,7 +7,6 @@ ghost use Rattle.rw_fleet.specs.Lanes.{Lane, AreFresh, AreSame, IsPut, marked};
 ghost use Rattle.rw_fleet.specs.Work.{AreResolved, HasCut};
 ghost use Rattle.rw_fleet.specs.Fleets.{HasClosed};
 ghost use Rattle.rw_fleet.specs.Loads.{load_in};
-ghost use Rattle.rw_worker.specs.Report.{is_hard};
 ghost use Rattle.rw_shipper.specs.Reports.{HasListed};
 
 use crate::lists::{Lists, list_all};
@@ -162,7 +161,7 @@ impl<C: Connect + Drop> ListedFleet<C> {
         kind: Kind,
         part: Ledger,
     ) -> (Lists<C::T>, bool)
-        ensures { HasListed C.T.tells C.T.seen self part result.0 (is_hard kind) result.1 }
+        ensures { HasListed C.T.tells C.T.seen self part result.0 kind result.1 }
     {
         let ListedFleet {
             fleet,

@@ -1,12 +1,13 @@
 //! The shipper.
 
-ghost use Rattle.std.specs.Prelude.{◌≡◌, ◌⊎◌, List, true, false, ◌+◌, ◌≤◌, ◌<◌, [], ◌∷◌, ◌++◌, length, map, None, Some, Err, IfOk, IfErr, IfSome, OnOk};
+ghost use Rattle.std.specs.Prelude.{◌≡◌, ◌⊎◌, List, true, false, ◌+◌, ◌≤◌, ◌<◌, [], ◌∷◌, ◌++◌, length, map, None, Some, Err, IfOk, IfErr, IfSome, OnOk, is_some};
 ghost use Rattle.rw_wal_tail.specs.Fed.{piece_of};
 ghost use Rattle.rw_fleet.specs.Lanes.{AreFresh, marked};
 ghost use Rattle.rw_fleet.specs.Work.{AreResolved, HasCut};
+ghost use Rattle.rw_fleet.specs.Fleets.{EndBy};
 ghost use Rattle.rw_fleet.specs.Loads.{load_in};
 ghost use Rattle.rw_types.specs.declared.entry.Entry.{Entry};
-ghost use Rattle.rw_shipper.specs.Reports.{IsAbandoned, IsAbandonedAt, ListsCut, end_of};
+ghost use Rattle.rw_shipper.specs.Reports.{IsAbandoned, IsAbandonedAt, ListsCut, end_of, kind_of};
 ghost use Rattle.rw_shipper.specs.Shipping.{answer_to, FailsBy, Feeds, Joins, HasCompared, HasStopped};
 
 use crate::listed_fleet::ListedFleet;
@@ -47,8 +48,7 @@ fn answer_to(fault: Fault) -> FeedFault
 
 /// By which End the shards are ended.
 fn kind_of(is_hard: bool) -> Kind
-    ensures hard { is_hard ≡ true → result ≡ Kind.Hard }
-    ensures orderly { is_hard ≡ false → result ≡ Kind.Orderly }
+    ensures { result ≡ kind_of is_hard }
 {
     if is_hard { Kind::Hard } else { Kind::Orderly }
 }
@@ -65,10 +65,7 @@ fn outcome_of(
     ensures apart { is_resolved ≡ false → IsAbandonedAt placed samples.items result }
     ensures whole { is_hard ≡ false → is_resolved ≡ true → result ≡ end_of placed damage }
 {
-    if is_hard {
-        return Outcome::Abandoned { placed, samples };
-    }
-    if !is_resolved {
+    if is_hard || !is_resolved {
         return Outcome::Abandoned { placed, samples };
     }
     match damage {
@@ -272,6 +269,7 @@ impl<C: Connect + Drop> Shipper<C> {
         requires placed { placed ≡ length self.log.placed }
         requires ready { is_hard ≡ false → self.fault ≡ None }
         ensures stopped { HasStopped C.T.tells C.T.seen self result }
+        ensures ended { EndBy (kind_of is_hard) self.fleet result.workers.items }
         ensures hard { is_hard ≡ true → IsAbandoned result.outcome }
         ensures cut { is_hard ≡ false → IsAbandoned result.outcome → ListsCut result.workers.items }
     {
@@ -302,6 +300,7 @@ impl<C: Connect + Drop> Shipper<C> {
     pub fn stop_orderly<R: Threads + Wait>(self, rt: &R, end: u64) -> Report<C::T>
         requires { end ≡ length self.log.placed }
         ensures stopped { HasStopped C.T.tells C.T.seen self result }
+        ensures ended { EndBy (kind_of (is_some self.fault)) self.fleet result.workers.items }
         ensures failed { IfSome self.fault (λ _. IsAbandoned result.outcome) }
         ensures cut { self.fault ≡ None → IsAbandoned result.outcome → ListsCut result.workers.items }
     {
@@ -312,6 +311,7 @@ impl<C: Connect + Drop> Shipper<C> {
     /// Ends all shards at once, and waits for their workers.
     pub fn stop_hard<R: Threads + Wait>(self, rt: &R) -> Report<C::T>
         ensures stopped { HasStopped C.T.tells C.T.seen self result }
+        ensures ended { EndBy Kind.Hard self.fleet result.workers.items }
         ensures hard { IsAbandoned result.outcome }
     {
         let placed = self.entries_read();

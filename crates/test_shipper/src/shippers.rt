@@ -251,6 +251,21 @@ fn a_refused_epoch_ends_the_work(rt: HostRuntime) -> Result<(), Fail> {
     Ok(())
 }
 
+/// Holds whichever allocation is refused. A run of the tests refuses none.
+#[test]
+fn a_fault_is_kept(rt: HostRuntime) -> Result<(), Fail> {
+    let alloc = rt.alloc();
+    let mut steps = over_two_epochs(alloc, &[(3, 10, ONE)], &[(4, 20, TWO)])?;
+    steps.push(Step::Flush)?;
+    steps.push(feed(alloc, &[], &[(4, 30, ONE)])?)?;
+    let sizes = (Bounded::of(2), Bounded::of(2_000));
+    let peers = always(alloc, StatusCode::NO_CONTENT)?;
+    if let Some((work, _)) = shipped(&rt, alloc, sizes, peers, steps, Stop::Orderly)? {
+        assert!(rt; work.keeps_its_fault());
+    }
+    Ok(())
+}
+
 #[test]
 fn a_refused_start(rt: HostRuntime) -> Result<(), Fail> {
     let alloc = rt.alloc();

@@ -100,6 +100,18 @@ impl Work {
         self.odd_count()
     }
 
+    /// Whether each call behind the first that failed answers as that one did, and the work is then abandoned.
+    pub(crate) fn keeps_its_fault(&self) -> bool {
+        let mut kept = None;
+        for fault in &self.faults {
+            if kept.is_some() && *fault != kept {
+                return false;
+            }
+            kept = *fault;
+        }
+        kept.is_none() || matches!(self.outcome, Outcome::Abandoned { .. })
+    }
+
     fn odd_count(&self) -> Option<&'static str> {
         let shards = self.resolved.len();
         if self.filtered != 0 {

@@ -2,7 +2,7 @@ use Rattle.std.proofs.Common.{List, ◌∷◌, ◌++◌, [], sym, subst, arith}
 use Rattle.rw_fleet.specs.Lanes.{Lane, AreSame}
 use Rattle.rw_fleet.proofs.LaneLemmas.{same_push, same_length}
 use Rattle.rw_fleet.proofs.ListLemmas.{moved, none_left}
-use Rattle.rw_fleet.proofs.SoftLemmas.{soft_more}
+use Rattle.rw_fleet.proofs.SoftLemmas.{ended_more}
 use Rattle.rw_fleet.proofs.lists.end_all.Goals as goal
 
 pub loop-shard-preserved : goal.loop-shard-preserved
@@ -18,7 +18,7 @@ loop-shard-preserved g c =
       omega arith,
       omega arith,
       (i.2.0 ++ c.in-Some.shard ∷ [], moved _ _ _ _ _ i.2.1 step.0, subst (AreSame (i.2.0 ++ c.in-Some.shard ∷ [])) (sym p.items) (same_push _ _ _ _ i.2.2 c.end.ensures.setup c.end.ensures.put)),
-      (λ soft. soft_more _ _ _ p.items (i.3 soft) (c.end.ensures.soft soft)),
+      ended_more _ _ _ _ p.items i.3 c.end.ensures.ended,
     )
 
 pub returns-clause-same : goal.returns-clause-same

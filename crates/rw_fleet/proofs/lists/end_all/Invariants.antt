@@ -1,8 +1,7 @@
-use Rattle.std.proofs.Common.{◌≡◌, false, ◌+◌, ◌≤◌, List, ◌++◌, vec_len, vec_capacity}
+use Rattle.std.proofs.Common.{◌≡◌, ◌+◌, ◌≤◌, List, ◌++◌, map, vec_len, vec_capacity}
 use Rattle.std.specs.Vec.Iter.{into_iter_items, into_iter_len}
-use Rattle.rw_worker.specs.Report.{is_hard}
-use Rattle.rw_fleet.specs.Lanes.{Lane, AreSame}
-use Rattle.rw_fleet.specs.Work.{AreSoft}
+use Rattle.rw_fleet.specs.Lanes.{Lane, AreSame, put_into}
+use Rattle.rw_fleet.specs.Work.{AreEndedBy}
 use Rattle.rw_fleet.proofs.lists.end_all.Given as goal
 
 abbrev pub invariant-loop-shard : goal.invariant-loop-shard
@@ -11,4 +10,4 @@ invariant-loop-shard g l =
     (vec_len l.ending + into_iter_len rest ≡ vec_len l.fn.running)
     × (vec_len l.fn.running ≤ vec_capacity l.ending)
     × ((done : List Lane) × (l.fn.running.items ≡ done ++ into_iter_items rest) × AreSame done l.ending.items)
-    × (is_hard l.kind ≡ false → AreSoft l.ending.items)
+    × AreEndedBy l.kind (map put_into l.ending.items)

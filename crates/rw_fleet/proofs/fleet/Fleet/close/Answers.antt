@@ -3,7 +3,7 @@ use Rattle.std.specs.Vec.{vec_items}
 use Rattle.rw_fleet.specs.Lanes.{Lane, AreSame, AreSetUp}
 use Rattle.rw_fleet.specs.Fleets.{Shards}
 use Rattle.rw_fleet.proofs.JoinedLemmas.{set_up_closed}
-use Rattle.rw_fleet.proofs.SoftLemmas.{soft_closed, has_cut}
+use Rattle.rw_fleet.proofs.SoftLemmas.{soft_all, soft_closed, ended_closed, has_cut}
 use Rattle.rw_fleet.proofs.fleet.Fleet.close.Goals as goal
 
 pub invariant_of-self : goal.invariant_of-self
@@ -31,7 +31,7 @@ invariant_of-self g c =
       omega arith,
       ap vec_items c.replace-ending.ensures.after ∙ c.new-2.ensures.items,
       omega arith,
-      soft_closed _ _ _ _ i.7 (c.end_all-ending.ensures.soft refl) (j.1 ∙ ap (λ v. vec_items v ++ j.0) was) j.2,
+      soft_closed _ _ _ _ i.7 (soft_all _ _ refl c.end_all-ending.ensures.ended) (j.1 ∙ ap (λ v. vec_items v ++ j.0) was) j.2,
     )
 
 pub returns-clause-closed : goal.returns-clause-closed
@@ -46,6 +46,7 @@ returns-clause-closed g c =
       ap (λ (s : Shards _). s.epoch + 1) v,
       nil,
       (j.0, j.1 ∙ ap (λ w. vec_items w ++ j.0) was ∙ ap (λ (s : Shards _). s.ended ++ j.0) v, subst (AreSame c.args.self.now.current) (sym j.2) current),
+      ended_closed _ _ _ _ _ (j.1 ∙ ap (λ w. vec_items w ++ j.0) was ∙ ap (λ (s : Shards _). s.ended ++ j.0) v) j.2 c.end_all-ending.ensures.ended,
     )
 
 pub returns-clause-setup : goal.returns-clause-setup
@@ -60,4 +61,4 @@ pub returns-clause-cut : goal.returns-clause-cut
 returns-clause-cut g c = λ unresolved.
     let j = c.join_all.ensures.same in
     let was = c.replace-joined.ensures.value in
-    has_cut g.C.T.Transport.tells g.C.T.Transport.seen _ c.join_all.ensures.worked (soft_closed _ _ _ _ c.self.invariant.7 (c.end_all-ending.ensures.soft refl) (j.1 ∙ ap (λ v. vec_items v ++ j.0) was) j.2) (c.all_resolved.ensures.not_all unresolved)
+    has_cut g.C.T.Transport.tells g.C.T.Transport.seen _ c.join_all.ensures.worked (soft_closed _ _ _ _ c.self.invariant.7 (soft_all _ _ refl c.end_all-ending.ensures.ended) (j.1 ∙ ap (λ v. vec_items v ++ j.0) was) j.2) (c.all_resolved.ensures.not_all unresolved)

@@ -3,7 +3,7 @@ use Rattle.rw_fleet.specs.Lanes.{Lane, AreSame, AreSetUp}
 use Rattle.rw_fleet.specs.Fleets.{Shards}
 use Rattle.rw_fleet.specs.Work.{lane_of}
 use Rattle.rw_fleet.proofs.JoinedLemmas.{set_up_closed}
-use Rattle.rw_fleet.proofs.SoftLemmas.{soft_closed, has_cut}
+use Rattle.rw_fleet.proofs.SoftLemmas.{soft_all, soft_closed, ended_closed, has_cut}
 use Rattle.rw_fleet.proofs.fleet.Fleet.finish.Goals as goal
 
 pub returns-clause-all : goal.returns-clause-all
@@ -24,4 +24,9 @@ pub returns-clause-cut : goal.returns-clause-cut
 returns-clause-cut g c = λ soft unresolved.
     let j = c.join_all-joined.ensures.same in
     let i = c.self.invariant in
-    has_cut g.C.T.Transport.tells g.C.T.Transport.seen _ c.join_all-joined.ensures.worked (soft_closed _ _ _ _ i.7 (c.end_all-ending.ensures.soft soft) j.1 j.2) (c.all_resolved-resolved.ensures.not_all unresolved)
+    has_cut g.C.T.Transport.tells g.C.T.Transport.seen _ c.join_all-joined.ensures.worked (soft_closed _ _ _ _ i.7 (soft_all _ _ soft c.end_all-ending.ensures.ended) j.1 j.2) (c.all_resolved-resolved.ensures.not_all unresolved)
+
+pub returns-clause-ended : goal.returns-clause-ended
+returns-clause-ended g c =
+    let j = c.join_all-joined.ensures.same in
+    ended_closed _ _ _ _ _ (j.1 ∙ ap (λ (s : Shards _). s.ended ++ j.0) c.self.view_is) j.2 c.end_all-ending.ensures.ended

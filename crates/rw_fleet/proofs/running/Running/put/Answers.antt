@@ -8,14 +8,14 @@ use Rattle.rw_shard_queue.specs.Items.{Placed, samples_in, places_in}
 use Rattle.rw_fleet.specs.Lanes.{Lane, put_as}
 use Rattle.rw_fleet.specs.Positions.{Positions}
 use Rattle.rw_fleet.proofs.PutLemmas.{samples_more, positions_more, positions_length, as_put}
-use Rattle.rw_fleet.proofs.SoftLemmas.{soft_push}
+use Rattle.rw_fleet.proofs.SoftLemmas.{unended_push}
 use Rattle.rw_fleet.proofs.running.Running.put.Goals as goal
 
 pub invariant_of-self-2 : goal.invariant_of-self-2
 invariant_of-self-2 g c =
     let i = c.self.invariant in
     let queue = sym c.put.ensures.queue.0 in
-    (positions_more _ _ _ _ _ _ c.in_default.ensures.put refl i.0 (ap (λ (p : Positions). p.all) c.push.ensures), i.1 ∙ ap (λ (q : QueueId). q.epoch) queue, i.2 ∙ ap (λ (q : QueueId). q.shard) queue, i.3 ∙ queue, i.4, i.5, soft_push _ _ _ c.in_default.ensures.put refl, ap (λ (p : Positions). p.most) c.push.ensures ∙ i.7)
+    (positions_more _ _ _ _ _ _ c.in_default.ensures.put refl i.0 (ap (λ (p : Positions). p.all) c.push.ensures), i.1 ∙ ap (λ (q : QueueId). q.epoch) queue, i.2 ∙ ap (λ (q : QueueId). q.shard) queue, i.3 ∙ queue, i.4, i.5, unended_push _ _ _ c.in_default.ensures.put refl, ap (λ (p : Positions). p.most) c.push.ensures ∙ i.7)
 
 pub put-requires : goal.put-requires
 put-requires g c =

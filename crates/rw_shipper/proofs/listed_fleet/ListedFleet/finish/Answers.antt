@@ -1,5 +1,4 @@
 use Rattle.std.proofs.Common.{refl, sym, ◌∙◌, subst, arith}
-use Rattle.rw_worker.specs.Report.{is_hard}
 use Rattle.rw_fleet.specs.Fleets.{Shards}
 use Rattle.rw_shipper.specs.Reports.{HasListed}
 use Rattle.rw_shipper.proofs.ListingLemmas.{room_first, room_all, listed_all}
@@ -20,6 +19,6 @@ returns g c =
     let all = c.finish-joined.ensures in
     let i = c.self.invariant in
     let lists = c.self.inside.lists in
-    subst (λ (s : Shards _). HasListed g.C.T.Transport.tells g.C.T.Transport.seen s c.args.part c.list_all.result (is_hard c.args.kind) c.finish-joined.result.1) c.self.view_is
-    (listed_all g.C.T.Transport.tells g.C.T.Transport.seen c.self.inside.fleet c.args.part lists (record { parts = c.push_reserved.new.self; workers = lists.workers; samples = lists.samples }) c.list_all.result (is_hard c.args.kind) c.finish-joined.result.1 c.finish-joined.result.0.items
-    (sym lists.parts.ok.0 ∙ i.no_parts) (sym lists.workers.ok.0 ∙ i.no_workers) (sym lists.samples.ok.0 ∙ i.no_samples) c.push_reserved.ensures.items refl refl c.list_all.ensures all.all all.worked all.setup all.resolved all.cut)
+    subst (λ (s : Shards _). HasListed g.C.T.Transport.tells g.C.T.Transport.seen s c.args.part c.list_all.result c.args.kind c.finish-joined.result.1) c.self.view_is
+    (listed_all g.C.T.Transport.tells g.C.T.Transport.seen c.self.inside.fleet c.args.part lists (record { parts = c.push_reserved.new.self; workers = lists.workers; samples = lists.samples }) c.list_all.result c.args.kind c.finish-joined.result.1 c.finish-joined.result.0.items
+    (sym lists.parts.ok.0 ∙ i.no_parts) (sym lists.workers.ok.0 ∙ i.no_workers) (sym lists.samples.ok.0 ∙ i.no_samples) c.push_reserved.ensures.items refl refl c.list_all.ensures all.all all.worked all.setup all.resolved all.cut all.ended)

@@ -1,5 +1,7 @@
-use Rattle.std.proofs.Common.{sym, ap, ◌∙◌, length}
+use Rattle.std.proofs.Common.{sym, ap, ◌∙◌, subst, length}
 use Rattle.rw_worker.specs.Report.{is_hard}
+use Rattle.rw_fleet.specs.Fleets.{EndBy}
+use Rattle.rw_shipper.specs.Reports.{kind_of}
 use Rattle.rw_shipper.specs.Shipping.{Shipping}
 use Rattle.rw_shipper.proofs.ShippingLemmas.{places_whole, stopped_seen, read_of, ends_so, is_abandoned, lists_cut}
 use Rattle.rw_shipper.proofs.shipper.Shipper.stop.Goals as goal
@@ -30,4 +32,9 @@ returns-clause-hard g c = λ hard. is_abandoned c.args.placed _ _ (c.outcome_of-
 pub returns-clause-cut : goal.returns-clause-cut
 returns-clause-cut g c = λ soft left.
     let l = c.finish-lists.ensures in
-    lists_cut l.joined _ c.finish-lists.result.1 c.args.placed c.self.inside.damage _ l.workers (l.cut (ap is_hard (c.kind_of-kind.ensures.orderly soft))) (c.outcome_of-outcome.ensures.whole soft) left
+    lists_cut l.joined _ c.finish-lists.result.1 c.args.placed c.self.inside.damage _ l.workers (l.cut (ap is_hard (c.kind_of-kind.ensures ∙ ap kind_of soft))) (c.outcome_of-outcome.ensures.whole soft) left
+
+pub returns-clause-ended : goal.returns-clause-ended
+returns-clause-ended g c =
+    let workers = c.finish-lists.result.0.workers.items in
+    subst (λ k. EndBy k c.args.self.fleet workers) c.kind_of-kind.ensures (subst (λ (s : Shipping _). EndBy c.kind_of-kind.result s.fleet workers) c.self.view_is c.finish-lists.ensures.ended)
