@@ -47,6 +47,24 @@ fn accepted(listener: &TcpListener) -> Result<TcpStream, ToolFault>
     }
 }
 
+/// Begins to serve a connection in a thread of the scope.
+fn begun<'s, E, L: Ledger + Send + Sync + 's, R: Wait + Sync>(
+    scope: &Scope<'s, E>,
+    rt: &'s R,
+    alloc: Global,
+    shared: &'s SharedHead<L>,
+    limits: &'s Limits,
+    stream: TcpStream,
+    seat: Seat<L>,
+) -> Result<JoinHandle<Seat<L>>, ToolFault>
+    ensures { IfErr result (λ e. e ≡ OutOfMemory) }
+{
+    match scope.spawn(move || served(rt, alloc, shared, limits, stream, seat)) {
+        Ok(handle) => Ok(handle),
+        Err(_) => Err(ToolFault::OutOfMemory),
+    }
+}
+
 /// Accepts a connection for each seat, and begins to serve it in a thread of the scope.
 fn start_each<'s, E, L: Ledger + Send + Sync + 's, R: Wait + Sync>(
     scope: &Scope<'s, E>,
@@ -63,10 +81,7 @@ fn start_each<'s, E, L: Ledger + Send + Sync + 's, R: Wait + Sync>(
     let mut handles = Vec::with_capacity(alloc, seats.len())?;
     for seat in seats {
         let stream = accepted(listener)?;
-        match scope.spawn(move || served(rt, alloc, shared, limits, stream, seat)) {
-            Ok(handle) => handles.push_reserved(handle),
-            Err(_) => return Err(ToolFault::OutOfMemory),
-        }
+        handles.push_reserved(begun(scope, rt, alloc, shared, limits, stream, seat)?);
     }
     Ok(handles)
 }

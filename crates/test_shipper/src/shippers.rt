@@ -251,17 +251,37 @@ fn a_refused_epoch_ends_the_work(rt: HostRuntime) -> Result<(), Fail> {
     Ok(())
 }
 
-/// Holds whichever allocation is refused. A run of the tests refuses none.
-#[test]
-fn a_fault_is_kept(rt: HostRuntime) -> Result<(), Fail> {
-    let alloc = rt.alloc();
+/// Feeds four series and two samples, a Flush and one sample more, and stops.
+fn shipped_over_two_epochs<R: Threads + Wait + Copy + Send + 'static>(
+    rt: &R,
+    alloc: Global,
+    stop: Stop,
+) -> Result<Option<Work>, Fail> {
     let mut steps = over_two_epochs(alloc, &[(3, 10, ONE)], &[(4, 20, TWO)])?;
     steps.push(Step::Flush)?;
     steps.push(feed(alloc, &[], &[(4, 30, ONE)])?)?;
     let sizes = (Bounded::of(2), Bounded::of(2_000));
     let peers = always(alloc, StatusCode::NO_CONTENT)?;
-    if let Some((work, _)) = shipped(&rt, alloc, sizes, peers, steps, Stop::Orderly)? {
-        assert!(rt; work.keeps_its_fault());
+    let done = shipped(rt, alloc, sizes, peers, steps, stop)?;
+    Ok(done.map(|(work, _)| work))
+}
+
+/// Holds whichever allocation is refused, of which a run of the tests refuses none: a call that fails is never passed over, its fault is kept,
+/// and the report names all that is not resolved.
+#[test]
+fn a_fault_is_kept(rt: HostRuntime) -> Result<(), Fail> {
+    let alloc = rt.alloc();
+    for stop in [Stop::Orderly, Stop::Hard] {
+        let Some(work) = shipped_over_two_epochs(&rt, alloc, stop)? else {
+            return Ok(());
+        };
+        assert!(rt; work.accounts_for_all(4));
+        if work.has_no_fault() && matches!(stop, Stop::Orderly) {
+            assert_eq!(rt; work.outcome, Outcome::Complete(7));
+        } else {
+            assert!(rt; work.has_no_fault() || work.keeps_its_fault());
+            assert!(rt; matches!(work.outcome, Outcome::Abandoned { .. }));
+        }
     }
     Ok(())
 }

@@ -100,7 +100,7 @@ impl Work {
         self.odd_count()
     }
 
-    /// Whether each call behind the first that failed answers as that one did, and the work is then abandoned.
+    /// Whether a call failed, and each later one answered as it did.
     pub(crate) fn keeps_its_fault(&self) -> bool {
         let mut kept = None;
         for fault in &self.faults {
@@ -109,7 +109,26 @@ impl Work {
             }
             kept = *fault;
         }
-        kept.is_none() || matches!(self.outcome, Outcome::Abandoned { .. })
+        kept.is_some()
+    }
+
+    /// Whether no call failed.
+    pub(crate) fn has_no_fault(&self) -> bool {
+        self.faults.iter().all(|fault| fault.is_none())
+    }
+
+    /// Whether each sample that was placed behind so many series is resolved or listed as abandoned.
+    pub(crate) fn accounts_for_all(&self, series: u64) -> bool {
+        let (placed, abandoned) = match &self.outcome {
+            Outcome::Complete(placed) => (*placed, 0),
+            Outcome::Abandoned { placed, samples } => (*placed, samples.len() as u64),
+            Outcome::Damaged(_) => return false,
+        };
+        let mut known = abandoned;
+        for resolved in &self.resolved {
+            known = known.saturating_add(*resolved);
+        }
+        placed.saturating_sub(series) == known
     }
 
     fn odd_count(&self) -> Option<&'static str> {
