@@ -3,4 +3,5 @@ pub mod PartLemmas
 pub mod PrintLemmas
 pub mod SegmentLemmas
 pub mod ShortLemmas
+pub mod StepLemmas
 pub mod SureLemmas

@@ -18,6 +18,7 @@ use Rattle.rw_send.specs.declared.halt.Halt.{Halt}
 use Rattle.rw_send.specs.declared.halt.Halt.TheVariants as halt
 use Rattle.rw_send.specs.ReportText.{IsTextOf, WritesPart}
 use Rattle.rw_send.specs.Segments.{AreShort, IsBeginningOf, IsLogOf}
+use Rattle.rw_send.specs.Steps.{AreShipped, AreShippedPart, HasStarted}
 
 -- a shipper that was configured so was fed these pieces, and this is the report of its stop
 pub record IsReportOf {T : Type 0} (tells : T → Type 0) (seen : T → List Exchange) (c : ConfigFields) (pieces : List Piece) (r : Report T) : Type 0 where
@@ -53,13 +54,17 @@ abbrev pub AreSure : List Bool → Type 0
 AreSure [] = ⊤
 AreSure (sure ∷ sures) = (sure ≡ true) × AreSure sures
 
--- A beginning of the segments that readers had left, which are sure or not, was shipped in short pieces, with this report and this answer.
+-- A beginning of the segments that readers had left, which are sure or not, was shipped in short pieces, and after each segment the number of shards was
+-- set; with this report and this answer.
 pub record IsSent {T : Type 0} (tells : T → Type 0) (seen : T → List Exchange) (c : ConfigFields) (lefts : List (Option (List ℕ))) (sures : List Bool) (r : Report T) (answer : Result (Unit {0}) ToolFault) : Type 0 where
   pub pieces : List Piece
   pub begins : IsBeginningOf lefts pieces
   pub short : AreShort pieces
   pub report : IsReportOf tells seen c pieces r
-  pub answers : Answers (IsLogOf lefts pieces) (AreSure sures → ⊥) r.outcome answer
+  pub started : Shipping T
+  pub start : HasStarted c started
+  pub part : AreShippedPart c.min_shards c.max_shards true lefts started report.shipping
+  pub answers : Answers (IsLogOf lefts pieces × AreShipped c.min_shards c.max_shards true lefts started report.shipping) (AreSure sures → ⊥) r.outcome answer
 
 -- and the text of the report was written
 pub record IsPrinted {T : Type 0} (tells : T → Type 0) (seen : T → List Exchange) (c : ConfigFields) (lefts : List (Option (List ℕ))) (sures : List Bool) (before after : Option (List ℕ)) (answer : Result (Unit {0}) ToolFault) : Type 0 where

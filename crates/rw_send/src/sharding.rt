@@ -1,7 +1,9 @@
 //! How many shards a sender works with.
 
-ghost use Rattle.std.specs.Prelude.{◌≡◌, ◌≢◌, ◌≤◌, None, IfOk, OnOk, OnErr, length};
+ghost use Rattle.std.specs.Prelude.{◌≡◌, ◌≢◌, ◌≤◌, ◌⊎◌, None, IfOk, OnOk, OnErr, length};
 ghost use Rattle.rw_reshard.specs.Wanted.{wanted};
+ghost use Rattle.rw_shipper.specs.Shipping.{HasCompared};
+ghost use Rattle.rw_send.specs.Steps.{HasPutAll, IsSet};
 
 use crate::halt::Halt;
 use rw_reshard::want;
@@ -59,24 +61,24 @@ impl Sharding {
     }
 }
 
-/// Changes the number of shards to what is wanted under this load, where that is another one.
+/// Changes the number of shards to what is wanted under the load, where that is another one.
 pub(crate) fn resharded<R: Threads + Wait + Copy + Send + 'static, C: Connect + Drop>(
     rt: &R,
     shipper: &mut Shipper<C>,
     sharding: Sharding,
-    load: Load,
 ) -> Result<Sharding, Halt>
     requires { length shipper.old.fleet.current ≡ sharding.shards }
-    ensures wanted { IfOk result (λ s. s.shards ≡ wanted sharding.shards load.placed load.resolved load.backlog sharding.fewest sharding.most) }
+    ensures put { shipper.old.fault ≡ None → HasPutAll shipper.old }
+    ensures set { OnOk result (IsSet sharding.fewest sharding.most shipper.old shipper.new) }
+    ensures shards { IfOk result (λ s. s.shards ≡ length shipper.new.fleet.current) }
     ensures range { IfOk result (λ s. (s.fewest ≡ sharding.fewest) × (s.most ≡ sharding.most)) }
-    ensures same { IfOk result (λ s. s.shards ≡ sharding.shards → shipper.new ≡ shipper.old) }
-    ensures opened { IfOk result (λ s. length shipper.new.fleet.current ≡ s.shards) }
     ensures log { shipper.new.log ≡ shipper.old.log }
+    ensures compared { (shipper.new.fleet ≡ shipper.old.fleet) ⊎ HasCompared shipper.old.fleet shipper.new.fleet }
     ensures config { shipper.new.fleet.config ≡ shipper.old.fleet.config }
     ensures sound { shipper.old.fault ≡ None → OnOk result (shipper.new.fault ≡ None) }
     ensures err { OnErr result (result ≡ Err Halt.Failed) }
 {
-    let next = sharding.under(load);
+    let next = sharding.under(shipper.load());
     if next.shards != sharding.shards && shipper.reshard(rt, next.shards).is_err() {
         return Err(Halt::Failed);
     }

@@ -4,6 +4,7 @@ ghost use Rattle.std.specs.Prelude.{◌≡◌, ◌≤◌, ◌⊎◌, [], length,
 ghost use Rattle.std.specs.Io.KnownBytes.{Consumes, IsAtEnd};
 ghost use Rattle.rw_send.specs.Segments.{AreShort, Begins, IsBeginningOf, IsFed, IsFedMore, IsFedPart, IsLogOf};
 ghost use Rattle.rw_send.specs.Sending.{AreSure, IsHalted, IsKept};
+ghost use Rattle.rw_send.specs.Steps.{AreShipped, AreShippedPart, StaysOpen};
 ghost use Rattle.rw_send.specs.declared.halt.Halt.TheVariants.{Unreadable};
 
 use crate::halt::Halt;
@@ -46,9 +47,8 @@ fn ship_piece<R: Wait, S: Source, C: Connect + Drop>(
     segment: &mut S,
 ) -> Result<bool, Halt>
     requires { shipper.old.fault ≡ None }
-    ensures kept { IsKept shipper.old shipper.new }
+    ensures stays { StaysOpen shipper.old shipper.new }
     ensures short { AreShort shipper.old.log.pieces → AreShort shipper.new.log.pieces }
-    ensures len { length shipper.new.fleet.current ≡ length shipper.old.fleet.current }
     ensures sound { OnOk result (shipper.new.fault ≡ None) }
     ensures more { result ≡ Ok true → IsFedMore (S.remaining segment.old) (S.remaining segment.new) shipper.old.log.pieces shipper.new.log.pieces }
     ensures end { result ≡ Ok false → Consumes (S.remaining segment.old) (S.remaining segment.new) [] × IsAtEnd (S.remaining segment.new) × (shipper.new.log.pieces ≡ shipper.old.log.pieces) }
@@ -72,9 +72,8 @@ fn ship_segment<R: Wait, S: Source + Drop, C: Connect + Drop>(
     segment: S,
 ) -> Result<(), Halt>
     requires { shipper.old.fault ≡ None }
-    ensures kept { IsKept shipper.old shipper.new }
+    ensures stays { StaysOpen shipper.old shipper.new }
     ensures short { AreShort shipper.old.log.pieces → AreShort shipper.new.log.pieces }
-    ensures len { length shipper.new.fleet.current ≡ length shipper.old.fleet.current }
     ensures sound { OnOk result (shipper.new.fault ≡ None) }
     ensures whole { OnOk result (IsFed (S.remaining segment) shipper.old.log.pieces shipper.new.log.pieces) }
     ensures part { OnErr result (IsFedPart (S.remaining segment) shipper.old.log.pieces shipper.new.log.pieces) }
@@ -97,9 +96,8 @@ fn begin_segment<R: Wait, C: Connect + Drop>(
     is_first: bool,
 ) -> Result<(), Halt>
     requires { shipper.old.fault ≡ None }
-    ensures kept { IsKept shipper.old shipper.new }
+    ensures stays { StaysOpen shipper.old shipper.new }
     ensures short { AreShort shipper.old.log.pieces → AreShort shipper.new.log.pieces }
-    ensures len { length shipper.new.fleet.current ≡ length shipper.old.fleet.current }
     ensures sound { OnOk result (shipper.new.fault ≡ None) }
     ensures begun { OnOk result (Begins is_first shipper.old.log.pieces shipper.new.log.pieces) }
     ensures part { OnErr result ((shipper.new.log.pieces ≡ shipper.old.log.pieces) ⊎ Begins is_first shipper.old.log.pieces shipper.new.log.pieces) }
@@ -132,6 +130,8 @@ pub(crate) fn ship_all<
     ensures short { AreShort shipper.new.log.pieces }
     ensures live { OnOk result (shipper.new.fault ≡ None) }
     ensures whole { OnOk result (IsLogOf (map S.remaining segments.items) shipper.new.log.pieces) }
+    ensures steps { OnOk result (AreShipped sharding.fewest sharding.most true (map S.remaining segments.items) shipper.old shipper.new) }
+    ensures part { AreShippedPart sharding.fewest sharding.most true (map S.remaining segments.items) shipper.old shipper.new }
     ensures begins { IsBeginningOf (map S.remaining segments.items) shipper.new.log.pieces }
     ensures halted { IfErr result (IsHalted shipper.new) }
     ensures sure { AreSure (map S.is_sure segments.items) → result ≡ Err Unreadable → ⊥ }
@@ -142,8 +142,7 @@ pub(crate) fn ship_all<
         begin_segment(rt, shipper, is_first)?;
         ship_segment(rt, alloc, shipper, segment)?;
         is_first = false;
-        let load = shipper.load();
-        sharding = resharded(rt, shipper, sharding, load)?;
+        sharding = resharded(rt, shipper, sharding)?;
     }
     Ok(())
 }

@@ -7,8 +7,9 @@ ghost use Rattle.rw_fleet.specs.Work.{AreResolved, HasCut};
 ghost use Rattle.rw_fleet.specs.Fleets.{EndBy};
 ghost use Rattle.rw_fleet.specs.Loads.{load_in};
 ghost use Rattle.rw_types.specs.declared.entry.Entry.{Entry};
+ghost use Rattle.rw_codes.specs.Pieces.{entries};
 ghost use Rattle.rw_shipper.specs.Reports.{IsAbandoned, IsAbandonedAt, ListsCut, end_of, kind_of};
-ghost use Rattle.rw_shipper.specs.Shipping.{answer_to, FailsBy, Feeds, Joins, HasCompared, HasStopped};
+ghost use Rattle.rw_shipper.specs.Shipping.{answer_to, FailsBy, Feeds, Joins, HasCompared, HasStopped, PlacesAll};
 
 use crate::listed_fleet::ListedFleet;
 use crate::lists::Lists;
@@ -259,7 +260,9 @@ impl<C: Connect + Drop> Shipper<C> {
 
     /// How far the samples have come, as far as the shipper knows: advice on how many shards are wanted. A sample of a shard at work counts as resolved once there is no place left where it could wait.
     pub fn load(&self) -> Load
-        ensures { result ≡ load_in self.now.fleet }
+        ensures load { result ≡ load_in self.now.fleet }
+        ensures placed { PlacesAll self.now.log self.now.fleet }
+        ensures read { self.now.fault ≡ None → self.now.log.placed ≡ entries self.now.log.pieces }
     {
         self.fleet.load()
     }

@@ -1,6 +1,8 @@
-use Rattle.std.proofs.Common.{refl, ap, ◌∙◌}
+use Rattle.std.proofs.Common.{true, map, refl, ap, ◌∙◌}
 use Rattle.rw_feeder.specs.Feeders.{Sorting}
+use Rattle.rw_send.specs.Steps.{AreShipped, AreShippedPart}
 use Rattle.rw_send.proofs.AnswerLemmas.{answers_too, at_ok}
+use Rattle.rw_send.proofs.StepLemmas.{between}
 use Rattle.rw_send.proofs.send.ship.Goals as goal
 
 pub returns : goal.returns
@@ -15,5 +17,14 @@ returns g c = record {
     pieces_are = refl;
     stopped = c.stopped.ensures.stopped;
   };
-  answers = answers_too _ _ (at_ok c.ship_all-shipped.result c.ship_all-shipped.ensures.whole) (λ unread. λ sure. c.ship_all-shipped.ensures.sure sure unread) c.stopped.ensures.answers;
+  started = c.in_ok-shipper.shipper;
+  start = record {
+    pieces = ap (λ (l : Sorting). l.pieces) c.in_ok-shipper.ensures.log;
+    ended = c.in_ok-shipper.ensures.opened.1;
+    epoch = c.in_ok-shipper.ensures.opened.0;
+    shards = c.in_ok-shipper.ensures.opened.2;
+    fresh = c.in_ok-shipper.ensures.opened.3;
+  };
+  part = between (λ fewest most. AreShippedPart fewest most true (map g.S.Source.remaining c.args.segments.items) c.in_ok-shipper.shipper c.ship_all-shipped.new.shipper) c.of-sharding.ensures.fewest c.of-sharding.ensures.most c.ship_all-shipped.ensures.part;
+  answers = answers_too _ _ (λ ok. (at_ok c.ship_all-shipped.result c.ship_all-shipped.ensures.whole ok, between (λ fewest most. AreShipped fewest most true (map g.S.Source.remaining c.args.segments.items) c.in_ok-shipper.shipper c.ship_all-shipped.new.shipper) c.of-sharding.ensures.fewest c.of-sharding.ensures.most (at_ok c.ship_all-shipped.result c.ship_all-shipped.ensures.steps ok))) (λ unread. λ sure. c.ship_all-shipped.ensures.sure sure unread) c.stopped.ensures.answers;
 }

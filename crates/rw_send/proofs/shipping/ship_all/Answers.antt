@@ -2,8 +2,10 @@ use Rattle.std.proofs.Common.{◌≡◌, ◌∷◌, length, sym, ap, ◌∙◌, 
 use Rattle.std.specs.Vec.Iter.{into_iter_items}
 use Rattle.rw_feeder.specs.Feeders.{Sorting}
 use Rattle.rw_send.specs.Segments.{AreShort}
+use Rattle.rw_send.specs.Steps.{IsSet}
 use Rattle.rw_send.proofs.PartLemmas.{begins_on, halted_at_begin, halted_within}
 use Rattle.rw_send.proofs.SegmentLemmas.{going_step}
+use Rattle.rw_send.proofs.StepLemmas.{between, halts_at_begin, halts_behind, halts_within, is_shipped, part_first, part_halts, ships_first, stays_kept, stays_on}
 use Rattle.rw_send.proofs.SureLemmas.{sure_rest}
 use Rattle.rw_send.proofs.shipping.ship_all.Goals as goal
 
@@ -11,12 +13,17 @@ pub loop-segment-preserved : goal.loop-segment-preserved
 loop-segment-preserved g c =
     let steps : into_iter_items c.loop-segment.segment-iterator ≡ c.in-Some.segment ∷ into_iter_items c.next.new.self = c.in-Some.ensures.steps.0 in
     let was = c.loop-segment.invariant.kept in
-    let begun = c.in_ok-begin_segment.ensures.kept in
-    let fed = c.in_ok-ship_segment.ensures.kept in
+    let stays = stays_on _ _ _ c.in_ok-begin_segment.ensures.stays c.in_ok-ship_segment.ensures.stays in
+    let kept = stays_kept _ _ stays in
+    let one = is_shipped _ _ _ _ _ _ _ _ c.in_ok-begin_segment.ensures.begun c.in_ok-ship_segment.ensures.whole (c.in_ok-sharding.ensures.put c.in_ok-ship_segment.ensures.sound) stays
+    (between (λ fewest most. IsSet fewest most c.ship_segment.new.shipper c.resharded.new.shipper) c.loop-segment.invariant.range.0 c.loop-segment.invariant.range.1 c.in_ok-sharding.ensures.set) in
     record {
-      kept = (ap (λ (l : Sorting). l.rules) c.in_ok-sharding.ensures.log ∙ fed.0 ∙ begun.0 ∙ was.0, c.in_ok-sharding.ensures.config ∙ fed.1 ∙ begun.1 ∙ was.1);
+      kept = (ap (λ (l : Sorting). l.rules) c.in_ok-sharding.ensures.log ∙ kept.0 ∙ was.0, c.in_ok-sharding.ensures.config ∙ kept.1 ∙ was.1);
       short = subst AreShort (sym (ap (λ (l : Sorting). l.pieces) c.in_ok-sharding.ensures.log)) (c.in_ok-ship_segment.ensures.short (c.in_ok-begin_segment.ensures.short c.loop-segment.invariant.short));
-      shards = c.in_ok-sharding.ensures.opened;
+      shards = sym c.in_ok-sharding.ensures.shards;
+      range = (c.in_ok-sharding.ensures.range.0 ∙ c.loop-segment.invariant.range.0, c.in_ok-sharding.ensures.range.1 ∙ c.loop-segment.invariant.range.1);
+      steps = λ last later. c.loop-segment.invariant.steps last (ships_first _ _ _ _ _ _ _ _ _ last steps one later);
+      part = λ last later. c.loop-segment.invariant.part last (part_first _ _ _ _ _ _ _ _ _ last steps one later);
       going = going_step _ _ _ _ _ _ _ _ _ _ steps c.loop-segment.invariant.going c.in_ok-begin_segment.ensures.begun c.in_ok-ship_segment.ensures.whole
           (ap (λ (l : Sorting). l.pieces) c.in_ok-sharding.ensures.log);
       sound = c.in_ok-sharding.ensures.sound c.in_ok-ship_segment.ensures.sound;
@@ -41,3 +48,16 @@ returns-in_err-sharding-clause-begins g c =
 
 pub returns-clause-begins : goal.returns-clause-begins
 returns-clause-begins g c = begins_on _ _ _ _ c.loop-segment.invariant.going
+
+pub returns-in_err-begin_segment-clause-part : goal.returns-in_err-begin_segment-clause-part
+returns-in_err-begin_segment-clause-part g c =
+    c.loop-segment.invariant.part _ (part_halts _ _ _ _ _ _ _ _ _ c.in-Some.ensures.steps.0 (halts_at_begin _ _ _ _ c.in_err-begin_segment.ensures.part c.in_err-begin_segment.ensures.stays))
+
+pub returns-in_err-ship_segment-clause-part : goal.returns-in_err-ship_segment-clause-part
+returns-in_err-ship_segment-clause-part g c = c.loop-segment.invariant.part _ (part_halts _ _ _ _ _ _ _ _ _ c.in-Some.ensures.steps.0
+    (halts_within _ _ _ _ _ c.in_ok-begin_segment.ensures.begun c.in_err-ship_segment.ensures.part (stays_on _ _ _ c.in_ok-begin_segment.ensures.stays c.in_err-ship_segment.ensures.stays)))
+
+pub returns-in_err-sharding-clause-part : goal.returns-in_err-sharding-clause-part
+returns-in_err-sharding-clause-part g c = c.loop-segment.invariant.part _ (part_halts _ _ _ _ _ _ _ _ _ c.in-Some.ensures.steps.0
+    (halts_behind _ _ _ _ _ _ c.in_ok-begin_segment.ensures.begun c.in_ok-ship_segment.ensures.whole (stays_on _ _ _ c.in_ok-begin_segment.ensures.stays c.in_ok-ship_segment.ensures.stays)
+    c.in_err-sharding.ensures.log c.in_err-sharding.ensures.compared))

@@ -1,14 +1,13 @@
-use Rattle.std.proofs.Common.{◌≡◌, length, true, None}
+use Rattle.std.proofs.Common.{◌≡◌, true, None}
 use Rattle.rw_send.specs.Segments.{AreShort}
-use Rattle.rw_send.specs.Sending.{IsKept}
+use Rattle.rw_send.specs.Steps.{StaysOpen}
 use Rattle.rw_send.proofs.SegmentLemmas.{IsFeeding}
 use Rattle.rw_send.proofs.shipping.ship_segment.Given as goal
 
 abbrev pub invariant-loop : goal.invariant-loop
 invariant-loop g l = record {
-  kept : IsKept l.fn.shipper l.shipper;
+  stays : StaysOpen l.fn.shipper l.shipper;
   short : AreShort l.fn.shipper.log.pieces → AreShort l.shipper.log.pieces;
-  len : length l.shipper.fleet.current ≡ length l.fn.shipper.fleet.current;
   feeding : IsFeeding (g.S.Source.remaining l.fn.segment) (g.S.Source.remaining l.segment) l.fn.shipper.log.pieces l.shipper.log.pieces;
   sound : l.shipper.fault ≡ None;
   sure : g.S.Source.is_sure l.fn.segment ≡ true → g.S.Source.is_sure l.segment ≡ true;
