@@ -1,5 +1,5 @@
 -- Segments that are shipped one after another.
-use Rattle.std.proofs.Common.{◌≡◌, ◌≢◌, ◌⊎◌, ℕ, ◌+◌, ◌++◌, Bool, false, List, [], ◌∷◌, length, map, Option, inl, inr, refl, sym, ap, ◌∙◌, subst, append-nil, arith}
+use Rattle.std.proofs.Common.{◌≡◌, ◌≢◌, ◌⊎◌, ℕ, ◌+◌, Bool, false, List, [], ◌∷◌, length, map, Option, inl, inr, refl, sym, ap, ◌∙◌, subst, append-nil, arith}
 use Rattle.rw_codes.specs.Pieces.{Piece}
 use Rattle.rw_fleet.specs.Fleets.{Shards}
 use Rattle.rw_fleet.specs.Lanes.{AreFresh}
