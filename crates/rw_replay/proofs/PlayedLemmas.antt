@@ -1,9 +1,6 @@
 -- Lines of a script are carried out.
-use Rattle.std.proofs.Common.{◌≡◌, ◌<◌, ◌≤◌, ◌+◌, ◌*◌, inl, inr, ℕ, List, [], ◌∷◌, length, map, Bool, true, false, Some, if◌then◌else◌, refl, sym, ap, ◌∙◌, subst, arith}
+use Rattle.std.proofs.Common.{◌≡◌, inr, ℕ, List, [], ◌∷◌, map, Some, refl, sym, ap, ◌∙◌, subst}
 use Rattle.std.specs.List.{AllByRecursion}
-use Rattle.std.proofs.lemmas.Bool.{ltb-true}
-use Rattle.rw_codes.specs.Pieces.{page_size}
-use Rattle.rw_codes.specs.Writing.{log_bytes}
 use Rattle.rw_schedule.specs.Worlds.{Ending, report}
 use Rattle.rw_schedule.specs.Steps.{happens}
 use Rattle.rw_schedule.specs.declared.event.Event.{Event}
@@ -11,10 +8,9 @@ use Rattle.rw_schedule.specs.declared.event.Event.TheVariants as event
 use Rattle.rw_wal_tail.specs.declared.piece.Piece.TheVariants as piece
 use Rattle.rw_script.specs.declared.command.Command.{Command}
 use Rattle.rw_script.specs.declared.command.Command.TheVariants as command
-use Rattle.rw_script.specs.ScriptText.{Order, logged, fed, order_of, order_of_event}
+use Rattle.rw_script.specs.ScriptText.{Order, fed, order_of, order_of_event}
 use Rattle.rw_world.specs.Machine.{Machine}
-use Rattle.rw_replay.specs.Played.{Played, is_full, next_segment, feeds, end_of, in_world, settled_after, Feeds, Plays, Follows, IsWritable}
-use Rattle.rw_replay.specs.Writing.{IsWritten}
+use Rattle.rw_replay.specs.Played.{Played, next_segment, settled_after, Feeds, Plays, Follows, IsWritable}
 
 -- the machine after one event
 abbrev pub HasHappened : Played → Event → Machine → Type 0

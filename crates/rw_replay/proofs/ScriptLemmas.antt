@@ -1,5 +1,5 @@
 -- The records of a script can be written.
-use Rattle.std.proofs.Common.{◌≡◌, ◌<◌, ℕ, List, [], ◌∷◌, length, refl, sym, subst, arith, inl, inr}
+use Rattle.std.proofs.Common.{◌<◌, ℕ, List, [], ◌∷◌, length, sym, subst, arith, inl, inr}
 use Rattle.std.specs.List.{AllByRecursion}
 use Rattle.rw_text.specs.LineText.{Line, series, sample, raw, IsLine}
 use Rattle.rw_log_text.specs.RecordLines.{lines, record_of, IsRecordOf}
