@@ -6,7 +6,7 @@ use Rattle.rw_types.specs.declared.place.Place.{Place}
 use Rattle.rw_shard_queue.specs.declared.item.Item.{Item}
 use Rattle.rw_shard_queue.specs.declared.item.Item.TheVariants as item
 use Rattle.rw_shard_queue.specs.Items.{Placed, samples_in, places_in}
-use Rattle.rw_fleet.specs.Lanes.{Lane, put_as}
+use Rattle.rw_fleet.specs.Lanes.{Lane, put_as, marks_in}
 use Rattle.rw_feeder.specs.declared.logged.Logged.{Logged}
 use Rattle.rw_fleet.specs.Work.{positions_in}
 
@@ -52,3 +52,13 @@ positions_more xs zs x p was now is one old new =
 pub as_put : (lane : Lane) (s : Logged) (epoch shard seq : ℕ) (t : ℤ) → epoch ≡ lane.setup.queue.epoch → shard ≡ lane.setup.queue.shard → seq ≡ length (places_in lane.put) → t ≡ s.t
     → ◌≡◌ {A = Placed} (record { place = record { epoch = epoch; shard = shard; seq = seq; pos = s.pos; series = s.series }; t = t; word = s.word; labels = arc_value s.labels }) (put_as lane s)
 as_put lane s epoch shard seq t e h n z = λ i. record { place = record { epoch = e i; shard = h i; seq = n i; pos = s.pos; series = s.series }; t = z i; word = s.word; labels = arc_value s.labels }
+
+pub marks_append : (xs ys : List Item) → marks_in (xs ++ ys) ≡ marks_in xs ++ marks_in ys
+marks_append [] ys = refl
+marks_append (item.Sample p t w l ∷ xs) ys = marks_append xs ys
+marks_append (item.Flush ∷ xs) ys = ap (λ ms. item.Flush ∷ ms) (marks_append xs ys)
+marks_append (item.End k ∷ xs) ys = ap (λ ms. item.End k ∷ ms) (marks_append xs ys)
+
+-- a sample more leaves the marks
+pub marks_same_but : (xs zs : List Item) (x : Item) → zs ≡ xs ++ x ∷ [] → marks_in (x ∷ []) ≡ [] → marks_in zs ≡ marks_in xs
+marks_same_but xs zs x is none = ap marks_in is ∙ marks_append xs (x ∷ []) ∙ ap (λ ms. marks_in xs ++ ms) none ∙ append-nil (marks_in xs)

@@ -18,7 +18,7 @@ put_into lane = lane.put
 
 -- a worker sends as it was configured, out of a queue of that capacity
 abbrev pub IsSetUp : ConfigFields → Setup → Type 0
-IsSetUp config setup = (setup.target ≡ config.target) × (setup.batch ≡ config.batch) × (setup.queue.capacity ≡ config.capacity)
+IsSetUp config setup = (setup.target ≡ config.target) × (setup.batch ≡ config.batch) × (setup.queue.capacity ≡ config.capacity) × (setup.min_backoff ≡ config.min_backoff_ms) × (setup.max_backoff ≡ config.max_backoff_ms)
 
 abbrev pub AreSetUp : ConfigFields → List Lane → Type 0
 AreSetUp config [] = ⊤
@@ -33,6 +33,17 @@ put_as lane s = record {
   labels = arc_value s.labels;
 }
 
+-- the marks among items, without the samples
+abbrev pub marks_in : List Item → List Item
+marks_in [] = []
+marks_in (item.Sample place t word labels ∷ xs) = marks_in xs
+marks_in (item.Flush ∷ xs) = item.Flush ∷ marks_in xs
+marks_in (item.End kind ∷ xs) = item.End kind ∷ marks_in xs
+
+-- the marks that a shard was put
+abbrev pub marks_of : Lane → List Item
+marks_of lane = marks_in lane.put
+
 -- the shard numbered k was put one sample more, the others nothing
 pub record IsPut (k : ℕ) (s : Logged) (old new : List Lane) : Type 0 where
   pub was : Lane
@@ -40,6 +51,7 @@ pub record IsPut (k : ℕ) (s : Logged) (old new : List Lane) : Type 0 where
   pub at : slice_get old k ≡ Some was
   pub setup : now.setup ≡ was.setup
   pub put : samples_in now.put ≡ samples_in was.put ++ put_as was s ∷ []
+  pub marks : marks_in now.put ≡ marks_in was.put
   pub is : new ≡ set old k now
 
 -- the same shards, each with the same samples

@@ -3,7 +3,7 @@
 ghost use Rattle.std.specs.Prelude.{◌≡◌, ◌<◌, ℕ, List, [], ◌∷◌, ◌++◌, IfOk, MatchResult, Some, slice_get};
 ghost use Rattle.rw_types.specs.declared.place.Place.{Place};
 ghost use Rattle.rw_shard_queue.specs.Items.{samples_in, places_in};
-ghost use Rattle.rw_fleet.specs.Lanes.{IsSetUp, put_as};
+ghost use Rattle.rw_fleet.specs.Lanes.{IsSetUp, put_as, marks_in};
 ghost use Rattle.rw_fleet.specs.Loads.{count_in};
 ghost use Rattle.rw_fleet.specs.Work.{lane_of, IsEndedBy, IsWorked};
 
@@ -134,6 +134,7 @@ impl<T: Transport + Send + Drop + 'static> Running<T> {
         requires later { (k : ℕ) (o : Place) → slice_get (places_in self.old.put) k ≡ Some o → o.pos < logged.pos }
         ensures setup { self.new.setup ≡ self.old.setup }
         ensures put { MatchResult result (λ _. samples_in self.new.put ≡ samples_in self.old.put ++ put_as self.old logged ∷ []) (λ _. self.new ≡ self.old) }
+        ensures marks { marks_in self.new.put ≡ marks_in self.old.put }
     {
         let Logged {
             pos,

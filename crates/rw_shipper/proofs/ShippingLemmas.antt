@@ -1,6 +1,6 @@
 -- What a shipper keeps, with one entry more.
 use Rattle.std.proofs.Common.{◌≡◌, inl, inr, ℕ, ℤ, zero, suc, ◌+◌, ◌<◌, ◌≤◌, List, [], ◌∷◌, ◌++◌, length, map, Some, None, refl, sym, ap, ◌∙◌, subst, append_assoc, append-nil, arith}
-use Rattle.std.specs.Prelude.{◌%◌, Bool, true, false, slice_get, Option, Result, Ok, Err, OnOk, IfSome, is_err, is_some}
+use Rattle.std.specs.Prelude.{◌%◌, Bool, true, false, set, slice_get, Option, Result, Ok, Err, OnOk, IfSome, is_err, is_some}
 use Rattle.rw_worker.specs.Transcript.{Exchange}
 use Rattle.rw_shipper.specs.declared.report.Report.{Report}
 use Rattle.rw_types.specs.Labels.{Labels}
@@ -12,7 +12,7 @@ use Rattle.rw_series_cache.specs.Known.{Standing, Unknown, Bad, Filtered, Kept, 
 use Rattle.rw_series_cache.specs.Numbers.{series_of}
 use Rattle.rw_shard_queue.specs.Items.{places_in}
 use Rattle.rw_shard_queue.specs.declared.item.Kind.TheVariants.{Reshard}
-use Rattle.rw_fleet.specs.Lanes.{Lane, AreFresh, AreSame, IsPut}
+use Rattle.rw_fleet.specs.Lanes.{Lane, AreFresh, AreSame, IsPut, marks_of}
 use Rattle.rw_fleet.specs.Work.{lane_of, finished_of, AreResolved, HasCut}
 use Rattle.rw_fleet.specs.declared.running.Fault.{Fault}
 use Rattle.rw_fleet.specs.Fleets.{Shards, AreAll, EndBy, HasClosed}
@@ -73,10 +73,11 @@ module _ {T : Type 0} where
     grown = ap (λ (s : Sorting). s.placed) same ∙ sym (append-nil old.placed);
     fleet = refl;
     len = refl;
+    marks = refl;
   }
 
-  pub goes_placed : (old held new : Sorting) (was now : Shards T) → held ≡ old → HasPlaced held new → now ≡ record was { current = now.current } → length now.current ≡ length was.current → GoesOn old new was now
-  goes_placed old held new was now same placed rest len =
+  pub goes_placed : (old held new : Sorting) (was now : Shards T) → held ≡ old → HasPlaced held new → now ≡ record was { current = now.current } → length now.current ≡ length was.current → map marks_of now.current ≡ map marks_of was.current → GoesOn old new was now
+  goes_placed old held new was now same placed rest len marks =
       let after : HasPlaced old new = placed ∙ ap (λ (s : Sorting). record s { placed = s.placed ++ s.hand; hand = [] }) same in record {
         rules = ap (λ (s : Sorting). s.rules) after;
         pieces = ap (λ (s : Sorting). s.pieces) after;
@@ -84,6 +85,7 @@ module _ {T : Type 0} where
         grown = ap (λ (s : Sorting). s.placed) after;
         fleet = rest;
         len = len;
+        marks = marks;
       }
 
   pub goes_on : (a b c : Sorting) (x y z : Shards T) → GoesOn a b x y → GoesOn b c y z → GoesOn a c x z
@@ -94,6 +96,7 @@ module _ {T : Type 0} where
     grown = g.grown ∙ ap (λ l. l ++ g.more) h.grown ∙ append_assoc a.placed h.more g.more;
     fleet = g.fleet ∙ ap (λ (s : Shards T). record s { current = z.current }) h.fleet;
     len = g.len ∙ h.len;
+    marks = g.marks ∙ h.marks;
   }
 
   -- an entry in hand changes nothing of the rest
@@ -105,7 +108,16 @@ module _ {T : Type 0} where
     grown = ap (λ (s : Sorting). s.placed) is ∙ sym (append-nil old.placed);
     fleet = refl;
     len = refl;
+    marks = refl;
   }
+
+marks_set : (qs : List Lane) (k : ℕ) (was now : Lane) → slice_get qs k ≡ Some was → marks_of now ≡ marks_of was → map marks_of (set qs k now) ≡ map marks_of qs
+marks_set [] k was now at same = refl
+marks_set (q ∷ qs) zero was now at same = ap (λ ms. ms ∷ map marks_of qs) (same ∙ ap marks_of (sym (some_is q was at)))
+  where
+    some_is : (a b : Lane) → Some a ≡ Some b → a ≡ b
+    some_is a b e = cc
+marks_set (q ∷ qs) (suc k) was now at same = ap (λ ms. marks_of q ∷ ms) (marks_set qs k was now at same)
 
 put_length : (k : ℕ) (l : Logged) (old new : List Lane) → IsPut k l old new → length new ≡ length old
 put_length k l old new put = ap length put.is ∙ set_length old k put.now
@@ -113,6 +125,10 @@ put_length k l old new put = ap length put.is ∙ set_length old k put.now
 module _ {T : Type 0} where
   pub put_len : (k : ℕ) (l : Logged) (was now : Shards T) → IsPut k l was.current now.current → length now.current ≡ length was.current
   put_len k l was now put = put_length k l was.current now.current put
+
+  -- a sample more leaves the marks
+  pub put_marks : (k : ℕ) (l : Logged) (was now : Shards T) → IsPut k l was.current now.current → map marks_of now.current ≡ map marks_of was.current
+  put_marks k l was now put = ap (map marks_of) put.is ∙ marks_set was.current k put.was put.now put.at put.marks
 
 sent_as_pos : (pos : ℕ) (series : List Labels) (t : ℤ) (word : ℕ) (k : Standing) (x : Sent) → sent_as pos series t word k ≡ x ∷ [] → pos ≡ x.pos
 sent_as_pos pos series t word (Kept l) x is = ap (λ (s : Sent). s.pos) (first _ x is)

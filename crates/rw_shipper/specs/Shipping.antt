@@ -1,7 +1,7 @@
 -- What contracts see of a shipper.
 use Rattle.std.specs.Prelude.{◌≡◌, ◌⊎◌, ◌<◌, List, [], ◌∷◌, ◌++◌, length, map, Option, Some, None, Result, Ok, Err, ⊤}
 use Rattle.rw_worker.specs.Transcript.{Exchange}
-use Rattle.rw_fleet.specs.Lanes.{AreSetUp}
+use Rattle.rw_fleet.specs.Lanes.{AreSetUp, marks_of}
 use Rattle.rw_shard_queue.specs.declared.item.Kind.TheVariants.{Reshard}
 use Rattle.rw_fleet.specs.Work.{lane_of, finished_of, AreResolved, AreWorked}
 use Rattle.rw_fleet.specs.Fleets.{Shards, AreAll, EndBy}
@@ -49,7 +49,7 @@ IsRead log (Some f) damage = ⊤
 abbrev pub HasCompared : {T : Type 0} → Shards T → Shards T → Type 0
 HasCompared old new = AreAll old new.ended × EndBy Reshard old (map finished_of new.ended) × ((new.current ≡ []) ⊎ AreResolved new.ended)
 
--- more entries may have been placed, and their samples put: the rest is as it was
+-- more entries may have been placed, and their samples put: the rest is as it was, and no mark was put
 pub record GoesOn {T : Type 0} (old new : Sorting) (was now : Shards T) : Type 0 where
   pub rules : new.rules ≡ old.rules
   pub pieces : new.pieces ≡ old.pieces
@@ -57,6 +57,7 @@ pub record GoesOn {T : Type 0} (old new : Sorting) (was now : Shards T) : Type 0
   pub grown : new.placed ≡ old.placed ++ more
   pub fleet : now ≡ record was { current = now.current }
   pub len : length now.current ≡ length was.current
+  pub marks : map marks_of now.current ≡ map marks_of was.current
 
 -- what one step of the feeder came to
 abbrev pub Steps : Sorting → Progress → Type 0

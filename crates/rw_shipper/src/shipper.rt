@@ -2,7 +2,7 @@
 
 ghost use Rattle.std.specs.Prelude.{◌≡◌, ◌⊎◌, List, true, false, ◌+◌, ◌≤◌, ◌<◌, [], ◌∷◌, ◌++◌, length, map, None, Some, Err, IfOk, IfErr, IfSome, OnOk, is_some};
 ghost use Rattle.rw_wal_tail.specs.Fed.{piece_of};
-ghost use Rattle.rw_fleet.specs.Lanes.{AreFresh, marked};
+ghost use Rattle.rw_fleet.specs.Lanes.{AreFresh, marked, marks_of};
 ghost use Rattle.rw_fleet.specs.Work.{AreResolved, HasCut};
 ghost use Rattle.rw_fleet.specs.Fleets.{EndBy};
 ghost use Rattle.rw_fleet.specs.Loads.{load_in};
@@ -175,6 +175,7 @@ impl<C: Connect + Drop> Shipper<C> {
         ensures rules { self.new.log.rules ≡ self.old.log.rules }
         ensures rest { self.new.fleet ≡ record self.old.fleet { current = self.new.fleet.current } }
         ensures len { length self.new.fleet.current ≡ length self.old.fleet.current }
+        ensures marks { map marks_of self.new.fleet.current ≡ map marks_of self.old.fleet.current }
     {
         if let Some(fault) = self.fault {
             return Err(answer_to(fault));
@@ -203,6 +204,8 @@ impl<C: Connect + Drop> Shipper<C> {
     pub fn flush<R: Wait>(&mut self, rt: &R) -> Result<(), FeedFault>
         ensures failed { IfSome self.old.fault (λ f. (result ≡ Err (answer_to f)) × (self.new ≡ self.old)) }
         ensures marked { OnOk result (self.new ≡ record self.old { fleet = record self.old.fleet { current = map marked self.old.fleet.current } }) }
+        ensures log { self.new.log ≡ self.old.log }
+        ensures rest { self.new.fleet ≡ record self.old.fleet { current = self.new.fleet.current } }
         ensures fails { IfErr result (FailsBy self.new.fault) }
     {
         if let Some(fault) = self.fault {

@@ -7,7 +7,7 @@ ghost use Rattle.rw_plan.specs.Plan.{plan_of};
 ghost use Rattle.rw_tool.specs.Planning.{WritesPlan, WritesPlanPart};
 ghost use Rattle.rw_tool.specs.Running.{ReadsInput, ReadsFault, ReadsLine, StopsInput};
 ghost use Rattle.rw_tool.specs.Taking.{HasTaken, HasTakenAll, IsFaultOf, ReadsSegment, StopsReading};
-ghost use Rattle.rw_tool.specs.declared.fault.ToolFault.TheVariants.{Log, Line, Device};
+ghost use Rattle.rw_tool.specs.declared.fault.ToolFault.TheVariants.{Log, Line, SegmentFull, Device};
 
 use crate::body::{CHUNK, feed_some, zeros};
 use crate::fault::ToolFault;
@@ -100,6 +100,7 @@ pub fn run_plan<R: Source, W: Sink>(
     // A fault of the data is the one that the input has, and nothing is written then, or where memory ran out.
     ensures log { (f : TailFault) → result ≡ Err (Log f) → ReadsFault hex f (R.remaining reader.old) (R.remaining reader.new) }
     ensures line { (n : ℕ) → result ≡ Err (Line n) → ReadsLine hex n (R.remaining reader.old) (R.remaining reader.new) }
+    ensures no_full { result ≡ Err SegmentFull → ⊥ }
     ensures untouched { IfErr result (λ e. e ≢ Device → writer.new ≡ writer.old) }
 
     // Where a device fails, the writer holds a beginning of the plan.

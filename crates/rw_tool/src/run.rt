@@ -3,7 +3,7 @@
 ghost use Rattle.std.specs.Prelude.{◌≡◌, ◌≢◌, ◌⊎◌, ℕ, List, [], ◌∷◌, ◌++◌, true, false, Err, None, IfOk, OnOk, IfErr, MatchResult};
 ghost use Rattle.std.specs.Io.KnownBytes.{Consumes, IsAtEnd};
 ghost use Rattle.rw_codes.specs.declared.tail_fault.TailFault.{TailFault};
-ghost use Rattle.rw_tool.specs.declared.fault.ToolFault.TheVariants.{OutOfMemory, Log, Line, Device};
+ghost use Rattle.rw_tool.specs.declared.fault.ToolFault.TheVariants.{OutOfMemory, Log, Line, SegmentFull, Device};
 ghost use Rattle.rw_tool.specs.Body.{body_of};
 ghost use Rattle.rw_tool.specs.Running.{output_of, ReadsInput, WritesBody, WritesPart, ReadsFault, ReadsLine, StopsInput};
 
@@ -64,6 +64,7 @@ pub fn run_body<R: Source, W: Sink>(
     // A fault of the data is the one that the input has, and nothing is written then, or where memory ran out.
     ensures log { (f : TailFault) → result ≡ Err (Log f) → ReadsFault hex f (R.remaining reader.old) (R.remaining reader.new) }
     ensures line { (n : ℕ) → result ≡ Err (Line n) → ReadsLine hex n (R.remaining reader.old) (R.remaining reader.new) }
+    ensures no_full { result ≡ Err SegmentFull → ⊥ }
     ensures untouched { IfErr result (λ e. e ≢ Device → writer.new ≡ writer.old) }
 
     // Where a device fails, the writer holds a beginning of the output.

@@ -5,9 +5,9 @@ use Rattle.std.proofs.lemmas.Int.{to_z-of_z}
 use Rattle.std.specs.Prelude.{slice_get}
 use Rattle.rw_ruled_queue.specs.Ends.{QueueId}
 use Rattle.rw_shard_queue.specs.Items.{Placed, samples_in, places_in}
-use Rattle.rw_fleet.specs.Lanes.{Lane, put_as}
+use Rattle.rw_fleet.specs.Lanes.{Lane, put_as, marks_in}
 use Rattle.rw_fleet.specs.Positions.{Positions}
-use Rattle.rw_fleet.proofs.PutLemmas.{samples_more, positions_more, positions_length, as_put}
+use Rattle.rw_fleet.proofs.PutLemmas.{samples_more, positions_more, positions_length, as_put, marks_same_but}
 use Rattle.rw_fleet.proofs.SoftLemmas.{unended_push}
 use Rattle.rw_fleet.proofs.running.Running.put.Goals as goal
 
@@ -33,3 +33,6 @@ returns-clause-put g c =
     samples_more _ _ _ c.in_default.ensures.put
     ∙ ap (λ (p : Placed). samples_in c.self.inside.feed.put ++ p ∷ []) (as_put lane c.args.logged _ _ _ _ (i.1 ∙ ap (λ (q : QueueId). q.epoch) queue) (i.2 ∙ ap (λ (q : QueueId). q.shard) queue) len (to_z-of_z w64 c.args.logged.t fits))
     ∙ ap (λ (l : Lane). samples_in l.put ++ put_as l c.args.logged ∷ []) c.self.view_is
+
+pub returns-clause-marks : goal.returns-clause-marks
+returns-clause-marks g c = marks_same_but _ _ _ c.in_default.ensures.put refl ∙ ap (λ (l : Lane). marks_in l.put) c.self.view_is
