@@ -23,3 +23,15 @@ returns-clause-ok g c =
     let current = ap (λ (s : Shards _). s.current) c.self.view_is in
     let within = subst (λ (l : List Lane). c.args.shard < length l) (sym current) c.requires.within in
     subst (λ (l : List Lane). IsPut c.args.shard c.args.logged l (set c.self.inside.running.items c.args.shard c.put.new.self)) current (put_at c.args.shard c.args.logged c.self.inside.running.items (set c.self.inside.running.items c.args.shard c.put.new.self) _ c.put.new.self within c.index_mut.ensures.value refl c.put.ensures.setup c.in_default.ensures.put c.put.ensures.marks)
+
+pub returns-in-Err-clause-rest : goal.returns-in-Err-clause-rest
+returns-in-Err-clause-rest g c = ap (λ (s : Shards _). record s { current = set c.self.inside.running.items c.args.shard c.put.new.self }) c.self.view_is
+
+pub returns-clause-rest : goal.returns-clause-rest
+returns-clause-rest g c = ap (λ (s : Shards _). record s { current = set c.self.inside.running.items c.args.shard c.put.new.self }) c.self.view_is
+
+pub returns-in-Err-clause-ok : goal.returns-in-Err-clause-ok
+returns-in-Err-clause-ok g c = tt
+
+pub returns-clause-err : goal.returns-clause-err
+returns-clause-err g c = tt
