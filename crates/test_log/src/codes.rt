@@ -1,6 +1,7 @@
 //! The codes: values from the public standards, and the edges of each length.
 
 use rw_codes::{CodeFault, crc32c, get_uvarint, get_varint, put_uvarint, put_varint};
+use std::alloc::{AllocError, Global};
 use std::test::Fail;
 
 /// Numbers and their shortest forms: the least and the greatest of each length.
@@ -43,113 +44,176 @@ const NUMBERS: [(u64, &[u8]); 21] = [
     ),
 ];
 
+/// Texts and their CRC.
+const CRCS: [(&[u8], u32); 6] = [
+    (b"", 0x0000_0000),
+    (b"123456789", 0xE306_9283),
+    (&[2], 0xB346_23A6),
+    (b"a", 0xC1D0_4330),
+    (&[0; 32], 0x8A91_36AA),
+    (&[255; 32], 0x62A8_AB43),
+];
+
+/// Signed numbers and their shortest forms.
+const SIGNED: [(i64, &[u8]); 8] = [
+    (0, &[0]),
+    (-1, &[1]),
+    (1, &[2]),
+    (-10, &[19]),
+    (63, &[126]),
+    (-65, &[129, 1]),
+    (i64::MAX, &[254, 255, 255, 255, 255, 255, 255, 255, 255, 1]),
+    (i64::MIN, &[255, 255, 255, 255, 255, 255, 255, 255, 255, 1]),
+];
+
+/// Texts that no number has as its shortest form, and what is read of them.
+const OTHER_FORMS: [(&[u8], Result<(u64, usize), CodeFault>); 8] = [
+    (&[128, 0], Ok((0, 2))),
+    (&[129, 128, 0], Ok((1, 3))),
+    (
+        &[128, 128, 128, 128, 128, 128, 128, 128, 128, 0],
+        Ok((0, 10)),
+    ),
+    (
+        &[255, 255, 255, 255, 255, 255, 255, 255, 255, 1, 1],
+        Ok((u64::MAX, 10)),
+    ),
+    (
+        &[255, 255, 255, 255, 255, 255, 255, 255, 255, 2],
+        Err(CodeFault::TooBig),
+    ),
+    (
+        &[128, 128, 128, 128, 128, 128, 128, 128, 128, 2],
+        Err(CodeFault::TooBig),
+    ),
+    (
+        &[128, 128, 128, 128, 128, 128, 128, 128, 128, 128, 1],
+        Err(CodeFault::TooBig),
+    ),
+    (
+        &[128, 128, 128, 128, 128, 128, 128, 128, 128],
+        Err(CodeFault::Short),
+    ),
+];
+
+fn wrong_crc() -> Option<usize> {
+    for (i, (text, want)) in CRCS.iter().enumerate() {
+        if crc32c(text) != *want {
+            return Some(i);
+        }
+    }
+    None
+}
+
 #[test]
 fn crc_of_known_texts(rt: HostRuntime) {
-    let texts: [(&[u8], u32); 6] = [
-        (b"", 0x0000_0000),
-        (b"123456789", 0xE306_9283),
-        (&[2], 0xB346_23A6),
-        (b"a", 0xC1D0_4330),
-        (&[0; 32], 0x8A91_36AA),
-        (&[255; 32], 0x62A8_AB43),
-    ];
-    for (text, want) in texts {
-        assert_eq!(rt; crc32c(text), want, "of {} bytes", text.len());
+    assert_eq!(rt; wrong_crc(), None);
+}
+
+/// Whether the number has this form, also with another byte behind it.
+fn is_form_of(alloc: Global, n: u64, bytes: &[u8]) -> Result<bool, AllocError> {
+    let mut out = Vec::new(alloc);
+    put_uvarint(&mut out, n)?;
+    let is_written = out.as_slice() == bytes;
+    out.push(7)?;
+    Ok(is_written && get_uvarint(&out) == Ok((n, bytes.len())))
+}
+
+/// Whether each front of the form is too short.
+fn is_short_where_cut(bytes: &[u8]) -> bool {
+    for end in 0..bytes.len() {
+        if get_uvarint(&bytes[..end]) != Err(CodeFault::Short) {
+            return false;
+        }
     }
+    true
+}
+
+fn wrong_number(alloc: Global) -> Result<Option<u64>, AllocError> {
+    for (n, bytes) in NUMBERS {
+        if !is_form_of(alloc, n, bytes)? || !is_short_where_cut(bytes) {
+            return Ok(Some(n));
+        }
+    }
+    Ok(None)
 }
 
 #[test]
 fn numbers_there_and_back(rt: HostRuntime) -> Result<(), Fail> {
-    for (n, bytes) in NUMBERS {
-        let mut out = Vec::new(rt.alloc());
-        put_uvarint(&mut out, n)?;
-        assert_eq!(rt; out.as_slice(), bytes, "of {n}");
-        out.push(7)?;
-        assert_eq!(rt; get_uvarint(&out), Ok((n, bytes.len())), "of {n}");
-        for end in 0..bytes.len() {
-            assert_eq!(rt;
-                get_uvarint(&bytes[..end]),
-                Err(CodeFault::Short),
-                "{end} bytes of {n}"
-            );
+    assert_eq!(rt; wrong_number(rt.alloc())?, None);
+    Ok(())
+}
+
+/// Whether the signed number has this form, also with another byte behind it.
+fn is_signed_form_of(alloc: Global, z: i64, bytes: &[u8]) -> Result<bool, AllocError> {
+    let mut out = Vec::new(alloc);
+    put_varint(&mut out, z)?;
+    let is_written = out.as_slice() == bytes;
+    out.push(7)?;
+    Ok(is_written && get_varint(&out) == Ok((z, bytes.len())))
+}
+
+fn wrong_signed(alloc: Global) -> Result<Option<usize>, AllocError> {
+    for (i, (z, bytes)) in SIGNED.iter().enumerate() {
+        if !is_signed_form_of(alloc, *z, bytes)? {
+            return Ok(Some(i));
         }
     }
-    Ok(())
+    Ok(None)
 }
 
 #[test]
 fn signed_there_and_back(rt: HostRuntime) -> Result<(), Fail> {
-    let numbers: [(i64, &[u8]); 8] = [
-        (0, &[0]),
-        (-1, &[1]),
-        (1, &[2]),
-        (-10, &[19]),
-        (63, &[126]),
-        (-65, &[129, 1]),
-        (i64::MAX, &[254, 255, 255, 255, 255, 255, 255, 255, 255, 1]),
-        (i64::MIN, &[255, 255, 255, 255, 255, 255, 255, 255, 255, 1]),
-    ];
-    for (z, bytes) in numbers {
-        let mut out = Vec::new(rt.alloc());
-        put_varint(&mut out, z)?;
-        assert_eq!(rt; out.as_slice(), bytes, "of {z}");
-        out.push(7)?;
-        assert_eq!(rt; get_varint(&out), Ok((z, bytes.len())), "of {z}");
-    }
-    assert_eq!(rt; get_varint(&[128]), Err(CodeFault::Short));
-    assert_eq!(rt; get_varint(&[255; 10]), Err(CodeFault::TooBig));
+    assert_eq!(rt; wrong_signed(rt.alloc())?, None);
+    assert!(rt; get_varint(&[128]) == Err(CodeFault::Short));
+    assert!(rt; get_varint(&[255; 10]) == Err(CodeFault::TooBig));
     Ok(())
+}
+
+fn wrong_form() -> Option<usize> {
+    for (i, (text, want)) in OTHER_FORMS.iter().enumerate() {
+        if get_uvarint(text) != *want {
+            return Some(i);
+        }
+    }
+    None
 }
 
 #[test]
 fn other_forms(rt: HostRuntime) {
-    let texts: [(&[u8], Result<(u64, usize), CodeFault>); 8] = [
-        (&[128, 0], Ok((0, 2))),
-        (&[129, 128, 0], Ok((1, 3))),
-        (
-            &[128, 128, 128, 128, 128, 128, 128, 128, 128, 0],
-            Ok((0, 10)),
-        ),
-        (
-            &[255, 255, 255, 255, 255, 255, 255, 255, 255, 1, 1],
-            Ok((u64::MAX, 10)),
-        ),
-        (
-            &[255, 255, 255, 255, 255, 255, 255, 255, 255, 2],
-            Err(CodeFault::TooBig),
-        ),
-        (
-            &[128, 128, 128, 128, 128, 128, 128, 128, 128, 2],
-            Err(CodeFault::TooBig),
-        ),
-        (
-            &[128, 128, 128, 128, 128, 128, 128, 128, 128, 128, 1],
-            Err(CodeFault::TooBig),
-        ),
-        (
-            &[128, 128, 128, 128, 128, 128, 128, 128, 128],
-            Err(CodeFault::Short),
-        ),
-    ];
-    for (text, want) in texts {
-        assert_eq!(rt; get_uvarint(text), want, "of {} bytes", text.len());
+    assert_eq!(rt; wrong_form(), None);
+}
+
+/// Whether the number is written whole, or nothing where memory is refused.
+fn is_whole_or_nothing(out: &mut Vec<u8>, n: u64, bytes: &[u8]) -> bool {
+    let len = out.len();
+    match put_uvarint(out, n) {
+        Ok(()) => out.len() == len + bytes.len(),
+        Err(_) => out.len() == len,
     }
+}
+
+/// The same of the signed number -1.
+fn is_signed_whole_or_nothing(out: &mut Vec<u8>) -> bool {
+    let len = out.len();
+    match put_varint(out, -1) {
+        Ok(()) => out.len() == len + 1,
+        Err(_) => out.len() == len,
+    }
+}
+
+fn half_written(alloc: Global) -> Option<u64> {
+    let mut out = Vec::new(alloc);
+    for (n, bytes) in NUMBERS {
+        if !is_whole_or_nothing(&mut out, n, bytes) || !is_signed_whole_or_nothing(&mut out) {
+            return Some(n);
+        }
+    }
+    None
 }
 
 /// Where memory runs out, what was written stays as it was. It shows when each allocation fails in turn.
 #[test]
 fn refused_memory_writes_nothing(rt: HostRuntime) {
-    let mut out = Vec::new(rt.alloc());
-    for (n, bytes) in NUMBERS {
-        let len = out.len();
-        match put_uvarint(&mut out, n) {
-            Ok(()) => assert!(rt; out.len() == len + bytes.len(), "of {n}"),
-            Err(_) => assert!(rt; out.len() == len, "of {n}"),
-        }
-        let len = out.len();
-        match put_varint(&mut out, -1) {
-            Ok(()) => assert!(rt; out.len() == len + 1, "after {n}"),
-            Err(_) => assert!(rt; out.len() == len, "after {n}"),
-        }
-    }
+    assert_eq!(rt; half_written(rt.alloc()), None);
 }

@@ -1,6 +1,7 @@
 //! Readers and writers that give little, fail in mid-stream or have too little room.
 
 use rw_types::{Failed, ReadFault, Room, Sink, Source, Std, read_to_end, write_all};
+use std::alloc::{AllocError, Global};
 use std::io::{self, ErrorKind};
 use std::test::Fail;
 
@@ -80,62 +81,75 @@ impl io::Write for Interrupting {
     }
 }
 
+fn byte_by_byte(left: &[u8], fails: bool) -> ByteByByte<'_> {
+    ByteByByte {
+        left,
+        fails,
+        failed: false,
+    }
+}
+
+fn with_room(room: usize) -> Std<Interrupting> {
+    Std::new(Interrupting { room, turn: false })
+}
+
+/// What readers give, one after the other into one text, and how each read ends.
+fn read_in_turn(alloc: Global) -> (Vec<u8>, [Result<(), ReadFault>; 5]) {
+    let mut out = Vec::new(alloc);
+    let whole = read_to_end(alloc, &mut b"whole".as_slice(), &mut out);
+    let slow = read_to_end(alloc, &mut byte_by_byte(b" byte by byte", false), &mut out);
+    let mut reader = byte_by_byte(b" and broken", true);
+    let broken = read_to_end(alloc, &mut reader, &mut out);
+    let still_broken = read_to_end(alloc, &mut reader, &mut out);
+    let interrupted = read_to_end(alloc, &mut with_room(3), &mut out);
+    (out, [whole, slow, broken, still_broken, interrupted])
+}
+
 #[test]
-fn reads_to_the_end(rt: HostRuntime) -> Result<(), Fail> {
-    let mut out = Vec::new(rt.alloc());
-    let mut bytes = b"whole".as_slice();
-    assert_eq!(rt; read_to_end(rt.alloc(), &mut bytes, &mut out), Ok(()));
-    let mut slow = ByteByByte {
-        left: b" byte by byte",
-        fails: false,
-        failed: false,
-    };
-    assert_eq!(rt; read_to_end(rt.alloc(), &mut slow, &mut out), Ok(()));
-    let mut broken = ByteByByte {
-        left: b" and broken",
-        fails: true,
-        failed: false,
-    };
-    assert_eq!(rt;
-        read_to_end(rt.alloc(), &mut broken, &mut out),
-        Err(ReadFault::Failed)
-    );
-    assert_eq!(rt;
-        read_to_end(rt.alloc(), &mut broken, &mut out),
-        Err(ReadFault::Failed)
-    );
-    let mut interrupted = Std::new(Interrupting {
-        room: 3,
-        turn: false,
-    });
-    assert_eq!(rt; read_to_end(rt.alloc(), &mut interrupted, &mut out), Ok(()));
-    assert_eq!(rt;
-        out.as_slice(),
-        b"whole byte by byte and brokenxxx".as_slice()
-    );
-    Ok(())
+fn reads_to_the_end(rt: HostRuntime) {
+    let (text, ends) = read_in_turn(rt.alloc());
+    let failed = Err(ReadFault::Failed);
+    let is_so = text.as_slice() == b"whole byte by byte and brokenxxx".as_slice()
+        && ends == [Ok(()), Ok(()), failed, failed, Ok(())];
+    assert!(rt; is_so);
+}
+
+fn fills_its_room(alloc: Global) -> Result<bool, AllocError> {
+    let mut room = Room::new(alloc, 8)?;
+    let written = write_all(&mut room, b"exactly ");
+    Ok(written == Ok(()) && room.into_bytes().as_slice() == b"exactly ".as_slice())
+}
+
+fn fails_past_its_room(alloc: Global) -> Result<bool, AllocError> {
+    let mut room = Room::new(alloc, 7)?;
+    let first = write_all(&mut room, b"one ");
+    let second = write_all(&mut room, b"more");
+    let third = room.write(b"x");
+    Ok(
+        first == Ok(())
+            && second == Err(Failed)
+            && third == Err(Failed)
+            && room.as_slice() == b"one ".as_slice(),
+    )
+}
+
+fn fails_where_no_byte_is_taken() -> bool {
+    let mut writer = with_room(4);
+    let four = write_all(&mut writer, b"four");
+    let none = write_all(&mut writer, b"");
+    let more = write_all(&mut writer, b"more");
+    let another = writer.write(b"x");
+    four == Ok(())
+        && none == Ok(())
+        && more == Err(Failed)
+        && another == Err(Failed)
+        && writer.into_inner().room == 0
 }
 
 #[test]
 fn writes_within_room(rt: HostRuntime) -> Result<(), Fail> {
-    let mut room = Room::new(rt.alloc(), 8)?;
-    assert_eq!(rt; write_all(&mut room, b"exactly "), Ok(()));
-    assert_eq!(rt; room.into_bytes().as_slice(), b"exactly ".as_slice());
-    let mut small = Room::new(rt.alloc(), 7)?;
-    assert_eq!(rt; write_all(&mut small, b"one "), Ok(()));
-    assert_eq!(rt; write_all(&mut small, b"more"), Err(Failed));
-    assert_eq!(rt; small.write(b"x"), Err(Failed));
-    assert_eq!(rt; small.as_slice(), b"one ".as_slice());
-
-    let mut interrupted = Std::new(Interrupting {
-        room: 4,
-        turn: false,
-    });
-    assert_eq!(rt; write_all(&mut interrupted, b"four"), Ok(()));
-    assert_eq!(rt; write_all(&mut interrupted, b""), Ok(()));
-    // no byte is taken any more
-    assert_eq!(rt; write_all(&mut interrupted, b"more"), Err(Failed));
-    assert_eq!(rt; interrupted.write(b"x"), Err(Failed));
-    assert_eq!(rt; interrupted.into_inner().room, 0);
+    assert!(rt; fills_its_room(rt.alloc())?);
+    assert!(rt; fails_past_its_room(rt.alloc())?);
+    assert!(rt; fails_where_no_byte_is_taken());
     Ok(())
 }

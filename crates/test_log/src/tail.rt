@@ -15,7 +15,7 @@ const UP: [u8; 63] = [
 ];
 
 /// What a reader gave, and how it ended.
-#[derive(Clone, Copy, Debug, PartialEq, Eq)]
+#[derive(Clone, Copy, PartialEq, Eq)]
 struct Seen {
     definitions: u64,
     samples: u64,
@@ -122,67 +122,83 @@ fn put_filler(out: &mut Vec<u8>, len: usize) -> Result<(), AllocError> {
     put_fragment(out, 1, &data)
 }
 
+/// What a reader has given in all once it is fed another piece.
+fn read_on(tail: &mut Tail, seen: Seen, piece: &[u8]) -> Result<Seen, AllocError> {
+    feed(tail, piece)?;
+    let mut all = seen;
+    all.read(tail);
+    Ok(all)
+}
+
 /// What a reader gives of a front, and then of the rest too.
 fn read_twice(alloc: Global, front: &[u8], back: &[u8]) -> Result<(Seen, Seen), AllocError> {
     let mut tail = Tail::new(alloc);
-    let mut seen = NOTHING;
-    feed(&mut tail, front)?;
-    seen.read(&mut tail);
-    let first = seen;
-    feed(&mut tail, back)?;
-    seen.read(&mut tail);
-    Ok((first, seen))
+    let first = read_on(&mut tail, NOTHING, front)?;
+    let both = read_on(&mut tail, first, back)?;
+    Ok((first, both))
+}
+
+/// What is read of a front of so many bytes.
+fn of_front(cut: usize) -> Seen {
+    match cut {
+        0..29 => NOTHING,
+        29..63 => DEFINITION,
+        _ => BOTH,
+    }
+}
+
+fn wrong_cut(alloc: Global) -> Result<Option<usize>, AllocError> {
+    for cut in 0..=63usize {
+        let (front, back) = UP.split_at(cut);
+        if read_twice(alloc, front, back)? != (of_front(cut), BOTH) {
+            return Ok(Some(cut));
+        }
+    }
+    Ok(None)
 }
 
 #[test]
 fn cut_anywhere(rt: HostRuntime) -> Result<(), Fail> {
-    for cut in 0..=63usize {
-        let first = if cut < 29 {
-            NOTHING
-        } else if cut < 63 {
-            DEFINITION
-        } else {
-            BOTH
-        };
-        let (front, back) = UP.split_at(cut);
-        assert_eq!(rt;
-            read_twice(rt.alloc(), front, back)?,
-            (first, BOTH),
-            "cut at {cut}"
-        );
-    }
+    assert_eq!(rt; wrong_cut(rt.alloc())?, None);
     Ok(())
+}
+
+/// What a reader gives of the bytes one by one, and how much it has read and skipped.
+fn read_bytes(alloc: Global) -> Result<(Seen, u64, u64), AllocError> {
+    let mut tail = Tail::new(alloc);
+    let mut seen = NOTHING;
+    for byte in UP {
+        seen = read_on(&mut tail, seen, &[byte])?;
+    }
+    Ok((seen, tail.entries_read(), tail.skipped()))
 }
 
 #[test]
 fn byte_by_byte(rt: HostRuntime) -> Result<(), Fail> {
-    let mut tail = Tail::new(rt.alloc());
-    let mut seen = NOTHING;
-    for byte in UP {
-        feed(&mut tail, &[byte])?;
-        seen.read(&mut tail);
-    }
-    assert_eq!(rt; seen, BOTH);
-    assert_eq!(rt; (tail.entries_read(), tail.skipped()), (2, 0));
+    assert!(rt; read_bytes(rt.alloc())? == (BOTH, 2, 0));
     Ok(())
+}
+
+/// What a copy of a reader has given in all once the copy is fed another piece.
+fn read_by_copy(tail: &Tail, seen: Seen, piece: &[u8]) -> Result<Seen, Fail> {
+    let mut copy = tail.copy()?;
+    Ok(read_on(&mut copy, seen, piece)?)
+}
+
+/// What a copy gives of the rest, then the reader without it, and then with it.
+fn read_beside_copy(alloc: Global) -> Result<[Seen; 3], Fail> {
+    let mut tail = Tail::new(alloc);
+    let (front, back) = UP.split_at(40);
+    let mut seen = read_on(&mut tail, NOTHING, front)?;
+    let of_copy = read_by_copy(&tail, seen, back)?;
+    seen.read(&mut tail);
+    let both = read_on(&mut tail, seen, back)?;
+    Ok([of_copy, seen, both])
 }
 
 #[test]
 fn copy_reads_on_by_itself(rt: HostRuntime) -> Result<(), Fail> {
-    let mut tail = Tail::new(rt.alloc());
-    let mut seen = NOTHING;
-    let (front, back) = UP.split_at(40);
-    feed(&mut tail, front)?;
-    seen.read(&mut tail);
-    let mut copy = tail.copy()?;
-    let mut seen_of_copy = seen;
-    feed(&mut copy, back)?;
-    seen_of_copy.read(&mut copy);
-    seen.read(&mut tail);
-    assert_eq!(rt; (seen, seen_of_copy), (DEFINITION, BOTH));
-    feed(&mut tail, back)?;
-    seen.read(&mut tail);
-    assert_eq!(rt; seen, BOTH);
+    assert!(rt; read_beside_copy(rt.alloc())? == [BOTH, DEFINITION, BOTH]);
     Ok(())
 }
 
@@ -203,59 +219,82 @@ fn changed(at: usize, value: u8) -> Seen {
     }
 }
 
-#[test]
-fn each_byte_changed(rt: HostRuntime) -> Result<(), Fail> {
-    for at in 0..63usize {
+/// Whether the text with this byte changed is read as it should be.
+fn is_as_changed(alloc: Global, at: usize, value: u8) -> Result<bool, AllocError> {
+    let mut text = UP;
+    if at >= text.len() || text[at] == value {
+        return Ok(true);
+    }
+    text[at] = value;
+    Ok(read_pieces(alloc, &[Some(&text)])? == changed(at, value))
+}
+
+fn wrong_change(alloc: Global) -> Result<Option<(usize, u8)>, AllocError> {
+    for at in 0..UP.len() {
         for value in 0..=255u8 {
-            let mut text = UP;
-            if text[at] != value {
-                text[at] = value;
-                assert_eq!(rt;
-                    read_pieces(rt.alloc(), &[Some(&text)])?,
-                    changed(at, value),
-                    "{value} at {at}"
-                );
+            if !is_as_changed(alloc, at, value)? {
+                return Ok(Some((at, value)));
             }
         }
     }
+    Ok(None)
+}
+
+#[test]
+fn each_byte_changed(rt: HostRuntime) -> Result<(), Fail> {
+    assert_eq!(rt; wrong_change(rt.alloc())?, None);
     Ok(())
+}
+
+/// Texts, and the fault that their last byte shows.
+const FAULTS: [(&[u8], TailFault); 8] = [
+    (&[5], TailFault::BadType),
+    (&[1, 128, 0, 0, 0, 0, 0], TailFault::BadLength),
+    (&[1, 0, 1, 0, 0, 0, 0, 2], TailFault::BadCrc),
+    (&[8], TailFault::Compressed),
+    (&[0, 0, 1], TailFault::NonzeroPadding),
+    (&[3, 0, 0, 0, 0, 0, 0], TailFault::Sequence),
+    (
+        &[2, 0, 0, 0, 0, 0, 0, 2, 0, 0, 0, 0, 0, 0],
+        TailFault::Sequence,
+    ),
+    (
+        &[
+            1, 0, 19, 0x7e, 0xa6, 0xff, 0x1a, 1, 0, 0, 0, 0, 0, 0, 0, 1, 255, 255, 255, 255, 255,
+            255, 255, 255, 255, 1,
+        ],
+        TailFault::BadRecord,
+    ),
+];
+
+/// Whether the fault comes with the last byte and not before, and stays.
+fn is_fault_at_once(alloc: Global, text: &[u8], fault: TailFault) -> Result<bool, AllocError> {
+    let mut tail = Tail::new(alloc);
+    let mut seen = NOTHING;
+    let mut is_early = false;
+    for byte in text {
+        is_early |= seen != NOTHING;
+        seen = read_on(&mut tail, seen, &[*byte])?;
+    }
+    let at_end = seen;
+    feed(&mut tail, &UP)?;
+    tail.next_segment();
+    seen.read(&mut tail);
+    Ok(!is_early && at_end == NOTHING.but(fault) && seen == NOTHING.but(fault))
+}
+
+fn wrong_fault(alloc: Global) -> Result<Option<usize>, AllocError> {
+    for (i, (text, fault)) in FAULTS.iter().enumerate() {
+        if !is_fault_at_once(alloc, text, *fault)? {
+            return Ok(Some(i));
+        }
+    }
+    Ok(None)
 }
 
 #[test]
 fn faults_stay_and_come_at_once(rt: HostRuntime) -> Result<(), Fail> {
-    let rows: [(&[u8], TailFault); 8] = [
-        (&[5], TailFault::BadType),
-        (&[1, 128, 0, 0, 0, 0, 0], TailFault::BadLength),
-        (&[1, 0, 1, 0, 0, 0, 0, 2], TailFault::BadCrc),
-        (&[8], TailFault::Compressed),
-        (&[0, 0, 1], TailFault::NonzeroPadding),
-        (&[3, 0, 0, 0, 0, 0, 0], TailFault::Sequence),
-        (
-            &[2, 0, 0, 0, 0, 0, 0, 2, 0, 0, 0, 0, 0, 0],
-            TailFault::Sequence,
-        ),
-        (
-            &[
-                1, 0, 19, 0x7e, 0xa6, 0xff, 0x1a, 1, 0, 0, 0, 0, 0, 0, 0, 1, 255, 255, 255, 255,
-                255, 255, 255, 255, 255, 1,
-            ],
-            TailFault::BadRecord,
-        ),
-    ];
-    for (text, fault) in rows {
-        let mut tail = Tail::new(rt.alloc());
-        let mut seen = NOTHING;
-        for byte in text {
-            assert_eq!(rt; seen, NOTHING, "before {fault:?}");
-            feed(&mut tail, &[*byte])?;
-            seen.read(&mut tail);
-        }
-        assert_eq!(rt; seen, NOTHING.but(fault));
-        feed(&mut tail, &UP)?;
-        tail.next_segment();
-        seen.read(&mut tail);
-        assert_eq!(rt; seen, NOTHING.but(fault));
-    }
+    assert_eq!(rt; wrong_fault(rt.alloc())?, None);
     Ok(())
 }
 
@@ -278,96 +317,123 @@ fn ends_of_segments(rt: HostRuntime) -> Result<(), Fail> {
         (&[None, Some(up), Some(&[0, 0]), None, Some(up)], twice),
     ];
     for (pieces, seen) in rows {
-        assert_eq!(rt;
-            read_pieces(rt.alloc(), pieces)?,
-            seen,
-            "of {} pieces",
-            pieces.len()
-        );
+        assert!(rt; read_pieces(rt.alloc(), pieces)? == seen);
     }
     Ok(())
+}
+
+/// What a reader gives of a filler of so many bytes, this end of its page and the two records, and how much it skips.
+fn read_past_page(alloc: Global, filler: usize, end: &[u8]) -> Result<(Seen, u64), AllocError> {
+    let mut text = Vec::new(alloc);
+    put_filler(&mut text, filler)?;
+    text.extend_from_slice(end)?;
+    text.extend_from_slice(&UP)?;
+    let mut tail = Tail::new(alloc);
+    let seen = read_on(&mut tail, NOTHING, &text)?;
+    Ok((seen, tail.skipped()))
 }
 
 #[test]
 fn ends_of_pages(rt: HostRuntime) -> Result<(), Fail> {
     // With seven bytes left a fragment without data stands there, with six zeros.
-    let lone: [&[u8]; 2] = [
-        &[2, 0, 0, 0, 0, 0, 0, 4, 0, 1, 0xb3, 0x46, 0x23, 0xa6, 2],
-        &[0, 0, 0, 0, 0, 0, 1, 0, 1, 0xb3, 0x46, 0x23, 0xa6, 2],
+    let rows: [(usize, &[u8]); 2] = [
+        (
+            32_754,
+            &[2, 0, 0, 0, 0, 0, 0, 4, 0, 1, 0xb3, 0x46, 0x23, 0xa6, 2],
+        ),
+        (
+            32_755,
+            &[0, 0, 0, 0, 0, 0, 1, 0, 1, 0xb3, 0x46, 0x23, 0xa6, 2],
+        ),
     ];
-    for (more, end) in lone.iter().enumerate() {
-        let mut text = Vec::new(rt.alloc());
-        put_filler(&mut text, 32_754 + more)?;
-        text.extend_from_slice(end)?;
-        text.extend_from_slice(&UP)?;
-        let mut tail = Tail::new(rt.alloc());
-        let mut seen = NOTHING;
-        feed(&mut tail, &text)?;
-        seen.read(&mut tail);
-        assert_eq!(rt; seen, BOTH);
-        assert_eq!(rt; tail.skipped(), 1);
+    for (filler, end) in rows {
+        assert!(rt; read_past_page(rt.alloc(), filler, end)? == (BOTH, 1));
     }
     Ok(())
 }
 
-#[test]
-fn a_record_over_three_pages(rt: HostRuntime) -> Result<(), Fail> {
-    let mut record = Vec::new(rt.alloc());
+/// A record of 7,000 samples.
+fn long_record(alloc: Global) -> Result<Vec<u8>, AllocError> {
+    let mut record = Vec::new(alloc);
     record.extend_from_slice(&UP[36..53])?;
     for _ in 0..7_000u32 {
         record.extend_from_slice(&[0, 2, 0, 0, 0, 0, 0, 0, 0, 9])?;
     }
-    let mut text = Vec::new(rt.alloc());
+    Ok(record)
+}
+
+/// The record in fragments of three pages, and zeros.
+fn three_pages(alloc: Global) -> Result<Vec<u8>, AllocError> {
+    let record = long_record(alloc)?;
+    let mut text = Vec::new(alloc);
     for (kind, data) in [2u8, 3, 4].iter().zip(record.chunks(32_761)) {
         put_fragment(&mut text, *kind, data)?;
     }
     text.extend_from_slice(&[0; 1_000])?;
-    let mut tail = Tail::new(rt.alloc());
+    Ok(text)
+}
+
+fn read_by_thousands(alloc: Global, text: &[u8]) -> Result<Seen, AllocError> {
+    let mut tail = Tail::new(alloc);
     let mut seen = NOTHING;
     for piece in text.chunks(1_000) {
-        feed(&mut tail, piece)?;
-        seen.read(&mut tail);
+        seen = read_on(&mut tail, seen, piece)?;
     }
+    Ok(seen)
+}
+
+#[test]
+fn a_record_over_three_pages(rt: HostRuntime) -> Result<(), Fail> {
+    let text = three_pages(rt.alloc())?;
     let whole = Seen {
         definitions: 0,
         samples: 7_000,
         last: (1, 1_001, 9),
         end: None,
     };
-    assert_eq!(rt; seen, whole);
+    assert!(rt; read_by_thousands(rt.alloc(), &text)? == whole);
     Ok(())
 }
 
-fn is_logged(writer: &mut SegmentWriter<Room>, rec: &[u8]) -> bool {
-    !rec.is_empty() && writer.log(rec).is_ok()
+/// Whether each record is logged.
+fn are_logged(writer: &mut SegmentWriter<Room>, records: &[&[u8]]) -> bool {
+    for record in records {
+        if record.is_empty() || writer.log(record).is_err() {
+            return false;
+        }
+    }
+    true
+}
+
+/// A segment of a definition, a record of another type, two samples and no sample.
+fn written(alloc: Global) -> Result<Option<Vec<u8>>, Fail> {
+    let mut labels = RawLabels::new(alloc);
+    labels.push(b"__name__", b"up")?;
+    let series = series_record(alloc, 1, &labels)?;
+    let samples = sample_record(alloc, &[(1, 1000, Word(5)), (3, 990, Word(7))])?;
+    let no_samples = sample_record(alloc, &[])?;
+    let mut writer = SegmentWriter::new(Room::new(alloc, 1000)?, 1);
+    let records: [&[u8]; 4] = [&series, b"\x03 of another type", &samples, &no_samples];
+    let are_logged = are_logged(&mut writer, &records);
+    Ok(are_logged.then_some(writer.into_inner().into_bytes()))
+}
+
+/// What a reader gives of a text, and how much it has read and skipped.
+fn read_text(alloc: Global, text: &[u8]) -> Result<(Seen, u64, u64), AllocError> {
+    let mut tail = Tail::new(alloc);
+    let seen = read_on(&mut tail, NOTHING, text)?;
+    Ok((seen, tail.entries_read(), tail.skipped()))
 }
 
 #[test]
 fn what_was_written_is_read(rt: HostRuntime) -> Result<(), Fail> {
-    let mut labels = RawLabels::new(rt.alloc());
-    labels.push(b"__name__", b"up")?;
-    let series = series_record(rt.alloc(), 1, &labels)?;
-    let samples = sample_record(rt.alloc(), &[(1, 1000, Word(5)), (3, 990, Word(7))])?;
-    let no_samples = sample_record(rt.alloc(), &[])?;
-    let mut writer = SegmentWriter::new(Room::new(rt.alloc(), 1000)?, 1);
-    assert!(rt; is_logged(&mut writer, &series));
-    assert!(rt; is_logged(&mut writer, b"\x03 of another type"));
-    assert!(rt; is_logged(&mut writer, &samples));
-    assert!(rt; is_logged(&mut writer, &no_samples));
-    let bytes = writer.into_inner().into_bytes();
-
-    let mut tail = Tail::new(rt.alloc());
-    tail.feed(&bytes)?;
-    let mut seen = NOTHING;
-    seen.read(&mut tail);
+    let text = written(rt.alloc())?.ok_or("a record was refused")?;
     let all = Seen {
         definitions: 1,
         samples: 2,
         last: (3, 990, 7),
         end: None,
     };
-    assert_eq!(rt; seen, all);
-    assert_eq!(rt; tail.entries_read(), 3);
-    assert_eq!(rt; tail.skipped(), 1);
+    assert!(rt; read_text(rt.alloc(), &text)? == (all, 3, 1));
     Ok(())
 }

@@ -154,23 +154,43 @@ fn ends_pages(rt: HostRuntime) -> Result<(), Fail> {
     Ok(())
 }
 
+/// A run that is logged, the answer, and where the writer then stands.
+type Step = (u8, usize, Result<(), LogFault>, usize);
+
+const ONE_PAGE: [Step; 4] = [
+    (3, 32_762, Err(LogFault::SegmentFull), 0),
+    (3, 16_777_217, Err(LogFault::RecordTooLong), 0),
+    (3, 32_761, Ok(()), 32_768),
+    (2, 1, Err(LogFault::SegmentFull), 32_768),
+];
+
+const TWO_PAGES: [Step; 2] = [
+    (3, 65_523, Err(LogFault::SegmentFull), 0),
+    (3, 65_522, Ok(()), 65_536),
+];
+
+/// The first step that goes otherwise.
+fn wrong_step(
+    alloc: Global,
+    mut writer: SegmentWriter<Room>,
+    steps: &[Step],
+) -> Result<Option<usize>, AllocError> {
+    for (i, (byte, len, want, offset)) in steps.iter().enumerate() {
+        let answer = log_run(alloc, &mut writer, *byte, *len)?;
+        if answer != *want || writer.offset() != *offset {
+            return Ok(Some(i));
+        }
+    }
+    Ok(None)
+}
+
 #[test]
 fn refuses_what_has_no_room(rt: HostRuntime) -> Result<(), Fail> {
     let alloc = rt.alloc();
-    let mut one = SegmentWriter::new(Room::new(alloc, 32_768)?, 1);
-    let full = Err(LogFault::SegmentFull);
-    assert_eq!(rt; log_run(alloc, &mut one, 3, 32_762)?, full);
-    assert_eq!(rt;
-        log_run(alloc, &mut one, 3, 16_777_217)?,
-        Err(LogFault::RecordTooLong)
-    );
-    assert_eq!(rt; one.offset(), 0);
-    assert_eq!(rt; log_run(alloc, &mut one, 3, 32_761)?, Ok(()));
-    assert_eq!(rt; log_run(alloc, &mut one, 2, 1)?, full);
-    let mut two = SegmentWriter::new(Room::new(alloc, 65_536)?, 2);
-    assert_eq!(rt; log_run(alloc, &mut two, 3, 65_523)?, full);
-    assert_eq!(rt; log_run(alloc, &mut two, 3, 65_522)?, Ok(()));
-    assert_eq!(rt; two.offset(), 65_536);
+    let one = SegmentWriter::new(Room::new(alloc, 32_768)?, 1);
+    assert_eq!(rt; wrong_step(alloc, one, &ONE_PAGE)?, None);
+    let two = SegmentWriter::new(Room::new(alloc, 65_536)?, 2);
+    assert_eq!(rt; wrong_step(alloc, two, &TWO_PAGES)?, None);
     Ok(())
 }
 

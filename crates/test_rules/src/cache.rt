@@ -11,7 +11,7 @@ use std::test::Fail;
 type Labels<'a> = &'a [(&'a str, &'a str)];
 
 /// What is known of a reference, without the labels.
-#[derive(Clone, Copy, Debug, PartialEq, Eq)]
+#[derive(Clone, Copy, PartialEq, Eq)]
 enum Shape {
     Unknown,
     Bad(LabelFault),
@@ -89,51 +89,68 @@ fn define(
     Ok(same)
 }
 
-#[test]
-fn last_definitions(rt: HostRuntime) -> Result<(), Fail> {
-    let alloc = rt.alloc();
+/// Definitions, one after the other, and what is then known of the reference.
+const DEFINITIONS: [(u64, Labels<'static>, Shape); 9] = [
+    (1, &[("job", "a")], Shape::Kept(0)),
+    (2, &[("job", "b")], Shape::Kept(1)),
+    // a series is its label set
+    (3, &[("job", "a")], Shape::Kept(0)),
+    // no label set, and then one
+    (4, &[("job", "")], Shape::Bad(LabelFault::EmptyValue)),
+    (4, &[("job", "b")], Shape::Kept(1)),
+    // dropped by one rule, and by the other
+    (5, &[("env", "x"), ("job", "a")], Shape::Filtered),
+    (5, &[("job", "d")], Shape::Filtered),
+    // the last definition counts
+    (1, &[("job", "c")], Shape::Kept(2)),
+    (
+        2,
+        &[("b", "1"), ("a", "1")],
+        Shape::Bad(LabelFault::NotSorted),
+    ),
+];
+
+/// What is known after them.
+const KNOWN: [Shape; 6] = [
+    Shape::Unknown,
+    Shape::Kept(2),
+    Shape::Bad(LabelFault::NotSorted),
+    Shape::Kept(0),
+    Shape::Kept(1),
+    Shape::Filtered,
+];
+
+fn cache_of_rules(alloc: Global) -> Result<Cache, RuleFault> {
     let configs: [(Action, Config<'_>); 2] = [
         (Action::Keep, (&["job"], ";", "a|b|c")),
         (Action::Drop, (&["env"], ";", "x")),
     ];
-    let mut cache = Cache::new(alloc, rules_again(alloc, &configs)?);
-    let rows: [(u64, Labels<'_>, Shape); 9] = [
-        (1, &[("job", "a")], Shape::Kept(0)),
-        (2, &[("job", "b")], Shape::Kept(1)),
-        // a series is its label set
-        (3, &[("job", "a")], Shape::Kept(0)),
-        // no label set, and then one
-        (4, &[("job", "")], Shape::Bad(LabelFault::EmptyValue)),
-        (4, &[("job", "b")], Shape::Kept(1)),
-        // dropped by one rule, and by the other
-        (5, &[("env", "x"), ("job", "a")], Shape::Filtered),
-        (5, &[("job", "d")], Shape::Filtered),
-        // the last definition counts
-        (1, &[("job", "c")], Shape::Kept(2)),
-        (
-            2,
-            &[("b", "1"), ("a", "1")],
-            Shape::Bad(LabelFault::NotSorted),
-        ),
-    ];
-    for (reference, labels, wanted) in &rows {
-        assert!(rt; define(alloc, &mut cache, *reference, labels)?);
-        assert_eq!(rt; shape_of(&cache, *reference), *wanted, "{reference}");
+    Ok(Cache::new(alloc, rules_again(alloc, &configs)?))
+}
+
+/// Makes the definitions, and answers the first after which something else is known than should be.
+fn wrong_definition(alloc: Global, cache: &mut Cache) -> Result<Option<usize>, AllocError> {
+    for (i, (reference, labels, wanted)) in DEFINITIONS.iter().enumerate() {
+        if !define(alloc, cache, *reference, labels)? || shape_of(cache, *reference) != *wanted {
+            return Ok(Some(i));
+        }
     }
-    assert_eq!(rt;
-        shapes(&cache),
-        [
-            Shape::Unknown,
-            Shape::Kept(2),
-            Shape::Bad(LabelFault::NotSorted),
-            Shape::Kept(0),
-            Shape::Kept(1),
-            Shape::Filtered,
-        ]
-    );
-    assert!(rt; is_kept_as(&cache, 1, &[("job", "c")]));
-    assert!(rt; is_kept_as(&cache, 3, &[("job", "a")]));
-    assert!(rt; is_kept_as(&cache, 4, &[("job", "b")]));
-    assert_eq!(rt; cache.series_count(), 3);
+    Ok(None)
+}
+
+/// Whether the cache knows what it should after the definitions.
+fn is_as_defined(cache: &Cache) -> bool {
+    shapes(cache) == KNOWN
+        && is_kept_as(cache, 1, &[("job", "c")])
+        && is_kept_as(cache, 3, &[("job", "a")])
+        && is_kept_as(cache, 4, &[("job", "b")])
+        && cache.series_count() == 3
+}
+
+#[test]
+fn last_definitions(rt: HostRuntime) -> Result<(), Fail> {
+    let mut cache = cache_of_rules(rt.alloc())?;
+    assert_eq!(rt; wrong_definition(rt.alloc(), &mut cache)?, None);
+    assert!(rt; is_as_defined(&cache));
     Ok(())
 }
