@@ -17,13 +17,8 @@ use std::test::Fail;
 use std::thread::Threads;
 
 /// The request of the message of the sample 1 at 1000 ms of the series `up`.
-const UP_HEAD: &[u8] =
-    b"POST /api/v1/write HTTP/1.1\r\nHost: localhost:9090\r\nUser-Agent: rwship/1.0\r\nContent-Type: application/x-protobuf\r\nX-Prometheus-Remote-Write-Version: 0.1.0\r\nConnection: close\r\nContent-Length: 32\r\n\r\n";
-
-const UP: &[u8] = &[
-    0x0a, 0x1e, 0x0a, 0x0e, 0x0a, 0x08, 0x5f, 0x5f, 0x6e, 0x61, 0x6d, 0x65, 0x5f, 0x5f, 0x12, 0x02,
-    0x75, 0x70, 0x12, 0x0c, 0x09, 0x00, 0x00, 0x00, 0x00, 0x00, 0x00, 0xf0, 0x3f, 0x10, 0xe8, 0x07,
-];
+const UP: &[u8] =
+    b"POST /api/v1/write HTTP/1.1\r\nHost: localhost:9090\r\nUser-Agent: rwship/1.0\r\nContent-Type: application/x-protobuf\r\nX-Prometheus-Remote-Write-Version: 0.1.0\r\nConnection: close\r\nContent-Length: 32\r\n\r\n\x0a\x1e\x0a\x0e\x0a\x08__name__\x12\x02up\x12\x0c\x09\x00\x00\x00\x00\x00\x00\xf0?\x10\xe8\x07";
 
 const ONE: Word = Word(0x3ff0_0000_0000_0000);
 
@@ -73,21 +68,6 @@ fn two<R: Wait>(rt: &R, feed: Feed<Open>, labels: Arc<LabelSet>) -> Option<Feed<
     feed.end(rt, Kind::Orderly).ok()
 }
 
-/// The worker of shard 1 in epoch 3, with batches of so many samples.
-fn worker(alloc: Global, batch: Bounded<1, 10_000>, drain: Drain<Open>) -> Result<Worker, Fail>
-    requires { (drain.queue.epoch ≡ 3) × (drain.queue.shard ≡ 1) × (drain.taken ≡ []) }
-{
-    let mut fields = ConfigFields::standard(alloc)?;
-    fields.batch = batch;
-    let Some(config) = Config::new(fields) else {
-        return Err(Fail::from("no order"));
-    };
-    match Worker::new(alloc, &config, 3, 1, drain) {
-        Ok(worker) => Ok(worker),
-        Err(_) => Err(Fail::from("no memory")),
-    }
-}
-
 /// A status, or no answer for 0.
 fn answer(status: u16) -> Result<Reply, Lost> {
     match StatusCode::from_u16(status) {
@@ -96,227 +76,346 @@ fn answer(status: u16) -> Result<Reply, Lost> {
     }
 }
 
-/// The answers of these statuses. The stop flag is set at the exchange of this number, counted from 1.
-fn script(
-    alloc: Global,
-    statuses: &[u16],
-    stop: &Arc<AtomicBool>,
-    stops_at: usize,
-) -> Result<Script, Fail> {
+fn answers(alloc: Global, statuses: &[u16]) -> Result<Vec<Result<Reply, Lost>>, AllocError> {
     let mut answers = Vec::new(alloc);
     for status in statuses {
         answers.push(answer(*status))?;
     }
-    let Ok(stop) = Arc::try_clone(stop) else {
-        return Err(Fail::from("too many"));
-    };
-    Ok(Script::new(alloc, answers, stop, stops_at))
+    Ok(answers)
 }
 
-/// Whether the worker ended behind an orderly End.
-fn is_orderly(report: &WorkerReport<Script>) -> bool {
-    matches!(report.end, TakingEnd::Ended(Kind::Orderly, _))
+/// What the feeder does.
+#[derive(Clone, Copy)]
+enum Feeding {
+    /// It lets go of its end.
+    Gone,
+    /// It puts one sample, and ends.
+    One,
+    /// It puts two samples with a Flush between, and ends.
+    Two,
 }
 
-fn times(alloc: Global) -> Times {
-    Times {
-        milliseconds: Vec::new(alloc),
-    }
+/// What a worker takes, how it is answered, and what it is to do then.
+struct Row<'a> {
+    name: &'a str,
+    feeding: Feeding,
+    batch: u64,
+    /// No answer for 0.
+    statuses: &'a [u16],
+    /// At which exchange the stop flag is set, counted from 1; 0 before the first one.
+    stops_at: Option<usize>,
+    wanted: Wanted<'a>,
 }
 
-/// What a worker did.
-#[derive(Drop)]
-struct Work {
-    is_orderly: bool,
+/// What a worker is to do. One that is not killed takes an orderly End.
+struct Wanted<'a> {
     is_killed: bool,
     stopped: bool,
     resolved: u64,
-    ledger: Ledger,
-    transport: Script,
-    milliseconds: Vec<u64>,
+    dropped: &'a [(u64, Reason)],
+    exchanges: usize,
+    /// What each request is, where all are one.
+    request: Option<&'a [u8]>,
+    milliseconds: Option<&'a [u64]>,
 }
 
-fn work_of(report: WorkerReport<Script>, times: Times) -> Work {
-    let is_orderly = is_orderly(&report);
-    let is_killed = matches!(report.end, TakingEnd::Killed(_));
-    let WorkerReport {
-        end: _,
-        resolved,
-        stopped,
-        ledger,
-        transport,
-    } = report;
-    Work {
-        is_orderly,
-        is_killed,
-        stopped,
-        resolved,
-        ledger,
-        transport,
-        milliseconds: times.milliseconds,
+fn ends_as_wanted(end: &TakingEnd, wanted: &Wanted<'_>) -> bool {
+    match end {
+        TakingEnd::Ended(Kind::Orderly, _) => !wanted.is_killed,
+        TakingEnd::Killed(_) => wanted.is_killed,
+        _ => false,
     }
 }
 
-/// Runs a worker to its end.
-fn work_through<R: Wait>(
-    rt: &R,
-    alloc: Global,
-    worker: Worker,
-    transport: Script,
-    stop: &AtomicBool,
-) -> Work {
-    let mut times = times(alloc);
-    let report = worker.run(rt, transport, &mut times, stop);
-    work_of(report, times)
+fn drops_as_wanted(ledger: &Ledger, wanted: &Wanted<'_>) -> bool {
+    ledger.total() == wanted.dropped.len()
+        && wanted
+            .dropped
+            .iter()
+            .all(|(pos, reason)| ledger.get(*pos) == Some(*reason))
 }
 
-/// A worker whose queue holds one sample and an orderly End.
-fn with_one<R: Wait>(rt: &R, alloc: Global) -> Result<Worker, Fail> {
-    let (feed, drain) = open(alloc, 3, 1, 4)?;
-    let worker = worker(alloc, Bounded::of(2000), drain)?;
-    let labels = up(alloc)?;
-    match one(rt, feed, labels) {
-        Some(_) => Ok(worker),
-        None => Err(Fail::from("gone")),
+fn asks_as_wanted(script: &Script, wanted: &Wanted<'_>) -> bool {
+    let notes = script.notes();
+    let Some(request) = wanted.request else {
+        return notes.len() == wanted.exchanges;
+    };
+    script.is_complete()
+        && notes.len() == wanted.exchanges
+        && notes.iter().all(|note| note.request.as_slice() == request)
+}
+
+/// The first difference from what is wanted.
+fn difference(report: &WorkerReport<Script>, wanted: &Wanted<'_>) -> Option<&'static str> {
+    if !ends_as_wanted(&report.end, wanted) {
+        return Some("end");
+    }
+    if report.stopped != wanted.stopped {
+        return Some("stopped");
+    }
+    if report.resolved != wanted.resolved {
+        return Some("resolved");
+    }
+    if !drops_as_wanted(&report.ledger, wanted) {
+        return Some("dropped");
+    }
+    if !asks_as_wanted(&report.transport, wanted) {
+        return Some("exchanges");
+    }
+    None
+}
+
+fn waits_as_wanted(times: &Times, wanted: &Wanted<'_>) -> bool {
+    match wanted.milliseconds {
+        Some(milliseconds) => times.milliseconds.as_slice() == milliseconds,
+        None => true,
     }
 }
 
-/// A worker whose queue holds two samples with a Flush between, and an orderly End.
-fn with_two<R: Wait>(rt: &R, alloc: Global, batch: Bounded<1, 10_000>) -> Result<Worker, Fail> {
-    let (feed, drain) = open(alloc, 3, 1, 4)?;
-    let worker = worker(alloc, batch, drain)?;
-    let labels = up(alloc)?;
-    match two(rt, feed, labels) {
-        Some(_) => Ok(worker),
-        None => Err(Fail::from("gone")),
+/// Whether all was put.
+fn fed<R: Wait>(rt: &R, feed: Feed<Open>, labels: Arc<LabelSet>, feeding: Feeding) -> bool
+    requires { (feed.queue.epoch ≡ 3) × (feed.queue.shard ≡ 1) × (feed.put ≡ []) }
+{
+    match feeding {
+        Feeding::Gone => true,
+        Feeding::One => one(rt, feed, labels).is_some(),
+        Feeding::Two => two(rt, feed, labels).is_some(),
     }
 }
 
-/// A worker whose feeder has let go of its end.
-fn with_none(alloc: Global) -> Result<Worker, Fail> {
-    let (_, drain) = open(alloc, 3, 1, 4)?;
-    worker(alloc, Bounded::of(2000), drain)
-}
-
-/// Runs a worker over a transport with these answers, which sets the stop flag at the exchange of this number.
+/// Runs the worker of this end of a queue. Gives the first difference from what is wanted.
 fn run<R: Wait>(
     rt: &R,
     alloc: Global,
-    worker: Worker,
-    statuses: &[u16],
-    stops_at: usize,
-) -> Result<Work, Fail> {
-    let stop = Arc::new(alloc, AtomicBool::new(false))?;
-    let transport = script(alloc, statuses, &stop, stops_at)?;
-    Ok(work_through(rt, alloc, worker, transport, &stop))
-}
-
-#[test]
-fn a_batch_is_sent_until_the_answer_is_final(rt: HostRuntime) -> Result<(), Fail> {
-    let alloc = rt.alloc();
-    let worker = with_one(&rt, alloc)?;
-    let work = run(&rt, alloc, worker, &[503, 0, 429, 204], 0)?;
-    assert!(rt; work.is_orderly);
-    assert!(rt; !work.stopped);
-    assert_eq!(rt; work.resolved, 1);
-    assert_eq!(rt; work.ledger.total(), 0);
-    assert_eq!(rt; work.milliseconds.as_slice(), [30, 60, 120].as_slice());
-    let mut request = UP_HEAD.to_vec(alloc)?;
-    request.extend_from_slice(UP)?;
-    assert!(rt; work.transport.is_complete());
-    assert_eq!(rt; work.transport.notes().len(), 4);
-    for note in work.transport.notes() {
-        assert_eq!(rt; note.request, request);
+    config: &Config,
+    drain: Drain<Open>,
+    script: Script,
+    stop: &AtomicBool,
+    wanted: &Wanted<'_>,
+) -> Option<&'static str>
+    requires { (drain.queue.epoch ≡ 3) × (drain.queue.shard ≡ 1) × (drain.taken ≡ []) }
+{
+    let Ok(worker) = Worker::new(alloc, config, 3, 1, drain) else {
+        return Some("no memory");
+    };
+    let mut times = Times {
+        milliseconds: Vec::new(alloc),
+    };
+    let report = worker.run(rt, script, &mut times, stop);
+    if !waits_as_wanted(&times, wanted) {
+        return Some("pauses");
     }
-    Ok(())
+    difference(&report, wanted)
 }
 
-#[test]
-fn a_set_stop_flag_ends_the_tries(rt: HostRuntime) -> Result<(), Fail> {
-    let alloc = rt.alloc();
-    let worker = with_one(&rt, alloc)?;
-    let work = run(&rt, alloc, worker, &[503, 503, 503, 503], 3)?;
-    assert!(rt; work.stopped);
-    assert!(rt; work.is_orderly);
-    assert_eq!(rt; work.resolved, 0);
-    assert_eq!(rt; work.ledger.total(), 0);
-    assert_eq!(rt; work.transport.notes().len(), 3);
-    Ok(())
-}
-
-#[test]
-fn nothing_is_taken_once_the_stop_flag_is_set(rt: HostRuntime) -> Result<(), Fail> {
-    let alloc = rt.alloc();
-    let worker = with_one(&rt, alloc)?;
-    let stop = Arc::new(alloc, AtomicBool::new(true))?;
-    let transport = script(alloc, &[], &stop, 0)?;
-    let work = work_through(&rt, alloc, worker, transport, &stop);
-    assert!(rt; work.stopped);
-    assert!(rt; work.is_killed);
-    assert_eq!(rt; work.resolved, 0);
-    assert!(rt; work.transport.notes().is_empty());
-    Ok(())
-}
-
-/// In batches of one, of two and of 2,000 samples the Flush makes two batches. The pauses of each begin anew.
-#[test]
-fn refused_samples_are_named(rt: HostRuntime) -> Result<(), Fail> {
-    let alloc = rt.alloc();
-    for batch in [Bounded::of(1), Bounded::of(2), Bounded::of(2000)] {
-        let worker = with_two(&rt, alloc, batch)?;
-        let work = run(&rt, alloc, worker, &[429, 400, 503, 204], 0)?;
-        assert!(rt; work.is_orderly);
-        assert_eq!(rt; work.resolved, 2);
-        assert_eq!(rt; work.transport.notes().len(), 4);
-        assert_eq!(rt; work.ledger.total(), 1);
-        assert_eq!(rt; work.ledger.get(5), Some(Reason::Status(400)));
-        assert_eq!(rt; work.milliseconds.as_slice(), [30, 30].as_slice());
-    }
-    Ok(())
-}
-
-#[test]
-fn a_worker_whose_feeder_is_gone(rt: HostRuntime) -> Result<(), Fail> {
-    let alloc = rt.alloc();
-    let worker = with_none(alloc)?;
-    let work = run(&rt, alloc, worker, &[], 0)?;
-    assert!(rt; work.is_killed);
-    assert!(rt; !work.stopped);
-    assert_eq!(rt; work.resolved, 0);
-    assert!(rt; work.transport.notes().is_empty());
-    Ok(())
-}
-
-/// Puts what the worker in its thread takes, and joins it.
-fn in_a_thread<R: Threads + Wait + Copy + Send + 'static>(
+/// Feeds a worker, and runs it to its end. Gives the first difference from what is wanted.
+fn fed_and_run<R: Wait>(
     rt: &R,
     alloc: Global,
-    statuses: &[u16],
-) -> Result<Work, Fail> {
-    let (feed, drain) = open(alloc, 3, 1, 1)?;
-    let worker = worker(alloc, Bounded::of(2000), drain)?;
-    let labels = up(alloc)?;
-    let stop = Arc::new(alloc, AtomicBool::new(false))?;
-    let transport = script(alloc, statuses, &stop, 0)?;
-    let handle = spawn(rt, worker, transport, times(alloc), stop)?;
-    let feed = two(rt, feed, labels);
-    let report = handle.join(rt);
-    match feed {
-        Some(_) => Ok(work_of(report, times(alloc))),
-        None => Err(Fail::from("gone")),
+    config: &Config,
+    labels: Arc<LabelSet>,
+    script: Script,
+    stop: &AtomicBool,
+    row: &Row<'_>,
+) -> Option<&'static str> {
+    let Ok((feed, drain)) = open(alloc, 3, 1, 4) else {
+        return Some("no memory");
+    };
+    if !fed(rt, feed, labels, row.feeding) {
+        return Some("not fed");
+    }
+    run(rt, alloc, config, drain, script, stop, &row.wanted)
+}
+
+fn config_of(alloc: Global, batch: u64) -> Result<Config, Fail> {
+    let mut fields = ConfigFields::standard(alloc)?;
+    if let Some(batch) = Bounded::new(batch) {
+        fields.batch = batch;
+    }
+    match Config::new(fields) {
+        Some(config) => Ok(config),
+        None => Err(Fail::from("no order")),
     }
 }
 
-/// The queue holds one item, so the two threads wait for one another.
+/// The first difference from what a row wants.
+fn odd<R: Wait>(rt: &R, alloc: Global, row: &Row<'_>) -> Result<Option<&'static str>, Fail> {
+    let config = config_of(alloc, row.batch)?;
+    let labels = up(alloc)?;
+    let answers = answers(alloc, row.statuses)?;
+    let stop = Arc::new(alloc, AtomicBool::new(row.stops_at == Some(0)))?;
+    let copy = stop.clone()?;
+    let script = Script::new(alloc, answers, copy, row.stops_at.unwrap_or(0));
+    Ok(fed_and_run(rt, alloc, &config, labels, script, &stop, row))
+}
+
+const REFUSED: Wanted<'_> = Wanted {
+    is_killed: false,
+    stopped: false,
+    resolved: 2,
+    dropped: &[(5, Reason::Status(400))],
+    exchanges: 4,
+    request: None,
+    milliseconds: Some(&[30, 30]),
+};
+
+/// In batches of one, of two and of 2,000 samples the Flush makes two batches. The pauses of each begin anew.
+const ROWS: [Row<'_>; 7] = [
+    Row {
+        name: "a batch is sent until the answer is final",
+        feeding: Feeding::One,
+        batch: 2000,
+        statuses: &[503, 0, 429, 204],
+        stops_at: None,
+        wanted: Wanted {
+            is_killed: false,
+            stopped: false,
+            resolved: 1,
+            dropped: &[],
+            exchanges: 4,
+            request: Some(UP),
+            milliseconds: Some(&[30, 60, 120]),
+        },
+    },
+    Row {
+        name: "a set stop flag ends the tries",
+        feeding: Feeding::One,
+        batch: 2000,
+        statuses: &[503, 503, 503, 503],
+        stops_at: Some(3),
+        wanted: Wanted {
+            is_killed: false,
+            stopped: true,
+            resolved: 0,
+            dropped: &[],
+            exchanges: 3,
+            request: Some(UP),
+            milliseconds: None,
+        },
+    },
+    Row {
+        name: "nothing is taken once the stop flag is set",
+        feeding: Feeding::One,
+        batch: 2000,
+        statuses: &[],
+        stops_at: Some(0),
+        wanted: Wanted {
+            is_killed: true,
+            stopped: true,
+            resolved: 0,
+            dropped: &[],
+            exchanges: 0,
+            request: None,
+            milliseconds: None,
+        },
+    },
+    Row {
+        name: "a refused sample is named, in batches of one",
+        feeding: Feeding::Two,
+        batch: 1,
+        statuses: &[429, 400, 503, 204],
+        stops_at: None,
+        wanted: REFUSED,
+    },
+    Row {
+        name: "a refused sample is named, in batches of two",
+        feeding: Feeding::Two,
+        batch: 2,
+        statuses: &[429, 400, 503, 204],
+        stops_at: None,
+        wanted: REFUSED,
+    },
+    Row {
+        name: "a refused sample is named, in batches of 2,000",
+        feeding: Feeding::Two,
+        batch: 2000,
+        statuses: &[429, 400, 503, 204],
+        stops_at: None,
+        wanted: REFUSED,
+    },
+    Row {
+        name: "a worker whose feeder is gone",
+        feeding: Feeding::Gone,
+        batch: 2000,
+        statuses: &[],
+        stops_at: None,
+        wanted: Wanted {
+            is_killed: true,
+            stopped: false,
+            resolved: 0,
+            dropped: &[],
+            exchanges: 0,
+            request: None,
+            milliseconds: None,
+        },
+    },
+];
+
+#[test]
+fn workers(rt: HostRuntime) -> Result<(), Fail> {
+    for row in &ROWS {
+        let odd = odd(&rt, rt.alloc(), row)?;
+        assert_eq!(rt; odd, None, "{}", row.name);
+    }
+    Ok(())
+}
+
+const IN_A_THREAD: Wanted<'_> = Wanted {
+    is_killed: false,
+    stopped: false,
+    resolved: 2,
+    dropped: &[(9, Reason::Status(404))],
+    exchanges: 4,
+    request: None,
+    milliseconds: None,
+};
+
+/// A standard worker of this end of a queue.
+fn worker(alloc: Global, drain: Drain<Open>) -> Option<Worker>
+    requires { (drain.queue.epoch ≡ 3) × (drain.queue.shard ≡ 1) × (drain.taken ≡ []) }
+    ensures { IfSome result (λ w. w.queue ≡ drain.queue) }
+{
+    let config = Config::standard(alloc).ok()?;
+    Worker::new(alloc, &config, 3, 1, drain).ok()
+}
+
+/// Puts what a worker in its thread takes, and joins it. The queue holds one item, so the two threads wait for one another.
+fn fed_in_a_thread<R: Threads + Wait + Copy + Send + 'static>(
+    rt: &R,
+    alloc: Global,
+    labels: Arc<LabelSet>,
+    script: Script,
+    stop: Arc<AtomicBool>,
+) -> Option<&'static str> {
+    let Ok((feed, drain)) = open(alloc, 3, 1, 1) else {
+        return Some("no memory");
+    };
+    let Some(worker) = worker(alloc, drain) else {
+        return Some("no worker");
+    };
+    let times = Times {
+        milliseconds: Vec::new(alloc),
+    };
+    let Ok(handle) = spawn(rt, worker, script, times, stop) else {
+        return Some("not spawned");
+    };
+    let is_fed = two(rt, feed, labels).is_some();
+    let report = handle.join(rt);
+    if is_fed {
+        difference(&report, &IN_A_THREAD)
+    } else {
+        Some("not fed")
+    }
+}
+
 #[test]
 fn a_worker_in_a_thread(rt: HostRuntime) -> Result<(), Fail> {
     let alloc = rt.alloc();
-    let work = in_a_thread(&rt, alloc, &[0, 204, 503, 404])?;
-    assert!(rt; work.is_orderly);
-    assert!(rt; !work.stopped);
-    assert_eq!(rt; work.resolved, 2);
-    assert_eq!(rt; work.transport.notes().len(), 4);
-    assert_eq!(rt; work.ledger.total(), 1);
-    assert_eq!(rt; work.ledger.get(9), Some(Reason::Status(404)));
+    let labels = up(alloc)?;
+    let answers = answers(alloc, &[0, 204, 503, 404])?;
+    let stop = Arc::new(alloc, AtomicBool::new(false))?;
+    let script = Script::new(alloc, answers, stop.clone()?, 0);
+    let odd = fed_in_a_thread(&rt, alloc, labels, script, stop);
+    assert_eq!(rt; odd, None);
     Ok(())
 }
