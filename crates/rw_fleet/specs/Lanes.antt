@@ -18,7 +18,9 @@ put_into lane = lane.put
 
 -- a worker sends as it was configured, out of a queue of that capacity
 abbrev pub IsSetUp : ConfigFields → Setup → Type 0
-IsSetUp config setup = (setup.target ≡ config.target) × (setup.batch ≡ config.batch) × (setup.queue.capacity ≡ config.capacity) × (setup.min_backoff ≡ config.min_backoff_ms) × (setup.max_backoff ≡ config.max_backoff_ms)
+IsSetUp config setup =
+    (setup.target ≡ config.target) × (setup.batch ≡ config.batch) × (setup.queue.capacity ≡ config.capacity)
+    × (setup.min_backoff ≡ config.min_backoff_ms) × (setup.max_backoff ≡ config.max_backoff_ms)
 
 abbrev pub AreSetUp : ConfigFields → List Lane → Type 0
 AreSetUp config [] = ⊤
