@@ -1,4 +1,4 @@
-//! Tests of the lowest layer: histories, words, labels, devices, the codes of a log, its reader and its writer.
+//! Tests of the lowest layer: histories, words, labels, devices, the codes of a log, its reader and its writer, and messages.
 #![tactic(auto)]
 
 #[cfg(test)]
@@ -9,6 +9,14 @@ mod devices;
 mod histories;
 #[cfg(test)]
 mod labels;
+#[cfg(test)]
+mod message_decoding;
+#[cfg(test)]
+mod message_encoding;
+#[cfg(test)]
+mod message_memory;
+#[cfg(test)]
+mod message_rows;
 #[cfg(test)]
 mod tail;
 #[cfg(test)]

@@ -1,4 +1,4 @@
-//! Tests of event scripts played.
+//! Tests of event scripts played, and of the machine's program.
 #![tactic(auto)]
 
 #[cfg(test)]
@@ -13,3 +13,5 @@ mod lines;
 mod played;
 #[cfg(test)]
 mod schedules;
+#[cfg(test)]
+mod worlds;

@@ -1,8 +1,14 @@
-//! Tests of the sender's parts.
+//! Tests of the sender's parts: batches and their messages, shards, replies, retries and sets of shards.
 #![tactic(auto)]
 
 #[cfg(test)]
+mod batches;
+#[cfg(test)]
+mod grouping;
+#[cfg(test)]
 mod ledgers;
+#[cfg(test)]
+mod metrics;
 #[cfg(test)]
 mod queues;
 #[cfg(test)]

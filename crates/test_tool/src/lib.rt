@@ -1,4 +1,4 @@
-//! Tests of the program's engines.
+//! Tests of the rules, of what is known of references, of the settings, and of the program's engines.
 #![tactic(auto)]
 
 #[cfg(test)]
@@ -7,5 +7,15 @@ mod bodies;
 mod logs;
 #[cfg(test)]
 mod plans;
+#[cfg(test)]
+mod rule_making;
+#[cfg(test)]
+mod rules;
+#[cfg(test)]
+mod series_cache;
+#[cfg(test)]
+mod settings_documents;
+#[cfg(test)]
+mod settings_ranges;
 #[cfg(test)]
 mod texts;

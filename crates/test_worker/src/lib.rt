@@ -1,7 +1,9 @@
-//! A transport within memory and a pause that takes no time, and the tests of a worker over them.
+//! A transport within memory and a pause that takes no time, and the tests of queues between threads and of a worker over them.
 #![tactic(auto)]
 
 mod memory;
+#[cfg(test)]
+mod queues;
 #[cfg(test)]
 mod workers;
 

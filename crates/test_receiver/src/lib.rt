@@ -1,0 +1,25 @@
+//! Tests of the receiver: its head, the head that threads ask, and the endpoint, byte for byte and with connections that break.
+#![tactic(auto)]
+
+#[cfg(test)]
+mod bodies;
+#[cfg(test)]
+mod broken;
+#[cfg(test)]
+mod connections;
+#[cfg(test)]
+mod devices;
+#[cfg(test)]
+mod limits;
+#[cfg(test)]
+mod memory;
+#[cfg(test)]
+mod order;
+#[cfg(test)]
+mod replies;
+#[cfg(test)]
+mod seat_bodies;
+#[cfg(test)]
+mod seats;
+#[cfg(test)]
+mod store;

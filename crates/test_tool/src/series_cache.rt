@@ -1,0 +1,156 @@
+//! What a cache knows of references. The calls that take memory are made again where it is refused, so the test can be run
+//! with each allocation refused in turn: the refused call changes no answer.
+
+use crate::rule_making::{Config, raw_labels, rules};
+use rw_relabel::{Action, RuleFault, Rules};
+use rw_series_cache::{Cache, Known};
+use rw_types::{LabelFault, RawLabels};
+use std::alloc::{AllocError, Global};
+use std::test::Fail;
+
+type Labels<'a> = &'a [(&'a str, &'a str)];
+
+/// What is known of a reference, without the labels.
+#[derive(Clone, Copy, PartialEq, Eq)]
+enum Shape {
+    Unknown,
+    Bad(LabelFault),
+    Filtered,
+    Kept(u64),
+}
+
+fn shape_of(cache: &Cache, reference: u64) -> Shape {
+    match cache.look(reference) {
+        Known::Unknown => Shape::Unknown,
+        Known::Bad(fault) => Shape::Bad(fault),
+        Known::Filtered => Shape::Filtered,
+        Known::Kept(series, _) => Shape::Kept(series),
+    }
+}
+
+/// What is known of the references 0 to 5, of which the test defines 1 to 5.
+fn shapes(cache: &Cache) -> [Shape; 6] {
+    [
+        shape_of(cache, 0),
+        shape_of(cache, 1),
+        shape_of(cache, 2),
+        shape_of(cache, 3),
+        shape_of(cache, 4),
+        shape_of(cache, 5),
+    ]
+}
+
+fn is_same(texts: &[(String, String)], labels: Labels<'_>) -> bool {
+    texts.len() == labels.len()
+        && texts
+            .iter()
+            .zip(labels)
+            .all(|(a, b)| a.0.as_str() == b.0 && a.1.as_str() == b.1)
+}
+
+/// Whether a reference stands for a kept series with these labels.
+fn is_kept_as(cache: &Cache, reference: u64, labels: Labels<'_>) -> bool {
+    match cache.look(reference) {
+        Known::Kept(_, set) => is_same(set.as_slice(), labels),
+        _ => false,
+    }
+}
+
+fn raw_labels_again(alloc: Global, labels: Labels<'_>) -> Result<RawLabels, AllocError> {
+    match raw_labels(alloc, labels) {
+        Err(_) => raw_labels(alloc, labels),
+        answer => answer,
+    }
+}
+
+fn rules_again(alloc: Global, configs: &[(Action, Config<'_>)]) -> Result<Rules, RuleFault> {
+    match rules(alloc, configs) {
+        Err(RuleFault::OutOfMemory) => rules(alloc, configs),
+        answer => answer,
+    }
+}
+
+/// Defines a reference, and answers whether a refused call, if there was one, changed no answer.
+fn define(
+    alloc: Global,
+    cache: &mut Cache,
+    reference: u64,
+    labels: Labels<'_>,
+) -> Result<bool, AllocError> {
+    let before = shapes(cache);
+    if cache
+        .define(reference, raw_labels_again(alloc, labels)?)
+        .is_ok()
+    {
+        return Ok(true);
+    }
+    let same = shapes(cache) == before;
+    cache.define(reference, raw_labels_again(alloc, labels)?)?;
+    Ok(same)
+}
+
+/// Definitions, one after the other, and what is then known of the reference.
+const DEFINITIONS: [(u64, Labels<'static>, Shape); 9] = [
+    (1, &[("job", "a")], Shape::Kept(0)),
+    (2, &[("job", "b")], Shape::Kept(1)),
+    // a series is its label set
+    (3, &[("job", "a")], Shape::Kept(0)),
+    // no label set, and then one
+    (4, &[("job", "")], Shape::Bad(LabelFault::EmptyValue)),
+    (4, &[("job", "b")], Shape::Kept(1)),
+    // dropped by one rule, and by the other
+    (5, &[("env", "x"), ("job", "a")], Shape::Filtered),
+    (5, &[("job", "d")], Shape::Filtered),
+    // the last definition counts
+    (1, &[("job", "c")], Shape::Kept(2)),
+    (
+        2,
+        &[("b", "1"), ("a", "1")],
+        Shape::Bad(LabelFault::NotSorted),
+    ),
+];
+
+/// What is known after them.
+const KNOWN: [Shape; 6] = [
+    Shape::Unknown,
+    Shape::Kept(2),
+    Shape::Bad(LabelFault::NotSorted),
+    Shape::Kept(0),
+    Shape::Kept(1),
+    Shape::Filtered,
+];
+
+fn cache_of_rules(alloc: Global) -> Result<Cache, RuleFault> {
+    let configs: [(Action, Config<'_>); 2] = [
+        (Action::Keep, (&["job"], ";", "a|b|c")),
+        (Action::Drop, (&["env"], ";", "x")),
+    ];
+    Ok(Cache::new(alloc, rules_again(alloc, &configs)?))
+}
+
+/// Makes the definitions, and answers the first after which something else is known than should be.
+fn wrong_definition(alloc: Global, cache: &mut Cache) -> Result<Option<usize>, AllocError> {
+    for (i, (reference, labels, wanted)) in DEFINITIONS.iter().enumerate() {
+        if !define(alloc, cache, *reference, labels)? || shape_of(cache, *reference) != *wanted {
+            return Ok(Some(i));
+        }
+    }
+    Ok(None)
+}
+
+/// Whether the cache knows what it should after the definitions.
+fn is_as_defined(cache: &Cache) -> bool {
+    shapes(cache) == KNOWN
+        && is_kept_as(cache, 1, &[("job", "c")])
+        && is_kept_as(cache, 3, &[("job", "a")])
+        && is_kept_as(cache, 4, &[("job", "b")])
+        && cache.series_count() == 3
+}
+
+#[test]
+fn last_definitions(rt: HostRuntime) -> Result<(), Fail> {
+    let mut cache = cache_of_rules(rt.alloc())?;
+    assert_eq!(rt; wrong_definition(rt.alloc(), &mut cache)?, None);
+    assert!(rt; is_as_defined(&cache));
+    Ok(())
+}

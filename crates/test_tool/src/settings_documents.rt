@@ -1,0 +1,273 @@
+//! Whole texts: what they set, and what is wrong with them.
+
+use rw_settings::{Settings, SettingsFault, read_settings};
+use rw_types::{LabelSet, RawLabels};
+use std::alloc::Global;
+use std::test::Fail;
+
+/// The number of a text's fault, or 9 where it has none. Want of memory ends the test.
+pub(crate) fn fault(alloc: Global, text: &[u8]) -> Result<u8, Fail> {
+    match read_settings(alloc, text) {
+        Ok(_) => Ok(9),
+        Err(SettingsFault::OutOfMemory) => Err(Fail::from(SettingsFault::OutOfMemory)),
+        Err(fault) => Ok(fault.number()),
+    }
+}
+
+/// Texts with one of the faults 1 to 3, and the number of it, or 9.
+const PLAIN_FAULTS: [(&str, u8); 30] = [
+    ("", 9),
+    ("# nothing\n\n", 9),
+    ("rule = []\n[send]\n[receive]\n", 9),
+    // no TOML
+    ("send", 1),
+    ("[send]\nshards = 1\nshards = 1", 1),
+    ("[send]\nshards = 9223372036854775808", 1),
+    ("[send]\nshards = -9223372036854775809", 1),
+    // unknown keys
+    ("sned = 1", 2),
+    ("[send]\nshard = 1", 2),
+    ("[send.receive]\npath = '/'", 2),
+    ("[receive]\nshards = 1", 2),
+    (
+        "[[rule]]\naction = 'keep'\nsource_labels = ['a']\ntarget_label = 'b'",
+        2,
+    ),
+    // values of another type
+    ("send = 1", 3),
+    ("[[send]]\nshards = 1", 3),
+    ("receive = 'a'", 3),
+    ("[[receive]]\npath = '/'", 3),
+    ("rule = 1", 3),
+    ("rule = [1]", 3),
+    ("[rule]\naction = 'keep'\nsource_labels = ['a']", 3),
+    ("[send]\nhost = 1", 3),
+    ("[send.host]\na = 1", 3),
+    ("[send]\npath = true", 3),
+    ("[send]\nshards = '1'", 3),
+    ("[send]\nbatch = 2.0", 3),
+    ("[receive]\nbusy_first = false", 3),
+    ("[[rule]]\naction = 1\nsource_labels = ['a']", 3),
+    ("[[rule]]\naction = 'keep'\nsource_labels = 'a'", 3),
+    ("[[rule]]\naction = 'keep'\nsource_labels = ['a', 1]", 3),
+    (
+        "[[rule]]\naction = 'keep'\nsource_labels = ['a']\nseparator = 1",
+        3,
+    ),
+    (
+        "[[rule]]\naction = 'keep'\nsource_labels = ['a']\nregex = ['a']",
+        3,
+    ),
+];
+
+/// The first text whose fault is another.
+fn wrong_fault(alloc: Global, rows: &[(&str, u8)]) -> Result<Option<usize>, Fail> {
+    for (i, (text, want)) in rows.iter().enumerate() {
+        if fault(alloc, text.as_bytes())? != *want {
+            return Ok(Some(i));
+        }
+    }
+    Ok(None)
+}
+
+#[test]
+fn single_faults(rt: HostRuntime) -> Result<(), Fail> {
+    assert_eq!(rt; wrong_fault(rt.alloc(), &PLAIN_FAULTS)?, None);
+    assert!(rt; fault(rt.alloc(), b"# \xff")? == 1);
+    Ok(())
+}
+
+/// Texts with the faults 4 and 5 or with two at once, and the number that is answered, or 9.
+const LATER_FAULTS: [(&str, u8); 30] = [
+    // numbers that are not between their bounds, with the defaults filled in
+    ("[send]\nmin_shards = 5\nmax_shards = 4", 4),
+    ("[send]\nmin_shards = 5", 4),
+    ("[send]\nmin_shards = 5\nshards = 5", 9),
+    ("[send]\nshards = 51", 4),
+    ("[send]\nshards = 51\nmax_shards = 51", 9),
+    ("[send]\nmin_backoff_ms = 5001", 4),
+    ("[send]\nmin_backoff_ms = 5000", 9),
+    ("[send]\nmax_backoff_ms = 29", 4),
+    ("[send]\nmax_backoff_ms = 30", 9),
+    // rules
+    ("[[rule]]\naction = 'keep'\nsource_labels = []", 4),
+    ("[[rule]]\nsource_labels = ['a']", 5),
+    ("[[rule]]\naction = 'drop'", 5),
+    ("[[rule]]\naction = 'replace'\nsource_labels = ['a']", 5),
+    ("[[rule]]\naction = 'Keep'\nsource_labels = ['a']", 5),
+    (
+        "[[rule]]\naction = 'keep'\nsource_labels = ['a']\nregex = 'a)(b'",
+        5,
+    ),
+    (
+        "[[rule]]\naction = 'keep'\nsource_labels = ['a']\nregex = 'a{20000000}'",
+        5,
+    ),
+    ("rule = [{ action = 'keep', source_labels = [''] }]", 9),
+    // two at once, in either order
+    ("[send]\nshards = 0\n[receive]\nlabels = 1", 2),
+    ("[receive]\nlabels = 1\n[send]\nshards = 0", 2),
+    ("[send]\nshards = 0\nbatch = 'a'", 3),
+    ("[send]\nbatch = 'a'\nshards = 0", 3),
+    ("[receive]\nbusy_first = -1\n[send]\nhost = 1", 3),
+    ("[[rule]]\n[send]\nbatch = 0", 4),
+    (
+        "[[rule]]\naction = 'keep'\nsource_labels = ['a']\nregex = '('\n[send]\nbatch = 0",
+        4,
+    ),
+    (
+        "[[rule]]\naction = 'keep'\nsource_labels = ['a']\nregex = '('\n[[rule]]\nlabels = 1",
+        2,
+    ),
+    ("[[rule]]\naction = 'no'\nsource_labels = []", 4),
+    ("[[rule]]\naction = 'no'\nsource_labels = [1]", 3),
+    ("[send]\nmin_shards = 5\nmax_shards = 4\nhost = 1", 3),
+    ("[send]\nmin_shards = 5\nmax_shards = 4\n[[rule]]", 4),
+    ("sned = 1\n[send", 1),
+];
+
+#[test]
+fn later_faults(rt: HostRuntime) -> Result<(), Fail> {
+    assert_eq!(rt; wrong_fault(rt.alloc(), &LATER_FAULTS)?, None);
+    Ok(())
+}
+
+fn sending(s: &Settings) -> [u64; 8] {
+    let send = s.config.fields();
+    [
+        send.shards.get(),
+        send.min_shards.get(),
+        send.max_shards.get(),
+        send.capacity.get(),
+        send.batch.get(),
+        send.min_backoff_ms.get(),
+        send.max_backoff_ms.get(),
+        send.timeout_ms.get(),
+    ]
+}
+
+fn receiving(s: &Settings) -> [u64; 4] {
+    [
+        s.limits.max_body_bytes.get(),
+        s.limits.max_labels.get(),
+        s.limits.max_label_bytes.get(),
+        s.limits.busy_first.get(),
+    ]
+}
+
+/// The host and the path that are sent to, and the path that is received on.
+fn texts(s: &Settings) -> [&str; 3] {
+    let target = &s.config.fields().target;
+    [
+        target.host.as_str(),
+        target.path.as_str(),
+        s.limits.path.as_str(),
+    ]
+}
+
+/// What a text sets.
+type Read = ([u64; 8], [u64; 4], [&'static str; 3]);
+
+fn reads_as(alloc: Global, text: &[u8], want: Read) -> Result<bool, Fail> {
+    let s = read_settings(alloc, text)?;
+    Ok(sending(&s) == want.0 && receiving(&s) == want.1 && texts(&s) == want.2)
+}
+
+#[test]
+fn defaults(rt: HostRuntime) -> Result<(), Fail> {
+    let want = (
+        [1, 1, 50, 10_000, 2_000, 30, 5_000, 30_000],
+        [16_777_216, 64, 16_384, 0],
+        ["localhost:9090", "/api/v1/write", "/api/v1/write"],
+    );
+    assert!(rt; reads_as(rt.alloc(), b"", want)?);
+    Ok(())
+}
+
+const EVERY_KEY: &[u8] =
+    b"[send]\nhost = 'a'\npath = '/b'\nshards = 2\nmin_shards = 1\nmax_shards = 3\ncapacity = 4\nbatch = 5\n
+          min_backoff_ms = 6\nmax_backoff_ms = 7\ntimeout_ms = 8\n
+          [receive]\npath = '/c'\nmax_body_bytes = 9\nmax_labels = 10\nmax_label_bytes = 11\nbusy_first = 12";
+
+#[test]
+fn every_key(rt: HostRuntime) -> Result<(), Fail> {
+    let want = ([2, 1, 3, 4, 5, 6, 7, 8], [9, 10, 11, 12], ["a", "/b", "/c"]);
+    assert!(rt; reads_as(rt.alloc(), EVERY_KEY, want)?);
+    Ok(())
+}
+
+/// The example of docs/SETTINGS.md.
+const EXAMPLE: &[u8] = b"# Ship to the receiver at metrics.example, with up to eight shards.
+[send]
+host = \"metrics.example:9090\"
+path = \"/api/v1/write\"
+shards = 2
+max_shards = 8
+batch = 500            # samples of a request
+min_backoff_ms = 100   # the pause before the first retry,
+max_backoff_ms = 10000 # and the longest one
+
+# When it receives, take bodies of at most one MiB.
+[receive]
+max_body_bytes = 1_048_576
+
+# Send the series of two jobs,
+[[rule]]
+action = \"keep\"
+source_labels = [\"job\"]
+regex = \"node|api\"
+
+# but none of a test environment in any region.
+[[rule]]
+action = \"drop\"
+source_labels = [\"env\", \"region\"]
+separator = \"/\"
+regex = \"test/.*\"
+";
+
+fn label_set(alloc: Global, labels: &[(&str, &str)]) -> Result<LabelSet, Fail> {
+    let mut raw = RawLabels::new(alloc);
+    for (name, value) in labels {
+        raw.push(name.as_bytes(), value.as_bytes())?;
+    }
+    Ok(LabelSet::check(alloc, &raw)?)
+}
+
+/// Labels, and whether the example's rules keep them.
+const KEPT: [(&[(&str, &str)], bool); 5] = [
+    (&[("job", "node")], true),
+    (&[("job", "nodes")], false),
+    (&[("env", "prod")], false),
+    (&[("env", "test"), ("job", "api")], false),
+    (
+        &[("env", "prod"), ("job", "api"), ("region", "test/")],
+        true,
+    ),
+];
+
+fn is_kept(alloc: Global, s: &Settings, labels: &[(&str, &str)]) -> Result<bool, Fail> {
+    let set = label_set(alloc, labels)?;
+    Ok(s.config.fields().rules.keeps(&set)?)
+}
+
+fn wrongly_kept(alloc: Global) -> Result<Option<usize>, Fail> {
+    let s = read_settings(alloc, EXAMPLE)?;
+    for (i, (labels, want)) in KEPT.iter().enumerate() {
+        if is_kept(alloc, &s, labels)? != *want {
+            return Ok(Some(i));
+        }
+    }
+    Ok(None)
+}
+
+#[test]
+fn example(rt: HostRuntime) -> Result<(), Fail> {
+    let want = (
+        [2, 1, 8, 10_000, 500, 100, 10_000, 30_000],
+        [1_048_576, 64, 16_384, 0],
+        ["metrics.example:9090", "/api/v1/write", "/api/v1/write"],
+    );
+    assert!(rt; reads_as(rt.alloc(), EXAMPLE, want)?);
+    assert_eq!(rt; wrongly_kept(rt.alloc())?, None);
+    Ok(())
+}
