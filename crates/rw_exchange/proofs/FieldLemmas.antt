@@ -18,7 +18,7 @@ use Rattle.rw_recv_http.specs.Judgement.{finding_of, body_finding, closes_after}
 use Rattle.rw_recv_http.specs.Values.{announced, length_value, is_length, is_some_length, agreed, is_protobuf, is_identity}
 use Rattle.rw_recv_http.specs.declared.finding.Finding.{Finding}
 use Rattle.rw_recv_http.specs.declared.finding.Finding.TheVariants.{Refused, Body}
-use Rattle.rw_exchange.specs.Heads.{head_of, fields_of}
+use Rattle.rw_exchange.proofs.Heads.{head_of, fields_of}
 use Rattle.rw_exchange.proofs.ByteLemmas.{AreDigits, decimal_is_digits, no_ows}
 
 -- names and values, with such a value for the length

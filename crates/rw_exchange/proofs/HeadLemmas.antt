@@ -4,7 +4,7 @@ use Rattle.std.proofs.lemmas.List.{append-nil}
 use Rattle.httparse.specs.Ascii.{crlf_bytes}
 use Rattle.httparse.specs.Grammar.{print_request}
 use Rattle.rw_sender.specs.SentRequest.{request_head}
-use Rattle.rw_exchange.specs.Heads.{head_of}
+use Rattle.rw_exchange.proofs.Heads.{head_of}
 
 -- the parts in a row
 in_a_row : (e path a h host m digits : List ℕ) →

@@ -1,3 +1,4 @@
+pub mod Heads
 pub mod ByteLemmas
 pub mod HeadLemmas
 pub mod FieldLemmas

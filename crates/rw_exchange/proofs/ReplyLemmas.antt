@@ -14,7 +14,7 @@ use Rattle.rw_sender.specs.declared.replies.ReplyRead.{ReplyRead}
 use Rattle.rw_sender.specs.declared.replies.ReplyRead.TheVariants.{Status, Partial, Bad}
 use Rattle.rw_recv_http.specs.Judgement.{is_refusal}
 use Rattle.rw_recv_http.specs.Replies.{reply, is_verdict, phrase, status_code as code_digits}
-use Rattle.rw_exchange.specs.Heads.{field}
+use Rattle.rw_exchange.proofs.Heads.{field}
 
 -- a text that is one head has its status, and nothing else is read
 record IsHeadOf (text : List ℕ) (status : ℕ) (head : ResponseHead) : Type 0 where

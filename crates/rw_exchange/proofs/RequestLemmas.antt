@@ -10,7 +10,7 @@ use Rattle.rw_sender.specs.SentRequest.{request_of}
 use Rattle.rw_recv_http.specs.Alone.{IsOneRequest, IsOneRefusal}
 use Rattle.rw_recv_http.specs.Reading.{BeginsWithHead}
 use Rattle.rw_exchange.specs.Exchanges.{IsRequest}
-use Rattle.rw_exchange.specs.Heads.{head_of, fields_of, field}
+use Rattle.rw_exchange.proofs.Heads.{head_of, fields_of, field}
 use Rattle.rw_exchange.proofs.ByteLemmas.{IsTarget, path_is_target, IsValue, host_is_value, AreDigits, decimal_is_digits, digits_are_value}
 use Rattle.rw_exchange.proofs.HeadLemmas.{head_bytes, head_length}
 use Rattle.rw_exchange.proofs.FieldLemmas.{found, asked, too_large}

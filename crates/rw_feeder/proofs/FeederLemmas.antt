@@ -150,7 +150,7 @@ pub no_more : (fc : ℕ) (fs : List ℕ) → fs ≡ [] → fc ≡ fc + length fs
 no_more fc fs is = sym (ap (λ l. fc + length l) is ∙ add-zero fc)
 
 -- before the first piece
-pub feeder_begun : (tail : Fed) (cache : Taken) (names : FinMap nat_cmp Reason) (r : List Entry) → tail ≡ record { pieces = []; given = 0; skipped = 0 } → cache.definitions ≡ [] → names ≡ empty → r ≡ [] → IsFeeder tail cache names 0 0 (take 0 r) (drop 0 r)
+pub feeder_begun : (tail : Fed) (cache : Taken) (names : FinMap nat_cmp Reason) (r : List Entry) → tail ≡ record { pieces = []; given = 0; skipped = 0; fault = None } → cache.definitions ≡ [] → names ≡ empty → r ≡ [] → IsFeeder tail cache names 0 0 (take 0 r) (drop 0 r)
 unfolding reading segment
 feeder_begun tail cache names r t c m is = subst (IsFeeder tail cache names 0 0 []) (sym is) (record {
   taken = record { count = ap (λ (x : Fed). x.given) t; rest = []; begins = ap (λ (x : Fed). entries x.pieces) t };

@@ -1,7 +1,14 @@
 -- One request after another.
 use Rattle.std.proofs.Common.{ℕ, List, [], ◌++◌, false, sym, subst, append_assoc}
 use Rattle.rw_recv_http.specs.Serving.{Replies, RepliesTo, further, Serves, stays}
-use Rattle.rw_recv_http.specs.Steps.{IsServedUpTo}
+use Rattle.rw_recv_http.specs.declared.serve_end.ServeEnd.{ServeEnd}
+
+-- The text replies to the requests that the input has before what is left of it; so what is served from there is served
+-- from the start behind that text.
+pub record IsServedUpTo {S : Type 0} (path : List ℕ) (limit : ℕ) (answers : S → List ℕ → ℕ → S → Type 0) (input : List ℕ) (old : S) (text left : List ℕ) (new : S) : Type 0 where
+  pub serves : (more : List ℕ) (how : ServeEnd) (last : S) → Serves path limit answers left new more last how →
+      Serves path limit answers input old (text ++ more) last how
+  pub replies : (more : List ℕ) → RepliesTo path limit answers left new more → RepliesTo path limit answers input old (text ++ more)
 
 -- before the first request
 pub served_none : {S : Type 0} (path : List ℕ) (limit : ℕ) (answers : S → List ℕ → ℕ → S → Type 0) (input : List ℕ) (old : S) →

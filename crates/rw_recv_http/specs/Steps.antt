@@ -1,7 +1,7 @@
 -- One request of an input whose bytes are known.
 use Rattle.std.specs.Prelude.{◌≡◌, ℕ, ◌<◌, ◌⊎◌, List, ◌++◌, length, take, Bool, true, false, IsTrue, Option, Some, Result, Ok, Err}
 use Rattle.rw_recv_http.specs.Replies.{reply, is_verdict}
-use Rattle.rw_recv_http.specs.Serving.{Replies, RepliesTo, IsSilent, Ends, Serves}
+use Rattle.rw_recv_http.specs.Serving.{Replies, IsSilent, Ends}
 use Rattle.rw_recv_http.specs.declared.serve_end.ServeEnd.{ServeEnd}
 use Rattle.rw_recv_http.specs.declared.serve_end.ServeEnd.TheVariants.{Eof, Closed, Torn, Device, OutOfMemory}
 
@@ -33,10 +33,3 @@ abbrev pub HasServed : {S : Type 0} → List ℕ → ℕ → (S → List ℕ →
 HasServed path limit answers input old text after new (Ok _) =
     (rest : List ℕ) × (after ≡ Some rest) × Replies path limit answers input old text rest false new
 HasServed path limit answers input old text after new (Err how) = Ends path limit answers input old text new how
-
--- The text replies to the requests that the input has before what is left of it; so what is served from there is served
--- from the start behind that text.
-pub record IsServedUpTo {S : Type 0} (path : List ℕ) (limit : ℕ) (answers : S → List ℕ → ℕ → S → Type 0) (input : List ℕ) (old : S) (text left : List ℕ) (new : S) : Type 0 where
-  pub serves : (more : List ℕ) (how : ServeEnd) (last : S) → Serves path limit answers left new more last how →
-      Serves path limit answers input old (text ++ more) last how
-  pub replies : (more : List ℕ) → RepliesTo path limit answers left new more → RepliesTo path limit answers input old (text ++ more)

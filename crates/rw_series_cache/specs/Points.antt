@@ -1,13 +1,9 @@
 -- The samples of a series in a log.
-use Rattle.std.specs.Prelude.{ℕ, ℤ, List, [], Bool, ◌&&◌, filter, nat_lt, is_none}
+use Rattle.std.specs.Prelude.{ℕ, ℤ, List, Bool, ◌&&◌, filter, nat_lt, is_none}
 use Rattle.rw_types.specs.Labels.{Labels, label_fault}
 use Rattle.rw_types.specs.declared.entry.Entry.{Entry}
-use Rattle.rw_codes.specs.Series.{samples_after, kept}
+use Rattle.rw_codes.specs.Series.{kept}
 use Rattle.rw_relabel.specs.Rules.{RuleConfig, keeps}
-
--- the samples, as (position, timestamp, word), whose reference stands for these labels where they stand
-abbrev pub points : List Entry → Labels → List (ℕ × ℤ × ℕ)
-points entries l = samples_after l [] entries
 
 -- the labels are a label set that the rules keep
 abbrev pub is_kept : List RuleConfig → Labels → Bool

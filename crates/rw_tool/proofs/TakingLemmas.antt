@@ -18,7 +18,11 @@ use Rattle.rw_wal_tail.specs.Fed.{Fed, next_of, end_of, answered}
 use Rattle.rw_tool.specs.declared.fault.ToolFault.{ToolFault}
 use Rattle.rw_tool.specs.declared.fault.ToolFault.TheVariants.{OutOfMemory, Log, Line, SegmentFull, Device}
 use Rattle.rw_tool.specs.Faults.{fault_of_log}
-use Rattle.rw_tool.specs.Taking.{HasTaken, HasTakenAll, IsFaultOf, IsText, FeedsMore, ReadsSegment, StopsReading}
+use Rattle.rw_tool.specs.Taking.{HasTaken, HasTakenAll, IsFaultOf, FeedsMore, ReadsSegment, StopsReading}
+
+-- the pieces, whatever comes after them, are read as this text is
+abbrev pub IsText : List Piece → List ℕ → Type 0
+IsText pieces text = (later : List Piece) → reading page_size (pieces ++ later) ≡ reading page_size (bytes text ∷ later)
 
 -- the answer after n entries
 abbrev next_at : List Entry → Option TailFault → ℕ → Bool → Result (Option Entry) TailFault
@@ -185,7 +189,7 @@ pub record HasRead (left_before left_after : Option (List ℕ)) (t : Fed) (taken
   pub same : IsText t.pieces text
   pub has : HasTaken t taken
 
-pub reads_nothing : (left : Option (List ℕ)) (t : Fed) (taken : List Entry) → t ≡ record { pieces = []; given = 0; skipped = 0 } → taken ≡ [] → HasRead left left t taken
+pub reads_nothing : (left : Option (List ℕ)) (t : Fed) (taken : List Entry) → t ≡ record { pieces = []; given = 0; skipped = 0; fault = None } → taken ≡ [] → HasRead left left t taken
 reads_nothing left t taken new none =
     rw (new, none) record { text = []; read = consumes-none left; same = text-none; has = record { front = refl; within = omega arith } }
 

@@ -30,10 +30,6 @@ IsFaultOf pieces (Line line) = ⊥
 IsFaultOf pieces SegmentFull = ⊥
 IsFaultOf pieces Device = ⊥
 
--- the pieces, whatever comes after them, are read as this text is
-abbrev pub IsText : List Piece → List ℕ → Type 0
-IsText pieces text = (later : List Piece) → reading page_size (pieces ++ later) ≡ reading page_size (bytes text ∷ later)
-
 -- one more piece of bytes was read and fed
 pub record FeedsMore (left_before left_after : Option (List ℕ)) (before after : Fed) : Type 0 where
   pub text : List ℕ

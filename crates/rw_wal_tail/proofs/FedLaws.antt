@@ -11,11 +11,11 @@ use Rattle.rw_codes.specs.Laws.{Extends}
 use Rattle.rw_codes.proofs.Tailing.{read_on, read_on-start}
 use Rattle.rw_wal_tail.specs.declared.reader.Reader.{Reader}
 use Rattle.rw_wal_tail.specs.Held.{Held, waiting}
-use Rattle.rw_wal_tail.specs.Still.{after, still, from_here, open_data, NoFault}
+use Rattle.rw_wal_tail.specs.Still.{after, still, from_here, open_data}
 use Rattle.rw_wal_tail.specs.Steps.{still_read, waiting_of, IsOfLog, IsReader, IsUnfed, Same, Ends}
 use Rattle.rw_wal_tail.specs.Fed.{Fed, Follows, CutsDoNotMatter, next_of, answered, end_of}
 use Rattle.rw_wal_tail.proofs.StepLaws.{known_as}
-use Rattle.rw_wal_tail.proofs.StillLaws.{still_waits}
+use Rattle.rw_wal_tail.proofs.StillLaws.{NoFault, still_waits}
 use Rattle.rw_wal_tail.proofs.WaitingLaws.{none_waiting}
 
 after_none : (r : Reading) → r ≡ after [] 0 r
@@ -142,7 +142,7 @@ module _ (ps : List Piece) (given : List Entry) (r : Reader) (f : Follows ps giv
   passes_fault x e n = end_skipped ps given r.passed (at_fault x) (fails_at x e n)
 
 -- what a reader is after a fault
-answered_fault : (t : Fed) (f : TailFault) → IsOfLog (Some f) → answered t (Err f) ≡ record t { skipped = skipped t.pieces }
+answered_fault : (t : Fed) (f : TailFault) → IsOfLog (Some f) → answered t (Err f) ≡ record t { skipped = skipped t.pieces; fault = Some f }
 unfolding answered
 answered_fault t OutOfMemory h = absurd h
 answered_fault t BadType h = refl
@@ -154,20 +154,20 @@ answered_fault t Sequence h = refl
 answered_fault t BadRecord h = refl
 answered_fault t TornSegment h = refl
 
-module _ (ps : List Piece) (t : Fed) (count : ℕ) where
+module _ (ps : List Piece) (t : Fed) (count : ℕ) (told : Option TailFault) where
   -- what is asked of a reader, in the words of its fields
-  pub asked : (given : List Entry) (n : ℕ) → record { pieces = ps; given = count; skipped = n } ≡ t → count ≡ length given → next_of t.pieces t.given ≡ next_of ps (length given)
+  pub asked : (given : List Entry) (n : ℕ) → record { pieces = ps; given = count; skipped = n; fault = told } ≡ t → count ≡ length given → next_of t.pieces t.given ≡ next_of ps (length given)
   asked given n v c = sym (ap (λ (x : Fed). next_of x.pieces x.given) v) ∙ ap (next_of ps) c
 
-  counted_as : (n m : ℕ) → record { pieces = ps; given = count; skipped = n } ≡ t → skipped ps ≡ m → record { pieces = ps; given = count; skipped = m } ≡ record t { skipped = skipped t.pieces }
-  counted_as n m v s = ap (λ (k : ℕ). record { pieces = ps; given = count; skipped = k }) (sym s) ∙ ap (λ (x : Fed). record x { skipped = skipped x.pieces }) v
+  counted_as : (n m : ℕ) → record { pieces = ps; given = count; skipped = n; fault = told } ≡ t → skipped ps ≡ m → record { pieces = ps; given = count; skipped = m; fault = told } ≡ record t { skipped = skipped t.pieces }
+  counted_as n m v s = ap (λ (k : ℕ). record { pieces = ps; given = count; skipped = k; fault = told }) (sym s) ∙ ap (λ (x : Fed). record x { skipped = skipped x.pieces }) v
 
-  pub counted_none : (n m : ℕ) → record { pieces = ps; given = count; skipped = n } ≡ t → skipped ps ≡ m → record { pieces = ps; given = count; skipped = m } ≡ answered t (Ok None)
+  pub counted_none : (n m : ℕ) → record { pieces = ps; given = count; skipped = n; fault = told } ≡ t → skipped ps ≡ m → record { pieces = ps; given = count; skipped = m; fault = told } ≡ answered t (Ok None)
   unfolding answered
   counted_none n m v s = counted_as n m v s
 
-  pub counted_fault : (n m : ℕ) (f : TailFault) → IsOfLog (Some f) → record { pieces = ps; given = count; skipped = n } ≡ t → skipped ps ≡ m → record { pieces = ps; given = count; skipped = m } ≡ answered t (Err f)
-  counted_fault n m f l v s = counted_as n m v s ∙ sym (answered_fault t f l)
+  pub counted_fault : (n m : ℕ) (f : TailFault) → IsOfLog (Some f) → record { pieces = ps; given = count; skipped = n; fault = told } ≡ t → skipped ps ≡ m → record { pieces = ps; given = count; skipped = m; fault = Some f } ≡ answered t (Err f)
+  counted_fault n m f l v s = ap (λ (x : Fed). record x { fault = Some f }) (counted_as n m v s) ∙ sym (answered_fault t f l)
 
 -- ---- more pieces
 

@@ -12,9 +12,9 @@ use Rattle.rw_codes.proofs.Growing.{left_after_pos}
 use Rattle.rw_wal_tail.specs.declared.reader.Reader.{Reader}
 use Rattle.rw_wal_tail.specs.Found.{KnownZeros}
 use Rattle.rw_wal_tail.specs.Held.{Held, waiting, has_ended, begun_with, fed_with, fed}
-use Rattle.rw_wal_tail.specs.Still.{still, IsInner, IsBegin, skip_of}
+use Rattle.rw_wal_tail.specs.Still.{still, skip_of}
 use Rattle.rw_wal_tail.specs.Steps.{IsRead, waiting_of, IsOfLog, IsReader, Same, Takes, CanStep, FoundAt, FoundFragment, PausesAt}
-use Rattle.rw_wal_tail.proofs.StillLaws.{still_first, still_middle, still_full, still_last, still_bad_full, still_bad_last, still_closed, still_open, still_zeros, still_wrong}
+use Rattle.rw_wal_tail.proofs.StillLaws.{IsInner, IsBegin, still_first, still_middle, still_full, still_last, still_bad_full, still_bad_last, still_closed, still_open, still_zeros, still_wrong}
 use Rattle.rw_wal_tail.proofs.WaitingLaws.{still_begun, still_torn_here, still_fed, still_marked, still_faulted}
 
 -- ---- the zeros that are known

@@ -3,7 +3,7 @@ use Rattle.std.proofs.Common.{◌≡◌, ℕ, ◌+◌, ◌<◌, List, [], ◌∷
 use Rattle.rw_types.specs.declared.entry.Entry.{Entry}
 use Rattle.rw_codes.specs.Records.{record_entries}
 use Rattle.rw_codes.specs.Segments.{Kind, full, first, middle, last, Item, nothing, begun, zeros, fragment, wrong, item_at, Stop, between, inside, at_fault, Reading, stopped, with_entries, with_record, left_after, read_from}
-use Rattle.rw_wal_tail.specs.Still.{NoFault, IsInner, IsBegin, skip_of}
+use Rattle.rw_wal_tail.specs.Still.{skip_of}
 use Rattle.rw_codes.specs.Pieces.{Piece, bytes, next_segment, then_next, reading_after, page_size}
 use Rattle.rw_codes.specs.declared.tail_fault.TailFault.{TailFault}
 use Rattle.rw_codes.specs.declared.tail_fault.TailFault.TheVariants.{Sequence, BadRecord, TornSegment}
@@ -11,6 +11,22 @@ use Rattle.rw_codes.proofs.Growing.{Stays, item_stays}
 use Rattle.rw_codes.proofs.Items.{read_step, read_zeros, read_nothing, read_begun, read_wrong, read_full, read_first, read_middle, read_last}
 use Rattle.rw_codes.proofs.Tailing.{read_on, read_on-start, read_on-step, read_on-record, fragment_stays_at, zeros_stay_at}
 use Rattle.rw_wal_tail.specs.Still.{after, open_data, still}
+
+abbrev pub NoFault : Stop → Type 0
+NoFault between = Unit {0}
+NoFault inside = Unit {0}
+NoFault (at_fault f) = ⊥
+
+-- a fragment that goes on with a record, and one that begins a record
+abbrev pub IsInner : Kind → Type 0
+IsInner middle = Unit {0}
+IsInner last = Unit {0}
+IsInner _ = ⊥
+
+abbrev pub IsBegin : Kind → Type 0
+IsBegin full = Unit {0}
+IsBegin first = Unit {0}
+IsBegin _ = ⊥
 
 -- a fault, whatever comes later
 fault_on : (left : ℕ) (o : Option (List ℕ)) (rest : List ℕ) (f : TailFault) → ((more : List ℕ) → read_from page_size left o (rest ++ more) ≡ stopped (at_fault f))

@@ -19,6 +19,8 @@ pub record Fed : Type 0 where
   pub given : ℕ
   -- when `next_entry` last found no entry
   pub skipped : ℕ
+  -- the fault that `next_entry` has answered, if it has
+  pub fault : Option TailFault
 
 -- what stands at the end of the entries
 abbrev pub end_of : Option TailFault → Result (Option Entry) TailFault
@@ -34,7 +36,7 @@ unfoldable pub answered : Fed → Result (Option Entry) TailFault → Fed
 answered t (Ok (Some e)) = record t { given = t.given + 1 }
 answered t (Ok None) = record t { skipped = skipped t.pieces }
 answered t (Err OutOfMemory) = t
-answered t (Err f) = record t { skipped = skipped t.pieces }
+answered t (Err f) = record t { skipped = skipped t.pieces; fault = Some f }
 
 -- it does not matter how bytes are cut: two pieces of bytes are read as one
 abbrev pub CutsDoNotMatter : List pieces.Piece → List pieces.Piece → List ℕ → Type 0
@@ -55,8 +57,14 @@ pub record Follows (ps : List pieces.Piece) (given : List Entry) (r : Reader) : 
   pub reader : IsReader r
   pub reads : (later : List pieces.Piece) → reading page_size (ps ++ later) ≡ after given 0 (still_read r later)
 
--- the same of a reader that has counted
-pub record IsTail (r : Reader) (ps : List pieces.Piece) (given : List Entry) (count : ℕ) : Type 0 where
+-- nothing is ready, and this is the reader's fault, where there is one
+abbrev pub IsStuck : Reader → Option TailFault → Type 0
+IsStuck r None = Unit {0}
+IsStuck r (Some f) = (r.fault ≡ Some f) × (r.ready.items ≡ [])
+
+-- the same of a reader that has counted, and that has answered this fault, if any
+pub record IsTail (r : Reader) (ps : List pieces.Piece) (given : List Entry) (count : ℕ) (told : Option TailFault) : Type 0 where
   pub follows : Follows ps given r
   pub counted : count ≡ length given
   pub bound : count < 2 ^ 60
+  pub stuck : IsStuck r told

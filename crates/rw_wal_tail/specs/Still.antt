@@ -2,7 +2,7 @@
 use Rattle.std.specs.Prelude.{ℕ, ◌+◌, List, ◌++◌, Option, Some, None, Bool, true, false, if◌then◌else◌}
 use Rattle.rw_types.specs.declared.entry.Entry.{Entry}
 use Rattle.rw_codes.specs.Records.{is_skipped}
-use Rattle.rw_codes.specs.Segments.{Kind, full, first, middle, last, Reading, Stop, between, inside, at_fault, stopped}
+use Rattle.rw_codes.specs.Segments.{Reading, at_fault, stopped}
 use Rattle.rw_codes.specs.Pieces.{Piece, page_size}
 use Rattle.rw_codes.proofs.Tailing.{read_on}
 use Rattle.rw_codes.specs.declared.tail_fault.TailFault.{TailFault}
@@ -28,19 +28,3 @@ from_here (Some f) left so_far rest later = stopped (at_fault f)
 -- the entries that are ready, and then the reading of the bytes at hand, of the pieces that wait and of those that come later
 unfoldable pub still : List Entry → ℕ → Option TailFault → ℕ → Bool → List ℕ → List ℕ → List Piece → List Piece → Reading
 still ready passed fault left is_open d rest waiting later = after ready passed (from_here fault left (open_data is_open d) rest (waiting ++ later))
-
-abbrev pub NoFault : Stop → Type 0
-NoFault between = Unit {0}
-NoFault inside = Unit {0}
-NoFault (at_fault f) = ⊥
-
--- a fragment that goes on with a record, and one that begins a record
-abbrev pub IsInner : Kind → Type 0
-IsInner middle = Unit {0}
-IsInner last = Unit {0}
-IsInner _ = ⊥
-
-abbrev pub IsBegin : Kind → Type 0
-IsBegin full = Unit {0}
-IsBegin first = Unit {0}
-IsBegin _ = ⊥

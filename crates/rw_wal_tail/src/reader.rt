@@ -132,6 +132,8 @@ impl Reader {
         requires { IsReader self.old }
         ensures ok { OnOk result (Takes (bytes piece.now) self.old self.new) }
         ensures err { OnErr result (Same self.old self.new) }
+        ensures fault { self.new.fault ≡ self.old.fault }
+        ensures ready { self.new.ready ≡ self.old.ready }
     {
         if let Some(_) = self.fault {
             return Ok(());
@@ -142,7 +144,9 @@ impl Reader {
     /// The end of the segment that came last.
     pub(crate) fn next_segment(&mut self)
         requires { IsReader self.old }
-        ensures { Takes next_segment self.old self.new }
+        ensures takes { Takes next_segment self.old self.new }
+        ensures fault { self.new.fault ≡ self.old.fault }
+        ensures ready { self.new.ready ≡ self.old.ready }
     {
         self.input.end_segment();
     }
@@ -330,7 +334,9 @@ impl Reader {
     /// The same reader once more.
     pub(crate) fn copy(&self) -> Result<Reader, AllocError>
         requires { IsReader self.now }
-        ensures { IfOk result (λ r. Same self.now r) }
+        ensures same { IfOk result (λ r. Same self.now r) }
+        ensures fault { IfOk result (λ r. r.fault ≡ self.now.fault) }
+        ensures ready { IfOk result (λ r. r.ready.items ≡ self.now.ready.items) }
     {
         Ok(Reader {
             alloc: self.alloc,

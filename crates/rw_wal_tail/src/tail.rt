@@ -1,8 +1,9 @@
 //! A reader of a log that grows.
 
-ghost use Rattle.std.specs.Prelude.{◌≡◌, ◌⊎◌, ◌≤◌, ◌<◌, ◌^◌, [], ◌∷◌, ◌++◌, length, Err, IfOk, OnOk, OnErr};
+ghost use Rattle.std.specs.Prelude.{◌≡◌, ◌⊎◌, ◌≤◌, ◌<◌, ◌^◌, [], ◌∷◌, ◌++◌, length, Err, Some, None, IfOk, OnOk, OnErr};
 ghost use Rattle.rw_codes.specs.Laws.{Extends};
 ghost use Rattle.rw_codes.specs.Pieces.{bytes, next_segment, entries, page_size, reading};
+ghost use Rattle.rw_codes.specs.declared.tail_fault.TailFault.{TailFault};
 ghost use Rattle.rw_codes.specs.declared.tail_fault.TailFault.TheVariants.{OutOfMemory};
 ghost use Rattle.rw_wal_tail.specs.Fed.{next_of, answered, CutsDoNotMatter};
 
@@ -25,6 +26,8 @@ pub struct Tail {
     given: History<Entry>,
     count: u64,
     skipped: u64,
+    /// The fault that was answered, if one was.
+    told: Option<TailFault>,
 }
 
 impl Model for Tail {
@@ -35,15 +38,15 @@ impl Model for Tail {
 
     ghost use Rattle.rw_wal_tail.specs.Fed.{told_of, IsTail};
 
-    ghost view = { λ t. record { pieces = map told_of t.pieces; given = t.count; skipped = t.skipped } };
+    ghost view = { λ t. record { pieces = map told_of t.pieces; given = t.count; skipped = t.skipped; fault = t.told } };
 
-    ghost invariant = { λ t. IsTail t.reader (map told_of t.pieces) t.given t.count };
+    ghost invariant = { λ t. IsTail t.reader (map told_of t.pieces) t.given t.count t.told };
 }
 
 impl Tail {
     /// A reader at the start of a segment. This takes no memory.
     pub fn new(alloc: Global) -> Tail
-        ensures { result ≡ record { pieces = []; given = 0; skipped = 0 } }
+        ensures { result ≡ record { pieces = []; given = 0; skipped = 0; fault = None } }
     {
         Tail {
             reader: Reader::new(alloc),
@@ -51,6 +54,7 @@ impl Tail {
             given: History::new(),
             count: 0,
             skipped: 0,
+            told: None,
         }
     }
 
@@ -81,7 +85,12 @@ impl Tail {
     pub fn next_entry(&mut self) -> Result<Option<Entry>, TailFault>
         ensures answer { (result ≡ Err OutOfMemory) ⊎ (result ≡ next_of self.old.pieces self.old.given) }
         ensures after { self.new ≡ answered self.old result }
+        ensures stays { (f : TailFault) → self.old.fault ≡ Some f → result ≡ Err f }
     {
+        if let Some(fault) = self.told {
+            self.skipped = self.reader.passed;
+            return Err(fault);
+        }
         match self.reader.run() {
             Err(AllocError) => Err(TailFault::OutOfMemory),
             Ok(Step::Waits) => {
@@ -90,6 +99,7 @@ impl Tail {
             }
             Ok(Step::Failed(fault)) => {
                 self.skipped = self.reader.passed;
+                self.told = Some(fault);
                 Err(fault)
             }
             Ok(Step::More) => {
@@ -130,6 +140,7 @@ impl Tail {
             given: self.given.again(),
             count: self.count,
             skipped: self.skipped,
+            told: self.told,
         })
     }
 }

@@ -12,7 +12,7 @@ use Rattle.rw_codes.specs.declared.tail_fault.TailFault.TheVariants.{OutOfMemory
 use Rattle.rw_wal_tail.specs.Fed.{Fed, next_of, end_of, answered}
 use Rattle.rw_world.specs.Reading.{Drains, HasRead, is_refusal}
 
-pub nothing_read : HasRead (record { pieces = []; given = 0; skipped = 0 }) [] None
+pub nothing_read : HasRead (record { pieces = []; given = 0; skipped = 0; fault = None }) [] None
 unfolding reading segment
 nothing_read = record { count = refl; taken_is = refl; fault_is = refl }
 

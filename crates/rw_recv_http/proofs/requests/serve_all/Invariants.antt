@@ -1,6 +1,6 @@
 use Rattle.std.proofs.Common.{◌+◌, length, ◌≡◌, ℕ, ◌≤◌, ◌<◌, List, ◌++◌, vec_len, true, false, Some}
 use Rattle.std.specs.Io.KnownBytes.{prepend_known}
-use Rattle.rw_recv_http.specs.Steps.{IsServedUpTo}
+use Rattle.rw_recv_http.proofs.ServingLemmas.{IsServedUpTo}
 use Rattle.rw_recv_http.proofs.requests.serve_all.Given as goal
 
 abbrev pub invariant-loop : goal.invariant-loop
