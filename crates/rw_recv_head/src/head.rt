@@ -144,7 +144,7 @@ impl Head {
     }
 
     /// Takes a message whole or not at all: its series in order, each by its labels, then by this head's limits, and then by its samples.
-    /// `NoMemory` is the verdict only where memory ran out.
+    /// `NoMemory` is for a want of memory: its contract leaves open when that is, and says that nothing is stored then.
     pub fn apply(&mut self, message: &Message) -> Verdict
         ensures verdict { result ≢ NoMemory → result ≡ (apply self.old.limits self.old.store message.now).verdict }
         ensures store { result ≢ NoMemory → self.new.store ≡ (apply self.old.limits self.old.store message.now).store }
@@ -172,7 +172,8 @@ impl Head {
     }
 
     /// The status for a request's body: 429 for as many requests as the head is busy for first, whatever they hold. Then 204 where the body is
-    /// a message that is stored, 400 where it is refused, and 503 only where memory ran out.
+    /// a message that is stored, and 400 where it is refused. 503 is for a want of memory: its contract leaves open when that is, and says that
+    /// nothing is stored then.
     pub fn answer(&mut self, body: &[u8]) -> u16
         ensures status { result ≢ 503 → result ≡ (answer self.old body.now).status }
         ensures head { result ≢ 503 → self.new ≡ (answer self.old body.now).head }

@@ -160,7 +160,8 @@ fn serve_all<R: Source, W: Sink, A: Answer>(
 
 /// Replies to the requests of the input, in order, up to its end or to the first reply that closes.
 ///
-/// A body over the limit is refused by its announced length and never read. A body's memory grows with what has come of it.
+/// A body over the limit is refused by its announced length; that none of it is read before the reply no contract says. A body's memory
+/// grows with what has come of it.
 /// Once `answer` was asked, no memory is taken until its reply is written.
 pub fn serve<R: Source, W: Sink, A: Answer>(
     alloc: Global,
