@@ -1,4 +1,0 @@
-use Rattle.test_shared_head.proofs.connections.a_seat_answers_a_connection.Given as goal
-
-abbrev pub ghosts-served : goal.ghosts-served
-ghosts-served g a = record { name = a.blank.name; parts = a.blank.parts }
