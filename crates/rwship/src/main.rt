@@ -2,7 +2,6 @@
 #![tactic(auto)]
 
 mod settings;
-mod words;
 
 ghost use Rattle.std.specs.Prelude.{◌≡◌, MatchResult};
 ghost use Rattle.std.specs.Process as process;
@@ -18,6 +17,7 @@ use rw_settings::Settings;
 use rw_tcp::look_up;
 use rw_tool::{ToolFault, run_body, run_log, run_log_dir, run_plan};
 use rw_types::{Bounded, Std};
+use rw_words::{Task, command_line, task_of};
 use settings::{Unset, settings_in};
 use std::env;
 use std::io::ErrorKind;
@@ -25,7 +25,6 @@ use std::net::{SocketAddr, TcpListener};
 use std::process::ExitCode;
 use std::sync::Wait;
 use std::thread::Threads;
-use words::{Task, command_line, task_of};
 
 /// The exit status for words and settings that the program does not take.
 const BAD_WORDS: u8 = 2;

@@ -1,4 +1,5 @@
 //! The command line: what each command is called, which options it takes, and what the words ask for.
+#![tactic(auto)]
 
 use clap::{Arg, ArgAction, ArgMatches, Command, value_parser};
 use rw_address::{Address, read_address};
