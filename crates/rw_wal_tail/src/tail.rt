@@ -38,7 +38,12 @@ impl Model for Tail {
 
     ghost use Rattle.rw_wal_tail.specs.Fed.{told_of, IsTail};
 
-    ghost view = { λ t. record { pieces = map told_of t.pieces; given = t.count; skipped = t.skipped; fault = t.told } };
+    ghost view = { λ t. record {
+      pieces = map told_of t.pieces;
+      given = t.count;
+      skipped = t.skipped;
+      fault = t.told;
+    } };
 
     ghost invariant = { λ t. IsTail t.reader (map told_of t.pieces) t.given t.count t.told };
 }
