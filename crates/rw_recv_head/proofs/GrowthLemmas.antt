@@ -1,7 +1,7 @@
 -- A message that is taken adds samples, at most its own, and keeps each list in order.
-use Rattle.std.proofs.Common.{◌≡◌, ℕ, ◌+◌, ◌≤◌, List, [], ◌∷◌, ◌++◌, length, Option, Some, None, Bool, true, false, cond, Result, Ok, Err, refl, sym, ◌∙◌, ap, subst, arith}
+use Rattle.std.proofs.Common.{◌≡◌, ℕ, ◌+◌, ◌≤◌, List, [], ◌∷◌, ◌++◌, length, Option, Some, None, Bool, true, false, cond, Result, Ok, Err, refl, sym, ◌∙◌, ap, subst, append_assoc, arith}
 use Rattle.std.specs.FinMap.{empty}
-use Rattle.std.proofs.lemmas.List.{length_push, length-map}
+use Rattle.std.proofs.lemmas.List.{append-nil, length_push, length-map}
 use Rattle.std.proofs.lemmas.List.Sums.{sum_by-cons}
 use Rattle.rw_types.specs.Labels.{Labels}
 use Rattle.rw_types.specs.LabelOrder.{labels_eq}
@@ -12,15 +12,25 @@ use Rattle.rw_recv_head.specs.Store.{Store, list_of, with_list, total, HasNoEmpt
 use Rattle.rw_recv_head.specs.Verdicts.{LabelLimits, refusal, accepted, taken_unless, taken, taken_all}
 use Rattle.rw_recv_head.specs.Lists.{Rises, Stores}
 use Rattle.rw_recv_head.specs.Growth.{sample_count, EachRises, IsReady}
+use Rattle.rw_types.proofs.OrderLemmas.{same_if_equal}
+use Rattle.rw_recv_head.specs.Blocks.{Begins, KeepsBlocks}
+use Rattle.rw_recv_head.proofs.BlockLemmas.{sealed_begins}
 use Rattle.rw_recv_head.proofs.OrderLemmas.{Rises-push, accept-none}
 use Rattle.rw_recv_head.proofs.StoreLemmas.{list_of-with_list, list_of-empty, HasNoEmptyList-empty, HasNoEmptyList-with_list, with_list-same, total-with_list}
 use Rattle.rw_recv_head.proofs.VerdictLemmas.{taken_all-err}
+
+begins_itself : (xs : List Point) → Begins xs xs
+begins_itself xs = ([], append-nil xs)
+
+begins_twice : (xs ys zs : List Point) → Begins xs ys → Begins ys zs → Begins xs zs
+begins_twice xs ys zs a b = (a.0 ++ b.0, sym (append_assoc xs a.0 b.0) ∙ ap (λ ws. ws ++ b.0) a.1 ∙ b.1)
 
 -- at most n samples were appended, in order
 pub record Extends (xs ys : List Point) (n : ℕ) : Type 0 where
   pub longer : length xs ≤ length ys
   pub few : length ys ≤ length xs + n
   pub rises : Rises xs → Rises ys
+  pub begins : Begins xs ys
 
 extends_one : (xs : List Point) (s : Point) (ys : List Point) (later stands : Bool) → is_later s.0 xs ≡ later
     → cond later (Some (xs ++ s ∷ [])) (cond stands (Some xs) None) ≡ Some ys → Extends xs ys 1
@@ -30,10 +40,11 @@ extends_one xs s ys true stands e given =
       longer = omega (arith, length_push xs s);
       few = omega (arith, length_push xs s);
       rises = λ h. Rises-push xs s.0 s.1 h e;
+      begins = (s ∷ [], refl);
     })
 extends_one xs s ys false true e given =
     let same : xs ≡ ys = cc given in
-    subst (λ zs. Extends xs zs 1) same (record { longer = omega arith; few = omega arith; rises = λ h. h })
+    subst (λ zs. Extends xs zs 1) same (record { longer = omega arith; few = omega arith; rises = λ h. h; begins = begins_itself xs })
 extends_one xs s ys false false e given = absurd cc
 
 chained : (xs ys zs : List Point) (m n k : ℕ) → k ≡ m + n → Extends xs ys m → Extends ys zs n → Extends xs zs k
@@ -41,6 +52,7 @@ chained xs ys zs m n k e a b = record {
   longer = omega (arith, a.longer, b.longer);
   few = omega (arith, a.few, b.few, e);
   rises = λ h. b.rises (a.rises h);
+  begins = begins_twice xs ys zs a.begins b.begins;
 }
 
 extends_next : (s : Point) (ss xs ys : List Point) (o : Option (List Point))
@@ -53,7 +65,7 @@ extends_next s ss xs ys (Some zs) further e rest =
 extends_all : (ss : List Point) (xs ys : List Point) → accept (Some xs) ss ≡ Some ys → Extends xs ys (length ss)
 extends_all [] xs ys given =
     let same : xs ≡ ys = cc given in
-    subst (λ zs. Extends xs zs 0) same (record { longer = omega arith; few = omega arith; rises = λ h. h })
+    subst (λ zs. Extends xs zs 0) same (record { longer = omega arith; few = omega arith; rises = λ h. h; begins = begins_itself xs })
 extends_all (s ∷ ss) xs ys given = extends_next s ss xs ys (accept_one xs s) (λ zs. extends_all ss zs ys) refl given
 
 -- what became of a store: at most n samples were added, in order
@@ -62,12 +74,13 @@ pub record Grown (old new : Store) (n : ℕ) : Type 0 where
   pub few : total new ≤ total old + n
   pub rises : EachRises new
   pub filled : HasNoEmptyList new
+  pub begins : (l : Labels) → Begins (list_of old l) (list_of new l)
 
 EachRises-empty : EachRises empty
 EachRises-empty l = subst Rises (sym (list_of-empty l)) tt
 
 unchanged : (s : Store) (n : ℕ) → EachRises s → HasNoEmptyList s → Grown s s n
-unchanged s n h k = record { more = omega arith; few = omega arith; rises = h; filled = k }
+unchanged s n h k = record { more = omega arith; few = omega arith; rises = h; filled = k; begins = λ l. begins_itself (list_of s l) }
 
 no_points : (xs : List Point) → length xs ≤ 0 → xs ≡ []
 no_points [] h = refl
@@ -76,6 +89,10 @@ no_points (x ∷ xs) h = absurd (omega arith)
 rises_at_each : (b : Bool) (ys zs : List Point) → Rises ys → Rises zs → Rises (cond b ys zs)
 rises_at_each true ys zs h k = h
 rises_at_each false ys zs h k = k
+
+begins_at_each : (l q : Labels) (ys : List Point) (s : Store) (b : Bool) → labels_eq q l ≡ b → Begins (list_of s l) ys → Begins (list_of s q) (cond b ys (list_of s q))
+begins_at_each l q ys s true e h = subst (λ p. Begins (list_of s p) ys) (sym (same_if_equal q l e)) h
+begins_at_each l q ys s false e h = begins_itself (list_of s q)
 
 put_grown : (l : Labels) (ys : List Point) (s : Store) (n : ℕ) → EachRises s → HasNoEmptyList s → Extends (list_of s l) ys n → Grown s (with_list l ys s) n
 put_grown l [] s n h k e =
@@ -87,6 +104,7 @@ put_grown l (y ∷ ys) s n h k e = record {
   few = omega (arith, total-with_list l y ys s, e.few);
   rises = λ q. subst Rises (sym (list_of-with_list l (y ∷ ys) s q)) (rises_at_each (labels_eq q l) (y ∷ ys) (list_of s q) (e.rises (h l)) (h q));
   filled = HasNoEmptyList-with_list l (y ∷ ys) s k;
+  begins = λ q. subst (Begins (list_of s q)) (sym (list_of-with_list l (y ∷ ys) s q)) (begins_at_each l q (y ∷ ys) s (labels_eq q l) refl e.begins);
 }
 
 accepted_grown : (l : Labels) (s next : Store) (n : ℕ) (o : Option (List Point)) → EachRises s → HasNoEmptyList s
@@ -113,6 +131,7 @@ both_grown a b c m n k e g h = record {
   few = omega (arith, g.few, h.few, e);
   rises = h.rises;
   filled = h.filled;
+  begins = λ l. begins_twice (list_of a l) (list_of b l) (list_of c l) (g.begins l) (h.begins l);
 }
 
 next_grown : (limits : LabelLimits) (x : TimeSeries) (xs : WriteRequest) (s next : Store) (r : Result Store Verdict) → EachRises s → HasNoEmptyList s
@@ -140,8 +159,15 @@ kept_grown limits m old staged kept ready given same =
     subst (λ t. Grown old.kept t (sample_count m)) (sym same)
     (taken_grown limits m old.kept staged ready.rises ready.filled (ap (λ (t : Store). taken_all limits (Ok t) m) (sym ready.settled) ∙ given))
 
-pub ready_again : (old : Store) (n : ℕ) (stores : Stores) → Grown old stores.kept n → stores.staged ≡ stores.kept → IsReady stores
-ready_again old n stores g same = record { settled = same; rises = g.rises; filled = g.filled }
+pub ready_again : (old : Store) (n : ℕ) (stores : Stores) → Grown old stores.kept n → stores.staged ≡ stores.kept → stores.noted ≡ 0 → IsReady stores
+ready_again old n stores g same none = record { settled = same; rises = g.rises; filled = g.filled; unnoted = none }
 
-pub ready_empty : IsReady (record { kept = empty; staged = empty })
-ready_empty = record { settled = refl; rises = EachRises-empty; filled = HasNoEmptyList-empty }
+pub ready_empty : IsReady (record { kept = empty; staged = empty; noted = 0 })
+ready_empty = record { settled = refl; rises = EachRises-empty; filled = HasNoEmptyList-empty; unnoted = refl }
+
+-- full blocks stay
+pub blocks_kept : (old new : Store) (n : ℕ) → Grown old new n → KeepsBlocks old new
+blocks_kept old new n g = λ l. sealed_begins (list_of old l) (list_of new l) (g.begins l)
+
+pub blocks_same : (old new : Store) → new ≡ old → KeepsBlocks old new
+blocks_same old new e = λ l. sealed_begins (list_of old l) (list_of new l) (subst (λ s. Begins (list_of old l) (list_of s l)) (sym e) (begins_itself (list_of old l)))

@@ -1,3 +1,4 @@
+pub mod BlockLemmas
 pub mod OrderLemmas
 pub mod PlaceLemmas
 pub mod StoreLemmas

@@ -24,11 +24,11 @@ own_ltb a = grind (arith, nat_tests)
 chained_ltb : (a b c : ℕ) → ltb a b ≡ true → ltb b c ≡ true → ltb a c ≡ true
 chained_ltb a b c h k = grind (arith, nat_tests)
 
-own : (a : ℤ) → int_lt a a ≡ false
+pub own : (a : ℤ) → int_lt a a ≡ false
 own (pos a) = own_ltb a
 own (negsuc a) = own_ltb a
 
-chained : (a b c : ℤ) → int_lt a b ≡ true → int_lt b c ≡ true → int_lt a c ≡ true
+pub chained : (a b c : ℤ) → int_lt a b ≡ true → int_lt b c ≡ true → int_lt a c ≡ true
 chained (pos a) (pos b) (pos c) h k = chained_ltb a b c h k
 chained (pos a) (pos b) (negsuc c) h k = absurd cc
 chained (pos a) (negsuc b) c h k = absurd cc
@@ -72,7 +72,7 @@ Rises-take (suc n) [] h = tt
 Rises-take (suc n) (x ∷ xs) h = (all_take (λ y. int_lt x.0 y.0 ≡ true) n xs h.0, Rises-take n xs h.1)
 
 -- a sample at a place behind the first is later than the first
-above_at : (a : ℤ) (xs : List Point) (i : ℕ) (d : Point) → AllByRecursion (λ y. int_lt a y.0 ≡ true) xs → i < length xs → int_lt a (get_or xs i d).0 ≡ true
+pub above_at : (a : ℤ) (xs : List Point) (i : ℕ) (d : Point) → AllByRecursion (λ y. int_lt a y.0 ≡ true) xs → i < length xs → int_lt a (get_or xs i d).0 ≡ true
 above_at a [] i d all h = absurd (omega arith)
 above_at a (x ∷ xs) zero d all h = all.0
 above_at a (x ∷ xs) (suc i) d all h = above_at a xs i d all.1 (omega arith)
@@ -88,7 +88,7 @@ eq_apart : (a b : ℤ) → int_lt a b ≡ true → (c : Bool) → int_eq a b ≡
 eq_apart a b h true e = absurd (let same : a ≡ b = (Decides-int_eq a b).0 e in let off : int_lt a a ≡ true = subst (λ x. int_lt a x ≡ true) (sym same) h in cc (own a))
 eq_apart a b h false e = refl
 
-eq_apart_above : (a b : ℤ) → int_lt b a ≡ true → (c : Bool) → int_eq a b ≡ c → c ≡ false
+pub eq_apart_above : (a b : ℤ) → int_lt b a ≡ true → (c : Bool) → int_eq a b ≡ c → c ≡ false
 eq_apart_above a b h true e = absurd (let same : a ≡ b = (Decides-int_eq a b).0 e in let off : int_lt b b ≡ true = subst (λ x. int_lt b x ≡ true) same h in cc (own b))
 eq_apart_above a b h false e = refl
 
@@ -148,13 +148,13 @@ found_nowhere t u w xs i same around =
     ap (int_eq (get_or xs k d).0) (sym same)
     ∙ ⊎_elim (λ lt. ap is_eq (around.0 k d (omega arith) lt)) (λ le. ap is_eq (around.1 k d le h)) (cases_lt k i)))
 
-turned : (a b : ℤ) → int_lt a b ≡ true → int_lt b a ≡ false
+pub turned : (a b : ℤ) → int_lt a b ≡ true → int_lt b a ≡ false
 turned (pos a) (pos b) h = turned_ltb a b h
 turned (pos a) (negsuc b) h = absurd cc
 turned (negsuc a) (pos b) h = refl
 turned (negsuc a) (negsuc b) h = turned_ltb b a h
 
-not_less : (a b : ℤ) → int_lt a b ≡ false → is_lt (int_cmp a b) ≡ false
+pub not_less : (a b : ℤ) → int_lt a b ≡ false → is_lt (int_cmp a b) ≡ false
 not_less a b e = ap (λ l. is_lt (cond l Less (cond (int_lt b a) Greater Equal))) e ∙ by_test (int_lt b a)
   where
     by_test : (b : Bool) → is_lt (cond b Greater Equal) ≡ false

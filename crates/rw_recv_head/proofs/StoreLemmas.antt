@@ -1,5 +1,5 @@
 -- A store is the list of each label set.
-use Rattle.std.proofs.Common.{◌≡◌, ◌≢◌, ℕ, ◌+◌, List, [], ◌∷◌, length, map, sum_by, Option, Some, None, Bool, true, false, cond, ◌&&◌, unwrap_or, T, rules, refl, sym, ◌∙◌, ap, arith}
+use Rattle.std.proofs.Common.{◌≡◌, ◌≢◌, ℕ, ◌+◌, ◌≤◌, List, [], ◌∷◌, length, map, sum_by, Option, Some, None, Bool, true, false, cond, ◌&&◌, unwrap_or, T, rules, refl, sym, ◌∙◌, ap, arith}
 use Rattle.std.specs.FinMap.{get, empty, entries, entries_sorted, entries-insert, get-entries, get-insert, get-remove, get-empty, len-entries, len-empty, same_map}
 use Rattle.std.specs.FinMap.Entries.{find, put, is_sorted, below_all, by_order}
 use Rattle.std.specs.Ordering.{is_lt, is_eq}
@@ -134,3 +134,15 @@ no_entries (e ∷ es) h = absurd (omega arith)
 
 pub total-empty : total empty ≡ 0
 total-empty = no_entries (entries empty) (sym (len-entries empty) ∙ len-empty labels_cmp (List Point))
+
+found_few : (k : Labels) (es : Entries) → length (found k es) ≤ sum_of es
+found_few k [] = omega arith
+found_few k (e ∷ es) = at_each (is_eq (labels_cmp k e.0)) (found_few k es)
+  where
+    at_each : (b : Bool) → length (found k es) ≤ sum_of es → length (unwrap_or (cond b (Some e.1) (find labels_cmp k es)) []) ≤ sum_of (e ∷ es)
+    at_each true h = omega (arith, sum_of-cons e es)
+    at_each false h = omega (arith, sum_of-cons e es, h)
+
+-- no list is longer than all samples
+pub list_of-few : (s : Store) (l : Labels) → length (list_of s l) ≤ total s
+list_of-few s l = omega (arith, ap (λ (o : Option (List Point)). length (unwrap_or o [])) (get-entries s l), found_few l (entries s))

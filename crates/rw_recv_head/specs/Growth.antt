@@ -18,8 +18,9 @@ EachRises store = (l : Labels) → Rises (list_of store l)
 abbrev pub HasTaken : List ℕ → Store → Store → Type 0
 HasTaken body old new = (m : WriteRequest) × (read body ≡ Ok m) × (total new ≤ total old + sample_count m)
 
--- nothing is staged, and what is kept is in order
+-- nothing is staged nor noted, and what is kept is in order
 pub record IsReady (stores : Stores) : Type 0 where
   pub settled : stores.staged ≡ stores.kept
   pub rises : EachRises stores.kept
   pub filled : HasNoEmptyList stores.kept
+  pub unnoted : stores.noted ≡ 0

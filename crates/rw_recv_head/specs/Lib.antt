@@ -4,3 +4,4 @@ pub mod Verdicts
 pub mod Head
 pub mod Lists
 pub mod Growth
+pub mod Blocks

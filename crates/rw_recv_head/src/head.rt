@@ -1,15 +1,17 @@
 //! The receiving head.
 
-ghost use Rattle.std.specs.Prelude.{◌≡◌, ◌≢◌, ◌+◌, ◌^◌, ◌<◌, ◌≤◌, length, None, Some, Ok, OnOk, IfOk, IfErr, map};
+ghost use Rattle.std.specs.Prelude.{◌≡◌, ◌≢◌, ◌+◌, ◌^◌, ◌<◌, ◌≤◌, ◌++◌, length, None, Some, Ok, OnOk, IfOk, IfErr, map};
 ghost use Rattle.std.specs.FinMap.{empty};
-ghost use Rattle.rw_types.specs.Labels.{text_label};
+ghost use Rattle.rw_types.specs.Labels.{text_label, label_fault};
 ghost use Rattle.rw_recv_head.specs.declared.verdict.Verdict.TheVariants.{NoMemory};
 ghost use Rattle.rw_recv_head.specs.Store.{list_of, total, label_sets, HasNoEmptyList};
 ghost use Rattle.rw_recv_head.specs.Verdicts.{refusal, taken, taken_all, apply};
 ghost use Rattle.rw_recv_head.specs.Head.{status_of, answer, IsStatus};
 ghost use Rattle.rw_recv_head.specs.Lists.{StoreGives};
+ghost use Rattle.rw_recv_head.specs.Blocks.{joined, sealed_of, AreFull, KeepsBlocks};
 ghost use Rattle.rw_recv_head.specs.Growth.{sample_count, EachRises, HasTaken};
 
+use crate::block::Block;
 use crate::label_sets::LabelSets;
 use crate::limits::Limits;
 use crate::table::Table;
@@ -42,6 +44,7 @@ fn take_labels(
 ) -> Result<(), Verdict>
     ensures ok { OnOk result ((labels.new ≡ map text_label texts.now) × (refusal bounds.now (map text_label texts.now) ≡ None)) }
     ensures err { IfErr result (λ v. v ≢ NoMemory → refusal bounds.now (map text_label texts.now) ≡ Some v) }
+    ensures memory { IfErr result (λ v. v ≡ NoMemory → label_fault (map text_label texts.now) ≡ None) }
 {
     match labels.assign(texts) {
         Ok(()) => {}
@@ -155,6 +158,7 @@ impl Head {
         ensures more { total self.old.store ≤ total self.new.store }
         ensures few { total self.new.store ≤ total self.old.store + sample_count message.now }
         ensures rises { EachRises self.new.store }
+        ensures blocks { KeepsBlocks self.old.store self.new.store }
     {
         let staged = stage_all(
             &mut self.table,
@@ -183,6 +187,7 @@ impl Head {
         ensures taken { result ≡ 204 → HasTaken body.now self.old.store self.new.store }
         ensures more { total self.old.store ≤ total self.new.store }
         ensures rises { EachRises self.new.store }
+        ensures blocks { KeepsBlocks self.old.store self.new.store }
     {
         if self.busy > 0 {
             self.busy -= 1;
@@ -204,11 +209,35 @@ impl Head {
         self.table.total()
     }
 
+    /// How many label sets the head has a place for: those that have samples, and no others. This takes no memory, and its time does not grow.
+    pub fn places(&self) -> usize
+        ensures { result ≡ length (label_sets self.now.store) }
+    {
+        self.table.places()
+    }
+
     /// The samples of a label set in order, as (timestamp in milliseconds, value).
     pub fn samples(&self, labels: &LabelSet) -> Result<Vec<(i64, Word)>, AllocError>
         ensures { IfOk result (λ v. v.items ≡ list_of self.now.store labels.now) }
     {
-        self.table.kept(labels).to_vec(self.alloc)
+        self.table.to_vec(self.alloc, labels)
+    }
+
+    /// The full blocks of a label set, each of 120 samples, in order. They hold the first samples of the label set, and stay as they are, in
+    /// their places, whatever the head takes later. There are none where the label set has no samples. This takes no memory.
+    pub fn sealed(&self, labels: &LabelSet) -> &[Box<Block>]
+        ensures blocks { map (λ b. b.value) result.now ≡ sealed_of (list_of self.now.store labels.now) }
+        ensures full { AreFull (map (λ b. b.value) result.now) }
+    {
+        self.table.sealed(labels)
+    }
+
+    /// The samples of a label set behind its full blocks, at most 119. This takes no memory.
+    pub fn open(&self, labels: &LabelSet) -> &[(i64, Word)]
+        ensures samples { joined (sealed_of (list_of self.now.store labels.now)) ++ result.now ≡ list_of self.now.store labels.now }
+        ensures few { length result.now < 120 }
+    {
+        self.table.open(labels)
     }
 
     /// The label sets that have samples, by byte order of their lists of (name, value). This takes no memory.

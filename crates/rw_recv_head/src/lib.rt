@@ -1,6 +1,8 @@
 //! The head of a receiver of samples: requests are taken whole or not at all, each sample once, in order.
 #![tactic(auto)]
 
+mod block;
+mod blocks;
 mod head;
 mod label_sets;
 mod laws;
@@ -9,6 +11,7 @@ mod sample_list;
 mod table;
 mod verdict;
 
+pub use block::Block;
 pub use head::Head;
 pub use label_sets::LabelSets;
 pub use laws::{stores_are_lists, stores_hold_no_empty_list};

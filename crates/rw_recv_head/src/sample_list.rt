@@ -1,9 +1,13 @@
 //! The samples of one series.
 
-ghost use Rattle.std.specs.Prelude.{◌≡◌, ◌+◌, ◌≤◌, ◌++◌, ◌∷◌, [], OnOk, OnErr, length};
-ghost use Rattle.rw_recv_head.specs.Order.{points, is_later, holds, accept_one, accept};
-ghost use Rattle.rw_recv_head.specs.Lists.{Rises, no_lists, has_samples, ListGives};
+ghost use Rattle.std.specs.Prelude.{◌≡◌, ◌+◌, ◌^◌, ◌<◌, ◌≤◌, true, Err, IfOk, length, map};
+ghost use Rattle.rw_recv_head.specs.Order.{points, is_later, accept_one, accept};
+ghost use Rattle.rw_recv_head.specs.Lists.{no_lists, has_samples, ListGives};
+ghost use Rattle.rw_recv_head.specs.Blocks.{sealed_of, open_of};
+ghost use Rattle.rw_recv_head.specs.declared.verdict.Verdict.TheVariants.{NoMemory};
 
+use crate::block::Block;
+use crate::blocks::Blocks;
 use crate::verdict::Verdict;
 use rw_types::Word;
 use std::alloc::{AllocError, Global};
@@ -13,7 +17,7 @@ use std::marker::Model;
 /// Contracts see the samples that are kept, and these together with the staged ones.
 #[derive(Debug, Drop)]
 pub(crate) struct SampleList {
-    samples: Vec<(i64, Word)>,
+    samples: Blocks,
     kept: usize,
 }
 
@@ -23,38 +27,9 @@ impl Model for SampleList {
 
     ghost Value = { Lists };
 
-    ghost view = { λ s. record { kept = take s.kept s.samples.items; staged = s.samples.items } };
+    ghost view = { λ s. record { kept = take s.kept s.samples; staged = s.samples } };
 
-    ghost invariant = { λ s. (s.kept ≤ length s.samples.items) × Rises s.samples.items };
-}
-
-/// Whether a timestamp is later than the last of the samples, or there is none.
-fn is_later(samples: &[(i64, Word)], t: i64) -> bool
-    ensures { result ≡ is_later t samples.now }
-{
-    match samples.last() {
-        Some(last) => last.0 < t,
-        None => true,
-    }
-}
-
-/// Whether the sample stands among these.
-fn holds(samples: &[(i64, Word)], t: i64, word: Word) -> bool
-    requires { Rises samples.now }
-    ensures { result ≡ holds (t, word) samples.now }
-{
-    match samples.binary_search_by_key(&t, |sample| sample.0) {
-        Ok(at) => samples[at].1 == word,
-        Err(_) => false,
-    }
-}
-
-fn push(samples: &mut Vec<(i64, Word)>, sample: (i64, Word)) -> Result<(), AllocError>
-    ensures ok { OnOk result (samples.new.items ≡ samples.old.items ++ sample ∷ []) }
-    ensures err { OnErr result (samples.new.items ≡ samples.old.items) }
-{
-    samples.push(sample)?;
-    Ok(())
+    ghost invariant = { λ s. (s.kept ≤ length s.samples) × Rises s.samples };
 }
 
 impl SampleList {
@@ -63,23 +38,25 @@ impl SampleList {
         ensures { result ≡ no_lists }
     {
         SampleList {
-            samples: Vec::new(alloc),
+            samples: Blocks::new(alloc),
             kept: 0,
         }
     }
 
     /// Stages a sample, if it is later than the last one. A repeat changes nothing, and any other is refused.
     fn stage(&mut self, t: i64, word: Word) -> Result<(), Verdict>
+        requires { length self.old.staged < 2 ^ 60 }
         ensures kept { self.new.kept ≡ self.old.kept }
         ensures staged { ListGives result (accept_one self.old.staged (t, word)) self.new.staged }
         ensures grown { length self.old.staged ≤ length self.new.staged }
         ensures few { length self.new.staged ≤ length self.old.staged + 1 }
+        ensures memory { result ≡ Err NoMemory → is_later t self.old.staged ≡ true }
     {
-        if is_later(&self.samples, t) {
-            push(&mut self.samples, (t, word))?;
+        if self.samples.is_later(t) {
+            self.samples.push((t, word))?;
             return Ok(());
         }
-        if holds(&self.samples, t, word) {
+        if self.samples.holds(t, word) {
             return Ok(());
         }
         Err(Verdict::OutOfOrder)
@@ -87,6 +64,7 @@ impl SampleList {
 
     /// Stages samples, one after the other, up to the first that is refused.
     pub(crate) fn stage_all(&mut self, samples: &[(Word, i64)]) -> Result<(), Verdict>
+        requires { length self.old.staged + length samples.now ≤ 2 ^ 60 }
         ensures kept { self.new.kept ≡ self.old.kept }
         ensures staged { ListGives result (accept (Some self.old.staged) (points samples.now)) self.new.staged }
         ensures grown { length self.old.staged ≤ length self.new.staged }
@@ -112,18 +90,37 @@ impl SampleList {
         self.samples.truncate(self.kept);
     }
 
-    /// The samples that are kept.
-    pub(crate) fn kept(&self) -> &[(i64, Word)]
-        ensures { result.now ≡ self.now.kept }
+    /// A copy of the samples that are kept.
+    pub(crate) fn to_vec(&self, alloc: Global) -> Result<Vec<(i64, Word)>, AllocError>
+        ensures { IfOk result (λ v. v.items ≡ self.now.kept) }
     {
-        &self.samples[..self.kept]
+        let mut samples = self.samples.to_vec(alloc)?;
+        samples.truncate(self.kept);
+        Ok(samples)
+    }
+
+    /// The full blocks, where nothing is staged.
+    pub(crate) fn sealed(&self) -> &[Box<Block>]
+        requires { self.now.staged ≡ self.now.kept }
+        ensures { map (λ b. b.value) result.now ≡ sealed_of self.now.kept }
+    {
+        self.samples.sealed()
+    }
+
+    /// The samples behind the full blocks, where nothing is staged.
+    pub(crate) fn open(&self) -> &[(i64, Word)]
+        requires { self.now.staged ≡ self.now.kept }
+        ensures samples { result.now ≡ open_of self.now.kept }
+        ensures few { length result.now < 120 }
+    {
+        self.samples.open()
     }
 
     /// Whether there are samples that are kept.
     pub(crate) fn has_samples(&self) -> bool
         ensures { result ≡ has_samples self.now.kept }
     {
-        !self.kept().is_empty()
+        self.kept > 0
     }
 
     /// How many samples there are with those that are staged.

@@ -1,14 +1,19 @@
 //! The lists of all label sets, and what a message would make of them.
 
-ghost use Rattle.std.specs.Prelude.{◌≡◌, ◌+◌, ◌-◌, ◌^◌, ◌<◌, ◌≤◌, ◌++◌, ◌∷◌, [], ℕ, List, length, Option, None, Some, IfOk, OnOk, OnErr, slice_index_or, slice_set};
+ghost use Rattle.std.specs.Prelude.{◌≡◌, ◌≢◌, ◌↔◌, ◌+◌, ◌-◌, ◌^◌, ◌<◌, ◌≤◌, ◌++◌, ◌∷◌, [], ℕ, length, None, Some, IsTrue, IfOk, IfErr, OnOk, OnErr, if◌then◌else◌, vec_len, vec_capacity, map, slice_index_or, slice_set};
 ghost use Rattle.std.specs.BTreeMap.{get};
 ghost use Rattle.std.specs.FinMap.{empty};
-ghost use Rattle.rw_types.specs.LabelOrder.{labels_cmp};
+ghost use Rattle.std.specs.List.{list_any};
+ghost use Rattle.rw_types.specs.Labels.{Labels};
+ghost use Rattle.rw_types.specs.LabelOrder.{labels_cmp, labels_eq};
+ghost use Rattle.rw_recv_head.specs.declared.verdict.Verdict.TheVariants.{OutOfOrder, NoMemory};
 ghost use Rattle.rw_recv_head.specs.Order.{points, accept};
 ghost use Rattle.rw_recv_head.specs.Store.{list_of, total, label_sets, HasNoEmptyList};
 ghost use Rattle.rw_recv_head.specs.Verdicts.{accepted};
-ghost use Rattle.rw_recv_head.specs.Lists.{no_lists, HasPlaces, Settled, kept_store, staged_store, ListGives, StoreGives};
+ghost use Rattle.rw_recv_head.specs.Blocks.{sealed_of, open_of};
+ghost use Rattle.rw_recv_head.specs.Lists.{no_lists, Settled, IsAdded, ListGives, StoreGives};
 
+use crate::block::Block;
 use crate::label_sets::LabelSets;
 use crate::sample_list::SampleList;
 use crate::verdict::Verdict;
@@ -21,18 +26,21 @@ use std::mem;
 /// How many samples all lists may have together.
 const MOST_SAMPLES: u64 = 1 << 60;
 
-/// A list of samples for each label set. Those of a message that is not judged yet are staged, and then kept or forgotten together.
-/// Contracts see the store that is kept, and the store that it is with what is staged.
+/// A list of samples for each label set that has some. Those of a message that is not judged yet are staged, and then kept or forgotten
+/// together, with the label sets that the message brought. Contracts see the store that is kept, the store that it is with what is staged,
+/// and how many places and label sets are noted for the message.
 #[derive(Debug, Drop)]
 pub(crate) struct Table {
     index: BTreeMap<LabelSet, usize>,
     lists: Vec<SampleList>,
     touched: Vec<usize>,
+    fresh: Vec<LabelSet>,
     count: u64,
     staged_count: u64,
 }
 
 impl Model for Table {
+    ghost use Rattle.std.specs.Prelude.{◌+◌, length};
     ghost use Rattle.std.specs.Coded.{codes};
     ghost use Rattle.std.specs.FinMap as map;
     ghost use Rattle.rw_recv_head.specs.Lists.{Stores, kept_store, staged_store, IsSound};
@@ -41,56 +49,89 @@ impl Model for Table {
 
     ghost coded = { Prim.hlevel (codes, map.code) };
 
-    ghost view = { λ t. record { kept = kept_store t.index.entries t.lists.items; staged = staged_store t.index.entries t.lists.items } };
+    ghost view = { λ t. record { kept = kept_store t.index.entries t.lists.items; staged = staged_store t.index.entries t.lists.items; noted = length t.touched.items + length t.fresh.items } };
 
-    ghost invariant = { λ t. IsSound t.index t.lists.items t.touched.items t.count t.staged_count };
+    ghost invariant = { λ t. IsSound t.index t.lists.items t.touched.items t.fresh.items t.count t.staged_count };
 }
 
-/// Makes an empty list for a label set that has none, and answers its place.
-fn make_place(
-    index: &mut BTreeMap<LabelSet, usize>,
-    lists: &mut Vec<SampleList>,
-    labels: LabelSet,
-) -> Result<usize, AllocError>
-    requires absent { get labels_cmp index.old labels ≡ None }
-    requires places { HasPlaces index.old lists.old.items }
-    ensures ok { IfOk result (λ n. (get labels_cmp index.new labels ≡ Some n) × (lists.new.items ≡ lists.old.items ++ no_lists ∷ [])) }
-    ensures err { OnErr result (lists.new.items ≡ lists.old.items) }
-    ensures places { HasPlaces index.new lists.new.items }
-    ensures settled { (touched : List ℕ) → Settled touched lists.old.items → Settled touched lists.new.items }
-    ensures kept { kept_store index.new.entries lists.new.items ≡ kept_store index.old.entries lists.old.items }
-    ensures staged { staged_store index.new.entries lists.new.items ≡ staged_store index.old.entries lists.old.items }
+/// Whether there is room for so many samples more.
+fn has_room(count: u64, more: usize) -> bool
+    requires { count ≤ 2 ^ 60 }
+    ensures { IsTrue result ↔ (count + more ≤ 2 ^ 60) }
 {
-    let place = lists.len();
-    let alloc = *lists.allocator();
-    lists.push(SampleList::new(alloc))?;
-    match index.insert(labels, place) {
-        Ok(_) => Ok(place),
-        Err(refused) => {
-            lists.pop();
-            Err(AllocError::from(refused))
-        }
+    more as u64 <= MOST_SAMPLES - count
+}
+
+/// Puts an item behind the others, where there is room for it.
+fn put<T: Drop>(items: &mut Vec<T>, item: T)
+    requires { vec_len items.old < vec_capacity items.old }
+    ensures { items.new.items ≡ items.old.items ++ item ∷ [] }
+{
+    match items.push(item) {
+        Ok(()) => {}
+        Err(_) => unreachable!(),
     }
 }
 
-/// The place of a label set. One that has none gets an empty list, and takes the labels out of where they stand.
-fn place_of(
+/// A copy of a label set.
+fn copy_of(alloc: Global, labels: &LabelSet) -> Result<LabelSet, AllocError>
+    ensures { IfOk result (λ l. l ≡ labels.now) }
+{
+    let mut copy = LabelSet::empty(alloc);
+    match copy.assign(labels.as_slice()) {
+        Ok(()) => Ok(copy),
+        Err(_) => Err(AllocError),
+    }
+}
+
+/// A list of samples of a label set that had none, all of them staged.
+fn new_list(alloc: Global, samples: &[(Word, i64)]) -> Result<SampleList, Verdict>
+    requires { length samples.now ≤ 2 ^ 60 }
+    ensures kept { IfOk result (λ x. x.kept ≡ []) }
+    ensures staged { IfOk result (λ x. accept (Some []) (points samples.now) ≡ Some x.staged) }
+    ensures few { IfOk result (λ x. length x.staged ≤ length samples.now) }
+    ensures err { IfErr result (λ v. v ≢ NoMemory → (v ≡ OutOfOrder) × (accept (Some []) (points samples.now) ≡ None)) }
+{
+    let mut list = SampleList::new(alloc);
+    list.stage_all(samples)?;
+    Ok(list)
+}
+
+/// Adds the list of a label set that has none, and takes the labels out of where they stand.
+fn add_list(
     index: &mut BTreeMap<LabelSet, usize>,
     lists: &mut Vec<SampleList>,
+    touched: &mut Vec<usize>,
+    fresh: &mut Vec<LabelSet>,
     labels: &mut LabelSet,
-) -> Result<usize, AllocError>
-    requires { HasPlaces index.old lists.old.items }
-    ensures ok { IfOk result (λ n. get labels_cmp index.new labels.old ≡ Some n) }
-    ensures places { HasPlaces index.new lists.new.items }
-    ensures settled { (touched : List ℕ) → Settled touched lists.old.items → Settled touched lists.new.items }
-    ensures kept { kept_store index.new.entries lists.new.items ≡ kept_store index.old.entries lists.old.items }
-    ensures staged { staged_store index.new.entries lists.new.items ≡ staged_store index.old.entries lists.old.items }
+    list: SampleList,
+) -> Result<(), AllocError>
+    ensures ok { OnOk result (IsAdded index.old index.new lists.old.items lists.new.items touched.old.items touched.new.items fresh.old.items fresh.new.items labels.old list) }
+    ensures index { OnErr result (index.new.entries ≡ index.old.entries) }
+    ensures lists { OnErr result (lists.new.items ≡ lists.old.items) }
+    ensures touched { OnErr result (touched.new.items ≡ touched.old.items) }
+    ensures fresh { OnErr result (fresh.new.items ≡ fresh.old.items) }
 {
-    if let Some(place) = index.get(&*labels) {
-        return Ok(*place);
-    }
     let alloc = *lists.allocator();
-    make_place(index, lists, mem::replace(labels, LabelSet::empty(alloc)))
+    lists.reserve(1)?;
+    touched.reserve(1)?;
+    fresh.reserve(1)?;
+    let copy = copy_of(alloc, labels)?;
+    let place = lists.len();
+    index.insert(mem::replace(labels, LabelSet::empty(alloc)), place)?;
+    put(lists, list);
+    put(touched, place);
+    put(fresh, copy);
+    Ok(())
+}
+
+/// Takes these label sets out.
+fn take_out(index: &mut BTreeMap<LabelSet, usize>, fresh: &[LabelSet])
+    ensures { (q : Labels) → get labels_cmp index.new q ≡ (if list_any (labels_eq q) fresh.now then None else get labels_cmp index.old q) }
+{
+    for labels in fresh {
+        index.remove(labels);
+    }
 }
 
 /// Stages samples in the list at a place.
@@ -99,7 +140,8 @@ fn stage_at(
     place: usize,
     samples: &[(Word, i64)],
 ) -> Result<(), Verdict>
-    requires { place < length lists.old.items }
+    requires place { place < length lists.old.items }
+    requires room { length (slice_index_or lists.old.items place no_lists).staged + length samples.now ≤ 2 ^ 60 }
     ensures list { lists.new.items ≡ slice_set lists.old.items place (slice_index_or lists.new.items place no_lists) }
     ensures kept { (slice_index_or lists.new.items place no_lists).kept ≡ (slice_index_or lists.old.items place no_lists).kept }
     ensures staged { ListGives result (accept (Some (slice_index_or lists.old.items place no_lists).staged) (points samples.now)) (slice_index_or lists.new.items place no_lists).staged }
@@ -145,12 +187,13 @@ fn note(touched: &mut Vec<usize>, place: usize) -> Result<(), AllocError>
 impl Table {
     /// No samples. This takes no memory.
     pub(crate) fn new(alloc: Global) -> Table
-        ensures { result ≡ record { kept = empty; staged = empty } }
+        ensures { result ≡ record { kept = empty; staged = empty; noted = 0 } }
     {
         Table {
             index: BTreeMap::new(alloc),
             lists: Vec::new(alloc),
             touched: Vec::new(alloc),
+            fresh: Vec::new(alloc),
             count: 0,
             staged_count: 0,
         }
@@ -172,18 +215,36 @@ impl Table {
         ensures kept { self.new.kept ≡ self.old.kept }
         ensures staged { StoreGives result (accepted labels.old self.old.staged (accept (Some (list_of self.old.staged labels.old)) (points samples.now))) self.new.staged }
     {
-        if samples.len() as u64 > MOST_SAMPLES - (self.count + self.staged_count) {
+        if !has_room(self.count + self.staged_count, samples.len()) {
             return Err(Verdict::NoMemory);
         }
         if samples.is_empty() {
             return Ok(());
         }
-        let place = place_of(&mut self.index, &mut self.lists, labels)?;
-        note(&mut self.touched, place)?;
-        let before = self.lists[place].staged_len();
-        let outcome = stage_at(&mut self.lists, place, samples);
-        self.staged_count += (self.lists[place].staged_len() - before) as u64;
-        outcome
+        match self.index.get(&*labels) {
+            Some(place) => {
+                let place = *place;
+                note(&mut self.touched, place)?;
+                let before = self.lists[place].staged_len();
+                let outcome = stage_at(&mut self.lists, place, samples);
+                self.staged_count += (self.lists[place].staged_len() - before) as u64;
+                outcome
+            }
+            None => {
+                let list = new_list(*self.lists.allocator(), samples)?;
+                let count = list.staged_len() as u64;
+                add_list(
+                    &mut self.index,
+                    &mut self.lists,
+                    &mut self.touched,
+                    &mut self.fresh,
+                    labels,
+                    list,
+                )?;
+                self.staged_count += count;
+                Ok(())
+            }
+        }
     }
 
     /// Keeps what is staged, and answers how many samples that is. This takes no memory.
@@ -191,31 +252,71 @@ impl Table {
         ensures kept { self.new.kept ≡ self.old.staged }
         ensures staged { self.new.staged ≡ self.old.staged }
         ensures count { result ≡ total self.old.staged - total self.old.kept }
+        ensures noted { self.new.noted ≡ 0 }
     {
         commit_all(&mut self.lists, &self.touched);
         self.touched.clear();
+        self.fresh.clear();
         let count = self.staged_count;
         self.count += count;
         self.staged_count = 0;
         count
     }
 
-    /// Forgets what is staged. This takes no memory.
+    /// Forgets what is staged, with the label sets that came with it. This takes no memory.
     pub(crate) fn abort(&mut self)
         ensures kept { self.new.kept ≡ self.old.kept }
         ensures staged { self.new.staged ≡ self.old.kept }
+        ensures noted { self.new.noted ≡ 0 }
     {
         abort_all(&mut self.lists, &self.touched);
+        take_out(&mut self.index, &self.fresh);
+        self.lists.truncate(self.lists.len() - self.fresh.len());
         self.touched.clear();
+        self.fresh.clear();
         self.staged_count = 0;
     }
 
-    /// The samples of a label set that are kept.
-    pub(crate) fn kept(&self, labels: &LabelSet) -> &[(i64, Word)]
-        ensures { result.now ≡ list_of self.now.kept labels.now }
+    /// How many label sets have a place.
+    pub(crate) fn places(&self) -> usize
+        ensures { result ≡ length (label_sets self.now.staged) }
+    {
+        self.index.len()
+    }
+
+    /// A copy of the samples of a label set that are kept.
+    pub(crate) fn to_vec(
+        &self,
+        alloc: Global,
+        labels: &LabelSet,
+    ) -> Result<Vec<(i64, Word)>, AllocError>
+        ensures { IfOk result (λ v. v.items ≡ list_of self.now.kept labels.now) }
     {
         match self.index.get(labels) {
-            Some(place) => self.lists[*place].kept(),
+            Some(place) => self.lists[*place].to_vec(alloc),
+            None => Ok(Vec::new(alloc)),
+        }
+    }
+
+    /// The full blocks of a label set, where nothing is staged.
+    pub(crate) fn sealed(&self, labels: &LabelSet) -> &[Box<Block>]
+        requires { self.now.staged ≡ self.now.kept }
+        ensures { map (λ b. b.value) result.now ≡ sealed_of (list_of self.now.kept labels.now) }
+    {
+        match self.index.get(labels) {
+            Some(place) => self.lists[*place].sealed(),
+            None => &[],
+        }
+    }
+
+    /// The samples of a label set behind its full blocks, where nothing is staged.
+    pub(crate) fn open(&self, labels: &LabelSet) -> &[(i64, Word)]
+        requires { self.now.staged ≡ self.now.kept }
+        ensures samples { result.now ≡ open_of (list_of self.now.kept labels.now) }
+        ensures few { length result.now < 120 }
+    {
+        match self.index.get(labels) {
+            Some(place) => self.lists[*place].open(),
             None => &[],
         }
     }

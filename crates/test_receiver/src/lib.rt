@@ -2,6 +2,8 @@
 #![tactic(auto)]
 
 #[cfg(test)]
+mod blocks;
+#[cfg(test)]
 mod bodies;
 #[cfg(test)]
 mod broken;
@@ -23,3 +25,5 @@ mod seat_bodies;
 mod seats;
 #[cfg(test)]
 mod store;
+#[cfg(test)]
+mod waiting;

@@ -6,13 +6,13 @@ use rw_write_request::{Message, Series};
 use std::alloc::{AllocError, Global};
 use std::test::Fail;
 
-type Labels<'a> = &'a [(&'a str, &'a str)];
+pub(crate) type Labels<'a> = &'a [(&'a str, &'a str)];
 
-type Samples<'a> = &'a [(i64, u64)];
+pub(crate) type Samples<'a> = &'a [(i64, u64)];
 
-const UP: Labels<'static> = &[("__name__", "up")];
+pub(crate) const UP: Labels<'static> = &[("__name__", "up")];
 
-const DOWN: Labels<'static> = &[("__name__", "down")];
+pub(crate) const DOWN: Labels<'static> = &[("__name__", "down")];
 
 const WIDE: Labels<'static> = &[("__name__", "up"), ("job", "x")];
 

@@ -1,6 +1,6 @@
 use Rattle.std.proofs.Common.{subst, sym, ◌∙◌}
 use Rattle.rw_recv_head.specs.Growth.{sample_count}
-use Rattle.rw_recv_head.proofs.GrowthLemmas.{Grown, kept_grown, ready_again}
+use Rattle.rw_recv_head.proofs.GrowthLemmas.{Grown, kept_grown, ready_again, blocks_kept}
 use Rattle.rw_recv_head.proofs.head.Head.apply.Goals as goal
 
 grown_inside : (c : goal.After-commit) → Grown c.self.inside.table.kept c.commit.new.self.kept (sample_count c.deref.result.now)
@@ -14,7 +14,7 @@ grown c =
 
 pub invariant_of-self : goal.invariant_of-self
 invariant_of-self c =
-    ready_again c.self.inside.table.kept (sample_count c.deref.result.now) c.commit.new.self (grown_inside c) (c.commit.ensures.staged ∙ sym c.commit.ensures.kept)
+    ready_again c.self.inside.table.kept (sample_count c.deref.result.now) c.commit.new.self (grown_inside c) (c.commit.ensures.staged ∙ sym c.commit.ensures.kept) c.commit.ensures.noted
 
 pub returns-in-Ok-clause-more : goal.returns-in-Ok-clause-more
 returns-in-Ok-clause-more c = let g = grown c in g.more
@@ -24,3 +24,6 @@ returns-in-Ok-clause-few c = let g = grown c in g.few
 
 pub returns-in-Ok-clause-rises : goal.returns-in-Ok-clause-rises
 returns-in-Ok-clause-rises c = let g = grown_inside c in g.rises
+
+pub returns-in-Ok-clause-blocks : goal.returns-in-Ok-clause-blocks
+returns-in-Ok-clause-blocks c = let g = grown c in blocks_kept _ _ _ g

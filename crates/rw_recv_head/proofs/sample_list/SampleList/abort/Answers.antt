@@ -5,7 +5,7 @@ use Rattle.rw_recv_head.proofs.sample_list.SampleList.abort.Goals as goal
 
 pub invariant_of-self : goal.invariant_of-self
 invariant_of-self c =
-    rw c.truncate.ensures.items (
-      rw (length-take-le c.self.inside.kept c.self.inside.samples.items c.self.invariant.0) (omega arith),
-      Rises-take c.self.inside.kept c.self.inside.samples.items c.self.invariant.1,
+    rw c.truncate.ensures (
+      rw (length-take-le c.self.inside.kept c.self.inside.samples c.self.invariant.0) (omega arith),
+      Rises-take c.self.inside.kept c.self.inside.samples c.self.invariant.1,
     )

@@ -4,8 +4,8 @@ use Rattle.rw_recv_head.proofs.table.Table.commit.Goals as goal
 
 pub invariant_of-self : goal.invariant_of-self
 invariant_of-self c =
-    IsSound-committed c.self.inside.index c.self.inside.lists.items c.commit_all.new.lists.items c.self.inside.touched.items c.clear.new.self.items c.self.inside.count c.self.inside.staged_count
-    c.self.invariant c.clear.ensures.items c.commit_all.ensures.len c.commit_all.ensures.kept c.commit_all.ensures.staged
+    IsSound-committed c.self.inside.index c.self.inside.lists.items c.commit_all.new.lists.items c.self.inside.touched.items c.clear.new.self.items c.self.inside.fresh.items c.clear-2.new.self.items c.self.inside.count c.self.inside.staged_count
+    c.self.invariant c.clear.ensures.items c.clear-2.ensures.items c.commit_all.ensures.len c.commit_all.ensures.kept c.commit_all.ensures.staged
 
 pub returns-clause-kept : goal.returns-clause-kept
 returns-clause-kept c =

@@ -1,7 +1,7 @@
 use Rattle.std.proofs.Common.{sym, w64, FitsSigned, rules}
 use Rattle.std.proofs.Math.Facts.{to_z-of_z}
 use Rattle.rw_recv_head.proofs.OrderLemmas.{later_of_last}
-use Rattle.rw_recv_head.proofs.sample_list.is_later.Goals as goal
+use Rattle.rw_recv_head.proofs.blocks.is_later.Goals as goal
 
 pub returns-in-Some : goal.returns-in-Some
 returns-in-Some c =
