@@ -50,25 +50,3 @@ module _ {K : Type 0} (v : K → Labels) where
       → slice_get new i ≡ Some k → labels_eq l (v k) ≡ true → old ≡ get_or gs i old → g ≡ record { labels = old.labels; samples = old.samples ++ s ∷ [] } → set gs i g ≡ with_sample l s gs
   grown ks new k gs l s i old g stay same apart at equal is pushed =
       ap (set gs i) pushed ∙ with_sample-at gs i l s old apart (labels_at ks new k gs l i stay same at equal) is
-
-  pub keys_of_grown : (ks new : List K) (k : K) (gs : WriteRequest) (l : Labels) (s : Sample) (i : ℕ) (old g : TimeSeries) → new ≡ ks → map v ks ≡ labels_of gs
-      → slice_get new i ≡ Some k → labels_eq l (v k) ≡ true → old ≡ get_or gs i old → g ≡ record { labels = old.labels; samples = old.samples ++ s ∷ [] } → map v new ≡ labels_of (set gs i g)
-  keys_of_grown ks new k gs l s i old g stay same at equal is pushed =
-      let below = get_below (labels_of gs) i l (labels_at ks new k gs l i stay same at equal) in
-      ap (map v) stay ∙ same ∙ sym (labels_of-set gs i old g (omega (arith, below, length-map gs (λ (x : TimeSeries). x.labels))) is (ap (λ (x : TimeSeries). x.labels) pushed))
-
-message-none : message [] ≡ []
-unfolding message distinct
-message-none = refl
-
--- before the first sample
-pub none_grouped : (gs : WriteRequest) → gs ≡ [] → gs ≡ message []
-none_grouped gs e = e ∙ sym message-none
-
--- one sample more
-pub grouped_more : (xs : List LabelledSample) (i : ℕ) (x : LabelledSample) (gs new : WriteRequest) (l m : Labels) (s : Sample) → i < length xs → x ≡ get_or xs i x → gs ≡ message (take i xs)
-    → record { labels = l; sample = s } ≡ x → m ≡ l → new ≡ with_sample m s gs → new ≡ message (take (i + 1) xs)
-grouped_more xs i x gs new l m s lt is so_far view same added =
-    let next : take (i + 1) xs ≡ take i xs ++ x ∷ [] = ap (λ (k : ℕ). take k xs) (add-one i) ∙ take-suc xs i x lt ∙ ap (λ (y : LabelledSample). take i xs ++ y ∷ []) (sym is) in
-    added ∙ ap (λ (r : WriteRequest). with_sample m s r) so_far ∙ ap (λ (r : Labels). with_sample r s (message (take i xs))) same
-    ∙ ap (λ (y : LabelledSample). with_sample y.labels y.sample (message (take i xs))) view ∙ sym (message-push (take i xs) x) ∙ ap message (sym next)

@@ -1,11 +1,12 @@
 -- A batch (Remote-Write 1.0): a stretch of one shard's samples, with one id and one body for good.
 use Rattle.std.specs.Global.{Global}
-use Rattle.std.specs.Prelude.{◌≡◌, ℕ, ◌+◌, ◌-◌, ◌≤◌, Vec, vec_len, vec_capacity, List, [], ◌∷◌, ◌++◌, length, Some, slice_get}
+use Rattle.std.specs.Prelude.{◌≡◌, ℕ, ◌+◌, ◌-◌, ◌≤◌, Vec, vec_capacity, List, [], ◌∷◌, ◌++◌, length, Some, slice_get}
 use Rattle.rw_types.specs.declared.place.Place.{Place}
 use Rattle.rw_shard_queue.specs.declared.item.Item.{Item}
 use Rattle.rw_shard_queue.specs.declared.item.Item.TheVariants.{Sample, Flush, End}
 use Rattle.rw_write_request.specs.Canon.{canon}
 use Rattle.rw_batch.specs.Grouping.{LabelledSample, message}
+use Rattle.rw_batch.specs.Kept.{Fielded, Rowed, samples_alone}
 use Rattle.rw_batch.specs.declared.batch.BatchId.{BatchId}
 
 -- samples that are taken until there are so many: where each stands and what it is, in the same order
@@ -47,10 +48,12 @@ id_of (p ∷ ps) = record { epoch = p.epoch; shard = p.shard; seq = p.seq }
 abbrev pub batch_of : Building → Frozen
 batch_of b = record { places = b.places; body = canon (message b.samples) }
 
--- what a builder keeps: room for a whole batch, a place for each sample, and one shard's samples in order
-pub record IsBuilding (batch : ℕ) (places : Vec Place Global) (samples : Vec LabelledSample Global) : Type 0 where
-  pub alike : length places.items ≡ length samples.items
-  pub within : vec_len samples ≤ batch
+-- what a builder keeps: a place for each sample, and one shard's samples in order, with their fields and their series
+pub record IsBuilding (batch : ℕ) (places : Vec Place Global) (fields : Fielded) (rows : Rowed) : Type 0 where
+  pub alike : length places.items ≡ length rows.samples
+  pub within : length rows.samples ≤ batch
   pub place_room : batch ≤ vec_capacity places
-  pub sample_room : batch ≤ vec_capacity samples
+  pub field_room : fields.room ≡ batch
+  pub row_room : rows.room ≡ batch
+  pub same : fields.samples ≡ samples_alone rows.samples
   pub stretch : IsStretch places.items

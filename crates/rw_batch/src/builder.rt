@@ -1,12 +1,16 @@
 //! A batch that grows sample by sample.
 
-ghost use Rattle.std.specs.Prelude.{◌≡◌, ◌↔◌, ◌+◌, ◌<◌, ◌≤◌, [], length, IsTrue, IfOk, IfErr, OnOk, OnErr};
+ghost use Rattle.std.specs.Prelude.{◌≡◌, ◌↔◌, ◌+◌, ◌<◌, ◌≤◌, [], length, Some, slice_get, IsTrue, IfOk, IfErr, OnOk, OnErr};
+ghost use Rattle.rw_write_request.specs.Canon.{sample_field};
 ghost use Rattle.rw_write_request.specs.Spells.{Spells};
 ghost use Rattle.rw_batch.specs.Batches.{Follows, MayBeTaken, with_item, batch_of};
-ghost use Rattle.rw_batch.specs.Grouping.{message};
+ghost use Rattle.rw_batch.specs.Grouping.{LabelledSample, message};
 
 use crate::batch::Batch;
-use crate::body::{Labelled, body_of};
+use crate::body::body_of;
+use crate::fields::Fields;
+use crate::rows::{Labelled, Rows};
+use bytes::Bytes;
 use rw_ledger::Ledger;
 use rw_shard_queue::Item;
 use rw_types::Place;
@@ -21,18 +25,18 @@ pub const MAX_BATCH: usize = 10_000;
 pub struct Builder {
     batch: usize,
     places: Vec<Place>,
-    samples: Vec<Labelled>,
+    fields: Fields,
+    rows: Rows,
 }
 
 impl Model for Builder {
-    ghost use Rattle.std.specs.Prelude.{◌≡◌, ◌≤◌, vec_len, vec_capacity};
     ghost use Rattle.rw_batch.specs.Batches.{Building, IsBuilding};
 
     ghost Value = { Building };
 
-    ghost view = { λ b. record { batch = b.batch; places = b.places.items; samples = b.samples.items } };
+    ghost view = { λ b. record { batch = b.batch; places = b.places.items; samples = b.rows.samples } };
 
-    ghost invariant = { λ b. IsBuilding b.batch b.places b.samples };
+    ghost invariant = { λ b. IsBuilding b.batch b.places b.fields b.rows };
 }
 
 /// Whether a place is the next one of the same shard, where there is one before it.
@@ -58,7 +62,8 @@ impl Builder {
         Ok(Builder {
             batch,
             places: Vec::with_capacity(alloc, batch)?,
-            samples: Vec::with_capacity(alloc, batch)?,
+            fields: Fields::new(alloc, batch)?,
+            rows: Rows::new(alloc, batch)?,
         })
     }
 
@@ -67,13 +72,13 @@ impl Builder {
         ensures len { result ≡ length self.now.samples }
         ensures within { result ≤ self.now.batch }
     {
-        self.samples.len()
+        self.places.len()
     }
 
     pub fn is_empty(&self) -> bool
         ensures { IsTrue result ↔ (self.now.samples ≡ []) }
     {
-        self.samples.is_empty()
+        self.places.is_empty()
     }
 
     /// Where the samples stand, in order.
@@ -87,7 +92,7 @@ impl Builder {
     pub fn is_full(&self) -> bool
         ensures { IsTrue result ↔ (length self.now.samples ≡ self.now.batch) }
     {
-        self.samples.len() == self.batch
+        self.places.len() == self.batch
     }
 
     /// Whether the item is the next sample of the shard, and fits.
@@ -96,13 +101,13 @@ impl Builder {
     {
         match item {
             Item::Sample(place, _, _, _) => {
-                self.samples.len() < self.batch && follows(&self.places, place)
+                self.places.len() < self.batch && follows(&self.places, place)
             }
             Item::Flush | Item::End(_) => false,
         }
     }
 
-    /// Takes the next sample of the shard.
+    /// Takes the next sample of the shard. The number of its series is a hint, and need not be right. This takes no memory.
     pub fn take(&mut self, item: Item)
         requires room { length self.old.samples < self.old.batch }
         requires sample { MayBeTaken self.old.places item }
@@ -111,13 +116,41 @@ impl Builder {
         match item {
             Item::Sample(place, t, word, labels) => {
                 self.places.push_reserved(place);
-                self.samples.push_reserved(Labelled {
-                    labels,
-                    sample: (word, t),
-                });
+                let bytes = self.fields.push(word, t);
+                let sample = (word, t);
+                self.rows
+                    .push(place.series, Labelled { labels, sample }, bytes);
             }
             Item::Flush | Item::End(_) => unreachable!(),
         }
+    }
+
+    /// The field of the sample that was taken as number `k`, counted from 0, in the canonical spelling of its message. This takes no memory.
+    pub fn field(&self, k: usize) -> &[u8]
+        requires { k < length self.now.samples }
+        ensures { (x : LabelledSample) → slice_get self.now.samples k ≡ Some x → result.now ≡ sample_field x.sample }
+    {
+        self.fields.get(k)
+    }
+
+    /// The body of the batch that `freeze` would make.
+    pub fn body(&self) -> Result<Vec<u8>, AllocError>
+        requires { 0 < length self.now.samples }
+        ensures body { IfOk result (λ v. v.items ≡ (batch_of self.now).body) }
+        // A reader of it finds the message of the samples.
+        ensures spells { IfOk result (λ v. Spells v.items (message self.now.samples)) }
+    {
+        body_of(*self.places.allocator(), &self.rows, &self.fields)
+    }
+
+    /// The body in a buffer that can be shared.
+    fn shared_body(&self) -> Result<Bytes, AllocError>
+        requires { 0 < length self.now.samples }
+        ensures body { IfOk result (λ b. b ≡ (batch_of self.now).body) }
+        ensures spells { IfOk result (λ b. Spells b (message self.now.samples)) }
+    {
+        let body = self.body()?;
+        Ok(Bytes::from_vec(body)?)
     }
 
     /// The batch of the samples, for each of which the ledger gets room for a name. Where memory is refused the builder comes back.
@@ -131,17 +164,13 @@ impl Builder {
         ensures builder { IfErr result (λ e. e.0 ≡ self) }
         ensures ledger { OnErr result (ledger.new ≡ ledger.old) }
     {
-        let count = self.samples.len();
+        let count = self.places.len();
         if ledger.room(count).is_err() {
             return Err((self, AllocError));
         }
-        match body_of(*self.samples.allocator(), &self.samples) {
+        match self.shared_body() {
             Ok(body) => {
-                let Builder {
-                    batch: _,
-                    places,
-                    samples: _,
-                } = self;
+                let Builder { places, .. } = self;
                 Ok(Batch { places, body })
             }
             Err(refused) => {

@@ -4,8 +4,11 @@
 mod batch;
 mod body;
 mod builder;
+mod fields;
+mod found;
 mod grouping;
 mod laws;
+mod rows;
 
 pub use batch::{Batch, BatchId};
 pub use builder::{Builder, MAX_BATCH};

@@ -1,20 +1,25 @@
 -- What a shard's core keeps, as samples are taken and batches are frozen.
-use Rattle.std.proofs.Common.{◌≡◌, ℕ, zero, suc, ◌-◌, ◌<◌, Bool, true, false, not, ◌&&◌, ◌||◌, nat_le, List, [], ◌∷◌, ◌++◌, length, map, Option, None, Some, All, IfSome, refl, sym, subst, ap, ◌∙◌, append_assoc, length-append, arith}
+use Rattle.std.proofs.Common.{◌≡◌, ℕ, zero, suc, ◌+◌, ◌-◌, ◌<◌, Bool, true, false, cond, not, ◌&&◌, ◌||◌, nat_le, List, [], ◌∷◌, ◌++◌, length, map, Option, None, Some, All, IfSome, refl, sym, subst, ap, ap₂, ◌∙◌, append_assoc, length-append, arith}
 use Rattle.std.proofs.lemmas.Bool.Decides.{nat_tests}
 use Rattle.std.proofs.lemmas.List.{map-append, length-map}
 use Rattle.std.proofs.lemmas.List.Elements.{All-append}
 use Rattle.std.specs.Prelude.{slice_get, option_map}
-use Rattle.rw_batch.specs.Batches.{Building, Frozen, Follows}
+use Rattle.rw_batch.specs.Batches.{Building, Frozen, Follows, batch_of}
 use Rattle.rw_batch.specs.Grouping.{LabelledSample, distinct, message}
 use Rattle.rw_write_request.specs.Canon.{canon}
 use Rattle.rw_write_request.specs.Spells.{Spells}
 use Rattle.rw_write_request.proofs.Meanings.{request-again}
+use Rattle.std.specs.FinMap.{FinMap}
+use Rattle.std.specs.Ordering.{nat_cmp}
+use Rattle.rw_ledger.specs.Names.{Named}
+use Rattle.rw_ledger.specs.declared.ledger.Reason.{Reason}
 use Rattle.rw_types.specs.declared.place.Place.{Place}
 use Rattle.rw_shard_queue.specs.Items.{Placed, samples_in}
 use Rattle.rw_shard_queue.specs.declared.item.Item.{Item}
 use Rattle.rw_shard_queue.specs.declared.item.Item.TheVariants.{Sample, Flush, End}
-use Rattle.rw_sender.specs.Shard.{Core, is_empty, can_take, last_of, IsNext, AreInRow, places_of, labelled, body_of, IsReadAgain}
-use Rattle.rw_sender.specs.Inside.{batch_part, builder_part, IsKept, SpellsMessageOf}
+use Rattle.rw_sender.specs.Shard.{Core, is_empty, can_take, can_freeze, freeze, freeze_room, last_of, IsNext, AreInRow, places_of, labelled, body_of, IsReadAgain}
+use Rattle.rw_sender.specs.SentRequest.{request_of}
+use Rattle.rw_sender.specs.Inside.{batch_part, builder_part, is_waiting, IsKept, SpellsMessageOf}
 use Rattle.rw_sender.specs.declared.config.Target.{Target}
 use Rattle.rw_sender.specs.declared.shard.OpenBatch.{OpenBatch}
 
@@ -119,13 +124,14 @@ parts_take target epoch shard full builder None last taken resolved pending x k 
 parts_take target epoch shard full builder (Some o) last taken resolved pending x k e = absurd (not_both pending e k.open_is.some)
 
 -- the builder's samples are frozen
-pub kept_freeze : (target : Target) (epoch shard full : ℕ) (builder next : Building) (current : Option OpenBatch) (frozen : Frozen) (last : Option Place) (taken resolved pending : List Placed) →
+pub kept_freeze : (target : Target) (epoch shard full : ℕ) (builder next : Building) (current : Option OpenBatch) (frozen : Frozen) (request : List ℕ) (last : Option Place) (taken resolved pending : List Placed) →
     IsKept target epoch shard full builder current last taken resolved pending → current ≡ None → 0 < length builder.samples →
     next ≡ record { batch = full; places = []; samples = [] } →
     frozen ≡ record { places = builder.places; body = canon (message builder.samples) } → Spells frozen.body (message builder.samples) →
-    IsKept target epoch shard full next (Some (record { batch = frozen; request = None; waiting = false })) last taken resolved pending
+    request ≡ request_of target.host target.path (batch_of builder).body →
+    IsKept target epoch shard full next (Some (record { batch = frozen; request = request; waiting = false })) last taken resolved pending
 unfolding body_of SpellsMessageOf
-kept_freeze target epoch shard full builder next None frozen last taken resolved pending k e some n f spells =
+kept_freeze target epoch shard full builder next None frozen request last taken resolved pending k e some n f spells made =
     let same : length builder.samples ≡ length pending = ap length k.builder_is.samples_are ∙ length-map pending labelled in record {
       some = k.some;
       most = k.most;
@@ -141,10 +147,61 @@ kept_freeze target epoch shard full builder next None frozen last taken resolved
         places = ap (λ (b : Frozen). b.places) f ∙ k.builder_is.places;
         body = ap (λ (b : Frozen). b.body) f ∙ ap (λ ss. canon (message ss)) k.builder_is.samples_are;
         spells = subst (λ (ss : List LabelledSample). Spells frozen.body (message ss)) k.builder_is.samples_are spells;
-        request = tt;
+        request = made ∙ ap (request_of target.host target.path) (sym (ap (λ (b : Frozen). b.body) f));
       };
     }
-kept_freeze target epoch shard full builder next (Some o) frozen last taken resolved pending k e some n f spells = absurd (cc)
+kept_freeze target epoch shard full builder next (Some o) frozen request last taken resolved pending k e some n f spells made = absurd (cc)
+
+-- the core before and after a freeze
+abbrev core_of : Target → ℕ → ℕ → ℕ → List Placed → List Placed → List Placed → Option OpenBatch → Bool → Bool → Bool → Core
+core_of target epoch shard full taken resolved pending current marked ended killed = record {
+  target = target;
+  epoch = epoch;
+  shard = shard;
+  full = full;
+  taken = taken;
+  resolved = resolved;
+  builder = builder_part current pending;
+  marked = marked;
+  batch = batch_part current pending;
+  waiting = is_waiting current;
+  ended = ended;
+  killed = killed;
+}
+
+not_empty : (xs : List Placed) → 0 < length xs → is_empty xs ≡ false
+not_empty [] lt = absurd (omega arith)
+not_empty (x ∷ xs) lt = refl
+
+pub freezes : (target : Target) (epoch shard full : ℕ) (taken resolved pending : List Placed) (current : Option OpenBatch) (marked ended killed : Bool) → current ≡ None → killed ≡ false → 0 < length pending
+    → can_freeze (core_of target epoch shard full taken resolved pending current marked ended killed) ≡ true
+freezes target epoch shard full taken resolved pending (Some o) marked ended killed e f some = absurd (cc)
+freezes target epoch shard full taken resolved pending None marked ended true e f some = absurd (cc)
+freezes target epoch shard full taken resolved pending None marked ended false e f some = ap not (not_empty pending some)
+
+pub core_frozen : (target : Target) (epoch shard full : ℕ) (taken resolved pending : List Placed) (current : Option OpenBatch) (marked ended killed : Bool) (batch : Frozen) (request : List ℕ) → current ≡ None → killed ≡ false
+    → 0 < length pending
+    → core_of target epoch shard full taken resolved pending (Some (record { batch = batch; request = request; waiting = false })) false ended killed
+    ≡ freeze (core_of target epoch shard full taken resolved pending current marked ended killed)
+core_frozen target epoch shard full taken resolved pending (Some o) marked ended killed batch request e f some = absurd (cc)
+core_frozen target epoch shard full taken resolved pending None marked ended killed batch request e f some =
+    let old = core_of target epoch shard full taken resolved pending None marked ended killed in
+    sym (ap (λ (b : Bool). cond b (record old { builder = []; marked = false; batch = pending; waiting = false }) old)
+    (freezes target epoch shard full taken resolved pending None marked ended killed refl f some))
+
+pub room_frozen : (target : Target) (epoch shard full : ℕ) (taken resolved pending : List Placed) (current : Option OpenBatch) (marked ended killed : Bool) (old new : Named) (n : ℕ) → current ≡ None → killed ≡ false
+    → 0 < length pending → n ≡ length pending → new.names ≡ old.names → new.room ≡ old.room + n
+    → new ≡ freeze_room (core_of target epoch shard full taken resolved pending current marked ended killed) old
+room_frozen target epoch shard full taken resolved pending (Some o) marked ended killed old new n e f some len names room = absurd (cc)
+room_frozen target epoch shard full taken resolved pending None marked ended killed old new n e f some len names room =
+    ap₂ (λ (ns : FinMap nat_cmp Reason) (r : ℕ). record { names = ns; room = r }) names (room ∙ ap (λ (k : ℕ). old.room + k) len)
+    ∙ sym (ap (λ (b : Bool). cond b (record old { room = old.room + length pending }) old) (freezes target epoch shard full taken resolved pending None marked ended killed refl f some))
+
+-- the builder has the samples that wait
+pub all_pending : (target : Target) (epoch shard full : ℕ) (builder : Building) (current : Option OpenBatch) (last : Option Place) (taken resolved pending : List Placed) →
+    IsKept target epoch shard full builder current last taken resolved pending → current ≡ None → length builder.samples ≡ length pending
+all_pending target epoch shard full builder None last taken resolved pending k e = ap length k.builder_is.samples_are ∙ length-map pending labelled
+all_pending target epoch shard full builder (Some o) last taken resolved pending k e = absurd (cc)
 
 -- no samples make an empty message, which takes no byte
 none_spelled : Spells (body_of []) (message [])

@@ -1,5 +1,5 @@
 -- What a shard's core keeps, and the core that contracts see.
-use Rattle.std.specs.Prelude.{◌≡◌, ℕ, ◌<◌, ◌≤◌, List, [], ◌∷◌, ◌++◌, length, map, Bool, false, Option, None, Some, All, IfSome, option_map, ⊤}
+use Rattle.std.specs.Prelude.{◌≡◌, ℕ, ◌<◌, ◌≤◌, List, [], ◌∷◌, ◌++◌, length, map, Bool, false, Option, None, Some, All, option_map, ⊤}
 use Rattle.rw_types.specs.declared.place.Place.{Place}
 use Rattle.rw_batch.specs.Batches.{Building}
 use Rattle.rw_batch.specs.Grouping.{message}
@@ -33,13 +33,13 @@ pub record IsBuilderOf (samples : List Placed) (builder : Building) : Type 0 whe
 unfoldable pub SpellsMessageOf : List Placed → List ℕ → Type 0
 SpellsMessageOf samples body = Spells body (message (map labelled samples))
 
--- the open batch has these samples, its body spells their message, and its request, where it was made, is theirs
+-- the open batch has these samples, its body spells their message, and its request is theirs
 pub record IsBatchOf (target : Target) (samples : List Placed) (opened : OpenBatch) : Type 0 where
   pub some : 0 < length samples
   pub places : opened.batch.places ≡ places_of samples
   pub body : opened.batch.body ≡ body_of samples
   pub spells : SpellsMessageOf samples opened.batch.body
-  pub request : IfSome opened.request (λ r. r ≡ request_of target.host target.path opened.batch.body)
+  pub request : opened.request ≡ request_of target.host target.path opened.batch.body
 
 abbrev pub IsOpen : Target → List Placed → Option OpenBatch → Type 0
 IsOpen target pending None = ⊤

@@ -5,6 +5,7 @@ ghost use Rattle.rw_retry.specs.Judgements.{judgement_of};
 ghost use Rattle.std.specs.FinMap.{get};
 ghost use Rattle.rw_shard_queue.specs.Items.{samples_in};
 ghost use Rattle.rw_sender.specs.Inside.{RiseStrictly};
+ghost use Rattle.rw_batch.specs.Batches.{batch_of};
 ghost use Rattle.rw_sender.specs.SentRequest.{request_of};
 ghost use Rattle.rw_sender.specs.Shard.{IsCore, IsReadAgain, MayTake, HasRoomFor, new_core, is_empty, pending, is_due, can_take, mark, take_item, can_freeze, freeze, freeze_room, can_send, send, request_for, awaits, lose, attempt_for, batch_id, places_of, positions_of, positions, resolve, is_answer, name_all, reply, reply_names, kill};
 
@@ -26,8 +27,8 @@ use std::mem;
 #[derive(Drop)]
 pub(crate) struct OpenBatch {
     pub(crate) batch: Batch,
-    /// The bytes of its request, once it was made.
-    pub(crate) request: Option<Bytes>,
+    /// The bytes of its request.
+    pub(crate) request: Bytes,
     /// Whether an attempt is under way.
     pub(crate) waiting: bool,
 }
@@ -41,24 +42,14 @@ pub struct Attempt {
     pub request: Bytes,
 }
 
-impl OpenBatch {
-    /// The bytes of its request, which are made once.
-    fn request(&mut self, alloc: Global, target: &Target) -> Result<Bytes, AllocError>
-        requires { IfSome self.old.request (λ r. r ≡ request_of target.now.host target.now.path self.old.batch.body) }
-        ensures ok { IfOk result (λ b. b ≡ request_of target.now.host target.now.path self.old.batch.body) }
-        ensures batch { self.new.batch ≡ self.old.batch }
-        ensures waiting { self.new.waiting ≡ self.old.waiting }
-        ensures request { IfSome self.new.request (λ r. r ≡ request_of target.now.host target.now.path self.old.batch.body) }
-    {
-        if let Some(request) = &self.request {
-            return request.clone();
-        }
-        let bytes = request_bytes(alloc, target, self.batch.body().as_slice())?;
-        let request = Bytes::from_vec(bytes)?;
-        let copy = request.clone()?;
-        self.request = Some(request);
-        Ok(copy)
-    }
+/// The request that carries the samples of a builder, whole.
+fn request_with(alloc: Global, target: &Target, builder: &Builder) -> Result<Bytes, AllocError>
+    requires { 0 < length builder.now.samples }
+    ensures { IfOk result (λ b. b ≡ request_of target.now.host target.now.path (batch_of builder.now).body) }
+{
+    let body = builder.body()?;
+    let bytes = request_bytes(alloc, target, &body)?;
+    Ok(Bytes::from_vec(bytes)?)
 }
 
 /// Names all samples of a batch with the status that refused it.
@@ -300,7 +291,7 @@ impl ShardCore {
         }
     }
 
-    /// Makes the builder the open batch, for whose samples the ledger gets room. False where a batch is open or the builder is empty.
+    /// Makes the builder the open batch, with its request, and for its samples the ledger gets room. False where a batch is open or the builder is empty.
     pub fn freeze(&mut self, ledger: &mut Ledger) -> Result<bool, AllocError>
         ensures done { IfOk result (λ done. done ≡ can_freeze self.old) }
         ensures core { OnOk result (self.new ≡ freeze self.old) }
@@ -312,12 +303,13 @@ impl ShardCore {
             return Ok(false);
         }
         let next = Builder::new(self.alloc, self.full)?;
+        let request = request_with(self.alloc, &self.target, &self.builder)?;
         match mem::replace(&mut self.builder, next).freeze(ledger) {
             Ok(batch) => {
                 self.marked = false;
                 self.current = Some(OpenBatch {
                     batch,
-                    request: None,
+                    request,
                     waiting: false,
                 });
                 Ok(true)
@@ -329,19 +321,18 @@ impl ShardCore {
         }
     }
 
-    /// The bytes of the open batch's request, which are made once.
-    fn request(&mut self) -> Result<Bytes, AllocError>
-        requires { is_empty self.old.batch ≡ false }
-        ensures ok { IfOk result (λ b. b ≡ request_for self.old) }
-        ensures core { self.new ≡ self.old }
+    /// A clone of the open batch's request.
+    fn request(&self) -> Result<Bytes, AllocError>
+        requires { is_empty self.now.batch ≡ false }
+        ensures { IfOk result (λ b. b ≡ request_for self.now) }
     {
-        match &mut self.current {
-            Some(current) => current.request(self.alloc, &self.target),
+        match &self.current {
+            Some(current) => current.request.clone(),
             None => unreachable!(),
         }
     }
 
-    /// Begins an attempt to send the open batch. None where no batch is open, or an attempt is under way.
+    /// Begins an attempt to send the open batch, with the request that was made when it was frozen. None where no batch is open, or an attempt is under way.
     pub fn attempt(&mut self) -> Result<Option<Attempt>, AllocError>
         ensures attempt { IfOk result (λ a. a ≡ (if can_send self.old then Some (attempt_for self.old) else None)) }
         // A receiver reads the message of the batch's samples.

@@ -3,7 +3,7 @@
 ghost use Rattle.std.specs.Prelude.{◌≡◌, ◌≤◌, ◌+◌, ◌^◌, length, map, IfSome, IfNone};
 ghost use Rattle.rw_codes.specs.Varint.{uvarint};
 ghost use Rattle.rw_types.specs.Labels.{text_label};
-ghost use Rattle.rw_write_request.specs.Canon.{string_field, label, label_field, label_fields, sample, sample_field, sample_fields, series, series_field, canon};
+ghost use Rattle.rw_write_request.specs.Canon.{string_field, label, label_field, label_fields, sample, sample_field, sample_fields, series, series_field, series_head, canon};
 ghost use Rattle.rw_write_request.specs.Texts.{series_of};
 
 use crate::message::{Message, Series};
@@ -49,7 +49,7 @@ pub fn label_field_len(name: &str, value: &str) -> Option<usize>
     bytes_field_len(inner)
 }
 
-fn label_fields_len(labels: &[(String, String)]) -> Option<usize>
+pub(crate) fn label_fields_len(labels: &[(String, String)]) -> Option<usize>
     ensures some { IfSome result (λ n. n ≡ length (label_fields (map text_label labels.now))) }
     ensures none { IfNone result (2 ^ 64 ≤ length (label_fields (map text_label labels.now))) }
 {
@@ -100,6 +100,18 @@ pub(crate) fn parts_len(labels: &[(String, String)], samples: &[(Word, i64)]) ->
     let labels = label_fields_len(labels)?;
     let samples = sample_fields_len(samples)?;
     labels.checked_add(samples)
+}
+
+/// The length of what stands before the sample fields of a series with these labels, if it fits 64 bits with those fields,
+/// which take `len` bytes.
+#[tactic(auto, unfolding(crate::specs::Canon::series_head))]
+pub fn series_head_len(labels: &[(String, String)], len: usize) -> Option<usize>
+    ensures some { IfSome result (λ n. n ≡ length (series_head (map text_label labels.now) len)) }
+    ensures none { IfNone result (2 ^ 64 ≤ length (series_head (map text_label labels.now) len) + len) }
+{
+    let fields = label_fields_len(labels)?;
+    let inner = fields.checked_add(len)?;
+    fields.checked_add(1 + uvarint_len(inner as u64))
 }
 
 /// The length of the field of a series with these labels and samples, if it fits 64 bits.

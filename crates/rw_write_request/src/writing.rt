@@ -5,12 +5,12 @@ ghost use Rattle.std.specs.Vec.{vec_len, vec_capacity};
 ghost use Rattle.std.specs.List.{AllByRecursion};
 ghost use Rattle.rw_codes.specs.Varint.{uvarint};
 ghost use Rattle.rw_types.specs.Labels.{text_label};
-ghost use Rattle.rw_write_request.specs.Canon.{tag, string_field, fixed64_field, int64_field, label_field, label_fields, sample_field, sample_fields, series_field, canon};
+ghost use Rattle.rw_write_request.specs.Canon.{tag, string_field, fixed64_field, int64_field, label_field, label_fields, sample_field, sample_fields, series_field, series_head, canon};
 ghost use Rattle.rw_write_request.specs.Valid.{IsLabel, IsSample, IsSeries};
 ghost use Rattle.rw_write_request.specs.Spells.{Spells};
 ghost use Rattle.rw_write_request.specs.Texts.{series_of};
 
-use crate::lengths::{encoded_len, label_len, parts_len, sample_len};
+use crate::lengths::{encoded_len, label_fields_len, label_len, parts_len, sample_len};
 use crate::message::{Message, Series};
 use rw_codes::push_uvarint;
 use rw_types::Word;
@@ -118,6 +118,20 @@ fn put_label_fields(out: &mut Vec<u8>, labels: &[(String, String)])
     for (name, value) in labels {
         put_label_field(out, name, value);
     }
+}
+
+/// Writes what stands before the sample fields of a series with these labels, which take `len` bytes. This takes no memory.
+#[tactic(auto, unfolding(crate::specs::Canon::series_head))]
+pub fn put_series_head(out: &mut Vec<u8>, labels: &[(String, String)], len: usize)
+    requires fits { length (series_head (map text_label labels.now) len) + len < 2 ^ 64 }
+    requires room { vec_len out.old + length (series_head (map text_label labels.now) len) ≤ vec_capacity out.old }
+    ensures items { out.new.items ≡ out.old.items ++ series_head (map text_label labels.now) len }
+    ensures texts { AllByRecursion IsLabel (map text_label labels.now) }
+    ensures capacity { vec_capacity out.old ≤ vec_capacity out.new }
+{
+    let fields = label_fields_len(labels).unwrap();
+    put_series_front(out, fields + len);
+    put_label_fields(out, labels);
 }
 
 fn put_sample_fields(out: &mut Vec<u8>, samples: &[(Word, i64)])

@@ -1,7 +1,7 @@
 //! Batches that are built and frozen. The calls that take memory are made again where it is refused, so each test can be
 //! run with each allocation refused in turn: the refused call changes nothing.
 
-ghost use Rattle.std.specs.Prelude.{◌≡◌, length, IfOk};
+ghost use Rattle.std.specs.Prelude.{◌<◌, ◌≤◌};
 
 use crate::metrics::metric;
 use rw_batch::{Batch, BatchId, Builder};
@@ -39,16 +39,22 @@ fn item(alloc: Global, seq: u64, row: Row) -> Result<Item, LabelFault> {
     Ok(Item::Sample(place, t, Word(word), shared(alloc, name)?))
 }
 
-fn builder_of(alloc: Global) -> Result<Builder, AllocError> {
-    match Builder::new(alloc, 3) {
+fn builder_of(alloc: Global, batch: usize) -> Result<Builder, AllocError>
+    requires some { 0 < batch }
+    requires most { batch ≤ 10000 }
+{
+    match Builder::new(alloc, batch) {
         Ok(builder) => Ok(builder),
-        Err(_) => Builder::new(alloc, 3),
+        Err(_) => Builder::new(alloc, batch),
     }
 }
 
-/// A builder that took these samples, the first one with the number 7.
-fn built(rt: &(impl Abort + AllocGlobal), rows: &[Row]) -> Result<Builder, Fail> {
-    let mut builder = builder_of(rt.alloc())?;
+/// A builder with room for so many samples that took these, the first one with the number 7.
+fn built(rt: &(impl Abort + AllocGlobal), batch: usize, rows: &[Row]) -> Result<Builder, Fail>
+    requires some { 0 < batch }
+    requires most { batch ≤ 10000 }
+{
+    let mut builder = builder_of(rt.alloc(), batch)?;
     let mut seq = 7;
     for row in rows {
         assert!(rt; !builder.is_full(), "{seq}");
@@ -58,6 +64,15 @@ fn built(rt: &(impl Abort + AllocGlobal), rows: &[Row]) -> Result<Builder, Fail>
         seq = seq.saturating_add(1);
     }
     Ok(builder)
+}
+
+/// The body that the builder's batch would have.
+fn body_of(rt: &impl Abort, builder: &Builder) -> Result<Vec<u8>, AllocError> {
+    assert!(rt; !builder.is_empty());
+    match builder.body() {
+        Ok(body) => Ok(body),
+        Err(_) => builder.body(),
+    }
 }
 
 /// Freezes, and where memory is refused sees that nothing was changed, and freezes again.
@@ -91,7 +106,8 @@ fn bodies_group_by_labels(rt: HostRuntime) -> Result<(), Fail> {
         ),
     ];
     for (samples, body) in rows {
-        let builder = built(&rt, samples)?;
+        let builder = built(&rt, 3, samples)?;
+        assert_eq!(rt; body_of(&rt, &builder)?.as_slice(), body);
         let mut ledger = Ledger::new(rt.alloc());
         let batch = frozen(&rt, builder, &mut ledger)?;
         assert_eq!(rt; ledger.left(), samples.len());
@@ -112,7 +128,7 @@ fn bodies_group_by_labels(rt: HostRuntime) -> Result<(), Fail> {
 
 #[test]
 fn only_the_next_sample_is_taken(rt: HostRuntime) -> Result<(), Fail> {
-    let builder = built(&rt, &[("a", 0, 1), ("b", 0, 2)])?;
+    let builder = built(&rt, 3, &[("a", 0, 1), ("b", 0, 2)])?;
     assert_eq!(rt; builder.len(), 2);
     for (seq, may) in [(8, false), (9, true), (10, false)] {
         let item = item(rt.alloc(), seq, ("a", 0, 3))?;
@@ -120,9 +136,22 @@ fn only_the_next_sample_is_taken(rt: HostRuntime) -> Result<(), Fail> {
     }
     assert!(rt; !builder.can_take(&Item::Flush));
     assert!(rt; !builder.can_take(&Item::End(Kind::Orderly)));
-    let full = built(&rt, &[("a", 0, 1), ("b", 0, 2), ("b", 0, 3)])?;
+    let full = built(&rt, 3, &[("a", 0, 1), ("b", 0, 2), ("b", 0, 3)])?;
     assert!(rt; full.is_full());
     let item = item(rt.alloc(), 10, ("a", 0, 4))?;
     assert!(rt; !full.can_take(&item));
+    Ok(())
+}
+
+#[test]
+fn fields_are_lent(rt: HostRuntime) -> Result<(), Fail> {
+    let rows: [Row; 10] = [("up", 0x4008_0000_0000_0000, -1); 10];
+    let builder = built(&rt, 10, &rows)?;
+    assert_eq!(rt; builder.len(), 10);
+    let field: &[u8] =
+        b"\x12\x14\x09\0\0\0\0\0\0\x08\x40\x10\xff\xff\xff\xff\xff\xff\xff\xff\xff\x01";
+    for k in 0..builder.len() {
+        assert_eq!(rt; builder.field(k), field);
+    }
     Ok(())
 }
