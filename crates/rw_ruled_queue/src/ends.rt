@@ -5,7 +5,7 @@ ghost use Rattle.rw_shard_queue.specs.History.{MayFollow, IsHistory};
 ghost use Rattle.rw_ruled_queue.specs.Taken.{TakesFront};
 
 use crate::rule::{InOrder, Log, Naming, Opens, Puts, Takes};
-use crate::stage::{Ended, Killed, Open, Stage};
+use crate::stage::{Deserted, Ended, Killed, Open, Stage};
 use crossbeam_channel::{Pass, RuledReceiver, RuledSender, bounded_with};
 use rw_shard_queue::{Item, Kind};
 use std::alloc::{AllocError, Global};
@@ -69,8 +69,8 @@ pub enum Taken {
     Item(Item, Drain<Open>),
     /// The last item.
     End(Kind, Drain<Ended>),
-    /// Nothing.
-    Gone(Drain<Open>),
+    /// Nothing, and nothing more will come.
+    Gone(Drain<Deserted>),
 }
 
 impl Feed<Open> {
@@ -152,7 +152,9 @@ impl Drain<Open> {
             },
         )
     }
+}
 
+impl<S: Stage> Drain<S> {
     /// Gives the end up: nothing more is taken, and the end that puts is told that this one is gone.
     pub fn kill(self) -> Drain<Killed>
         ensures { result ≡ self }

@@ -8,5 +8,5 @@ mod whole;
 
 pub use ends::{Drain, Feed, Gone, Taken, open};
 pub use rw_shard_queue::{Item, Kind};
-pub use stage::{Ended, Killed, Open, Stage};
+pub use stage::{Deserted, Ended, Killed, Open, Stage};
 pub use whole::{Whole, begins, compare};

@@ -15,6 +15,9 @@ pub trait Stage {
 /// No End went through.
 pub struct Open;
 
+/// Nothing more comes: a take found nobody at the end that puts.
+pub struct Deserted;
+
 /// An End went through, as the last item.
 pub struct Ended;
 
@@ -22,6 +25,14 @@ pub struct Ended;
 pub struct Killed;
 
 impl Stage for Open {
+    ghost use Rattle.rw_shard_queue.specs.History.{IsOpen};
+
+    ghost stands = { IsOpen };
+
+    ghost let_go = { ⊥ };
+}
+
+impl Stage for Deserted {
     ghost use Rattle.rw_shard_queue.specs.History.{IsOpen};
 
     ghost stands = { IsOpen };

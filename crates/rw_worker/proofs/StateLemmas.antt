@@ -1,5 +1,5 @@
 -- A worker that made one step more, and what it reports.
-use Rattle.std.proofs.Common.{◌≡◌, ℕ, ◌+◌, ◌<◌, ◌≤◌, ◌^◌, Bool, true, false, true≢false, not, ◌&&◌, ◌||◌, nat_le, List, [], ◌∷◌, ◌++◌, length, Result, Ok, Err, OnOk, OnErr, refl, sym, ap, ◌∙◌, subst, append-nil, length-append, arith}
+use Rattle.std.proofs.Common.{◌≡◌, ℕ, ◌+◌, ◌<◌, ◌≤◌, ◌^◌, Bool, true, false, true≢false, not, ◌&&◌, ◌||◌, nat_le, List, [], ◌∷◌, ◌++◌, length, Option, None, Some, Result, Ok, Err, OnOk, OnErr, refl, sym, ap, ◌∙◌, subst, append-nil, length-append, arith}
 use Rattle.std.specs.declared.alloc.AllocError.{AllocError}
 use Rattle.std.proofs.lemmas.List.{length-map}
 use Rattle.std.specs.Ordering.{nat_cmp}
@@ -12,6 +12,7 @@ use Rattle.rw_shard_queue.specs.declared.item.Item.{Item}
 use Rattle.rw_shard_queue.specs.declared.item.Item.TheVariants as item
 use Rattle.rw_shard_queue.specs.declared.item.Kind.{Kind}
 use Rattle.rw_shard_queue.specs.declared.item.Kind.TheVariants.{Orderly, Reshard, Hard}
+use Rattle.rw_shard_queue.proofs.Histories.{history-nil}
 use Rattle.rw_ruled_queue.specs.Ends.{QueueId, Draining}
 use Rattle.rw_sender.specs.Shard.{Core, IsCore, AreInRow, HasRoomFor, is_empty, is_due, can_take, can_freeze, can_send, freeze, freeze_room, take_item, pending, places_of, request_for, MayTake}
 use Rattle.rw_worker.specs.declared.report.TakingEnd.{TakingEnd}
@@ -20,10 +21,13 @@ use Rattle.rw_worker.specs.declared.report.WorkerReport.{WorkerReport}
 use Rattle.rw_worker.specs.declared.state.Intake.{Intake}
 use Rattle.rw_worker.specs.declared.state.Intake.TheVariants as intake
 use Rattle.rw_worker.specs.declared.state.Sending.{Sending}
+use Rattle.rw_worker.specs.declared.state.State.{State}
+use Rattle.rw_worker.specs.declared.state.Progress.{Progress}
+use Rattle.rw_worker.specs.declared.state.Progress.TheVariants.{Goes, Stops}
 use Rattle.rw_worker.specs.Transcript.{Exchange, exchange_of, Adds}
 use Rattle.rw_worker.specs.Steps.{Working, working, Step, Takes, Freezes, Sends, MayStep, after, after_step, items_of, exchanges_of, WasSent}
 use Rattle.rw_worker.specs.Setups.{Setup, start_of}
-use Rattle.rw_worker.specs.Report.{is_hard, drain_of, IsOrderly, StopsAtHard, intake_drain, given_back, IsClosed, HasMade, IsSending, IsState, IsReport}
+use Rattle.rw_worker.specs.Report.{is_hard, drain_of, IsOrderly, StopsAtHard, IsLast, intake_drain, given_back, report_of, IsClosed, HasMade, IsSending, IsState, IsReport, IsNotStopped, IsStoppedAt}
 use Rattle.rw_worker.proofs.StepLemmas.{steps-push, after-push, items-append, exchanges-append}
 use Rattle.rw_worker.proofs.TranscriptLemmas.{adds-append}
 use Rattle.rw_worker.proofs.KeepsLemmas.{Keeps, keeps-steps, keeps-start, answered-builder, can_take-parts, can_take-not_due, none_of, frozen-builder}
@@ -65,6 +69,27 @@ module _ {T : Type 0} (tells : T → Type 0) (seen : T → List Exchange) (setup
   pub keeps-of : (drain : Draining) (s : Sending T) (h : IsSending tells seen setup begun drain s) → KeepsAt drain h.steps (working s.core s.ledger)
   keeps-of drain s h = subst (λ (w : Working). KeepsAt drain h.steps w) h.now (keeps-made drain s.transport h.steps h.some h.made)
 
+  -- no step was made
+  pub state-begun : (drain : Draining) (core : Core) (ledger : Named) (backoff : ℕ × ℕ) → 0 < setup.batch → drain.queue ≡ setup.queue → drain.taken ≡ [] → working core ledger ≡ start_of setup
+      → IsState tells seen setup begun (record { intake = intake.Open drain; sending = record { core = core; ledger = ledger; backoff = backoff; resolved = 0; retries = 0; transport = begun } })
+  state-begun drain core ledger backoff some queue none fresh = record {
+    sending = record {
+      some = some;
+      steps = [];
+      made = record {
+        queue_is = queue;
+        history = subst (λ (xs : List Item). IsHistory setup.queue.epoch setup.queue.shard xs) (sym none) (history-nil setup.queue.epoch setup.queue.shard);
+        allowed = tt;
+        items = sym none;
+        adds = adds-none (tells begun) (seen begun);
+      };
+      now = sym fresh;
+      counted = ap (λ (w : Working). length w.core.resolved) (sym fresh);
+    };
+    closed = tt;
+    last = tt;
+  }
+
   -- one step more
   pub made-more : (drain later : Draining) (t u : T) (ss : List Step) (step : Step) → HasMade tells seen setup begun drain t ss → MayStep step (after (start_of setup) ss).core → later.queue ≡ drain.queue
       → IsHistory setup.queue.epoch setup.queue.shard later.taken → later.taken ≡ drain.taken ++ items_of (step ∷ []) → Adds (tells t) (tells u) (seen t) (seen u) (exchanges_of (step ∷ []))
@@ -103,6 +128,7 @@ module _ {T : Type 0} (tells : T → Type 0) (seen : T → List Exchange) (setup
         sending = sending-more (intake_drain i) (intake_drain i) s (record s { core = core; ledger = ledger }) Freezes h.sending (due, can) refl h.sending.made.history (sym (append-nil (intake_drain i).taken))
             (adds-none (tells s.transport) (seen s.transport)) (λ x. working (ok x) (room x)) (h.sending.counted ∙ ap length (sym (same_resolved can) ∙ ap (λ (c : Core). c.resolved) (sym ok)));
         closed = closed_after i h.closed (ap (λ (c : Core). c.builder) ok ∙ frozen-builder s.core can);
+        last = h.last;
       }
     where
       may : s.core.killed ≡ false → is_empty s.core.batch ≡ true → is_empty s.core.builder ≡ false → can_freeze s.core ≡ true
@@ -151,6 +177,7 @@ module _ {T : Type 0} (tells : T → Type 0) (seen : T → List Exchange) (setup
       let builder : v.core.builder ≡ [] = ap (λ (w : Working). w.core.builder) sent.becomes ∙ answered-builder sent.answer (working s.core s.ledger) ∙ k.one some in record {
         sending = sending-more (intake_drain i) (intake_drain i) s v (Sends e) h.sending (state-can_send (intake_drain i) s h.sending some, refl) refl h.sending.made.history (sym (append-nil (intake_drain i).taken)) sent.told sent.becomes counted;
         closed = closed_after i h.closed builder;
+        last = h.last;
       }
     where
       closed_after : (j : Intake) → IsClosed j s.core → v.core.builder ≡ [] → IsClosed j v.core
@@ -191,6 +218,7 @@ module _ {T : Type 0} (tells : T → Type 0) (seen : T → List Exchange) (setup
       (record {
         sending = record { some = h.sending.some; steps = h.sending.steps; made = h.sending.made; now = h.sending.now; counted = h.sending.counted };
         closed = h.closed;
+        last = h.last;
       })
 
   pub may-take-of : (drain later : Draining) (s : Sending T) (x : Item) → IsSending tells seen setup begun drain s → IsHistory drain.queue.epoch drain.queue.shard later.taken → later.taken ≡ drain.taken ++ x ∷ [] → MayTake x s.core
@@ -217,7 +245,7 @@ module _ {T : Type 0} (tells : T → Type 0) (seen : T → List Exchange) (setup
 
   pub state-taken : (drain later : Draining) (s : Sending T) (x : Item) (core : Core) → IsSending tells seen setup begun drain s → can_take s.core ≡ true → later.queue ≡ drain.queue → later.taken ≡ drain.taken ++ x ∷ []
       → IsHistory drain.queue.epoch drain.queue.shard later.taken → core ≡ take_item x s.core → IsState tells seen setup begun (record { intake = intake.Open later; sending = record s { core = core } })
-  state-taken drain later s x core h can queue taken history is = record { sending = sending-taken drain later s x core h can queue taken history is; closed = tt }
+  state-taken drain later s x core h can queue taken history is = record { sending = sending-taken drain later s x core h can queue taken history is; closed = tt; last = tt }
 
   -- an End was taken, which closes the builder
   pub state-ended : (drain later : Draining) (s : Sending T) (kind : Kind) (core : Core) → is_hard kind ≡ false → IsSending tells seen setup begun drain s → can_take s.core ≡ true → later.queue ≡ drain.queue → later.taken ≡ drain.taken ++ item.End kind ∷ []
@@ -225,6 +253,7 @@ module _ {T : Type 0} (tells : T → Type 0) (seen : T → List Exchange) (setup
   state-ended drain later s kind core soft h can queue taken history is = record {
     sending = sending-taken drain later s (item.End kind) core h can queue taken history is;
     closed = closed_at kind soft (λ d. ap (λ (c : Core). c.builder) is ∙ nothing (sym (ap is_due is) ∙ d));
+    last = (drain.taken, taken);
   }
     where
       rest_of : (b : Bool) (xs : List Placed) → (b || not (is_empty xs)) ≡ false → xs ≡ []
@@ -242,8 +271,8 @@ module _ {T : Type 0} (tells : T → Type 0) (seen : T → List Exchange) (setup
 
   -- a report of these steps
   reports : (r : WorkerReport T) (ss : List Step) → 0 < setup.batch → HasMade tells seen setup begun (drain_of r.end) r.transport ss → r.resolved ≡ length (after (start_of setup) ss).core.resolved → r.ledger.names ≡ (after (start_of setup) ss).ledger.names
-      → (r.stopped ≡ false → IsOrderly r.end → (after (start_of setup) ss).core.resolved ≡ samples_in (drain_of r.end).taken) → StopsAtHard r.end ss → IsReport tells seen setup begun r
-  reports r ss some made counted names whole hard = let k = keeps-made (drain_of r.end) r.transport ss some made in record {
+      → (r.stopped ≡ None → IsOrderly r.end → (after (start_of setup) ss).core.resolved ≡ samples_in (drain_of r.end).taken) → StopsAtHard r.end ss → IsLast r.end → IsReport tells seen setup begun r
+  reports r ss some made counted names whole hard last = let k = keeps-made (drain_of r.end) r.transport ss some made in record {
     steps = ss;
     made = made;
     worked = k.worked;
@@ -251,41 +280,39 @@ module _ {T : Type 0} (tells : T → Type 0) (seen : T → List Exchange) (setup
     counted = counted;
     few = few_left setup.batch r.resolved (after (start_of setup) ss).core (drain_of r.end).taken k.taken_is k.whole k.fits counted;
     names = names;
+    last = last;
     whole = whole;
     hard = hard;
   }
 
-  abbrev report_of : TakingEnd → Bool → Sending T → WorkerReport T
-  report_of e stopped s = record { end = e; resolved = s.resolved; stopped = stopped; ledger = s.ledger; transport = s.transport }
-
-  stops : (e : TakingEnd) (stopped : Bool) (s : Sending T) (h : IsSending tells seen setup begun (drain_of e) s) → (stopped ≡ false → IsOrderly e → s.core.resolved ≡ samples_in (drain_of e).taken) → StopsAtHard e h.steps
+  stops : (e : TakingEnd) (stopped : Option ℕ) (s : Sending T) (h : IsSending tells seen setup begun (drain_of e) s) → (stopped ≡ None → IsOrderly e → s.core.resolved ≡ samples_in (drain_of e).taken) → StopsAtHard e h.steps → IsLast e
       → IsReport tells seen setup begun (report_of e stopped s)
-  stops e stopped s h whole hard =
+  stops e stopped s h whole hard last =
       reports (report_of e stopped s) h.steps h.some h.made (h.counted ∙ ap (λ (w : Working). length w.core.resolved) (sym h.now)) (ap (λ (w : Working). w.ledger.names) (sym h.now))
-      (λ going orderly. ap (λ (w : Working). w.core.resolved) h.now ∙ whole going orderly) hard
+      (λ going orderly. ap (λ (w : Working). w.core.resolved) h.now ∙ whole going orderly) hard last
 
   -- the state where the end is open
   pub opened : (i : Intake) (d : Draining) (s : Sending T) → IsState tells seen setup begun (record { intake = i; sending = s }) → i ≡ intake.Open d → IsSending tells seen setup begun d s
   opened i d s h is = subst (λ (x : Draining). IsSending tells seen setup begun x s) (ap intake_drain is) h.sending
 
   -- the end was given up
-  pub report-killed : (drain killed : Draining) (stopped : Bool) (s : Sending T) (r : WorkerReport T) → IsSending tells seen setup begun drain s → killed ≡ drain → r ≡ report_of (end.Killed killed) stopped s → IsReport tells seen setup begun r
+  pub report-killed : (drain killed : Draining) (stopped : Option ℕ) (s : Sending T) (r : WorkerReport T) → IsSending tells seen setup begun drain s → killed ≡ drain → r ≡ report_of (end.Killed killed) stopped s → IsReport tells seen setup begun r
   report-killed drain killed stopped s r h same is =
       subst (IsReport tells seen setup begun) (sym is)
-      (subst (λ (d : Draining). IsReport tells seen setup begun (report_of (end.Killed d) stopped s)) (sym same) (stops (end.Killed drain) stopped s h (λ going orderly. absurd orderly) tt))
+      (subst (λ (d : Draining). IsReport tells seen setup begun (report_of (end.Killed d) stopped s)) (sym same) (stops (end.Killed drain) stopped s h (λ going orderly. absurd orderly) tt tt))
 
   -- the stop flag was set
-  pub report-stopped : (i : Intake) (e : TakingEnd) (s : Sending T) (r : WorkerReport T) → IsState tells seen setup begun (record { intake = i; sending = s }) → e ≡ given_back i → r ≡ report_of e true s → IsReport tells seen setup begun r
-  report-stopped i e s r h same is = subst (IsReport tells seen setup begun) (sym is) (subst (λ (x : TakingEnd). IsReport tells seen setup begun (report_of x true s)) (sym same) (at i h))
+  pub report-stopped : (i : Intake) (e : TakingEnd) (flag : ℕ) (s : Sending T) (r : WorkerReport T) → IsState tells seen setup begun (record { intake = i; sending = s }) → e ≡ given_back i → r ≡ report_of e (Some flag) s → IsReport tells seen setup begun r
+  report-stopped i e flag s r h same is = subst (IsReport tells seen setup begun) (sym is) (subst (λ (x : TakingEnd). IsReport tells seen setup begun (report_of x (Some flag) s)) (sym same) (at i h))
     where
-      at : (j : Intake) → IsState tells seen setup begun (record { intake = j; sending = s }) → IsReport tells seen setup begun (report_of (given_back j) true s)
-      at (intake.Open d) k = stops (end.Killed d) true s k.sending (λ going orderly. absurd orderly) tt
+      at : (j : Intake) → IsState tells seen setup begun (record { intake = j; sending = s }) → IsReport tells seen setup begun (report_of (given_back j) (Some flag) s)
+      at (intake.Open d) k = stops (end.Killed d) (Some flag) s k.sending (λ going orderly. absurd orderly) tt tt
       at (intake.Ended Hard d) k = absurd k.closed
-      at (intake.Ended Orderly d) k = stops (end.Ended Orderly d) true s k.sending (λ going. absurd (true≢false going)) tt
-      at (intake.Ended Reshard d) k = stops (end.Ended Reshard d) true s k.sending (λ going. absurd (true≢false going)) tt
+      at (intake.Ended Orderly d) k = stops (end.Ended Orderly d) (Some flag) s k.sending (λ going. absurd (cc)) tt k.last
+      at (intake.Ended Reshard d) k = stops (end.Ended Reshard d) (Some flag) s k.sending (λ going. absurd (cc)) tt k.last
 
   -- everything was sent
-  pub report-whole : (i : Intake) (kind : Kind) (d : Draining) (s : Sending T) (r : WorkerReport T) → IsState tells seen setup begun (record { intake = i; sending = s }) → i ≡ intake.Ended kind d → can_take s.core ≡ true → r ≡ report_of (end.Ended kind d) false s → IsReport tells seen setup begun r
+  pub report-whole : (i : Intake) (kind : Kind) (d : Draining) (s : Sending T) (r : WorkerReport T) → IsState tells seen setup begun (record { intake = i; sending = s }) → i ≡ intake.Ended kind d → can_take s.core ≡ true → r ≡ report_of (end.Ended kind d) None s → IsReport tells seen setup begun r
   report-whole i kind d s r h ended can is = subst (IsReport tells seen setup begun) (sym is) (at kind (subst (λ (j : Intake). IsState tells seen setup begun (record { intake = j; sending = s })) ended h))
     where
       all : IsSending tells seen setup begun d s → s.core.builder ≡ [] → s.core.resolved ≡ samples_in d.taken
@@ -294,17 +321,33 @@ module _ {T : Type 0} (tells : T → Type 0) (seen : T → List Exchange) (setup
           let batch = none_of s.core.batch (can_take-parts s.core can).0 in
           sym (append-nil s.core.resolved) ∙ ap (λ xs. s.core.resolved ++ xs) (sym none) ∙ ap (λ xs. s.core.resolved ++ (xs ++ s.core.builder)) (sym batch) ∙ sym kept.whole ∙ kept.taken_is
 
-      at : (j : Kind) → IsState tells seen setup begun (record { intake = intake.Ended j d; sending = s }) → IsReport tells seen setup begun (report_of (end.Ended j d) false s)
+      at : (j : Kind) → IsState tells seen setup begun (record { intake = intake.Ended j d; sending = s }) → IsReport tells seen setup begun (report_of (end.Ended j d) None s)
       at Hard k = absurd k.closed
-      at Orderly k = stops (end.Ended Orderly d) false s k.sending (λ going orderly. all k.sending (k.closed (can_take-not_due s.core can))) tt
-      at Reshard k = stops (end.Ended Reshard d) false s k.sending (λ going orderly. all k.sending (k.closed (can_take-not_due s.core can))) tt
+      at Orderly k = stops (end.Ended Orderly d) None s k.sending (λ going orderly. all k.sending (k.closed (can_take-not_due s.core can))) tt k.last
+      at Reshard k = stops (end.Ended Reshard d) None s k.sending (λ going orderly. all k.sending (k.closed (can_take-not_due s.core can))) tt k.last
 
   -- a hard End was taken
   pub report-hard : (kind : Kind) (drain later : Draining) (s : Sending T) (r : WorkerReport T) → is_hard kind ≡ true → IsSending tells seen setup begun drain s → can_take s.core ≡ true → later.queue ≡ drain.queue → later.taken ≡ drain.taken ++ item.End kind ∷ []
-      → IsHistory drain.queue.epoch drain.queue.shard later.taken → r ≡ report_of (end.Ended kind later) false s → IsReport tells seen setup begun r
+      → IsHistory drain.queue.epoch drain.queue.shard later.taken → r ≡ report_of (end.Ended kind later) None s → IsReport tells seen setup begun r
   unfolding sending-taken sending-more
   report-hard Orderly drain later s r hard h can queue taken history is = absurd (true≢false (sym hard))
   report-hard Reshard drain later s r hard h can queue taken history is = absurd (true≢false (sym hard))
   report-hard Hard drain later s r hard h can queue taken history is =
       let more = sending-taken drain later s (item.End Hard) (take_item (item.End Hard) s.core) h can queue taken history refl in
-      subst (IsReport tells seen setup begun) (sym is) (stops (end.Ended Hard later) false (record s { core = take_item (item.End Hard) s.core }) more (λ going orderly. absurd orderly) (h.steps, refl))
+      subst (IsReport tells seen setup begun) (sym is) (stops (end.Ended Hard later) None (record s { core = take_item (item.End Hard) s.core }) more (λ going orderly. absurd orderly) (h.steps, refl) (drain.taken, taken))
+
+-- a report of a stop flag, or of none
+module _ {T : Type 0} where
+  pub stopped-at : (flag : ℕ) (i : Intake) (s : Sending T) (e : TakingEnd) (f : ℕ) (r : WorkerReport T) → r ≡ report_of e (Some f) s → e ≡ given_back i → f ≡ flag → IsStoppedAt flag (record { intake = i; sending = s }) (Stops r)
+  stopped-at flag i s e f r is same one = rw is (one, ap (λ (x : TakingEnd). report_of x (Some f) s) same)
+
+  pub not-stopped : (e : TakingEnd) (s : Sending T) (r : WorkerReport T) → r ≡ report_of e None s → r.stopped ≡ None
+  not-stopped e s r is = ap (λ (x : WorkerReport T). x.stopped) is
+
+  pub not-stopped-at : (flag : ℕ) (before : State T) (e : TakingEnd) (s : Sending T) (r : WorkerReport T) → r ≡ report_of e None s → IsStoppedAt flag before (Stops r)
+  not-stopped-at flag before e s r is = rw is tt
+
+  -- so is what a take gives
+  pub goes-on : (flag : ℕ) (before : State T) (p : Progress T) → IsNotStopped p → IsStoppedAt flag before p
+  goes-on flag before (Goes s) h = tt
+  goes-on flag before (Stops r) h = rw h tt

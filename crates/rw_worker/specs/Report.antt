@@ -1,6 +1,7 @@
 -- How far a worker is, and what it reports of its run.
-use Rattle.std.specs.Prelude.{◌≡◌, ◌+◌, ◌<◌, ◌≤◌, Bool, true, false, List, [], ◌∷◌, ◌++◌, length, ⊤}
+use Rattle.std.specs.Prelude.{◌≡◌, ℕ, ◌+◌, ◌<◌, ◌≤◌, Bool, true, false, List, [], ◌∷◌, ◌++◌, length, Option, None, Some, IfSome, ⊤}
 use Rattle.rw_shard_queue.specs.Items.{samples_in}
+use Rattle.rw_shard_queue.specs.declared.item.Item.{Item}
 use Rattle.rw_shard_queue.specs.History.{IsHistory}
 use Rattle.rw_shard_queue.specs.declared.item.Item.TheVariants as item
 use Rattle.rw_shard_queue.specs.declared.item.Kind.{Kind}
@@ -44,6 +45,11 @@ StopsAtHard (end.Ended Reshard d) steps = ⊤
 StopsAtHard (end.Ended Hard d) steps = (before : List Step) × (steps ≡ before ++ Takes (item.End Hard) ∷ [])
 StopsAtHard (end.Killed d) steps = ⊤
 
+-- the End that is told of is the last item that was taken
+abbrev pub IsLast : TakingEnd → Type 0
+IsLast (end.Ended kind d) = (before : List Item) × (d.taken ≡ before ++ item.End kind ∷ [])
+IsLast (end.Killed d) = ⊤
+
 abbrev pub intake_drain : Intake → Draining
 intake_drain (intake.Open d) = d
 intake_drain (intake.Ended kind d) = d
@@ -52,6 +58,10 @@ intake_drain (intake.Ended kind d) = d
 abbrev pub given_back : Intake → TakingEnd
 given_back (intake.Open d) = end.Killed d
 given_back (intake.Ended kind d) = end.Ended kind d
+
+-- what a worker reports that stops as it is
+abbrev pub report_of : {T : Type 0} → TakingEnd → Option ℕ → Sending T → WorkerReport T
+report_of end stopped s = record { end = end; resolved = s.resolved; stopped = stopped; ledger = s.ledger; transport = s.transport }
 
 -- behind an End that is not hard, what was taken is closed: a builder that is not due is empty
 abbrev pub IsClosed : Intake → Core → Type 0
@@ -80,6 +90,7 @@ module _ {T : Type 0} (tells : T → Type 0) (seen : T → List Exchange) (setup
   pub record IsState (s : State T) : Type 0 where
     pub sending : IsSending (intake_drain s.intake) s.sending
     pub closed : IsClosed s.intake s.sending.core
+    pub last : IsLast (given_back s.intake)
 
   -- What a worker reports. The state of its shard is that after its steps, of which the exchanges are the transcript of what was taken. No more than a batch of that is not resolved.
   pub record IsReport (r : WorkerReport T) : Type 0 where
@@ -90,9 +101,20 @@ module _ {T : Type 0} (tells : T → Type 0) (seen : T → List Exchange) (setup
     pub counted : r.resolved ≡ length (after (start_of setup) steps).core.resolved
     pub few : length (samples_in (drain_of r.end).taken) ≤ r.resolved + setup.batch
     pub names : r.ledger.names ≡ (after (start_of setup) steps).ledger.names
-    pub whole : r.stopped ≡ false → IsOrderly r.end → (after (start_of setup) steps).core.resolved ≡ samples_in (drain_of r.end).taken
+    pub last : IsLast r.end
+    pub whole : r.stopped ≡ None → IsOrderly r.end → (after (start_of setup) steps).core.resolved ≡ samples_in (drain_of r.end).taken
     pub hard : StopsAtHard r.end steps
 
   abbrev pub IsProgress : Progress T → Type 0
   IsProgress (Goes s) = IsState s
   IsProgress (Stops r) = IsReport r
+
+-- no stop flag was read as set
+abbrev pub IsNotStopped : {T : Type 0} → Progress T → Type 0
+IsNotStopped (Goes s) = ⊤
+IsNotStopped (Stops r) = r.stopped ≡ None
+
+-- a worker that tells of a stop flag read this one, and has done nothing since
+abbrev pub IsStoppedAt : {T : Type 0} → ℕ → State T → Progress T → Type 0
+IsStoppedAt flag s (Goes v) = ⊤
+IsStoppedAt flag s (Stops r) = IfSome r.stopped (λ (f : ℕ). (f ≡ flag) × (r ≡ report_of (given_back s.intake) (Some f) s.sending))

@@ -1,15 +1,15 @@
 //! Workers in threads of their own.
 
-ghost use Rattle.std.specs.Prelude.{◌≡◌, IfOk};
+ghost use Rattle.std.specs.Prelude.{◌≡◌, IfOk, IfSome};
 ghost use Rattle.rw_worker.specs.Report.{IsReport};
 
 use crate::report::WorkerReport;
+use crate::stop::StopFlag;
 use crate::transport::{Pause, Transport};
 use crate::worker::Worker;
 use std::alloc::AllocError;
 use std::snapshot::Snapshot;
-use std::sync::atomic::AtomicBool;
-use std::sync::{Arc, Wait};
+use std::sync::Wait;
 use std::thread;
 use std::thread::{Promise, PromisedHandle, Threads};
 
@@ -18,12 +18,14 @@ use std::thread::{Promise, PromisedHandle, Threads};
 pub struct Begun<T> {
     pub worker: Snapshot<Worker>,
     pub transport: Snapshot<T>,
+    pub stop: Snapshot<StopFlag>,
 }
 
 impl<T: Transport> Promise<WorkerReport<T>> for Begun<T> {
+    ghost use Rattle.std.specs.Prelude.{◌≡◌, IfSome};
     ghost use Rattle.rw_worker.specs.Report.{IsReport};
 
-    ghost kept_by = { λ b r. IsReport T.tells T.seen b.worker.value b.transport.value r };
+    ghost kept_by = { λ b r. IsReport T.tells T.seen b.worker.value b.transport.value r × IfSome r.stopped (λ flag. flag ≡ b.stop.value) };
 }
 
 /// Runs a worker in a thread of its own. Its report comes when the thread is joined.
@@ -38,21 +40,24 @@ pub fn spawn<
     worker: Worker,
     transport: T,
     mut pause: P,
-    stop: Arc<AtomicBool>,
+    stop: StopFlag,
 ) -> Result<PromisedHandle<WorkerReport<T>, Begun<T>>, AllocError>
     ensures worker { IfOk result (λ h. h.promise.worker.value ≡ worker) }
     ensures transport { IfOk result (λ h. h.promise.transport.value ≡ transport) }
+    ensures stop { IfOk result (λ h. h.promise.stop.value ≡ stop) }
 {
     let begun = Begun {
         worker: Snapshot::of(&worker),
         transport: Snapshot::of(&transport),
+        stop: Snapshot::of(&stop),
     };
     let own = *rt;
     let handle = thread::spawn_with(
         rt,
         begun,
         move || -> WorkerReport<T>
-            ensures { IsReport T.tells T.seen worker transport result }
+            ensures report { IsReport T.tells T.seen worker transport result }
+            ensures flag { IfSome result.stopped (λ flag. flag ≡ stop) }
         { worker.run(&own, transport, &mut pause, &stop) },
     )?;
     Ok(handle)

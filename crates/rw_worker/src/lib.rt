@@ -7,10 +7,12 @@ mod report;
 mod send;
 mod state;
 mod step;
+mod stop;
 mod transport;
 mod worker;
 
 pub use begun::{Begun, spawn};
 pub use report::{TakingEnd, WorkerReport};
+pub use stop::{StopFlag, Stopped};
 pub use transport::{Lost, Pause, Reply, Transport};
 pub use worker::Worker;

@@ -1,5 +1,6 @@
 //! What a worker reports.
 
+use crate::stop::Stopped;
 use rw_ledger::Ledger;
 use rw_ruled_queue::{Drain, Ended, Killed, Kind};
 
@@ -18,8 +19,8 @@ pub struct WorkerReport<T> {
     pub end: TakingEnd,
     /// How many samples are resolved: the receiver has them, or has refused them.
     pub resolved: u64,
-    /// Whether the worker read the stop flag as set.
-    pub stopped: bool,
+    /// There where the worker read the stop flag as set.
+    pub stopped: Option<Stopped>,
     /// The refused samples, each with the status of its batch.
     pub ledger: Ledger,
     pub transport: T,

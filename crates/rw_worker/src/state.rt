@@ -1,10 +1,11 @@
 //! How far a worker is.
 
 ghost use Rattle.std.specs.Prelude.{◌≡◌};
-ghost use Rattle.rw_worker.specs.Report.{given_back};
+ghost use Rattle.rw_worker.specs.Report.{given_back, report_of};
 
 use crate::backoff::Backoff;
 use crate::report::{TakingEnd, WorkerReport};
+use crate::stop::Stopped;
 use rw_ledger::Ledger;
 use rw_ruled_queue::{Drain, Ended, Kind, Open};
 use rw_sender::ShardCore;
@@ -43,8 +44,8 @@ pub(crate) struct Sending<T> {
 }
 
 impl<T: Drop> Sending<T> {
-    pub(crate) fn report(self, end: TakingEnd, stopped: bool) -> WorkerReport<T>
-        ensures { result ≡ record { end = end; resolved = self.resolved; stopped = stopped; ledger = self.ledger; transport = self.transport } }
+    pub(crate) fn report(self, end: TakingEnd, stopped: Option<Stopped>) -> WorkerReport<T>
+        ensures { result ≡ report_of end stopped self }
     {
         let Sending {
             resolved,

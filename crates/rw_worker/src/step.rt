@@ -1,17 +1,17 @@
 //! The steps of a worker.
 
-ghost use Rattle.std.specs.Prelude.{◌≡◌, true, false};
+ghost use Rattle.std.specs.Prelude.{◌≡◌, Some, true, false};
 ghost use Rattle.rw_sender.specs.Shard.{IsCore, can_take, is_empty};
-ghost use Rattle.rw_worker.specs.Report.{is_hard, IsSending, IsState, IsReport, IsProgress};
+ghost use Rattle.rw_worker.specs.Report.{is_hard, given_back, report_of, IsSending, IsState, IsReport, IsProgress, IsNotStopped, IsStoppedAt};
 
 use crate::begun::Begun;
 use crate::report::{TakingEnd, WorkerReport};
 use crate::send::send_once;
 use crate::state::{Intake, Progress, Sending, State};
+use crate::stop::{StopFlag, Stopped};
 use crate::transport::{Pause, Transport};
 use rw_ruled_queue::{Drain, Item, Kind, Open, Taken};
 use std::sync::Wait;
-use std::sync::atomic::{AtomicBool, Ordering};
 
 /// Freezes the builder, which is due.
 fn freeze<T: Transport + Drop, P: Pause>(
@@ -68,13 +68,18 @@ fn send<T: Transport + Drop, P: Pause>(
     State { intake, sending }
 }
 
-/// Stops where the stop flag is set.
-fn give_up<T: Transport + Drop>(_begun: &Begun<T>, state: State<T>) -> WorkerReport<T>
+/// Stops where the stop flag was read as set.
+fn give_up<T: Transport + Drop>(
+    _begun: &Begun<T>,
+    state: State<T>,
+    stopped: Stopped,
+) -> WorkerReport<T>
     requires { IsState T.tells T.seen _begun.now.worker.value _begun.now.transport.value state }
-    ensures { IsReport T.tells T.seen _begun.now.worker.value _begun.now.transport.value result }
+    ensures report { IsReport T.tells T.seen _begun.now.worker.value _begun.now.transport.value result }
+    ensures still { result ≡ report_of (given_back state.intake) (Some stopped) state.sending }
 {
     let State { intake, sending } = state;
-    sending.report(intake.close(), true)
+    sending.report(intake.close(), Some(stopped))
 }
 
 fn is_hard(kind: Kind) -> bool
@@ -92,7 +97,8 @@ fn take<T: Transport + Drop, R: Wait>(
 ) -> Progress<T>
     requires sending { IsSending T.tells T.seen _begun.now.worker.value _begun.now.transport.value drain sending }
     requires can { can_take sending.core ≡ true }
-    ensures { IsProgress T.tells T.seen _begun.now.worker.value _begun.now.transport.value result }
+    ensures progress { IsProgress T.tells T.seen _begun.now.worker.value _begun.now.transport.value result }
+    ensures goes { IsNotStopped result }
 {
     match drain.take(rt) {
         Taken::Item(item, drain) => {
@@ -104,7 +110,7 @@ fn take<T: Transport + Drop, R: Wait>(
         }
         Taken::End(kind, drain) => {
             if is_hard(kind) {
-                return Progress::Stops(sending.report(TakingEnd::Ended(kind, drain), false));
+                return Progress::Stops(sending.report(TakingEnd::Ended(kind, drain), None));
             }
             sending.core.take(Item::End(kind));
             Progress::Goes(State {
@@ -113,7 +119,7 @@ fn take<T: Transport + Drop, R: Wait>(
             })
         }
         Taken::Gone(drain) => {
-            Progress::Stops(sending.report(TakingEnd::Killed(drain.kill()), false))
+            Progress::Stops(sending.report(TakingEnd::Killed(drain.kill()), None))
         }
     }
 }
@@ -123,20 +129,22 @@ fn go_on<T: Transport + Drop, R: Wait>(
     rt: &R,
     begun: &Begun<T>,
     state: State<T>,
-    stop: &AtomicBool,
+    stop: &StopFlag,
 ) -> Progress<T>
     requires state { IsState T.tells T.seen begun.now.worker.value begun.now.transport.value state }
     requires can { can_take state.sending.core ≡ true }
-    ensures { IsProgress T.tells T.seen begun.now.worker.value begun.now.transport.value result }
+    ensures progress { IsProgress T.tells T.seen begun.now.worker.value begun.now.transport.value result }
+    ensures stopped { IsStoppedAt stop.now state result }
 {
     let State { intake, sending } = state;
     match intake {
         Intake::Ended(kind, drain) => {
-            Progress::Stops(sending.report(TakingEnd::Ended(kind, drain), false))
+            Progress::Stops(sending.report(TakingEnd::Ended(kind, drain), None))
         }
         Intake::Open(drain) => {
-            if stop.load(Ordering::SeqCst) {
-                return Progress::Stops(sending.report(TakingEnd::Killed(drain.kill()), true));
+            if let Some(stopped) = stop.read() {
+                let end = TakingEnd::Killed(drain.kill());
+                return Progress::Stops(sending.report(end, Some(stopped)));
             }
             take(rt, begun, drain, sending)
         }
@@ -149,16 +157,17 @@ pub(crate) fn step<T: Transport + Drop, P: Pause, R: Wait>(
     begun: &Begun<T>,
     state: State<T>,
     pause: &mut P,
-    stop: &AtomicBool,
+    stop: &StopFlag,
 ) -> Progress<T>
     requires { IsState T.tells T.seen begun.now.worker.value begun.now.transport.value state }
-    ensures { IsProgress T.tells T.seen begun.now.worker.value begun.now.transport.value result }
+    ensures progress { IsProgress T.tells T.seen begun.now.worker.value begun.now.transport.value result }
+    ensures stopped { IsStoppedAt stop.now state result }
 {
     if state.sending.core.can_take() {
         return go_on(rt, begun, state, stop);
     }
-    if stop.load(Ordering::SeqCst) {
-        return Progress::Stops(give_up(begun, state));
+    if let Some(stopped) = stop.read() {
+        return Progress::Stops(give_up(begun, state, stopped));
     }
     if state.sending.core.batch_id().is_some() {
         return Progress::Goes(send(begun, state, pause));

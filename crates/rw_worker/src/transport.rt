@@ -17,8 +17,11 @@ pub struct Lost;
 
 /// Sends a request and waits for the answer.
 pub trait Transport {
-    ghost use Rattle.std.specs.Prelude.{◌≡◌, List, [], ◌∷◌, ◌++◌};
+    ghost use Rattle.std.specs.Prelude.{◌≡◌, ℕ, List, [], ◌∷◌, ◌++◌};
     ghost use Rattle.rw_worker.specs.Transcript.{Exchange, exchange_of};
+
+    /// It was made for the worker of this shard of this epoch, the epoch first. One that serves all workers says so of each.
+    ghost is_for: { ℕ → ℕ → Self → Type 0 };
 
     /// It has told of each exchange so far. A transport need not tell of any.
     ghost tells: { Self → Type 0 };

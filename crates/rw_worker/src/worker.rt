@@ -1,6 +1,6 @@
 //! The worker of a shard.
 
-ghost use Rattle.std.specs.Prelude.{◌≡◌, [], IfOk, IfErr};
+ghost use Rattle.std.specs.Prelude.{◌≡◌, [], IfOk, IfErr, IfSome};
 ghost use Rattle.rw_worker.specs.Report.{IsState, IsReport};
 
 use crate::backoff::Backoff;
@@ -8,6 +8,7 @@ use crate::begun::Begun;
 use crate::report::WorkerReport;
 use crate::state::{Intake, Progress, Sending, State};
 use crate::step::step;
+use crate::stop::StopFlag;
 use crate::transport::{Pause, Transport};
 use rw_ledger::Ledger;
 use rw_ruled_queue::{Drain, Open};
@@ -16,7 +17,6 @@ use std::alloc::{AllocError, Global};
 use std::marker::Model;
 use std::snapshot::Snapshot;
 use std::sync::Wait;
-use std::sync::atomic::AtomicBool;
 
 /// A worker that has not begun. Contracts see what it is set up with.
 #[derive(Drop)]
@@ -87,13 +87,15 @@ impl Worker {
         rt: &R,
         transport: T,
         pause: &mut P,
-        stop: &AtomicBool,
+        stop: &StopFlag,
     ) -> WorkerReport<T>
-        ensures { IsReport T.tells T.seen self transport result }
+        ensures report { IsReport T.tells T.seen self transport result }
+        ensures flag { IfSome result.stopped (λ flag. flag ≡ stop.now) }
     {
         let begun = Begun {
             worker: Snapshot::of(&self),
             transport: Snapshot::of(&transport),
+            stop: Snapshot::of(stop),
         };
         let mut state = self.begin(transport);
         for _ in rt.forever() {

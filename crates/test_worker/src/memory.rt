@@ -4,10 +4,8 @@ ghost use Rattle.std.specs.Prelude.{◌≡◌, [], ◌∷◌, ◌++◌, true};
 ghost use Rattle.rw_worker.specs.Transcript.{exchange_of};
 ghost use Rattle.test_worker.specs.Noted.{noted};
 
-use rw_worker::{Lost, Pause, Reply, Transport};
+use rw_worker::{Lost, Pause, Reply, StopFlag, Transport};
 use std::alloc::Global;
-use std::sync::Arc;
-use std::sync::atomic::{AtomicBool, Ordering};
 
 /// An exchange that was made.
 #[derive(Drop)]
@@ -23,7 +21,7 @@ pub struct Script {
     answers: Vec<Result<Reply, Lost>>,
     notes: Vec<Note>,
     is_complete: bool,
-    stop: Arc<AtomicBool>,
+    stop: StopFlag,
     stops_at: usize,
 }
 
@@ -32,7 +30,7 @@ impl Script {
     pub fn new(
         alloc: Global,
         answers: Vec<Result<Reply, Lost>>,
-        stop: Arc<AtomicBool>,
+        stop: StopFlag,
         stops_at: usize,
     ) -> Script
         ensures empty { result.notes.items ≡ [] }
@@ -81,8 +79,10 @@ impl Script {
 }
 
 impl Transport for Script {
-    ghost use Rattle.std.specs.Prelude.{◌≡◌, true};
+    ghost use Rattle.std.specs.Prelude.{◌≡◌, true, ⊤};
     ghost use Rattle.test_worker.specs.Noted.{noted};
+
+    ghost is_for = { λ _ _ _. ⊤ };
 
     ghost tells = { λ s. s.is_complete ≡ true };
 
@@ -93,7 +93,7 @@ impl Transport for Script {
         let noted = answer;
         self.note(request, noted);
         if self.notes.len() == self.stops_at {
-            self.stop.store(true, Ordering::SeqCst);
+            self.stop.set();
         }
         answer
     }

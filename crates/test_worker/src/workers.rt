@@ -9,9 +9,8 @@ use rw_ledger::{Ledger, Reason};
 use rw_ruled_queue::{Drain, Ended, Feed, Item, Kind, Open, open};
 use rw_sender::{Config, ConfigFields};
 use rw_types::{Bounded, LabelSet, Place, RawLabels, Word};
-use rw_worker::{Lost, Reply, TakingEnd, Worker, WorkerReport, spawn};
+use rw_worker::{Lost, Reply, StopFlag, TakingEnd, Worker, WorkerReport, spawn};
 use std::alloc::{AllocError, Global};
-use std::sync::atomic::AtomicBool;
 use std::sync::{Arc, Wait};
 use std::test::Fail;
 use std::thread::Threads;
@@ -45,14 +44,14 @@ fn up(alloc: Global) -> Result<Arc<LabelSet>, Fail> {
     }
 }
 
-/// Puts a sample, and ends.
-fn one<R: Wait>(rt: &R, feed: Feed<Open>, labels: Arc<LabelSet>) -> Option<Feed<Ended>>
+/// Puts a sample, and an End of this kind.
+fn one<R: Wait>(rt: &R, feed: Feed<Open>, labels: Arc<LabelSet>, kind: Kind) -> Option<Feed<Ended>>
     requires { (feed.queue.epoch ≡ 3) × (feed.queue.shard ≡ 1) × (feed.put ≡ []) }
     ensures { IfSome result (λ f. f.queue ≡ feed.queue) }
 {
     let mut feed = feed;
     feed.put(rt, sample(0, 5, 1000, ONE, labels)).ok()?;
-    feed.end(rt, Kind::Orderly).ok()
+    feed.end(rt, kind).ok()
 }
 
 /// Puts two samples with a Flush between, and ends.
@@ -89,9 +88,9 @@ fn answers(alloc: Global, statuses: &[u16]) -> Result<Vec<Result<Reply, Lost>>, 
 enum Feeding {
     /// It lets go of its end.
     Gone,
-    /// It puts one sample, and ends.
-    One,
-    /// It puts two samples with a Flush between, and ends.
+    /// It puts one sample, and an End of this kind.
+    One(Kind),
+    /// It puts two samples with a Flush between, and an orderly End.
     Two,
 }
 
@@ -107,9 +106,10 @@ struct Row<'a> {
     wanted: Wanted<'a>,
 }
 
-/// What a worker is to do. One that is not killed takes an orderly End.
+/// What a worker is to do.
 struct Wanted<'a> {
-    is_killed: bool,
+    /// The End that it takes; none where it gives its end of the queue up.
+    end: Option<Kind>,
     stopped: bool,
     resolved: u64,
     dropped: &'a [(u64, Reason)],
@@ -121,9 +121,8 @@ struct Wanted<'a> {
 
 fn ends_as_wanted(end: &TakingEnd, wanted: &Wanted<'_>) -> bool {
     match end {
-        TakingEnd::Ended(Kind::Orderly, _) => !wanted.is_killed,
-        TakingEnd::Killed(_) => wanted.is_killed,
-        _ => false,
+        TakingEnd::Ended(kind, _) => wanted.end == Some(*kind),
+        TakingEnd::Killed(_) => wanted.end.is_none(),
     }
 }
 
@@ -150,7 +149,7 @@ fn difference(report: &WorkerReport<Script>, wanted: &Wanted<'_>) -> Option<&'st
     if !ends_as_wanted(&report.end, wanted) {
         return Some("end");
     }
-    if report.stopped != wanted.stopped {
+    if report.stopped.is_some() != wanted.stopped {
         return Some("stopped");
     }
     if report.resolved != wanted.resolved {
@@ -178,7 +177,7 @@ fn fed<R: Wait>(rt: &R, feed: Feed<Open>, labels: Arc<LabelSet>, feeding: Feedin
 {
     match feeding {
         Feeding::Gone => true,
-        Feeding::One => one(rt, feed, labels).is_some(),
+        Feeding::One(kind) => one(rt, feed, labels, kind).is_some(),
         Feeding::Two => two(rt, feed, labels).is_some(),
     }
 }
@@ -190,7 +189,7 @@ fn run<R: Wait>(
     config: &Config,
     drain: Drain<Open>,
     script: Script,
-    stop: &AtomicBool,
+    stop: &StopFlag,
     wanted: &Wanted<'_>,
 ) -> Option<&'static str>
     requires { (drain.queue.epoch ≡ 3) × (drain.queue.shard ≡ 1) × (drain.taken ≡ []) }
@@ -215,7 +214,7 @@ fn fed_and_run<R: Wait>(
     config: &Config,
     labels: Arc<LabelSet>,
     script: Script,
-    stop: &AtomicBool,
+    stop: &StopFlag,
     row: &Row<'_>,
 ) -> Option<&'static str> {
     let Ok((feed, drain)) = open(alloc, 3, 1, 4) else {
@@ -243,14 +242,16 @@ fn odd<R: Wait>(rt: &R, alloc: Global, row: &Row<'_>) -> Result<Option<&'static 
     let config = config_of(alloc, row.batch)?;
     let labels = up(alloc)?;
     let answers = answers(alloc, row.statuses)?;
-    let stop = Arc::new(alloc, AtomicBool::new(row.stops_at == Some(0)))?;
-    let copy = stop.clone()?;
-    let script = Script::new(alloc, answers, copy, row.stops_at.unwrap_or(0));
+    let stop = StopFlag::new(alloc)?;
+    if row.stops_at == Some(0) {
+        stop.set();
+    }
+    let script = Script::new(alloc, answers, stop.share()?, row.stops_at.unwrap_or(0));
     Ok(fed_and_run(rt, alloc, &config, labels, script, &stop, row))
 }
 
 const REFUSED: Wanted<'_> = Wanted {
-    is_killed: false,
+    end: Some(Kind::Orderly),
     stopped: false,
     resolved: 2,
     dropped: &[(5, Reason::Status(400))],
@@ -260,15 +261,15 @@ const REFUSED: Wanted<'_> = Wanted {
 };
 
 /// In batches of one, of two and of 2,000 samples the Flush makes two batches. The pauses of each begin anew.
-const ROWS: [Row<'_>; 7] = [
+const ROWS: [Row<'_>; 9] = [
     Row {
         name: "a batch is sent until the answer is final",
-        feeding: Feeding::One,
+        feeding: Feeding::One(Kind::Orderly),
         batch: 2000,
         statuses: &[503, 0, 429, 204],
         stops_at: None,
         wanted: Wanted {
-            is_killed: false,
+            end: Some(Kind::Orderly),
             stopped: false,
             resolved: 1,
             dropped: &[],
@@ -279,12 +280,12 @@ const ROWS: [Row<'_>; 7] = [
     },
     Row {
         name: "a set stop flag ends the tries",
-        feeding: Feeding::One,
+        feeding: Feeding::One(Kind::Orderly),
         batch: 2000,
         statuses: &[503, 503, 503, 503],
         stops_at: Some(3),
         wanted: Wanted {
-            is_killed: false,
+            end: Some(Kind::Orderly),
             stopped: true,
             resolved: 0,
             dropped: &[],
@@ -295,12 +296,12 @@ const ROWS: [Row<'_>; 7] = [
     },
     Row {
         name: "nothing is taken once the stop flag is set",
-        feeding: Feeding::One,
+        feeding: Feeding::One(Kind::Orderly),
         batch: 2000,
         statuses: &[],
         stops_at: Some(0),
         wanted: Wanted {
-            is_killed: true,
+            end: None,
             stopped: true,
             resolved: 0,
             dropped: &[],
@@ -334,13 +335,45 @@ const ROWS: [Row<'_>; 7] = [
         wanted: REFUSED,
     },
     Row {
+        name: "all is sent before a reshard",
+        feeding: Feeding::One(Kind::Reshard),
+        batch: 2000,
+        statuses: &[204],
+        stops_at: None,
+        wanted: Wanted {
+            end: Some(Kind::Reshard),
+            stopped: false,
+            resolved: 1,
+            dropped: &[],
+            exchanges: 1,
+            request: Some(UP),
+            milliseconds: Some(&[]),
+        },
+    },
+    Row {
+        name: "nothing is sent behind a hard End",
+        feeding: Feeding::One(Kind::Hard),
+        batch: 2000,
+        statuses: &[],
+        stops_at: None,
+        wanted: Wanted {
+            end: Some(Kind::Hard),
+            stopped: false,
+            resolved: 0,
+            dropped: &[],
+            exchanges: 0,
+            request: None,
+            milliseconds: Some(&[]),
+        },
+    },
+    Row {
         name: "a worker whose feeder is gone",
         feeding: Feeding::Gone,
         batch: 2000,
         statuses: &[],
         stops_at: None,
         wanted: Wanted {
-            is_killed: true,
+            end: None,
             stopped: false,
             resolved: 0,
             dropped: &[],
@@ -361,7 +394,7 @@ fn workers(rt: HostRuntime) -> Result<(), Fail> {
 }
 
 const IN_A_THREAD: Wanted<'_> = Wanted {
-    is_killed: false,
+    end: Some(Kind::Orderly),
     stopped: false,
     resolved: 2,
     dropped: &[(9, Reason::Status(404))],
@@ -385,7 +418,7 @@ fn fed_in_a_thread<R: Threads + Wait + Copy + Send + 'static>(
     alloc: Global,
     labels: Arc<LabelSet>,
     script: Script,
-    stop: Arc<AtomicBool>,
+    stop: StopFlag,
 ) -> Option<&'static str> {
     let Ok((feed, drain)) = open(alloc, 3, 1, 1) else {
         return Some("no memory");
@@ -413,8 +446,8 @@ fn a_worker_in_a_thread(rt: HostRuntime) -> Result<(), Fail> {
     let alloc = rt.alloc();
     let labels = up(alloc)?;
     let answers = answers(alloc, &[0, 204, 503, 404])?;
-    let stop = Arc::new(alloc, AtomicBool::new(false))?;
-    let script = Script::new(alloc, answers, stop.clone()?, 0);
+    let stop = StopFlag::new(alloc)?;
+    let script = Script::new(alloc, answers, stop.share()?, 0);
     let odd = fed_in_a_thread(&rt, alloc, labels, script, stop);
     assert_eq!(rt; odd, None);
     Ok(())
