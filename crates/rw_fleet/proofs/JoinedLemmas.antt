@@ -8,8 +8,8 @@ use Rattle.rw_fleet.specs.Work.{IsWorked, AreWorked, lane_of}
 use Rattle.rw_fleet.proofs.ListLemmas.{map_append, map_length, more_length}
 use Rattle.rw_fleet.proofs.LaneLemmas.{set_up_append, set_up_same}
 
-module _ {T : Type 0} (tells : T → Type 0) (seen : T → List Exchange) where
-  pub worked_push : (js : List (Joined T)) (j : Joined T) → AreWorked tells seen js → IsWorked tells seen j → AreWorked tells seen (js ++ j ∷ [])
+module _ {T : Type 0} (tells : T → Type 0) (seen : T → List Exchange) (is_for : ℕ → ℕ → T → Type 0) where
+  pub worked_push : (js : List (Joined T)) (j : Joined T) → AreWorked tells seen is_for js → IsWorked tells seen is_for j → AreWorked tells seen is_for (js ++ j ∷ [])
   worked_push [] j h w = (w, tt)
   worked_push (x ∷ xs) j h w = (h.0, worked_push xs j h.1 w)
 

@@ -1,6 +1,6 @@
 -- The last item of a queue, and what it says of the worker.
-use Rattle.std.proofs.Common.{◌≡◌, ◌⊎◌, inl, inr, ℕ, zero, suc, ◌+◌, ◌<◌, below_more, Bool, true, false, List, [], ◌∷◌, ◌++◌, length, map, Some, None, refl, sym, ap, ◌∙◌, subst, drop, length-drop, arith, eq-eqb}
-use Rattle.std.specs.Prelude.{slice_get, ◌==◌, ◌&&◌}
+use Rattle.std.proofs.Common.{◌≡◌, ◌⊎◌, inl, inr, ℕ, zero, suc, ◌+◌, ◌<◌, below_more, Bool, true, false, List, [], ◌∷◌, ◌++◌, length, map, Option, Some, None, refl, sym, ap, ◌∙◌, subst, drop, length-drop, arith, eq-eqb}
+use Rattle.std.specs.Prelude.{slice_get, ◌==◌, ◌&&◌, IsSome}
 use Rattle.rw_shard_queue.specs.Items.{samples_in, is_end}
 use Rattle.rw_shard_queue.specs.declared.item.Item.{Item}
 use Rattle.rw_shard_queue.specs.declared.item.Item.TheVariants as item
@@ -102,10 +102,10 @@ positions_samples (item.Sample p t w l ∷ xs) = ap suc (positions_samples xs)
 positions_samples (item.Flush ∷ xs) = positions_samples xs
 positions_samples (item.End kind ∷ xs) = positions_samples xs
 
-cut_cases : {A : Type 0} (compared stopped resolved : Bool) → (compared ≡ false → A) → (compared ≡ true → stopped ≡ false → resolved ≡ true) → resolved ≡ false → A ⊎ (stopped ≡ true)
+cut_cases : {A : Type 0} (compared : Bool) (stopped : Option ℕ) (resolved : Bool) → (compared ≡ false → A) → (compared ≡ true → stopped ≡ None → resolved ≡ true) → resolved ≡ false → A ⊎ IsSome stopped
 cut_cases false stopped resolved apart h e = inl (apart refl)
-cut_cases true true resolved apart h e = inr refl
-cut_cases true false resolved apart h e = let all : resolved ≡ true = h refl refl in absurd (cc)
+cut_cases true (Some flag) resolved apart h e = inr refl
+cut_cases true None resolved apart h e = let all : resolved ≡ true = h refl refl in absurd (cc)
 
 module _ {T : Type 0} where
   pub soft_closed : (was now more : List (Joined T)) (ending : List Lane) → AreSoft (map lane_of was) → AreSoft ending → now ≡ was ++ more → map lane_of more ≡ ending → AreSoft (map lane_of now)
@@ -137,10 +137,10 @@ module _ {T : Type 0} where
   soft_at (x ∷ xs) zero j h at = subst (λ (y : Joined T). IsSoft (put_of y.finished.ends)) (joined_is x j at) h.0
   soft_at (x ∷ xs) (suc k) j h at = soft_at xs k j h.1 at
 
-module _ {T : Type 0} (tells : T → Type 0) (seen : T → List Exchange) where
+module _ {T : Type 0} (tells : T → Type 0) (seen : T → List Exchange) (is_for : ℕ → ℕ → T → Type 0) where
   -- a worker that took the End, which was not hard, and did not stop, has resolved all
   pub report_done : (setup : Setup) (begun : T) (r : WorkerReport T) (ends : Ends) (left : List ℕ) → IsReport tells seen setup begun r → taken_of ends ≡ (drain_of r.end).taken → (is_compared ends ≡ true → IsEndTaken r.end)
-      → left ≡ drop r.resolved (positions_in (put_of ends)) → is_compared ends ≡ true → r.stopped ≡ false → IsSoft (put_of ends) → (is_compared ends && (length left == 0)) ≡ true
+      → left ≡ drop r.resolved (positions_in (put_of ends)) → is_compared ends ≡ true → r.stopped ≡ None → IsSoft (put_of ends) → (is_compared ends && (length left == 0)) ≡ true
   report_done setup begun r (Apart f e) left h taken ended is compared live soft = absurd (cc)
   report_done setup begun r (Compared w) left h taken ended is compared live soft =
       let orderly = orderly_of r.end h.steps w.items (ended refl) h.hard (h.made.items ∙ sym taken) soft in
@@ -150,13 +150,13 @@ module _ {T : Type 0} (tells : T → Type 0) (seen : T → List Exchange) where
       let none : length left ≡ 0 = omega arith in
       eq-eqb (length left) 0 none
 
-  worked_at : (js : List (Joined T)) (k : ℕ) (j : Joined T) → AreWorked tells seen js → slice_get js k ≡ Some j → IsWorked tells seen j
+  worked_at : (js : List (Joined T)) (k : ℕ) (j : Joined T) → AreWorked tells seen is_for js → slice_get js k ≡ Some j → IsWorked tells seen is_for j
   worked_at [] k j h at = absurd (let at' : None ≡ Some j = at in cc)
-  worked_at (x ∷ xs) zero j h at = subst (IsWorked tells seen) (joined_is x j at) h.0
+  worked_at (x ∷ xs) zero j h at = subst (IsWorked tells seen is_for) (joined_is x j at) h.0
   worked_at (x ∷ xs) (suc k) j h at = worked_at xs k j h.1 at
 
   -- a shard that is not resolved was cut
-  pub has_cut : (js : List (Joined T)) → AreWorked tells seen js → AreSoft (map lane_of js) → HasUnresolved js → HasCut js
+  pub has_cut : (js : List (Joined T)) → AreWorked tells seen is_for js → AreSoft (map lane_of js) → HasUnresolved js → HasCut js
   has_cut js worked soft u =
       let w = worked_at js u.0 u.1 worked u.2 in
       (u.0, u.1, u.2, cut_cases (is_compared u.1.finished.ends) u.1.finished.stopped (is_resolved u.1) w.apart (λ compared live. w.done compared live (soft_at js u.0 u.1 soft u.2)) u.3)

@@ -1,5 +1,5 @@
 -- The shards of an epoch as the one who feeds them sees them.
-use Rattle.std.specs.Prelude.{◌≡◌, ℕ, zero, suc, List, [], ◌∷◌, ◌++◌, length, set, Some, slice_get, ⊤}
+use Rattle.std.specs.Prelude.{◌≡◌, ℕ, zero, suc, ◌≤◌, ◌^◌, List, [], ◌∷◌, ◌++◌, length, set, Some, slice_get, ⊤}
 use Rattle.std.specs.Arc.{arc_value}
 use Rattle.rw_sender.specs.declared.config.ConfigFields.{ConfigFields}
 use Rattle.rw_shard_queue.specs.Items.{Placed, samples_in, places_in}
@@ -55,6 +55,10 @@ pub record IsPut (k : ℕ) (s : Logged) (old new : List Lane) : Type 0 where
   pub put : samples_in now.put ≡ samples_in was.put ++ put_as was s ∷ []
   pub marks : marks_in now.put ≡ marks_in was.put
   pub is : new ≡ set old k now
+
+-- the shard numbered k was put as many samples as are counted
+abbrev pub IsUsedUp : ℕ → List Lane → Type 0
+IsUsedUp k lanes = (lane : Lane) × (slice_get lanes k ≡ Some lane) × (2 ^ 60 ≤ length (places_in lane.put))
 
 -- the same shards, each with the same samples
 abbrev pub AreSame : List Lane → List Lane → Type 0

@@ -1,5 +1,5 @@
 -- What a shard did, once its worker's thread has ended.
-use Rattle.std.specs.Prelude.{◌≡◌, ◌⊎◌, ℕ, ◌+◌, ◌≤◌, ◌==◌, ◌&&◌, Bool, true, false, List, [], ◌∷◌, ◌++◌, length, map, drop, Some, slice_get, ⊤}
+use Rattle.std.specs.Prelude.{◌≡◌, ◌⊎◌, ℕ, ◌+◌, ◌≤◌, ◌==◌, ◌&&◌, Bool, true, false, List, [], ◌∷◌, ◌++◌, length, map, drop, Some, None, IsSome, slice_get, ⊤}
 use Rattle.rw_types.specs.declared.place.Place.{Place}
 use Rattle.rw_shard_queue.specs.Items.{places_in}
 use Rattle.rw_shard_queue.specs.declared.item.Item.{Item}
@@ -93,11 +93,12 @@ abbrev pub IsEndTaken : TakingEnd → Type 0
 IsEndTaken (taking.Ended kind d) = ⊤
 IsEndTaken (taking.Killed d) = ⊥
 
--- A shard's ends and counts are what a worker of this queue reported, over a transport that had told nothing. The samples behind those resolved are abandoned: no more than the queue holds, and a batch.
-pub record IsWorked {T : Type 0} (tells : T → Type 0) (seen : T → List Exchange) (j : Joined T) : Type 0 where
+-- A shard's ends and counts are what a worker of this queue reported, over a transport that was made for it and had told nothing. The samples behind those resolved are abandoned: no more than the queue holds, and a batch.
+pub record IsWorked {T : Type 0} (tells : T → Type 0) (seen : T → List Exchange) (is_for : ℕ → ℕ → T → Type 0) (j : Joined T) : Type 0 where
   pub begun : T
   pub end : TakingEnd
   pub none : seen begun ≡ []
+  pub made : is_for j.worker.value.queue.epoch j.worker.value.queue.shard begun
   pub queue : queue_of j.finished.ends ≡ j.worker.value.queue
   pub taken : taken_of j.finished.ends ≡ (drain_of end).taken
   pub begins : IsTakenOf j.finished.ends
@@ -105,18 +106,18 @@ pub record IsWorked {T : Type 0} (tells : T → Type 0) (seen : T → List Excha
   pub abandoned : j.abandoned.items ≡ drop j.finished.resolved (positions_in (put_of j.finished.ends))
   pub few : length j.abandoned.items ≤ j.worker.value.queue.capacity + j.worker.value.batch
   pub apart : is_compared j.finished.ends ≡ false → IsApart j.finished.ends
-  pub done : is_compared j.finished.ends ≡ true → j.finished.stopped ≡ false → IsSoft (put_of j.finished.ends) → is_resolved j ≡ true
+  pub done : is_compared j.finished.ends ≡ true → j.finished.stopped ≡ None → IsSoft (put_of j.finished.ends) → is_resolved j ≡ true
 
-abbrev pub AreWorked : {T : Type 0} → (T → Type 0) → (T → List Exchange) → List (Joined T) → Type 0
-AreWorked tells seen [] = ⊤
-AreWorked tells seen (j ∷ js) = IsWorked tells seen j × AreWorked tells seen js
+abbrev pub AreWorked : {T : Type 0} → (T → Type 0) → (T → List Exchange) → (ℕ → ℕ → T → Type 0) → List (Joined T) → Type 0
+AreWorked tells seen is_for [] = ⊤
+AreWorked tells seen is_for (j ∷ js) = IsWorked tells seen is_for j × AreWorked tells seen is_for js
 
 abbrev pub AreResolved : {T : Type 0} → List (Joined T) → Type 0
 AreResolved {T} js = (k : ℕ) (j : Joined T) → slice_get js k ≡ Some j → is_resolved j ≡ true
 
 -- one of the ends was gone before the other, or the worker read the stop flag as set
 abbrev pub IsCut : {T : Type 0} → Finished T → Type 0
-IsCut f = IsApart f.ends ⊎ (f.stopped ≡ true)
+IsCut f = IsApart f.ends ⊎ IsSome f.stopped
 
 -- one of these queues was cut
 abbrev pub HasCut : {T : Type 0} → List (Joined T) → Type 0

@@ -15,5 +15,6 @@ pub trait Connect {
 
     /// For the worker of a shard of an epoch. The transport has made no exchange yet.
     fn transport(&mut self, epoch: u64, shard: u32) -> Result<(Self::T, Self::P), AllocError>
-        ensures { IfOk result (λ r. Self.T.seen r.0 ≡ []) };
+        ensures unused { IfOk result (λ r. Self.T.seen r.0 ≡ []) }
+        ensures made { IfOk result (λ r. Self.T.is_for epoch shard r.0) };
 }

@@ -1,9 +1,9 @@
 //! All shards of all epochs.
 
-ghost use Rattle.std.specs.Prelude.{◌≡◌, ◌+◌, ◌<◌, ◌≤◌, ◌^◌, ℕ, List, [], ◌∷◌, ◌++◌, length, map, MatchResult, IfOk, IfErr, OnOk, OnErr, Some, true, false, slice_get};
+ghost use Rattle.std.specs.Prelude.{◌≡◌, ◌+◌, ◌<◌, ◌≤◌, ◌^◌, ℕ, List, [], ◌∷◌, ◌++◌, length, map, MatchResult, IfOk, IfErr, OnOk, OnErr, Some, Err, true, false, slice_get};
 ghost use Rattle.rw_types.specs.declared.place.Place.{Place};
 ghost use Rattle.rw_shard_queue.specs.Items.{places_in};
-ghost use Rattle.rw_fleet.specs.Lanes.{Lane, AreFresh, AreSame, AreSetUp, IsPut, marked};
+ghost use Rattle.rw_fleet.specs.Lanes.{Lane, AreFresh, AreSame, AreSetUp, IsPut, IsUsedUp, marked};
 ghost use Rattle.rw_worker.specs.Report.{is_hard};
 ghost use Rattle.rw_fleet.specs.Work.{AreResolved, AreWorked, HasCut, lane_of, finished_of};
 ghost use Rattle.rw_fleet.specs.Fleets.{AreAll, EndBy, HasClosed};
@@ -19,11 +19,11 @@ use crate::running::{Ending, Fault, Running};
 use rw_feeder::Logged;
 use rw_ruled_queue::Kind;
 use rw_sender::Config;
+use rw_worker::StopFlag;
 use std::alloc::{AllocError, Global};
 use std::marker::Model;
 use std::mem::replace;
-use std::sync::atomic::{AtomicBool, Ordering};
-use std::sync::{Arc, Wait};
+use std::sync::Wait;
 use std::thread::Threads;
 
 /// The shards at work, and those that have ended, in the order of their epochs.
@@ -32,7 +32,7 @@ pub struct Fleet<C: Connect + Drop> {
     alloc: Global,
     config: Config,
     connect: C,
-    stop: Arc<AtomicBool>,
+    stop: StopFlag,
     epoch: u64,
     running: Vec<Running<C::T>>,
     /// It has room for each shard at work.
@@ -54,7 +54,7 @@ impl<C: Connect + Drop> Model for Fleet<C> {
 
     ghost view = { λ f. record { config = f.config; epoch = f.epoch; current = f.running.items; ended = f.joined.items } };
 
-    ghost invariant = { λ f. AreWorked C.T.tells C.T.seen f.joined.items
+    ghost invariant = { λ f. AreWorked C.T.tells C.T.seen C.T.is_for f.joined.items
         × AreSetUp f.config (map lane_of f.joined.items)
         × AreSetUp f.config f.running.items
         × (vec_len f.joined + vec_len f.running ≤ vec_capacity f.joined)
@@ -69,7 +69,7 @@ impl<C: Connect + Drop> Fleet<C> {
     pub fn new(alloc: Global, config: Config, connect: C) -> Result<Fleet<C>, AllocError>
         ensures { IfOk result (λ f. f ≡ record { config = config; epoch = 0; current = []; ended = [] }) }
     {
-        let stop = Arc::new(alloc, AtomicBool::new(false))?;
+        let stop = StopFlag::new(alloc)?;
         Ok(Fleet {
             alloc,
             config,
@@ -151,6 +151,7 @@ impl<C: Connect + Drop> Fleet<C> {
         ensures rest { self.new ≡ record self.old { current = self.new.current } }
         ensures ok { OnOk result (IsPut shard logged self.old.current self.new.current) }
         ensures err { OnErr result (self.new ≡ self.old) }
+        ensures memory { result ≡ Err Fault.OutOfMemory → IsUsedUp shard self.old.current }
     {
         if let Err(fault) = self.running[shard].put(rt, logged) {
             return Err(fault);
@@ -163,6 +164,7 @@ impl<C: Connect + Drop> Fleet<C> {
         ensures rest { self.new ≡ record self.old { current = self.new.current } }
         ensures marked { OnOk result (self.new.current ≡ map marked self.old.current) }
         ensures same { AreSame self.old.current self.new.current }
+        ensures memory { result ≡ Err Fault.OutOfMemory → ⊥ }
     {
         mark_all(rt, &mut self.running)
     }
@@ -171,7 +173,7 @@ impl<C: Connect + Drop> Fleet<C> {
     pub fn close<R: Threads + Wait>(&mut self, rt: &R) -> bool
         requires { self.old.epoch + 1 < 2 ^ 64 }
         ensures closed { HasClosed self.old self.new }
-        ensures worked { AreWorked C.T.tells C.T.seen self.new.ended }
+        ensures worked { AreWorked C.T.tells C.T.seen C.T.is_for self.new.ended }
         ensures setup { AreSetUp self.new.config (map lane_of self.new.ended) }
         ensures resolved { result ≡ true → AreResolved self.new.ended }
         ensures cut { result ≡ false → HasCut self.new.ended }
@@ -188,7 +190,7 @@ impl<C: Connect + Drop> Fleet<C> {
     /// Ends all shards at work and waits for their workers, which are told to stop where the end is hard. It answers whether all that was put in all epochs is resolved.
     pub fn finish<R: Threads + Wait>(self, rt: &R, kind: Kind) -> (Vec<Joined<C::T>>, bool)
         ensures all { AreAll self result.0.items }
-        ensures worked { AreWorked C.T.tells C.T.seen result.0.items }
+        ensures worked { AreWorked C.T.tells C.T.seen C.T.is_for result.0.items }
         ensures setup { AreSetUp self.config (map lane_of result.0.items) }
         ensures ended { EndBy kind self (map finished_of result.0.items) }
         ensures resolved { result.1 ≡ true → AreResolved result.0.items }
@@ -202,7 +204,7 @@ impl<C: Connect + Drop> Fleet<C> {
             ..
         } = self;
         if kind == Kind::Hard {
-            stop.store(true, Ordering::SeqCst);
+            stop.set();
         }
         let ending = end_all(rt, running, ending, kind);
         let joined = join_all(rt, ending, joined);

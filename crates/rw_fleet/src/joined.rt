@@ -5,7 +5,7 @@ ghost use Rattle.rw_fleet.specs.Work.{is_resolved};
 
 use crate::ends::Ends;
 use rw_ledger::Ledger;
-use rw_worker::{Transport, Worker};
+use rw_worker::{Stopped, Transport, Worker};
 use std::snapshot::Snapshot;
 
 /// One queue of one epoch, whose worker has ended.
@@ -15,8 +15,8 @@ pub struct Finished<T> {
     pub transport: T,
     /// How many of the samples that were put are resolved, from the first on: the receiver has them, or has refused them.
     pub resolved: u64,
-    /// Whether the worker read the stop flag as set.
-    pub stopped: bool,
+    /// There where the worker read the stop flag as set.
+    pub stopped: Option<Stopped>,
 }
 
 /// A shard whose worker has ended.

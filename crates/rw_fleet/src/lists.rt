@@ -1,6 +1,6 @@
 //! What is done to all shards of an epoch.
 
-ghost use Rattle.std.specs.Prelude.{◌≡◌, ◌+◌, ◌≤◌, ℕ, List, [], ◌++◌, map, OnOk, true, false, vec_len, vec_capacity};
+ghost use Rattle.std.specs.Prelude.{◌≡◌, ◌+◌, ◌≤◌, ℕ, List, [], ◌++◌, map, OnOk, Err, true, false, vec_len, vec_capacity};
 ghost use Rattle.std.specs.List.{sum_by};
 ghost use Rattle.rw_fleet.specs.Lanes.{AreFresh, AreSame, AreSetUp, marked, put_into};
 ghost use Rattle.rw_fleet.specs.Loads.{load_of, resolved_in, left_in, resolved_at_work, left_at_work};
@@ -12,10 +12,9 @@ use crate::load::Load;
 use crate::running::{Ending, Fault, Running};
 use rw_ruled_queue::Kind;
 use rw_sender::Config;
-use rw_worker::Transport;
+use rw_worker::{StopFlag, Transport};
 use std::alloc::Global;
-use std::sync::atomic::AtomicBool;
-use std::sync::{Arc, Wait};
+use std::sync::Wait;
 use std::thread::Threads;
 
 /// Opens the queues of an epoch, and starts their workers. It answers false where one could not be had.
@@ -26,7 +25,7 @@ pub(crate) fn open_all<C: Connect, R: Threads + Wait + Copy + Send + 'static>(
     epoch: u64,
     shards: u32,
     connect: &mut C,
-    stop: &Arc<AtomicBool>,
+    stop: &StopFlag,
     mut running: Vec<Running<C::T>>,
 ) -> (Vec<Running<C::T>>, bool)
     requires none { running.items ≡ [] }
@@ -37,7 +36,7 @@ pub(crate) fn open_all<C: Connect, R: Threads + Wait + Copy + Send + 'static>(
     ensures all { result.1 ≡ true → vec_len result.0 ≡ shards }
 {
     for shard in 0..shards {
-        let Ok(flag) = stop.clone() else {
+        let Ok(flag) = stop.share() else {
             return (running, false);
         };
         let Ok((transport, pause)) = connect.transport(epoch, shard) else {
@@ -60,6 +59,7 @@ pub(crate) fn mark_all<T: Transport + Send + Drop + 'static, R: Wait>(
     ensures same { AreSame running.old.items running.new.items }
     ensures len { (vec_len running.new ≡ vec_len running.old) × (vec_capacity running.new ≡ vec_capacity running.old) }
     ensures all { OnOk result (running.new.items ≡ map marked running.old.items) }
+    ensures memory { result ≡ Err Fault.OutOfMemory → ⊥ }
 {
     for k in 0..running.len() {
         running[k].mark(rt)?;
@@ -93,11 +93,11 @@ pub(crate) fn join_all<T: Transport + Send + Drop + 'static, R: Threads>(
     mut joined: Vec<Joined<T>>,
 ) -> Vec<Joined<T>>
     requires room { vec_len joined + vec_len ending ≤ vec_capacity joined }
-    requires worked { AreWorked T.tells T.seen joined.items }
+    requires worked { AreWorked T.tells T.seen T.is_for joined.items }
     ensures capacity { vec_capacity result ≡ vec_capacity joined }
     ensures len { vec_len result ≡ vec_len joined + vec_len ending }
     ensures same { (more : List _) × (result.items ≡ joined.items ++ more) × (map lane_of more ≡ ending.items) }
-    ensures worked { AreWorked T.tells T.seen result.items }
+    ensures worked { AreWorked T.tells T.seen T.is_for result.items }
 {
     for shard in ending {
         joined.push_reserved(shard.join(rt));

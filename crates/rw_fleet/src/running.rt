@@ -1,6 +1,6 @@
 //! A shard at work, and one that is to end.
 
-ghost use Rattle.std.specs.Prelude.{◌≡◌, ◌<◌, ℕ, List, [], ◌∷◌, ◌++◌, IfOk, MatchResult, Some, slice_get};
+ghost use Rattle.std.specs.Prelude.{◌≡◌, ◌<◌, ◌≤◌, ◌^◌, ℕ, List, [], ◌∷◌, ◌++◌, length, IfOk, MatchResult, Err, Some, slice_get};
 ghost use Rattle.rw_types.specs.declared.place.Place.{Place};
 ghost use Rattle.rw_shard_queue.specs.Items.{samples_in, places_in};
 ghost use Rattle.rw_fleet.specs.Lanes.{IsSetUp, put_as, marks_in};
@@ -14,12 +14,11 @@ use rw_feeder::Logged;
 use rw_ruled_queue::{Feed, Item, Kind, Open, open};
 use rw_sender::Config;
 use rw_types::Place;
-use rw_worker::{Begun, Pause, Transport, Worker, WorkerReport, spawn};
+use rw_worker::{Begun, Pause, StopFlag, Transport, Worker, WorkerReport, spawn};
 use std::alloc::{AllocError, Global};
 use std::marker::Model;
 use std::snapshot::Snapshot;
-use std::sync::atomic::AtomicBool;
-use std::sync::{Arc, Wait};
+use std::sync::Wait;
 use std::thread::{PromisedHandle, Threads};
 
 /// Why a shard could not be put an item.
@@ -58,7 +57,8 @@ impl<T: Transport + Send + Drop + 'static> Model for Running<T> {
         × (r.handle.promise.worker.value ≡ r.worker.value)
         × (T.seen r.handle.promise.transport.value ≡ [])
         × IsUnended r.feed.put
-        × (r.window.most ≡ r.worker.value.queue.capacity + r.worker.value.batch) };
+        × (r.window.most ≡ r.worker.value.queue.capacity + r.worker.value.batch)
+        × T.is_for r.worker.value.queue.epoch r.worker.value.queue.shard r.handle.promise.transport.value };
 }
 
 /// A shard that is to end. Contracts see what its worker is set up with, and what was put into its queue.
@@ -83,7 +83,8 @@ impl<T: Transport + Send + Drop + 'static> Model for Ending<T> {
         × (r.worker.value.queue ≡ (feeding r.fed).queue)
         × (r.handle.promise.worker.value ≡ r.worker.value)
         × (T.seen r.handle.promise.transport.value ≡ [])
-        × (r.window.most ≡ r.worker.value.queue.capacity + r.worker.value.batch) };
+        × (r.window.most ≡ r.worker.value.queue.capacity + r.worker.value.batch)
+        × T.is_for r.worker.value.queue.epoch r.worker.value.queue.shard r.handle.promise.transport.value };
 }
 
 impl<T: Transport + Send + Drop + 'static> Running<T> {
@@ -96,9 +97,10 @@ impl<T: Transport + Send + Drop + 'static> Running<T> {
         shard: u32,
         transport: T,
         pause: P,
-        stop: Arc<AtomicBool>,
+        stop: StopFlag,
     ) -> Result<Running<T>, AllocError>
-        requires { T.seen transport ≡ [] }
+        requires unused { T.seen transport ≡ [] }
+        requires made { T.is_for epoch shard transport }
         ensures queue { IfOk result (λ r. (r.setup.queue.epoch ≡ epoch) × (r.setup.queue.shard ≡ shard)) }
         ensures setup { IfOk result (λ r. IsSetUp config.now r.setup) }
         ensures empty { IfOk result (λ r. r.put ≡ []) }
@@ -135,6 +137,7 @@ impl<T: Transport + Send + Drop + 'static> Running<T> {
         ensures setup { self.new.setup ≡ self.old.setup }
         ensures put { MatchResult result (λ _. samples_in self.new.put ≡ samples_in self.old.put ++ put_as self.old logged ∷ []) (λ _. self.new ≡ self.old) }
         ensures marks { marks_in self.new.put ≡ marks_in self.old.put }
+        ensures memory { result ≡ Err Fault.OutOfMemory → 2 ^ 60 ≤ length (places_in self.old.put) }
     {
         let Logged {
             pos,
@@ -166,6 +169,7 @@ impl<T: Transport + Send + Drop + 'static> Running<T> {
     pub(crate) fn mark<R: Wait>(&mut self, rt: &R) -> Result<(), Fault>
         ensures setup { self.new.setup ≡ self.old.setup }
         ensures put { MatchResult result (λ _. self.new.put ≡ self.old.put ++ Item.Flush ∷ []) (λ _. self.new ≡ self.old) }
+        ensures memory { result ≡ Err Fault.OutOfMemory → ⊥ }
     {
         if let Err(_) = self.feed.put(rt, Item::Flush) {
             return Err(Fault::Gone);
@@ -201,7 +205,7 @@ impl<T: Transport + Send + Drop + 'static> Ending<T> {
     /// Waits for the worker to end.
     pub(crate) fn join<R: Threads>(self, rt: &R) -> Joined<T>
         ensures lane { lane_of result ≡ self }
-        ensures worked { IsWorked T.tells T.seen result }
+        ensures worked { IsWorked T.tells T.seen T.is_for result }
     {
         let Ending {
             fed,

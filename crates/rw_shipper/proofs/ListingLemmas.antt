@@ -53,10 +53,10 @@ module _ {T : Type 0} where
   abandoned_append (x ∷ xs) ys = ap (λ l. x.abandoned.items ++ l) (abandoned_append xs ys) ∙ sym (append_assoc x.abandoned.items (abandoned_in xs) (abandoned_in ys))
 
   -- in each shard no more wait than its window
-  few_in : (tells : T → Type 0) (seen : T → List Exchange) (config : ConfigFields) (js : List (Joined T)) → AreWorked tells seen js → AreSetUp config (map lane_of js) → length (abandoned_in js) ≤ length js * window_of config
-  few_in tells seen config [] w a = omega arith
-  few_in tells seen config (j ∷ js) w a =
-      let rest = few_in tells seen config js w.1 a.1 in
+  few_in : (tells : T → Type 0) (seen : T → List Exchange) (is_for : ℕ → ℕ → T → Type 0) (config : ConfigFields) (js : List (Joined T)) → AreWorked tells seen is_for js → AreSetUp config (map lane_of js) → length (abandoned_in js) ≤ length js * window_of config
+  few_in tells seen is_for config [] w a = omega arith
+  few_in tells seen is_for config (j ∷ js) w a =
+      let rest = few_in tells seen is_for config js w.1 a.1 in
       let one = w.0.few in
       let batch = a.0.1 in
       let capacity = a.0.2 in
@@ -64,20 +64,20 @@ module _ {T : Type 0} where
       let sum = suc-mul (length js) (window_of config) in
       omega arith
 
-  worked_behind : (tells : T → Type 0) (seen : T → List Exchange) (xs ys : List (Joined T)) → AreWorked tells seen (xs ++ ys) → AreWorked tells seen ys
-  worked_behind tells seen [] ys h = h
-  worked_behind tells seen (x ∷ xs) ys h = worked_behind tells seen xs ys h.1
+  worked_behind : (tells : T → Type 0) (seen : T → List Exchange) (is_for : ℕ → ℕ → T → Type 0) (xs ys : List (Joined T)) → AreWorked tells seen is_for (xs ++ ys) → AreWorked tells seen is_for ys
+  worked_behind tells seen is_for [] ys h = h
+  worked_behind tells seen is_for (x ∷ xs) ys h = worked_behind tells seen is_for xs ys h.1
 
   set_up_behind : (config : ConfigFields) (xs ys : List (Joined T)) → AreSetUp config (map lane_of (xs ++ ys)) → AreSetUp config (map lane_of ys)
   set_up_behind config [] ys h = h
   set_up_behind config (x ∷ xs) ys h = set_up_behind config xs ys h.1
 
   -- what waits where all have ended
-  all_left : (tells : T → Type 0) (seen : T → List Exchange) (s : Shards T) (js : List (Joined T)) → AreAll s js → AreWorked tells seen js → AreSetUp s.config (map lane_of js)
+  all_left : (tells : T → Type 0) (seen : T → List Exchange) (is_for : ℕ → ℕ → T → Type 0) (s : Shards T) (js : List (Joined T)) → AreAll s js → AreWorked tells seen is_for js → AreSetUp s.config (map lane_of js)
       → length (abandoned_in js) ≤ length (abandoned_in s.ended) + length s.current * window_of s.config
-  all_left tells seen s js all worked setup =
+  all_left tells seen is_for s js all worked setup =
       let more = all.0 in
-      let few = few_in tells seen s.config more (worked_behind tells seen s.ended more (subst (AreWorked tells seen) all.1 worked)) (set_up_behind s.config s.ended more (subst (λ (l : List (Joined T)). AreSetUp s.config (map lane_of l)) all.1 setup)) in
+      let few = few_in tells seen is_for s.config more (worked_behind tells seen is_for s.ended more (subst (AreWorked tells seen is_for) all.1 worked)) (set_up_behind s.config s.ended more (subst (λ (l : List (Joined T)). AreSetUp s.config (map lane_of l)) all.1 setup)) in
       let same : length more * window_of s.config ≡ length s.current * window_of s.config = ap (λ n. n * window_of s.config) (sym (lanes_length more) ∙ same_length s.current (map lane_of more) all.2) in
       let len = ap (λ (l : List (Joined T)). length (abandoned_in l)) all.1 ∙ ap length (abandoned_append s.ended more) in
       let sum = length-append (abandoned_in s.ended) (abandoned_in more) in
@@ -193,20 +193,20 @@ module _ {T : Type 0} where
         samples_within = within m n _ fewer h.samples_within;
       }
 
-  pub left_closed : (tells : T → Type 0) (seen : T → List Exchange) (was now : Shards T) (a : Lists T) (p n : ℕ) → IsRoomFor was a p n → HasClosed was now → AreWorked tells seen now.ended → AreSetUp now.config (map lane_of now.ended) → length (abandoned_in now.ended) ≤ n
-  left_closed tells seen was now a p n h shut worked setup =
-      within _ _ n (all_left tells seen was now.ended shut.3 worked (subst (λ (c : ConfigFields). AreSetUp c (map lane_of now.ended)) shut.0 setup)) h.left_within
+  pub left_closed : (tells : T → Type 0) (seen : T → List Exchange) (is_for : ℕ → ℕ → T → Type 0) (was now : Shards T) (a : Lists T) (p n : ℕ) → IsRoomFor was a p n → HasClosed was now → AreWorked tells seen is_for now.ended → AreSetUp now.config (map lane_of now.ended) → length (abandoned_in now.ended) ≤ n
+  left_closed tells seen is_for was now a p n h shut worked setup =
+      within _ _ n (all_left tells seen is_for was now.ended shut.3 worked (subst (λ (c : ConfigFields). AreSetUp c (map lane_of now.ended)) shut.0 setup)) h.left_within
 
   -- for a part there is room, and then for the shards
   pub room_first : (s : Shards T) (a : Lists T) (p n : ℕ) → IsRoomFor s a p n → vec_len a.parts + 1 ≤ vec_capacity a.parts
   room_first s a p n h = let w = h.shards_within in let l = h.no_parts in let c = h.parts_within in omega arith
 
-  pub room_all : (tells : T → Type 0) (seen : T → List Exchange) (s : Shards T) (a b : Lists T) (p n : ℕ) (js : List (Joined T)) → IsRoomFor s a p n → AreAll s js → AreWorked tells seen js → AreSetUp s.config (map lane_of js)
+  pub room_all : (tells : T → Type 0) (seen : T → List Exchange) (is_for : ℕ → ℕ → T → Type 0) (s : Shards T) (a b : Lists T) (p n : ℕ) (js : List (Joined T)) → IsRoomFor s a p n → AreAll s js → AreWorked tells seen is_for js → AreSetUp s.config (map lane_of js)
       → vec_len b.parts ≡ vec_len a.parts + 1 → vec_capacity b.parts ≡ vec_capacity a.parts → vec_len b.workers ≡ vec_len a.workers → vec_capacity b.workers ≡ vec_capacity a.workers
       → vec_len b.samples ≡ vec_len a.samples → vec_capacity b.samples ≡ vec_capacity a.samples → HasRoom b js
-  room_all tells seen s a b p n js h all worked setup la ca lb cb lc cc' =
+  room_all tells seen is_for s a b p n js h all worked setup la ca lb cb lc cc' =
       let len = all_length s js all in
-      let left = all_left tells seen s js all worked setup in
+      let left = all_left tells seen is_for s js all worked setup in
       let pl = h.no_parts in
       let wl = h.no_workers in
       let sl = h.no_samples in
@@ -248,10 +248,10 @@ module _ {T : Type 0} where
   lists_none a = (sym (append-nil a.parts.items), sym (append-nil a.workers.items), sym (append-nil a.samples.items))
 
   -- all is listed behind one part
-  pub listed_all : (tells : T → Type 0) (seen : T → List Exchange) (s : Shards T) (part : Named) (a b c : Lists T) (kind : Kind) (r : Bool) (js : List (Joined T)) → length a.parts.items ≡ 0 → length a.workers.items ≡ 0 → length a.samples.items ≡ 0
+  pub listed_all : (tells : T → Type 0) (seen : T → List Exchange) (is_for : ℕ → ℕ → T → Type 0) (s : Shards T) (part : Named) (a b c : Lists T) (kind : Kind) (r : Bool) (js : List (Joined T)) → length a.parts.items ≡ 0 → length a.workers.items ≡ 0 → length a.samples.items ≡ 0
       → b.parts.items ≡ a.parts.items ++ part ∷ [] → b.workers.items ≡ a.workers.items → b.samples.items ≡ a.samples.items → ListsAfter b js c
-      → AreAll s js → AreWorked tells seen js → AreSetUp s.config (map lane_of js) → (r ≡ true → AreResolved js) → (is_hard kind ≡ false → r ≡ false → HasCut js) → EndBy kind s (map finished_of js) → HasListed tells seen s part c kind r
-  listed_all tells seen s part a b c kind r js np nw ns bp bw bs after all worked setup resolved cut ended =
+      → AreAll s js → AreWorked tells seen is_for js → AreSetUp s.config (map lane_of js) → (r ≡ true → AreResolved js) → (is_hard kind ≡ false → r ≡ false → HasCut js) → EndBy kind s (map finished_of js) → HasListed tells seen is_for s part c kind r
+  listed_all tells seen is_for s part a b c kind r js np nw ns bp bw bs after all worked setup resolved cut ended =
       let workers : c.workers.items ≡ map finished_of js = after.1 ∙ ap (λ l. l ++ map finished_of js) (bw ∙ nil_of a.workers.items nw) in
       record {
         joined = js;

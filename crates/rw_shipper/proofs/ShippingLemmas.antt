@@ -192,9 +192,9 @@ module _ {T : Type 0} where
   ready_same log was now None h same = (h.0, let n = same_length was.current now.current same in let some = h.1 in omega arith)
   ready_same log was now (Some f) h same = tt
 
-module _ {T : Type 0} (tells : T → Type 0) (seen : T → List Exchange) where
-  pub stopped_seen : (inside s : Shipping T) (r : Report T) → inside ≡ s → HasStopped tells seen inside r → HasStopped tells seen s r
-  stopped_seen inside s r is h = subst (λ x. HasStopped tells seen x r) is h
+module _ {T : Type 0} (tells : T → Type 0) (seen : T → List Exchange) (is_for : ℕ → ℕ → T → Type 0) where
+  pub stopped_seen : (inside s : Shipping T) (r : Report T) → inside ≡ s → HasStopped tells seen is_for inside r → HasStopped tells seen is_for s r
+  stopped_seen inside s r is h = subst (λ x. HasStopped tells seen is_for x r) is h
 
 pub on_ok : {A E : Type 0} (r : Result A E) (P : Type 0) → is_err r ≡ false → OnOk r P → P
 on_ok (Ok x) P e h = h

@@ -50,10 +50,10 @@ pub record IsRoomFor {T : Type 0} (s : Shards T) (lists : Lists T) (parts sample
   pub samples_within : samples ≤ vec_capacity lists.samples
 
 -- All shards have ended, those at work by this End, and are listed behind one part more.
-pub record HasListed {T : Type 0} (tells : T → Type 0) (seen : T → List Exchange) (s : Shards T) (part : Named) (lists : Lists T) (kind : Kind) (resolved : Bool) : Type 0 where
+pub record HasListed {T : Type 0} (tells : T → Type 0) (seen : T → List Exchange) (is_for : ℕ → ℕ → T → Type 0) (s : Shards T) (part : Named) (lists : Lists T) (kind : Kind) (resolved : Bool) : Type 0 where
   pub joined : List (Joined T)
   pub all : AreAll s joined
-  pub worked : AreWorked tells seen joined
+  pub worked : AreWorked tells seen is_for joined
   pub setup : AreSetUp s.config (map lane_of joined)
   pub parts : lists.parts.items ≡ part ∷ map part_of joined
   pub workers : lists.workers.items ≡ map finished_of joined

@@ -1,5 +1,5 @@
 -- What contracts see of a shipper.
-use Rattle.std.specs.Prelude.{◌≡◌, ◌⊎◌, ◌<◌, List, [], ◌∷◌, ◌++◌, length, map, Option, Some, None, Result, Ok, Err, ⊤}
+use Rattle.std.specs.Prelude.{◌≡◌, ◌⊎◌, ◌<◌, List, [], ◌∷◌, ◌++◌, length, map, Option, Some, None, Result, Ok, Err, ⊤, ℕ}
 use Rattle.rw_worker.specs.Transcript.{Exchange}
 use Rattle.rw_fleet.specs.Lanes.{AreSetUp, marks_of}
 use Rattle.rw_shard_queue.specs.declared.item.Kind.TheVariants.{Reshard}
@@ -95,13 +95,13 @@ Ends s js (outcome.Damaged f) = HasRead s.log.pieces s.log.placed (Some f) × Ar
 Ends s js (outcome.Abandoned placed samples) = (placed ≡ length s.log.placed) × (samples.items ≡ abandoned_in js)
 
 -- The shards of all epochs were put the samples of the entries placed, and did what their workers report; the other samples are named, or counted.
-pub record HasStopped {T : Type 0} (tells : T → Type 0) (seen : T → List Exchange) (s : Shipping T) (r : Report T) : Type 0 where
+pub record HasStopped {T : Type 0} (tells : T → Type 0) (seen : T → List Exchange) (is_for : ℕ → ℕ → T → Type 0) (s : Shipping T) (r : Report T) : Type 0 where
   pub joined : List (Joined T)
   pub own : Named
   pub workers : r.workers.items ≡ map finished_of joined
   pub parts : r.parts.items ≡ own ∷ map part_of joined
   pub samples : ArePlaced (map lane_of joined) (sent s.log.rules s.log.placed)
-  pub worked : AreWorked tells seen joined
+  pub worked : AreWorked tells seen is_for joined
   pub setup : AreSetUp s.fleet.config (map lane_of joined)
   pub all : AreAll s.fleet joined
   pub names : own.names ≡ named (dropped s.log.rules s.log.placed)

@@ -1,9 +1,9 @@
 //! The shards, with room for all that a report lists of them.
 
-ghost use Rattle.std.specs.Prelude.{◌≡◌, ◌+◌, ◌<◌, ◌≤◌, ◌^◌, ℕ, [], length, map, IfOk, OnOk, OnErr, Some, true, false, slice_get};
+ghost use Rattle.std.specs.Prelude.{◌≡◌, ◌+◌, ◌<◌, ◌≤◌, ◌^◌, ℕ, [], length, map, IfOk, OnOk, OnErr, Some, Err, true, false, slice_get};
 ghost use Rattle.rw_types.specs.declared.place.Place.{Place};
 ghost use Rattle.rw_shard_queue.specs.Items.{places_in};
-ghost use Rattle.rw_fleet.specs.Lanes.{Lane, AreFresh, AreSame, IsPut, marked};
+ghost use Rattle.rw_fleet.specs.Lanes.{Lane, AreFresh, AreSame, IsPut, IsUsedUp, marked};
 ghost use Rattle.rw_fleet.specs.Work.{AreResolved, HasCut};
 ghost use Rattle.rw_fleet.specs.Fleets.{HasClosed};
 ghost use Rattle.rw_fleet.specs.Loads.{load_in};
@@ -124,6 +124,7 @@ impl<C: Connect + Drop> ListedFleet<C> {
         ensures rest { self.new ≡ record self.old { current = self.new.current } }
         ensures ok { OnOk result (IsPut shard logged self.old.current self.new.current) }
         ensures err { OnErr result (self.new ≡ self.old) }
+        ensures memory { result ≡ Err Fault.OutOfMemory → IsUsedUp shard self.old.current }
     {
         if let Err(fault) = self.fleet.put(rt, shard, logged) {
             return Err(fault);
@@ -161,7 +162,7 @@ impl<C: Connect + Drop> ListedFleet<C> {
         kind: Kind,
         part: Ledger,
     ) -> (Lists<C::T>, bool)
-        ensures { HasListed C.T.tells C.T.seen self part result.0 kind result.1 }
+        ensures { HasListed C.T.tells C.T.seen C.T.is_for self part result.0 kind result.1 }
     {
         let ListedFleet {
             fleet,

@@ -274,7 +274,7 @@ impl<C: Connect + Drop> Shipper<C> {
     fn stop<R: Threads + Wait>(self, rt: &R, is_hard: bool, placed: u64) -> Report<C::T>
         requires placed { placed ≡ length self.log.placed }
         requires ready { is_hard ≡ false → self.fault ≡ None }
-        ensures stopped { HasStopped C.T.tells C.T.seen self result }
+        ensures stopped { HasStopped C.T.tells C.T.seen C.T.is_for self result }
         ensures ended { EndBy (kind_of is_hard) self.fleet result.workers.items }
         ensures hard { is_hard ≡ true → IsAbandoned result.outcome }
         ensures cut { is_hard ≡ false → IsAbandoned result.outcome → ListsCut result.workers.items }
@@ -305,7 +305,7 @@ impl<C: Connect + Drop> Shipper<C> {
     /// Ends all shards once all that was put is resolved, and waits for their workers. `end` is the number of entries placed. A shipper that has failed is stopped at once.
     pub fn stop_orderly<R: Threads + Wait>(self, rt: &R, end: u64) -> Report<C::T>
         requires { end ≡ length self.log.placed }
-        ensures stopped { HasStopped C.T.tells C.T.seen self result }
+        ensures stopped { HasStopped C.T.tells C.T.seen C.T.is_for self result }
         ensures ended { EndBy (kind_of (is_some self.fault)) self.fleet result.workers.items }
         ensures failed { IfSome self.fault (λ _. IsAbandoned result.outcome) }
         ensures cut { self.fault ≡ None → IsAbandoned result.outcome → ListsCut result.workers.items }
@@ -316,7 +316,7 @@ impl<C: Connect + Drop> Shipper<C> {
 
     /// Ends all shards at once, and waits for their workers.
     pub fn stop_hard<R: Threads + Wait>(self, rt: &R) -> Report<C::T>
-        ensures stopped { HasStopped C.T.tells C.T.seen self result }
+        ensures stopped { HasStopped C.T.tells C.T.seen C.T.is_for self result }
         ensures ended { EndBy Kind.Hard self.fleet result.workers.items }
         ensures hard { IsAbandoned result.outcome }
     {

@@ -121,7 +121,9 @@ fn exchange_through(alloc: Global, stream: Option<TcpStream>, request: &[u8]) ->
 }
 
 impl<N: Net<Stream = TcpStream>> Transport for TcpTransport<N> {
-    ghost use Rattle.std.specs.Prelude.{[]};
+    ghost use Rattle.std.specs.Prelude.{[], ⊤};
+
+    ghost is_for = { λ _ _ _. ⊤ };
 
     ghost tells = { λ _. ⊥ };
 

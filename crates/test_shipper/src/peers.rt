@@ -51,6 +51,8 @@ impl Gate {
 /// It notes each request for which there is memory, and answers all of them by one status. One that waits at a gate in vain loses its request.
 #[derive(Drop)]
 pub(crate) struct Peer {
+    epoch: u64,
+    shard: u32,
     alloc: Global,
     status: StatusCode,
     gate: Option<Gate>,
@@ -71,7 +73,9 @@ impl Peer {
 }
 
 impl Transport for Peer {
-    ghost use Rattle.std.specs.Prelude.{[]};
+    ghost use Rattle.std.specs.Prelude.{◌≡◌, []};
+
+    ghost is_for = { λ epoch shard peer. (peer.epoch ≡ epoch) × (peer.shard ≡ shard) };
 
     ghost tells = { λ _. ⊥ };
 
@@ -124,6 +128,8 @@ impl Connect for Peers {
             return Err(AllocError);
         }
         let peer = Peer {
+            epoch,
+            shard,
             alloc: self.alloc,
             status: self.status,
             gate: self.gate(shard)?,

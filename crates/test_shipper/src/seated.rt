@@ -69,7 +69,9 @@ fn served<R: Wait, L: Ledger>(
 }
 
 impl<R: Wait, L: Ledger> Transport for Seated<R, L> {
-    ghost use Rattle.std.specs.Prelude.{[]};
+    ghost use Rattle.std.specs.Prelude.{[], ⊤};
+
+    ghost is_for = { λ _ _ _. ⊤ };
 
     ghost tells = { λ _. ⊥ };
 

@@ -183,7 +183,7 @@ fn counted<T: Transport>(
         resolved,
         stopped: was_stopped,
     } = finished;
-    if was_stopped {
+    if was_stopped.is_some() {
         *stopped = stopped.saturating_add(1);
     } else if matches!(ends, Ends::Compared(_)) {
         *whole = whole.saturating_add(1);

@@ -20,7 +20,7 @@ loop-shard-preserved g c =
     let n = p.len in (
       omega arith,
       p.capacity ∙ i.1,
-      subst (AreWorked g.T.Transport.tells g.T.Transport.seen) (sym p.items) (worked_push _ _ _ _ i.2 c.join.ensures.worked),
+      subst (AreWorked g.T.Transport.tells g.T.Transport.seen g.T.Transport.is_for) (sym p.items) (worked_push _ _ _ _ _ i.2 c.join.ensures.worked),
       (
         i.3.0 ++ c.join.result ∷ [],
         i.3.1 ++ c.in-Some.shard ∷ [],

@@ -9,5 +9,5 @@ invariant-loop-shard g l =
     let rest = l.shard-iterator in
     (vec_len l.joined + into_iter_len rest ≡ vec_len l.initial.joined + vec_len l.fn.ending)
     × (vec_capacity l.joined ≡ vec_capacity l.initial.joined)
-    × AreWorked g.T.Transport.tells g.T.Transport.seen l.joined.items
+    × AreWorked g.T.Transport.tells g.T.Transport.seen g.T.Transport.is_for l.joined.items
     × ((more : List _) × (done : List Lane) × (l.joined.items ≡ l.initial.joined.items ++ more) × (l.fn.ending.items ≡ done ++ into_iter_items rest) × (map lane_of more ≡ done))

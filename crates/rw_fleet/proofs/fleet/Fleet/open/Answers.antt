@@ -14,7 +14,7 @@ invariant_of-self g c =
     let a = i.3 in
     let b = i.4 in
     let d = i.6 in
-    (subst (AreWorked g.C.T.Transport.tells g.C.T.Transport.seen) is i.0, subst (λ (js : List (Joined _)). AreSetUp c.self.inside.config (map lane_of js)) is i.1, i.2, omega arith, b, i.5, d, subst (λ (js : List (Joined _)). AreSoft (map lane_of js)) is i.7)
+    (subst (AreWorked g.C.T.Transport.tells g.C.T.Transport.seen g.C.T.Transport.is_for) is i.0, subst (λ (js : List (Joined _)). AreSetUp c.self.inside.config (map lane_of js)) is i.1, i.2, omega arith, b, i.5, d, subst (λ (js : List (Joined _)). AreSoft (map lane_of js)) is i.7)
 
 pub invariant_of-self-in_err-reserve-2 : goal.invariant_of-self-in_err-reserve-2
 invariant_of-self-in_err-reserve-2 g c =
@@ -25,7 +25,7 @@ invariant_of-self-in_err-reserve-2 g c =
     let a = i.3 in
     let b = i.4 in
     let d = i.6 in
-    (subst (AreWorked g.C.T.Transport.tells g.C.T.Transport.seen) is i.0, subst (λ (js : List (Joined _)). AreSetUp c.self.inside.config (map lane_of js)) is i.1, i.2, omega arith, b, i.5, d, subst (λ (js : List (Joined _)). AreSoft (map lane_of js)) is i.7)
+    (subst (AreWorked g.C.T.Transport.tells g.C.T.Transport.seen g.C.T.Transport.is_for) is i.0, subst (λ (js : List (Joined _)). AreSetUp c.self.inside.config (map lane_of js)) is i.1, i.2, omega arith, b, i.5, d, subst (λ (js : List (Joined _)). AreSoft (map lane_of js)) is i.7)
 
 pub invariant_of-self-in_err-reserve-3 : goal.invariant_of-self-in_err-reserve-3
 invariant_of-self-in_err-reserve-3 g c =
@@ -37,7 +37,7 @@ invariant_of-self-in_err-reserve-3 g c =
     let b = i.4 in
     let d = i.6 in
     let more = c.reserve-3.ensures.capacity in
-    (subst (AreWorked g.C.T.Transport.tells g.C.T.Transport.seen) is i.0, subst (λ (js : List (Joined _)). AreSetUp c.self.inside.config (map lane_of js)) is i.1, i.2, omega arith, omega arith, c.reserve-3.ensures.items ∙ i.5, d, subst (λ (js : List (Joined _)). AreSoft (map lane_of js)) is i.7)
+    (subst (AreWorked g.C.T.Transport.tells g.C.T.Transport.seen g.C.T.Transport.is_for) is i.0, subst (λ (js : List (Joined _)). AreSetUp c.self.inside.config (map lane_of js)) is i.1, i.2, omega arith, omega arith, c.reserve-3.ensures.items ∙ i.5, d, subst (λ (js : List (Joined _)). AreSoft (map lane_of js)) is i.7)
 
 pub invariant_of-self-2 : goal.invariant_of-self-2
 invariant_of-self-2 g c =
@@ -53,7 +53,7 @@ invariant_of-self-2 g c =
     let n = c.open_all-running.ensures.len in
     let more = c.reserve-3.ensures.len in
     let none = ap length c.reserve-3.ensures.items ∙ ap length i.5 in
-    (subst (AreWorked g.C.T.Transport.tells g.C.T.Transport.seen) is i.0, subst (λ (js : List (Joined _)). AreSetUp c.self.inside.config (map lane_of js)) is i.1, c.open_all-running.ensures.setup, omega arith, omega arith, c.reserve-3.ensures.items ∙ i.5, omega arith, subst (λ (js : List (Joined _)). AreSoft (map lane_of js)) is i.7)
+    (subst (AreWorked g.C.T.Transport.tells g.C.T.Transport.seen g.C.T.Transport.is_for) is i.0, subst (λ (js : List (Joined _)). AreSetUp c.self.inside.config (map lane_of js)) is i.1, c.open_all-running.ensures.setup, omega arith, omega arith, c.reserve-3.ensures.items ∙ i.5, omega arith, subst (λ (js : List (Joined _)). AreSoft (map lane_of js)) is i.7)
 
 pub returns-in_err-reserve-clause-rest : goal.returns-in_err-reserve-clause-rest
 returns-in_err-reserve-clause-rest g c =

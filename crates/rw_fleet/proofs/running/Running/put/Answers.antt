@@ -15,7 +15,7 @@ pub invariant_of-self-2 : goal.invariant_of-self-2
 invariant_of-self-2 g c =
     let i = c.self.invariant in
     let queue = sym c.put.ensures.queue.0 in
-    (positions_more _ _ _ _ _ _ c.in_default.ensures.put refl i.0 (ap (λ (p : Positions). p.all) c.push.ensures), i.1 ∙ ap (λ (q : QueueId). q.epoch) queue, i.2 ∙ ap (λ (q : QueueId). q.shard) queue, i.3 ∙ queue, i.4, i.5, unended_push _ _ _ c.in_default.ensures.put refl, ap (λ (p : Positions). p.most) c.push.ensures ∙ i.7)
+    (positions_more _ _ _ _ _ _ c.in_default.ensures.put refl i.0 (ap (λ (p : Positions). p.all) c.push.ensures), i.1 ∙ ap (λ (q : QueueId). q.epoch) queue, i.2 ∙ ap (λ (q : QueueId). q.shard) queue, i.3 ∙ queue, i.4, i.5, unended_push _ _ _ c.in_default.ensures.put refl, ap (λ (p : Positions). p.most) c.push.ensures ∙ i.7, i.8)
 
 pub put-requires : goal.put-requires
 put-requires g c =

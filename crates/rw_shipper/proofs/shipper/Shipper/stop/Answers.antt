@@ -11,7 +11,7 @@ returns-clause-stopped g c =
     let view = c.self.view_is in
     let l = c.finish-lists.ensures in
     let o = c.outcome_of-outcome.ensures in
-    stopped_seen g.C.T.Transport.tells g.C.T.Transport.seen _ _ _ view (record {
+    stopped_seen g.C.T.Transport.tells g.C.T.Transport.seen g.C.T.Transport.is_for _ _ _ view (record {
       joined = l.joined;
       own = c.finish-part.result.0;
       workers = l.workers;
