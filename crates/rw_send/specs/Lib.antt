@@ -1,4 +1,5 @@
 pub mod Folders
+pub mod Opening
 pub mod ReportText
 pub mod Segments
 pub mod Sending

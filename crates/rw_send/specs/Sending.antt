@@ -21,12 +21,12 @@ use Rattle.rw_send.specs.Segments.{AreShort, IsBeginningOf, IsLogOf}
 use Rattle.rw_send.specs.Steps.{AreShipped, AreShippedPart, HasStarted}
 
 -- a shipper that was configured so was fed these pieces, and this is the report of its stop
-pub record IsReportOf {T : Type 0} (tells : T → Type 0) (seen : T → List Exchange) (c : ConfigFields) (pieces : List Piece) (r : Report T) : Type 0 where
+pub record IsReportOf {T : Type 0} (tells : T → Type 0) (seen : T → List Exchange) (is_for : ℕ → ℕ → T → Type 0) (c : ConfigFields) (pieces : List Piece) (r : Report T) : Type 0 where
   pub shipping : Shipping T
   pub rules : shipping.log.rules ≡ c.rules
   pub config : shipping.fleet.config ≡ record c { rules = [] }
   pub pieces_are : shipping.log.pieces ≡ pieces
-  pub stopped : HasStopped tells seen shipping r
+  pub stopped : HasStopped tells seen is_for shipping r
 
 abbrev pub IsComplete : Outcome → Type 0
 IsComplete (outcome.Complete end) = ⊤
@@ -56,29 +56,29 @@ AreSure (sure ∷ sures) = (sure ≡ true) × AreSure sures
 
 -- A beginning of the segments that readers had left, which are sure or not, was shipped in short pieces, and after each segment the number of shards was
 -- set; with this report and this answer.
-pub record IsSent {T : Type 0} (tells : T → Type 0) (seen : T → List Exchange) (c : ConfigFields) (lefts : List (Option (List ℕ))) (sures : List Bool) (r : Report T) (answer : Result (Unit {0}) ToolFault) : Type 0 where
+pub record IsSent {T : Type 0} (tells : T → Type 0) (seen : T → List Exchange) (is_for : ℕ → ℕ → T → Type 0) (c : ConfigFields) (lefts : List (Option (List ℕ))) (sures : List Bool) (r : Report T) (answer : Result (Unit {0}) ToolFault) : Type 0 where
   pub pieces : List Piece
   pub begins : IsBeginningOf lefts pieces
   pub short : AreShort pieces
-  pub report : IsReportOf tells seen c pieces r
+  pub report : IsReportOf tells seen is_for c pieces r
   pub started : Shipping T
   pub start : HasStarted c started
   pub part : AreShippedPart c.min_shards c.max_shards true lefts started report.shipping
   pub answers : Answers (IsLogOf lefts pieces × AreShipped c.min_shards c.max_shards true lefts started report.shipping) (AreSure sures → ⊥) r.outcome answer
 
 -- and the text of the report was written
-pub record IsPrinted {T : Type 0} (tells : T → Type 0) (seen : T → List Exchange) (c : ConfigFields) (lefts : List (Option (List ℕ))) (sures : List Bool) (before after : Option (List ℕ)) (answer : Result (Unit {0}) ToolFault) : Type 0 where
+pub record IsPrinted {T : Type 0} (tells : T → Type 0) (seen : T → List Exchange) (is_for : ℕ → ℕ → T → Type 0) (c : ConfigFields) (lefts : List (Option (List ℕ))) (sures : List Bool) (before after : Option (List ℕ)) (answer : Result (Unit {0}) ToolFault) : Type 0 where
   pub report : Report T
-  pub sent : IsSent tells seen c lefts sures report answer
+  pub sent : IsSent tells seen is_for c lefts sures report answer
   pub text : List ℕ
   pub text_of : IsTextOf report text
   pub written : Appends before after text
 
 -- a beginning of it was written
-pub record IsPrintedPart {T : Type 0} (tells : T → Type 0) (seen : T → List Exchange) (c : ConfigFields) (lefts : List (Option (List ℕ))) (sures : List Bool) (before after : Option (List ℕ)) : Type 0 where
+pub record IsPrintedPart {T : Type 0} (tells : T → Type 0) (seen : T → List Exchange) (is_for : ℕ → ℕ → T → Type 0) (c : ConfigFields) (lefts : List (Option (List ℕ))) (sures : List Bool) (before after : Option (List ℕ)) : Type 0 where
   pub answer : Result (Unit {0}) ToolFault
   pub report : Report T
-  pub sent : IsSent tells seen c lefts sures report answer
+  pub sent : IsSent tells seen is_for c lefts sures report answer
   pub part : WritesPart report before after
 
 -- the rules and the configuration stay

@@ -1,19 +1,32 @@
 //! Connections over TCP for all workers.
 
+ghost use Rattle.std.specs.Prelude.{◌≡◌, ◌*◌, IfOk};
+
 use rw_shipper::Connect;
 use rw_tcp::{Sleep, TcpTransport};
 use rw_types::Bounded;
 use std::alloc::{AllocError, Global};
+use std::marker::Model;
 use std::net::{Net, SocketAddr, TcpStream};
 use std::time::Clock;
 
-/// Gives each worker a transport to the same receiver, with one connection for each attempt, and pauses by the clock.
+/// Gives each worker a transport to the same receiver, with one connection for each attempt, and pauses by the clock. Contracts see the
+/// addresses and the timeout.
 #[derive(Drop)]
 pub struct TcpConnect<N> {
     alloc: Global,
     net: N,
     addresses: Vec<SocketAddr>,
     timeout_ms: Bounded<1, 3_600_000>,
+}
+
+impl<N> Model for TcpConnect<N> {
+    ghost use Rattle.std.specs.Prelude.{◌*◌};
+    ghost use Rattle.rw_tcp.specs.Receivers.{Receiver};
+
+    ghost Value = { Receiver };
+
+    ghost view = { λ c. record { addresses = c.addresses.items; timeout = c.timeout_ms * 1_000_000 } };
 }
 
 impl<N> TcpConnect<N> {
@@ -23,13 +36,26 @@ impl<N> TcpConnect<N> {
         net: N,
         addresses: Vec<SocketAddr>,
         timeout_ms: Bounded<1, 3_600_000>,
-    ) -> TcpConnect<N> {
+    ) -> TcpConnect<N>
+        ensures addresses { result.addresses ≡ addresses.items }
+        ensures timeout { result.timeout ≡ timeout_ms * 1_000_000 }
+    {
         TcpConnect {
             alloc,
             net,
             addresses,
             timeout_ms,
         }
+    }
+}
+
+impl<N: Net<Stream = TcpStream> + Copy> TcpConnect<N> {
+    /// A transport to the addresses, with the timeout.
+    fn to_receiver(&self) -> Result<TcpTransport<N>, AllocError>
+        ensures { IfOk result (λ transport. transport ≡ self.now) }
+    {
+        let addresses = self.addresses.clone()?;
+        Ok(TcpTransport::new(self.alloc, self.net, addresses, self.timeout_ms))
     }
 }
 
@@ -43,8 +69,6 @@ impl<N: Net<Stream = TcpStream> + Clock + Copy + Send + 'static> Connect for Tcp
         _epoch: u64,
         _shard: u32,
     ) -> Result<(TcpTransport<N>, Sleep<N>), AllocError> {
-        let addresses = self.addresses.clone()?;
-        let transport = TcpTransport::new(self.alloc, self.net, addresses, self.timeout_ms);
-        Ok((transport, Sleep::new(self.net)))
+        Ok((self.to_receiver()?, Sleep::new(self.net)))
     }
 }

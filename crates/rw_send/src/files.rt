@@ -1,13 +1,13 @@
 //! The files of a log in a folder.
 
-ghost use Rattle.std.specs.Prelude.{◌≡◌, ◌<◌, ◌^◌, ℕ, MatchOption};
-ghost use Rattle.std.specs.Io.{ReadsAtMost};
+ghost use Rattle.std.specs.Prelude.{◌≡◌, ◌<◌, ◌^◌, ℕ, IfOk, MatchOption};
 ghost use Rattle.std.specs.List.Sorted.{IsPermutation, IsSortedBy};
 ghost use Rattle.rw_send.specs.Folders.{IsNameOf, comes_before};
 
+use crate::opened::{Open, Opened};
 use rw_text::read_number;
 use rw_tool::ToolFault;
-use rw_types::{Failed, Source, Std};
+use rw_types::{Failed, Std};
 use std::alloc::{AllocError, Global};
 use std::fs::File;
 use std::io::ErrorKind;
@@ -18,69 +18,21 @@ use std::{fs, io};
 /// The longest name of a segment.
 const MAX_DIGITS: usize = 8;
 
-/// A file of a log, which is opened when it is first read.
+/// The file at a path.
 #[derive(Drop)]
 pub struct SegmentFile<R> {
     rt: R,
     path: PathBuf,
-    /// Once it was opened.
-    file: Option<Std<File>>,
-    failed: bool,
 }
 
-impl<R: Files<File = File>> SegmentFile<R> {
-    /// The file at a path.
-    fn at(rt: R, path: PathBuf) -> SegmentFile<R> {
-        SegmentFile {
-            rt,
-            path,
-            file: None,
-            failed: false,
+impl<R: Files<File = File>> Open for SegmentFile<R> {
+    type S = Std<File>;
+
+    fn open(&self) -> Result<Std<File>, Failed> {
+        match fs::open(&self.rt, self.path.as_path()) {
+            Ok(file) => Ok(Std::new(file)),
+            Err(_) => Err(Failed),
         }
-    }
-
-    /// No file.
-    fn unreadable(rt: R, alloc: Global) -> SegmentFile<R> {
-        SegmentFile {
-            rt,
-            path: PathBuf::new(alloc),
-            file: None,
-            failed: true,
-        }
-    }
-
-    fn read_on(&mut self, buf: &mut [u8]) -> Result<usize, Failed>
-        ensures { ReadsAtMost result buf.new }
-    {
-        let mut file = match self.file.take() {
-            Some(file) => file,
-            None => match fs::open(&self.rt, self.path.as_path()) {
-                Ok(file) => Std::new(file),
-                Err(_) => return Err(Failed),
-            },
-        };
-        let count = file.read(buf)?;
-        self.file = Some(file);
-        Ok(count)
-    }
-}
-
-impl<R: Files<File = File>> Source for SegmentFile<R> {
-    ghost use Rattle.std.specs.Prelude.{None, false};
-
-    ghost remaining = { λ _. None };
-
-    ghost has_failed = { λ f. f.failed };
-
-    ghost is_sure = { λ _. false };
-
-    fn read(&mut self, buf: &mut [u8]) -> Result<usize, Failed> {
-        if self.failed {
-            return Err(Failed);
-        }
-        let outcome = self.read_on(buf);
-        self.failed = outcome.is_err();
-        outcome
     }
 }
 
@@ -117,10 +69,9 @@ fn fault_of(error: &io::Error) -> ToolFault {
 }
 
 /// The names of a folder's segments, in order.
-fn names_in<R: Files + AllocGlobal + Copy>(
-    rt: &R,
-    dir: &str,
-) -> Result<Vec<SegmentName>, ToolFault> {
+fn names_in<R: Files + AllocGlobal + Copy>(rt: &R, dir: &str) -> Result<Vec<SegmentName>, ToolFault>
+    ensures { IfOk result (λ names. IsSortedBy comes_before names.items) }
+{
     let alloc = rt.alloc();
     let entries = match fs::read_dir(rt, dir) {
         Ok(entries) => entries,
@@ -152,18 +103,21 @@ fn names_in<R: Files + AllocGlobal + Copy>(
 pub fn segment_files<R: Files<File = File> + AllocGlobal + Copy>(
     rt: &R,
     dir: &str,
-) -> Result<Vec<SegmentFile<R>>, AllocError> {
+) -> Result<Vec<Opened<SegmentFile<R>>>, AllocError> {
     let alloc = rt.alloc();
     let mut files = Vec::new(alloc);
     match names_in(rt, dir) {
         Ok(names) => {
             for segment in names {
                 let path = Path::new(dir).join(alloc, segment.name.as_str())?;
-                files.push(SegmentFile::at(*rt, path))?;
+                files.push(Opened::new(SegmentFile { rt: *rt, path }))?;
             }
         }
         Err(ToolFault::OutOfMemory) => return Err(AllocError),
-        Err(_) => files.push(SegmentFile::unreadable(*rt, alloc))?,
+        Err(_) => files.push(Opened::unreadable(SegmentFile {
+            rt: *rt,
+            path: PathBuf::new(alloc),
+        }))?,
     }
     Ok(files)
 }

@@ -4,6 +4,7 @@
 mod connect;
 mod files;
 mod halt;
+mod opened;
 mod printing;
 mod send;
 mod sharding;
@@ -11,4 +12,5 @@ mod shipping;
 
 pub use connect::TcpConnect;
 pub use files::{SegmentFile, segment_files};
+pub use opened::{Open, Opened};
 pub use send::run_send;

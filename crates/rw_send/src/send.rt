@@ -57,7 +57,7 @@ fn stopped<R: Threads + Wait, C: Connect + Drop>(
 ) -> Sent<C::T>
     requires halted { IfErr shipped (IsHalted shipper) }
     requires live { OnOk shipped (shipper.fault ≡ None) }
-    ensures stopped { HasStopped C.T.tells C.T.seen shipper result.report }
+    ensures stopped { HasStopped C.T.tells C.T.seen C.T.is_for shipper result.report }
     ensures cut { hard_fault shipped ≡ None → IsAbandoned result.report.outcome → ListsCut result.report.workers.items }
     ensures answers { Answers (IsOk shipped) (shipped ≡ Err Halt.Unreadable) result.report.outcome result.answer }
 {
@@ -83,7 +83,7 @@ fn ship<R: Threads + Wait + Copy + Send + 'static, S: Source + Drop, C: Connect 
     segments: Vec<S>,
     connect: C,
 ) -> Result<Sent<C::T>, AllocError>
-    ensures { IfOk result (λ s. IsSent C.T.tells C.T.seen config (map S.remaining segments.items) (map S.is_sure segments.items) s.report s.answer) }
+    ensures { IfOk result (λ s. IsSent C.T.tells C.T.seen C.T.is_for config (map S.remaining segments.items) (map S.is_sure segments.items) s.report s.answer) }
 {
     let sharding = Sharding::of(&config);
     let mut shipper = Shipper::start(rt, alloc, config, connect)?;
@@ -112,15 +112,15 @@ pub fn run_send<
     connect: C,
     writer: &mut W,
 ) -> Result<(), ToolFault>
-    ensures complete { OnOk result (IsPrinted C.T.tells C.T.seen settings.config (map S.remaining segments.items) (map S.is_sure segments.items) (W.contents writer.old) (W.contents writer.new) (Ok tt)) }
+    ensures complete { OnOk result (IsPrinted C.T.tells C.T.seen C.T.is_for settings.config (map S.remaining segments.items) (map S.is_sure segments.items) (W.contents writer.old) (W.contents writer.new) (Ok tt)) }
     ensures sound { OnOk result (W.has_failed writer.old ≡ false → W.has_failed writer.new ≡ false) }
-    ensures damaged { (f : TailFault) → result ≡ Err (Log f) → IsPrinted C.T.tells C.T.seen settings.config (map S.remaining segments.items) (map S.is_sure segments.items) (W.contents writer.old) (W.contents writer.new) (Err (Log f)) }
+    ensures damaged { (f : TailFault) → result ≡ Err (Log f) → IsPrinted C.T.tells C.T.seen C.T.is_for settings.config (map S.remaining segments.items) (map S.is_sure segments.items) (W.contents writer.old) (W.contents writer.new) (Err (Log f)) }
     ensures memory { result ≡ Err OutOfMemory → (writer.new ≡ writer.old)
-        ⊎ IsPrinted C.T.tells C.T.seen settings.config (map S.remaining segments.items) (map S.is_sure segments.items) (W.contents writer.old) (W.contents writer.new) (Err OutOfMemory) }
+        ⊎ IsPrinted C.T.tells C.T.seen C.T.is_for settings.config (map S.remaining segments.items) (map S.is_sure segments.items) (W.contents writer.old) (W.contents writer.new) (Err OutOfMemory) }
 
     // A segment cannot be read, or the writer holds a beginning of the report.
-    ensures device { result ≡ Err Device → IsPrinted C.T.tells C.T.seen settings.config (map S.remaining segments.items) (map S.is_sure segments.items) (W.contents writer.old) (W.contents writer.new) (Err Device)
-        ⊎ ((W.has_failed writer.new ≡ true) × IsPrintedPart C.T.tells C.T.seen settings.config (map S.remaining segments.items) (map S.is_sure segments.items) (W.contents writer.old) (W.contents writer.new)) }
+    ensures device { result ≡ Err Device → IsPrinted C.T.tells C.T.seen C.T.is_for settings.config (map S.remaining segments.items) (map S.is_sure segments.items) (W.contents writer.old) (W.contents writer.new) (Err Device)
+        ⊎ ((W.has_failed writer.new ≡ true) × IsPrintedPart C.T.tells C.T.seen C.T.is_for settings.config (map S.remaining segments.items) (map S.is_sure segments.items) (W.contents writer.old) (W.contents writer.new)) }
     ensures no_line { (n : ℕ) → result ≡ Err (Line n) → ⊥ }
     ensures no_full { result ≡ Err SegmentFull → ⊥ }
 {

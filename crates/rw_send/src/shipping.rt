@@ -81,12 +81,12 @@ fn ship_segment<R: Wait, S: Source + Drop, C: Connect + Drop>(
     ensures sure { S.is_sure segment ≡ true → result ≡ Err Unreadable → ⊥ }
 {
     let mut segment = segment;
-    for _ in 0..u64::MAX {
+    for _ in rt.forever() {
         if !ship_piece(rt, alloc, shipper, &mut segment)? {
             return Ok(());
         }
     }
-    Err(Halt::Failed)
+    unreachable!()
 }
 
 /// Tells that the next segment begins, where it is not the first one.

@@ -12,7 +12,9 @@ pub(crate) struct Always {
 }
 
 impl Transport for Always {
-    ghost use Rattle.std.specs.Prelude.{[]};
+    ghost use Rattle.std.specs.Prelude.{[], ⊤};
+
+    ghost is_for = { λ _ _ _. ⊤ };
 
     ghost tells = { λ _. ⊥ };
 

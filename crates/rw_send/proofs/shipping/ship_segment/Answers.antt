@@ -1,5 +1,5 @@
 use Rattle.std.proofs.Common.{Ok, ap}
-use Rattle.rw_send.proofs.PartLemmas.{also_on_err, part_halted, part_of}
+use Rattle.rw_send.proofs.PartLemmas.{also_on_err, part_halted}
 use Rattle.rw_send.proofs.SegmentLemmas.{feeding_none, feeding_more}
 use Rattle.rw_send.proofs.StepLemmas.{stays, stays_on}
 use Rattle.rw_send.proofs.shipping.ship_segment.Goals as goal
@@ -20,6 +20,3 @@ loop-preserved g c =
 
 pub returns-in_err-ship_piece-clause-part : goal.returns-in_err-ship_piece-clause-part
 returns-in_err-ship_piece-clause-part g c = also_on_err _ (part_halted _ _ _ _ _ _ c.loop.invariant.feeding c.in_err-ship_piece.ensures.part)
-
-pub returns-clause-part : goal.returns-clause-part
-returns-clause-part g c = part_of _ _ _ _ c.loop.invariant.feeding

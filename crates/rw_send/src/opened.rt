@@ -1,0 +1,76 @@
+//! What is opened when it is first read.
+
+ghost use Rattle.std.specs.Io.{ReadsAtMost};
+ghost use Rattle.std.specs.Io.KnownBytes.{ReadConsumes};
+ghost use Rattle.rw_send.specs.Opening.{left_of};
+
+use rw_types::{Failed, Source};
+
+/// What can be opened to be read.
+pub trait Open {
+    type S: Source + Drop;
+
+    /// Opens it at its first byte.
+    fn open(&self) -> Result<Self::S, Failed>;
+}
+
+/// Reads what it opens when it is first read. Contracts see the bytes that are left of what was opened.
+#[derive(Drop)]
+pub struct Opened<O: Open> {
+    place: O,
+    source: Option<O::S>,
+    failed: bool,
+}
+
+impl<O: Open> Opened<O> {
+    /// Not yet opened.
+    pub(crate) fn new(place: O) -> Opened<O> {
+        Opened {
+            place,
+            source: None,
+            failed: false,
+        }
+    }
+
+    /// Each read fails, and nothing is opened.
+    pub(crate) fn unreadable(place: O) -> Opened<O> {
+        Opened {
+            place,
+            source: None,
+            failed: true,
+        }
+    }
+
+    fn read_on(&mut self, buf: &mut [u8]) -> Result<usize, Failed>
+        ensures bound { ReadsAtMost result buf.new }
+        ensures bytes { ReadConsumes (left_of O.S.remaining self.old.source) (left_of O.S.remaining self.new.source) result buf.new }
+    {
+        if self.source.is_none() {
+            self.source = Some(self.place.open()?);
+        }
+        match &mut self.source {
+            Some(source) => source.read(buf),
+            None => unreachable!(),
+        }
+    }
+}
+
+impl<O: Open> Source for Opened<O> {
+    ghost use Rattle.std.specs.Prelude.{false};
+    ghost use Rattle.rw_send.specs.Opening.{left_of};
+
+    ghost remaining = { λ o. left_of O.S.remaining o.source };
+
+    ghost has_failed = { λ o. o.failed };
+
+    ghost is_sure = { λ _. false };
+
+    fn read(&mut self, buf: &mut [u8]) -> Result<usize, Failed> {
+        if self.failed {
+            return Err(Failed);
+        }
+        let outcome = self.read_on(buf);
+        self.failed = outcome.is_err();
+        outcome
+    }
+}
