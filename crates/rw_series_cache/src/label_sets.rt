@@ -1,8 +1,8 @@
 //! Label sets, judged by the rules.
 
-ghost use Rattle.std.specs.Prelude.{◌≡◌, ◌<◌, [], length, Some, slice_get, IfOk, OnErr};
+ghost use Rattle.std.specs.Prelude.{◌≡◌, ◌<◌, [], length, Some, None, slice_get, IfOk, OnErr};
 ghost use Rattle.std.specs.Arc.{arc_value};
-ghost use Rattle.rw_types.specs.Labels.{IsLabelSet};
+ghost use Rattle.rw_types.specs.Labels.{IsLabelSet, label_fault};
 ghost use Rattle.rw_series_cache.specs.Cached.{Judges};
 
 use crate::verdict::Verdict;
@@ -48,10 +48,11 @@ impl LabelSets {
         }
     }
 
-    /// What becomes of the labels. A label set that was judged before is not asked of the rules again.
+    /// What becomes of the labels. A label set that was judged before is not asked of the rules again. Labels with a fault take no memory.
     pub(crate) fn judge(&mut self, labels: &RawLabels) -> Result<Verdict, AllocError>
         ensures ok { IfOk result (λ v. Judges self.old self.new labels.now v) }
         ensures err { OnErr result (self.new ≡ self.old) }
+        ensures sound { OnErr result (label_fault labels.now ≡ None) }
     {
         match LabelSet::check(self.alloc, labels) {
             Ok(set) => self.judge_set(set),

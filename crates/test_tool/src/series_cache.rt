@@ -154,3 +154,38 @@ fn last_definitions(rt: HostRuntime) -> Result<(), Fail> {
     assert!(rt; is_as_defined(&cache));
     Ok(())
 }
+
+/// Defines so many references, each with a label set of its own.
+fn define_many(alloc: Global, cache: &mut Cache, count: u64) -> Result<(), AllocError> {
+    for reference in 0..count {
+        let value = format!(in alloc; "{reference}")?;
+        cache.define(reference, raw_labels(alloc, &[("job", value.as_str())])?)?;
+    }
+    Ok(())
+}
+
+#[test]
+fn many_series_are_numbered(rt: HostRuntime) -> Result<(), Fail> {
+    let alloc = rt.alloc();
+    let mut cache = Cache::new(alloc, Rules::new(Vec::new(alloc)));
+    define_many(alloc, &mut cache, 70_000)?;
+    assert_eq!(rt; cache.series_count(), 70_000);
+    for number in [0, 65_535, 65_536, 69_999] {
+        assert!(rt; shape_of(&cache, number) == Shape::Kept(number));
+    }
+    Ok(())
+}
+
+/// Labels of which there are too many are no want of memory.
+#[test]
+fn sixty_five_labels_are_too_many(rt: HostRuntime) -> Result<(), Fail> {
+    let alloc = rt.alloc();
+    let mut cache = Cache::new(alloc, Rules::new(Vec::new(alloc)));
+    let mut labels = RawLabels::new(alloc);
+    for i in 10..75u32 {
+        labels.push(format!(in alloc; "l{i}")?.as_bytes(), b"1")?;
+    }
+    cache.define(1, labels)?;
+    assert!(rt; shape_of(&cache, 1) == Shape::Bad(LabelFault::TooMany));
+    Ok(())
+}
