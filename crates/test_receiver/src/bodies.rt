@@ -4,6 +4,7 @@ use crate::order::message;
 use rw_recv_head::{Head, Limits};
 use rw_types::Bounded;
 use rw_write_request::encode;
+use std::alloc::{AllocError, Global};
 use std::test::Fail;
 
 /// One series `{__name__="up"}` with the sample 1 at 1000.
@@ -40,5 +41,29 @@ fn statuses_tell_verdicts(rt: HostRuntime) -> Result<(), Fail> {
     assert_eq!(rt; head.answer(&encode(alloc, &older)?), 400);
     assert_eq!(rt; head.answer(&encode(alloc, &unsorted)?), 400);
     assert_eq!(rt; head.total(), 1);
+    Ok(())
+}
+
+/// So many samples of one series, with no timestamp that is short.
+fn long_body(alloc: Global, count: i64) -> Result<Vec<u8>, AllocError> {
+    let mut samples = Vec::new(alloc);
+    for t in 0..count {
+        samples.push((t | 1 << 62, 1))?;
+    }
+    encode(
+        alloc,
+        &message(alloc, &[(&[("__name__", "up")], &samples)])?,
+    )
+}
+
+/// Nothing is refused for its length but by the endpoint's limit, which a head does not know.
+#[test]
+fn a_long_body_is_taken(rt: HostRuntime) -> Result<(), Fail> {
+    let alloc = rt.alloc();
+    let body = long_body(alloc, 800_000)?;
+    assert!(rt; body.len() > 16_777_216);
+    let mut head = Head::new(alloc, &Limits::standard(alloc)?);
+    assert_eq!(rt; head.answer(&body), 204);
+    assert_eq!(rt; head.total(), 800_000);
     Ok(())
 }

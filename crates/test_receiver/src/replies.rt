@@ -2,10 +2,12 @@
 
 use crate::devices::Giving;
 use crate::store::{Store, limits};
+use crate::waiting::{Hearing, Waiting};
 use ServeEnd::{Closed, Eof, Torn};
 use rw_recv_http::{ServeEnd, serve};
 use rw_types::{Room, Source};
 use std::alloc::{AllocError, AllocGlobal, Global};
+use std::cell::Cell;
 use std::process::Abort;
 use std::test::Fail;
 
@@ -52,8 +54,20 @@ fn is_served<R: Source>(
     Ok(end == how && writer.as_slice() == replies.as_slice())
 }
 
-/// The same, for an input that comes whole and for one that comes byte by byte.
-fn is_served_twice(
+/// Whether an input has these replies for one who sends it and then waits for them: no more is read before they are written.
+fn is_served_at_once(alloc: Global, input: &[u8], replies: &[u8]) -> Result<bool, Fail> {
+    let limits = limits(alloc)?;
+    let replies = lines(alloc, replies)?;
+    let heard = Cell::new(0);
+    let mut reader = Waiting::new(input, replies.len(), &heard);
+    let mut writer = Hearing::new(alloc, &heard);
+    let mut store = Store::new(alloc);
+    serve(alloc, &mut reader, &mut writer, &mut store, &limits);
+    Ok(!reader.waited && writer.taken.as_slice() == replies.as_slice())
+}
+
+/// The same, for an input that comes whole, for one that comes byte by byte, and for one who waits.
+fn is_served_however_it_comes(
     alloc: Global,
     input: &[u8],
     replies: &[u8],
@@ -66,7 +80,11 @@ fn is_served_twice(
         reads_left: usize::MAX,
         failed: false,
     };
-    Ok(is_served(alloc, &mut whole, replies, how)? && is_served(alloc, &mut slow, replies, how)?)
+    Ok(
+        is_served(alloc, &mut whole, replies, how)?
+            && is_served(alloc, &mut slow, replies, how)?
+            && is_served_at_once(alloc, input, replies)?,
+    )
 }
 
 const LENGTH_REQUIRED: &[u8] =
@@ -282,7 +300,7 @@ fn fields_are_judged(rt: HostRuntime) -> Result<(), Fail> {
         put_lines(&mut input, *fields)?;
         let closes = reply.ends_with(b"Connection: close||");
         let how = if closes { Closed } else { Eof };
-        assert!(rt; is_served_twice(alloc, &input, *reply, how)?);
+        assert!(rt; is_served_however_it_comes(alloc, &input, *reply, how)?);
     }
     Ok(())
 }
@@ -292,7 +310,7 @@ fn connections_have_their_replies(rt: HostRuntime) -> Result<(), Fail> {
     let alloc = rt.alloc();
     for (input, replies, how) in &INPUTS {
         let input = lines(alloc, *input)?;
-        assert!(rt; is_served_twice(alloc, &input, *replies, *how)?);
+        assert!(rt; is_served_however_it_comes(alloc, &input, *replies, *how)?);
     }
     Ok(())
 }
@@ -303,7 +321,7 @@ fn cut_requests_have_no_reply(rt: HostRuntime) -> Result<(), Fail> {
     let alloc = rt.alloc();
     let mut request = lines(alloc, HEAD)?;
     request.extend_from_slice(MESSAGE)?;
-    assert!(rt; is_served_twice(alloc, &request, NO_CONTENT, Closed)?);
+    assert!(rt; is_served_however_it_comes(alloc, &request, NO_CONTENT, Closed)?);
     for len in 0..request.len() {
         let mut part = &request[..len];
         let how = if len == 0 { Eof } else { Torn };
