@@ -1,6 +1,7 @@
 pub mod BlockLemmas
+pub mod GrowthLemmas
+pub mod NameLemmas
 pub mod OrderLemmas
 pub mod PlaceLemmas
 pub mod StoreLemmas
 pub mod VerdictLemmas
-pub mod GrowthLemmas

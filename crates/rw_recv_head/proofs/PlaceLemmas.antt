@@ -1,5 +1,5 @@
 -- The stores that lists at places are.
-use Rattle.std.proofs.Common.{◌≡◌, ◌≢◌, ℕ, ◌+◌, ◌-◌, ◌<◌, ◌≤◌, ◌^◌, Result, Ok, Err, suc, zero, List, [], ◌∷◌, ◌++◌, length, take, drop, map, set, get_or, nat_eq, eqb-true, eq-eqb, Option, Some, None, Bool, true, false, cond, ◌||◌, ◌&&◌, unwrap_or, lit≤, ⊎_elim, refl, sym, ◌∙◌, ap, subst, arith}
+use Rattle.std.proofs.Common.{◌≡◌, ◌≢◌, ℕ, ◌+◌, ◌-◌, ◌<◌, ◌≤◌, ◌^◌, Result, Ok, Err, suc, zero, List, [], ◌∷◌, ◌++◌, length, take, map, set, get_or, nat_eq, eqb-true, eq-eqb, Option, Some, None, Bool, true, false, cond, ◌||◌, ◌&&◌, unwrap_or, lit≤, ⊎_elim, refl, sym, ◌∙◌, ap, subst, arith}
 use Rattle.std.specs.BTreeMap.{BTreeMap, get, Updates}
 use Rattle.std.specs.List.{list_any, AllByRecursion}
 use Rattle.std.specs.Map.{lookup, keys_of}
@@ -9,8 +9,7 @@ use Rattle.std.specs.FinMap.Entries.{put, below_all, by_order}
 use Rattle.std.specs.List.Sorted.{IsStrictlySortedBy}
 use Rattle.std.specs.Ordering.{is_lt}
 use Rattle.std.specs.declared.cmp.Ordering.TheVariants.{Less}
-use Rattle.std.proofs.Math.Seq.{drop-cons}
-use Rattle.std.proofs.lemmas.Bool.{cases_lt}
+use Rattle.std.proofs.lemmas.Bool.{cases_lt, lt-ltb, le-ltb}
 use Rattle.std.proofs.lemmas.Map.Entries.{btree_map_get_place}
 use Rattle.std.proofs.lemmas.List.{get_or-set_same, get_or-set_other, get_or_append_left, get_or_push, length-set, length_push, length-map, length-take-le}
 use Rattle.std.proofs.lemmas.Option.{get_or_from_slice_get, slice_get-get_or}
@@ -24,6 +23,7 @@ use Rattle.rw_recv_head.specs.Store.{Store, list_of, with_list, total, label_set
 use Rattle.rw_recv_head.specs.declared.verdict.Verdict.{Verdict}
 use Rattle.rw_recv_head.specs.Verdicts.{accepted}
 use Rattle.rw_recv_head.specs.Lists.{Lists, no_lists, ListGives, StoreGives, IsSound, IsFresh, IsAdded, AllFilled, has_samples, with_samples, AreWithin, listed, store_of_lists, kept_store, staged_store, HasPlaces, Settled}
+use Rattle.rw_recv_head.specs.Names.{below}
 use Rattle.rw_recv_head.proofs.OrderLemmas.{accept-none}
 use Rattle.rw_recv_head.proofs.StoreLemmas.{list_of-empty, list_of-with_list, HasNoEmptyList-empty, HasNoEmptyList-with_list, same_store, with_list-same, total-with_list, total-empty, list_of-few, and_left, is_less, find_below}
 
@@ -757,24 +757,22 @@ places_of_staged index ls n places filled ordered e =
     e ∙ sym (all_with_samples ms index.entries (are_within index ms same (found_each index ordered)) (λ k lt. ap has_samples (as_kept_at ls k) ∙ filled k (omega (arith, lt, len))))
     ∙ ap length (label_sets-kept index.entries ms ordered) ∙ ap (λ s. length (label_sets s)) (kept-staged index ms ls same (λ k lt. as_kept_at ls k))
 
--- ---- label sets that are taken out, one after the other
-out_next : (r b c : Bool) (o : Option ℕ) → b ≡ c → cond r None (cond b None o) ≡ cond (c || r) None o
-out_next true true true o e = refl
-out_next true false false o e = refl
-out_next false true true o e = refl
-out_next false false false o e = refl
-out_next r true false o e = absurd cc
-out_next r false true o e = absurd cc
+-- ---- label sets that are taken out by their places
+no_more : (b : Bool) → (let no : Option ℕ = None in no ≡ cond b None None)
+no_more true = refl
+no_more false = refl
 
-pub taken_out : (index new : Index) (xs : List Labels) (i : ℕ) (x q : Labels) → i < length xs → x ≡ get_or xs i x → Updates labels_cmp index new x None
-    → cond (list_any (labels_eq q) (drop (i + 1) xs)) None (get labels_cmp new q) ≡ cond (list_any (labels_eq q) (drop i xs)) None (get labels_cmp index q)
-taken_out index new xs i x q lt here u =
-    let one : i + 1 ≡ suc i = omega arith in
-    ap (λ k. cond (list_any (labels_eq q) (drop k xs)) None (get labels_cmp new q)) one
-    ∙ ap (cond (list_any (labels_eq q) (drop (suc i) xs)) None) (u.0 q)
-    ∙ out_next (list_any (labels_eq q) (drop (suc i) xs)) (labels_eq x q) (labels_eq q x) (get labels_cmp index q) (turned_eq x q _ _ refl refl)
-    ∙ ap (λ y. cond (labels_eq q y || list_any (labels_eq q) (drop (suc i) xs)) None (get labels_cmp index q)) here
-    ∙ sym (ap (λ ys. cond (list_any (labels_eq q) ys) None (get labels_cmp index q)) (drop-cons xs i x lt))
+out_below : (lists : List Lists) (index : Index) (fresh : List Labels) (keep : ℕ) (q : Labels) (o : Option ℕ) (b : Bool) → IsFresh index lists fresh → keep + length fresh ≡ length lists
+    → get labels_cmp index q ≡ o → list_any (labels_eq q) fresh ≡ b → below keep o ≡ cond b None o
+out_below lists index fresh keep q None b h e k any = no_more b
+out_below lists index fresh keep q (Some n) true h e k any = ap (λ c. cond c (Some n) None) (le-ltb n keep (omega (arith, h.last q n any k, e)))
+out_below lists index fresh keep q (Some n) false h e k any =
+    ap (λ c. cond c (Some n) None) (lt-ltb n keep (⊎_elim (λ lt. lt) (λ le. absurd (off (sym (h.named q n k (omega (arith, le, e))) ∙ any))) (cases_lt n keep)))
+
+pub takes_out : (lists : List Lists) (index new : Index) (fresh : List Labels) (keep : ℕ) → IsFresh index lists fresh → keep + length fresh ≡ length lists
+    → ((q : Labels) → get labels_cmp new q ≡ below keep (get labels_cmp index q)) → TakesOut index new fresh
+takes_out lists index new fresh keep h e out q =
+    out q ∙ out_below lists index fresh keep q (get labels_cmp index q) (list_any (labels_eq q) fresh) h e refl refl
 
 -- ---- a list that takes samples has some
 push_has : (xs : List Point) (p : Point) → has_samples (xs ++ p ∷ []) ≡ true

@@ -1,7 +1,9 @@
+pub mod Blocks
+pub mod Finds
+pub mod Growth
+pub mod Head
+pub mod Lists
+pub mod Names
 pub mod Order
 pub mod Store
 pub mod Verdicts
-pub mod Head
-pub mod Lists
-pub mod Growth
-pub mod Blocks

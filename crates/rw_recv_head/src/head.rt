@@ -224,7 +224,8 @@ impl Head {
     }
 
     /// The full blocks of a label set, each of 120 samples, in order. They hold the first samples of the label set, and stay as they are, in
-    /// their places, whatever the head takes later. There are none where the label set has no samples. This takes no memory.
+    /// their places, whatever the head takes later. There are none where the label set has no samples. This takes no memory, and time that grows
+    /// with the number of label sets.
     pub fn sealed(&self, labels: &LabelSet) -> &[Box<Block>]
         ensures blocks { map (λ b. b.value) result.now ≡ sealed_of (list_of self.now.store labels.now) }
         ensures full { AreFull (map (λ b. b.value) result.now) }
@@ -232,7 +233,7 @@ impl Head {
         self.table.sealed(labels)
     }
 
-    /// The samples of a label set behind its full blocks, at most 119. This takes no memory.
+    /// The samples of a label set behind its full blocks, at most 119. This takes no memory, and time that grows with the number of label sets.
     pub fn open(&self, labels: &LabelSet) -> &[(i64, Word)]
         ensures samples { joined (sealed_of (list_of self.now.store labels.now)) ++ result.now ≡ list_of self.now.store labels.now }
         ensures few { length result.now < 120 }

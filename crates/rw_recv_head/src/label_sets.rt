@@ -4,6 +4,7 @@ ghost use Rattle.std.specs.Prelude.{◌≡◌, length};
 ghost use Rattle.rw_recv_head.specs.Lists.{with_samples, AreWithin};
 ghost use Rattle.std.specs.Iterator.{YieldsFirstRef, item_count};
 
+use crate::name::Name;
 use crate::sample_list::SampleList;
 use rw_types::LabelSet;
 use std::collections::btree_map;
@@ -12,7 +13,7 @@ use std::marker::Model;
 /// The label sets that have samples, by byte order of their lists of (name, value). Contracts see those that are left.
 #[derive(Drop)]
 pub struct LabelSets<'a> {
-    places: btree_map::Iter<'a, LabelSet, usize>,
+    places: btree_map::Iter<'a, Name, usize>,
     lists: &'a [SampleList],
 }
 
@@ -30,7 +31,7 @@ impl<'a> Model for LabelSets<'a> {
 impl<'a> LabelSets<'a> {
     /// Those of these label sets whose lists keep samples.
     pub(crate) fn new(
-        places: btree_map::Iter<'a, LabelSet, usize>,
+        places: btree_map::Iter<'a, Name, usize>,
         lists: &'a [SampleList],
     ) -> LabelSets<'a>
         requires { AreWithin (length lists.now) places }
@@ -49,9 +50,9 @@ impl<'a> Iterator for LabelSets<'a> {
 
     fn next(&mut self) -> Option<&'a LabelSet> {
         let lists = self.lists;
-        while let Some((labels, place)) = self.places.next() {
+        while let Some((name, place)) = self.places.next() {
             if lists[*place].has_samples() {
-                return Some(labels);
+                return Some(name.labels());
             }
         }
         None

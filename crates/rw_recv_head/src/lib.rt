@@ -7,6 +7,8 @@ mod head;
 mod label_sets;
 mod laws;
 mod limits;
+mod name;
+mod places;
 mod sample_list;
 mod table;
 mod verdict;

@@ -3,9 +3,7 @@
 ghost use Rattle.std.specs.Prelude.{◌≡◌, ◌≢◌, ◌↔◌, ◌+◌, ◌-◌, ◌^◌, ◌<◌, ◌≤◌, ◌++◌, ◌∷◌, [], ℕ, length, None, Some, IsTrue, IfOk, IfErr, OnOk, OnErr, if◌then◌else◌, vec_len, vec_capacity, map, slice_index_or, slice_set};
 ghost use Rattle.std.specs.BTreeMap.{get};
 ghost use Rattle.std.specs.FinMap.{empty};
-ghost use Rattle.std.specs.List.{list_any};
-ghost use Rattle.rw_types.specs.Labels.{Labels};
-ghost use Rattle.rw_types.specs.LabelOrder.{labels_cmp, labels_eq};
+ghost use Rattle.rw_types.specs.LabelOrder.{labels_cmp};
 ghost use Rattle.rw_recv_head.specs.declared.verdict.Verdict.TheVariants.{OutOfOrder, NoMemory};
 ghost use Rattle.rw_recv_head.specs.Order.{points, accept};
 ghost use Rattle.rw_recv_head.specs.Store.{list_of, total, label_sets, HasNoEmptyList};
@@ -15,13 +13,13 @@ ghost use Rattle.rw_recv_head.specs.Lists.{no_lists, Settled, IsAdded, ListGives
 
 use crate::block::Block;
 use crate::label_sets::LabelSets;
+use crate::name::Name;
+use crate::places::{Found, Places, put};
 use crate::sample_list::SampleList;
 use crate::verdict::Verdict;
 use rw_types::{LabelSet, Word};
 use std::alloc::{AllocError, Global};
-use std::collections::BTreeMap;
 use std::marker::Model;
-use std::mem;
 
 /// How many samples all lists may have together.
 const MOST_SAMPLES: u64 = 1 << 60;
@@ -31,16 +29,16 @@ const MOST_SAMPLES: u64 = 1 << 60;
 /// and how many places and label sets are noted for the message.
 #[derive(Debug, Drop)]
 pub(crate) struct Table {
-    index: BTreeMap<LabelSet, usize>,
+    places: Places,
     lists: Vec<SampleList>,
     touched: Vec<usize>,
-    fresh: Vec<LabelSet>,
+    fresh: Vec<Name>,
     count: u64,
     staged_count: u64,
 }
 
 impl Model for Table {
-    ghost use Rattle.std.specs.Prelude.{◌+◌, length};
+    ghost use Rattle.std.specs.Prelude.{◌≡◌, ◌+◌, length};
     ghost use Rattle.std.specs.Coded.{codes};
     ghost use Rattle.std.specs.FinMap as map;
     ghost use Rattle.rw_recv_head.specs.Lists.{Stores, kept_store, staged_store, IsSound};
@@ -49,9 +47,9 @@ impl Model for Table {
 
     ghost coded = { Prim.hlevel (codes, map.code) };
 
-    ghost view = { λ t. record { kept = kept_store t.index.entries t.lists.items; staged = staged_store t.index.entries t.lists.items; noted = length t.touched.items + length t.fresh.items } };
+    ghost view = { λ t. record { kept = kept_store t.places.tree.entries t.lists.items; staged = staged_store t.places.tree.entries t.lists.items; noted = length t.touched.items + length t.fresh.items } };
 
-    ghost invariant = { λ t. IsSound t.index t.lists.items t.touched.items t.fresh.items t.count t.staged_count };
+    ghost invariant = { λ t. IsSound t.places.tree t.lists.items t.touched.items t.fresh.items t.count t.staged_count × (length t.places.names.items ≡ length t.lists.items) };
 }
 
 /// Whether there is room for so many samples more.
@@ -60,28 +58,6 @@ fn has_room(count: u64, more: usize) -> bool
     ensures { IsTrue result ↔ (count + more ≤ 2 ^ 60) }
 {
     more as u64 <= MOST_SAMPLES - count
-}
-
-/// Puts an item behind the others, where there is room for it.
-fn put<T: Drop>(items: &mut Vec<T>, item: T)
-    requires { vec_len items.old < vec_capacity items.old }
-    ensures { items.new.items ≡ items.old.items ++ item ∷ [] }
-{
-    match items.push(item) {
-        Ok(()) => {}
-        Err(_) => unreachable!(),
-    }
-}
-
-/// A copy of a label set.
-fn copy_of(alloc: Global, labels: &LabelSet) -> Result<LabelSet, AllocError>
-    ensures { IfOk result (λ l. l ≡ labels.now) }
-{
-    let mut copy = LabelSet::empty(alloc);
-    match copy.assign(labels.as_slice()) {
-        Ok(()) => Ok(copy),
-        Err(_) => Err(AllocError),
-    }
 }
 
 /// A list of samples of a label set that had none, all of them staged.
@@ -97,41 +73,33 @@ fn new_list(alloc: Global, samples: &[(Word, i64)]) -> Result<SampleList, Verdic
     Ok(list)
 }
 
-/// Adds the list of a label set that has none, and takes the labels out of where they stand.
+/// Adds the list of a label set that has none.
 fn add_list(
-    index: &mut BTreeMap<LabelSet, usize>,
+    places: &mut Places,
     lists: &mut Vec<SampleList>,
     touched: &mut Vec<usize>,
-    fresh: &mut Vec<LabelSet>,
-    labels: &mut LabelSet,
+    fresh: &mut Vec<Name>,
+    name: Name,
     list: SampleList,
 ) -> Result<(), AllocError>
-    ensures ok { OnOk result (IsAdded index.old index.new lists.old.items lists.new.items touched.old.items touched.new.items fresh.old.items fresh.new.items labels.old list) }
-    ensures index { OnErr result (index.new.entries ≡ index.old.entries) }
+    requires absent { get labels_cmp places.old.tree name ≡ None }
+    requires next { length places.old.names.items ≡ length lists.old.items }
+    ensures ok { OnOk result (IsAdded places.old.tree places.new.tree lists.old.items lists.new.items touched.old.items touched.new.items fresh.old.items fresh.new.items name list) }
+    ensures names { length places.new.names.items ≡ length lists.new.items }
+    ensures places { OnErr result (places.new.tree.entries ≡ places.old.tree.entries) }
     ensures lists { OnErr result (lists.new.items ≡ lists.old.items) }
     ensures touched { OnErr result (touched.new.items ≡ touched.old.items) }
     ensures fresh { OnErr result (fresh.new.items ≡ fresh.old.items) }
 {
-    let alloc = *lists.allocator();
     lists.reserve(1)?;
     touched.reserve(1)?;
     fresh.reserve(1)?;
-    let copy = copy_of(alloc, labels)?;
-    let place = lists.len();
-    index.insert(mem::replace(labels, LabelSet::empty(alloc)), place)?;
+    let share = name.share()?;
+    places.push(name)?;
+    put(touched, lists.len());
     put(lists, list);
-    put(touched, place);
-    put(fresh, copy);
+    put(fresh, share);
     Ok(())
-}
-
-/// Takes these label sets out.
-fn take_out(index: &mut BTreeMap<LabelSet, usize>, fresh: &[LabelSet])
-    ensures { (q : Labels) → get labels_cmp index.new q ≡ (if list_any (labels_eq q) fresh.now then None else get labels_cmp index.old q) }
-{
-    for labels in fresh {
-        index.remove(labels);
-    }
 }
 
 /// Stages samples in the list at a place.
@@ -190,7 +158,7 @@ impl Table {
         ensures { result ≡ record { kept = empty; staged = empty; noted = 0 } }
     {
         Table {
-            index: BTreeMap::new(alloc),
+            places: Places::new(alloc),
             lists: Vec::new(alloc),
             touched: Vec::new(alloc),
             fresh: Vec::new(alloc),
@@ -206,14 +174,14 @@ impl Table {
         self.count
     }
 
-    /// Stages the samples of a series, one after the other, up to the first that is refused. The labels may be taken out of where they stand.
+    /// Stages the samples of a series, one after the other, up to the first that is refused.
     pub(crate) fn stage(
         &mut self,
-        labels: &mut LabelSet,
+        labels: &LabelSet,
         samples: &[(Word, i64)],
     ) -> Result<(), Verdict>
         ensures kept { self.new.kept ≡ self.old.kept }
-        ensures staged { StoreGives result (accepted labels.old self.old.staged (accept (Some (list_of self.old.staged labels.old)) (points samples.now))) self.new.staged }
+        ensures staged { StoreGives result (accepted labels.now self.old.staged (accept (Some (list_of self.old.staged labels.now)) (points samples.now))) self.new.staged }
     {
         if !has_room(self.count + self.staged_count, samples.len()) {
             return Err(Verdict::NoMemory);
@@ -221,24 +189,24 @@ impl Table {
         if samples.is_empty() {
             return Ok(());
         }
-        match self.index.get(&*labels) {
-            Some(place) => {
-                let place = *place;
+        let alloc = *self.lists.allocator();
+        match self.places.find(alloc, labels)? {
+            Found::At(place) => {
                 note(&mut self.touched, place)?;
                 let before = self.lists[place].staged_len();
                 let outcome = stage_at(&mut self.lists, place, samples);
                 self.staged_count += (self.lists[place].staged_len() - before) as u64;
                 outcome
             }
-            None => {
-                let list = new_list(*self.lists.allocator(), samples)?;
+            Found::Nowhere(name) => {
+                let list = new_list(alloc, samples)?;
                 let count = list.staged_len() as u64;
                 add_list(
-                    &mut self.index,
+                    &mut self.places,
                     &mut self.lists,
                     &mut self.touched,
                     &mut self.fresh,
-                    labels,
+                    name,
                     list,
                 )?;
                 self.staged_count += count;
@@ -270,8 +238,9 @@ impl Table {
         ensures noted { self.new.noted ≡ 0 }
     {
         abort_all(&mut self.lists, &self.touched);
-        take_out(&mut self.index, &self.fresh);
-        self.lists.truncate(self.lists.len() - self.fresh.len());
+        let len = self.lists.len() - self.fresh.len();
+        self.places.truncate(len);
+        self.lists.truncate(len);
         self.touched.clear();
         self.fresh.clear();
         self.staged_count = 0;
@@ -281,7 +250,7 @@ impl Table {
     pub(crate) fn places(&self) -> usize
         ensures { result ≡ length (label_sets self.now.staged) }
     {
-        self.index.len()
+        self.places.len()
     }
 
     /// A copy of the samples of a label set that are kept.
@@ -292,8 +261,8 @@ impl Table {
     ) -> Result<Vec<(i64, Word)>, AllocError>
         ensures { IfOk result (λ v. v.items ≡ list_of self.now.kept labels.now) }
     {
-        match self.index.get(labels) {
-            Some(place) => self.lists[*place].to_vec(alloc),
+        match self.places.look(alloc, labels)? {
+            Some(place) => self.lists[place].to_vec(alloc),
             None => Ok(Vec::new(alloc)),
         }
     }
@@ -303,8 +272,8 @@ impl Table {
         requires { self.now.staged ≡ self.now.kept }
         ensures { map (λ b. b.value) result.now ≡ sealed_of (list_of self.now.kept labels.now) }
     {
-        match self.index.get(labels) {
-            Some(place) => self.lists[*place].sealed(),
+        match self.places.get(labels) {
+            Some(place) => self.lists[place].sealed(),
             None => &[],
         }
     }
@@ -315,8 +284,8 @@ impl Table {
         ensures samples { result.now ≡ open_of (list_of self.now.kept labels.now) }
         ensures few { length result.now < 120 }
     {
-        match self.index.get(labels) {
-            Some(place) => self.lists[*place].open(),
+        match self.places.get(labels) {
+            Some(place) => self.lists[place].open(),
             None => &[],
         }
     }
@@ -327,6 +296,6 @@ impl Table {
         ensures filled { HasNoEmptyList self.now.kept }
         ensures fits { length result < 2 ^ 63 }
     {
-        LabelSets::new(self.index.iter(), self.lists.as_slice())
+        LabelSets::new(self.places.iter(), self.lists.as_slice())
     }
 }

@@ -18,6 +18,8 @@ mod memory;
 #[cfg(test)]
 mod order;
 #[cfg(test)]
+mod places;
+#[cfg(test)]
 mod replies;
 #[cfg(test)]
 mod seat_bodies;

@@ -7,15 +7,15 @@ use Rattle.rw_recv_head.proofs.table.Table.open.Goals as goal
 
 pub open-requires : goal.open-requires
 open-requires c =
-    settled_here c.self.inside.index c.self.inside.lists.items c.args.labels.now c.in-Some.place.now c.index.result.now c.self.invariant.places c.in-Some.ensures.value c.index.ensures
+    settled_here c.self.inside.places.tree c.self.inside.lists.items c.args.labels.now c.in-Some.place c.index.result.now c.self.invariant.0.places c.in-Some.ensures c.index.ensures
     (ap (λ s. s.staged) c.self.view_is ∙ c.requires ∙ sym (ap (λ s. s.kept) c.self.view_is))
 
 pub returns-in-Some-clause-samples : goal.returns-in-Some-clause-samples
 returns-in-Some-clause-samples c =
     c.open.ensures.samples
-    ∙ ap open_of (kept_at c.self.inside.index c.self.inside.lists.items c.args.labels.now c.in-Some.place.now c.index.result.now c.self.invariant.places c.in-Some.ensures.value c.index.ensures
+    ∙ ap open_of (kept_at c.self.inside.places.tree c.self.inside.lists.items c.args.labels.now c.in-Some.place c.index.result.now c.self.invariant.0.places c.in-Some.ensures c.index.ensures
     ∙ ap (λ s. list_of s.kept c.args.labels.now) c.self.view_is)
 
 pub returns-in-None-clause-samples : goal.returns-in-None-clause-samples
 returns-in-None-clause-samples c =
-    open_none _ (kept_nowhere c.self.inside.index c.self.inside.lists.items c.args.labels.now c.in-None.ensures.value ∙ ap (λ s. list_of s.kept c.args.labels.now) c.self.view_is)
+    open_none _ (kept_nowhere c.self.inside.places.tree c.self.inside.lists.items c.args.labels.now c.in-None.ensures ∙ ap (λ s. list_of s.kept c.args.labels.now) c.self.view_is)

@@ -7,15 +7,15 @@ use Rattle.rw_recv_head.proofs.table.Table.sealed.Goals as goal
 
 pub sealed-requires : goal.sealed-requires
 sealed-requires c =
-    settled_here c.self.inside.index c.self.inside.lists.items c.args.labels.now c.in-Some.place.now c.index.result.now c.self.invariant.places c.in-Some.ensures.value c.index.ensures
+    settled_here c.self.inside.places.tree c.self.inside.lists.items c.args.labels.now c.in-Some.place c.index.result.now c.self.invariant.0.places c.in-Some.ensures c.index.ensures
     (ap (λ s. s.staged) c.self.view_is ∙ c.requires ∙ sym (ap (λ s. s.kept) c.self.view_is))
 
 pub returns-in-Some : goal.returns-in-Some
 returns-in-Some c =
     c.sealed.ensures
-    ∙ ap sealed_of (kept_at c.self.inside.index c.self.inside.lists.items c.args.labels.now c.in-Some.place.now c.index.result.now c.self.invariant.places c.in-Some.ensures.value c.index.ensures
+    ∙ ap sealed_of (kept_at c.self.inside.places.tree c.self.inside.lists.items c.args.labels.now c.in-Some.place c.index.result.now c.self.invariant.0.places c.in-Some.ensures c.index.ensures
     ∙ ap (λ s. list_of s.kept c.args.labels.now) c.self.view_is)
 
 pub returns-in-None : goal.returns-in-None
 returns-in-None c =
-    sealed_none _ (kept_nowhere c.self.inside.index c.self.inside.lists.items c.args.labels.now c.in-None.ensures.value ∙ ap (λ s. list_of s.kept c.args.labels.now) c.self.view_is)
+    sealed_none _ (kept_nowhere c.self.inside.places.tree c.self.inside.lists.items c.args.labels.now c.in-None.ensures ∙ ap (λ s. list_of s.kept c.args.labels.now) c.self.view_is)

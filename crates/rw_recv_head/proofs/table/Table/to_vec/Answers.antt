@@ -1,4 +1,4 @@
-use Rattle.std.proofs.Common.{◌≡◌, IfOk, subst, ap, ◌∙◌}
+use Rattle.std.proofs.Common.{◌≡◌, IfOk, sym, subst, ap, ◌∙◌}
 use Rattle.rw_recv_head.specs.Store.{list_of}
 use Rattle.rw_recv_head.proofs.PlaceLemmas.{kept_at, kept_nowhere}
 use Rattle.rw_recv_head.proofs.table.Table.to_vec.Goals as goal
@@ -6,10 +6,10 @@ use Rattle.rw_recv_head.proofs.table.Table.to_vec.Goals as goal
 pub returns-in-Some : goal.returns-in-Some
 returns-in-Some c =
     subst (λ xs. IfOk c.to_vec.result (λ v. v.items ≡ xs))
-    (kept_at c.self.inside.index c.self.inside.lists.items c.args.labels.now c.in-Some.place.now c.index.result.now c.self.invariant.places c.in-Some.ensures.value c.index.ensures
+    (kept_at c.self.inside.places.tree c.self.inside.lists.items c.args.labels.now c.in-Some.place c.index.result.now c.self.invariant.0.places (sym c.in-Some.is ∙ c.in_ok-place.ensures) c.index.ensures
     ∙ ap (λ s. list_of s.kept c.args.labels.now) c.self.view_is) c.to_vec.ensures
 
 pub returns-in-None : goal.returns-in-None
 returns-in-None c =
     c.new.ensures.items
-    ∙ kept_nowhere c.self.inside.index c.self.inside.lists.items c.args.labels.now c.in-None.ensures.value ∙ ap (λ s. list_of s.kept c.args.labels.now) c.self.view_is
+    ∙ kept_nowhere c.self.inside.places.tree c.self.inside.lists.items c.args.labels.now (sym c.in-None.is ∙ c.in_ok-place.ensures) ∙ ap (λ s. list_of s.kept c.args.labels.now) c.self.view_is
