@@ -1,21 +1,24 @@
 -- Series that are found by their labels: a key for each series, in the same order.
-use Rattle.std.proofs.Common.{◌≡◌, ℕ, zero, suc, ◌<◌, List, [], ◌∷◌, ◌++◌, map, length, set, get_or, take, add-one, ◌+◌, slice_get, Some, Bool, true, false, cond, not, ◌||◌, refl, sym, ◌∙◌, ap, arith}
+use Rattle.std.proofs.Common.{◌≡◌, ℕ, zero, suc, List, [], ◌∷◌, ◌++◌, map, set, get_or, slice_get, Some, Bool, true, false, cond, not, ◌||◌, refl, sym, ◌∙◌, ap}
 use Rattle.std.specs.List.{list_any, IsDistinct}
-use Rattle.std.proofs.lemmas.List.{length-map}
-use Rattle.std.proofs.Math.Seq.{take-suc}
+use Rattle.std.proofs.lemmas.List.{map-append}
 use Rattle.rw_types.specs.Labels.{Labels}
 use Rattle.rw_types.specs.LabelOrder.{labels_eq}
 use Rattle.rw_types.proofs.OrderLemmas.{same_if_equal}
 use Rattle.rw_write_request.specs.Message.{Sample, TimeSeries, WriteRequest}
-use Rattle.rw_batch.specs.Grouping.{LabelledSample, distinct, message, with_sample, labels_of}
-use Rattle.rw_shard_queue.proofs.Lists.{get_below}
-use Rattle.rw_batch.proofs.MessageLemmas.{message-push}
-use Rattle.rw_batch.proofs.GroupsLemmas.{labels_of-set, with_sample-at, with_sample-new}
+use Rattle.rw_batch.specs.Grouping.{with_sample, labels_of}
+use Rattle.rw_batch.proofs.GroupsLemmas.{with_sample-at, with_sample-new}
 
 module _ {K : Type 0} (v : K → Labels) where
-  any-map : (l : Labels) (ks : List K) → list_any (labels_eq l) (map v ks) ≡ list_any (λ k. labels_eq l (v k)) ks
+  -- a test of the labels is a test of the keys
+  pub any-map : (l : Labels) (ks : List K) → list_any (labels_eq l) (map v ks) ≡ list_any (λ k. labels_eq l (v k)) ks
   any-map l [] = refl
   any-map l (k ∷ ks) = ap (λ b. labels_eq l (v k) || b) (any-map l ks)
+
+  -- the labels of the keys, with one more
+  pub kept_or_pushed : (ks : List K) (k : K) (b : Bool) → cond b (map v ks) (map v ks ++ v k ∷ []) ≡ map v (cond b ks (ks ++ k ∷ []))
+  kept_or_pushed ks k true = refl
+  kept_or_pushed ks k false = sym (map-append v ks (k ∷ []))
 
   get-map : (ks : List K) (i : ℕ) (k : K) → slice_get ks i ≡ Some k → slice_get (map v ks) i ≡ Some (v k)
   get-map [] i k e = absurd cc

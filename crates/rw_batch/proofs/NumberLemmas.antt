@@ -3,7 +3,6 @@ use Rattle.std.proofs.Common.{◌≡◌, ℕ, suc, List, [], ◌∷◌, ◌++◌
 use Rattle.std.specs.List.{list_any}
 use Rattle.std.specs.Option.{option_map}
 use Rattle.std.proofs.lemmas.Bool.{both_ways}
-use Rattle.std.proofs.lemmas.List.{map-append}
 use Rattle.std.proofs.lemmas.Option.{slice_get-map}
 use Rattle.rw_types.specs.Labels.{Labels}
 use Rattle.rw_types.specs.LabelOrder.{labels_eq}
@@ -11,6 +10,7 @@ use Rattle.rw_types.proofs.OrderLemmas.{same_if_equal}
 use Rattle.rw_write_request.specs.Message.{Sample}
 use Rattle.rw_batch.specs.Grouping.{labels_of, with_sample, with_labels}
 use Rattle.rw_batch.specs.Groups.{Groups, StandsFor, IsAlone, with_number}
+use Rattle.rw_batch.proofs.KeysLemmas.{kept_or_pushed}
 use Rattle.rw_batch.proofs.LabelLemmas.{eq-self}
 use Rattle.rw_batch.proofs.MessageLemmas.{labels_of-with_sample}
 
@@ -37,12 +37,8 @@ found_as_numbers f n (m ∷ ns) alone =
     ap₂ (λ a b. a || b) (same_as_numbers_as f n m (labels_eq (f n) (f m)) (nat_eq n m) (alone 0 m refl) refl refl)
     (found_as_numbers f n ns (λ i k h. alone (suc i) k h))
 
-kept_or_pushed : (f : ℕ → Labels) (n : ℕ) (ns : List ℕ) (b : Bool) → cond b (map f ns) (map f ns ++ f n ∷ []) ≡ map f (cond b ns (ns ++ n ∷ []))
-kept_or_pushed f n ns true = refl
-kept_or_pushed f n ns false = sym (map-append f ns (n ∷ []))
-
 pub labels_stay : (f : ℕ → Labels) (n : ℕ) (s : Sample) (g : Groups) → labels_of g.series ≡ map f g.numbers → IsAlone f n g.numbers
     → labels_of (with_sample (f n) s g.series) ≡ map f (with_number n g.numbers)
 labels_stay f n s g e alone =
     labels_of-with_sample (f n) s g.series ∙ ap (with_labels (f n)) e
-    ∙ ap (λ (b : Bool). cond b (map f g.numbers) (map f g.numbers ++ f n ∷ [])) (found_as_numbers f n g.numbers alone) ∙ kept_or_pushed f n g.numbers (list_any (nat_eq n) g.numbers)
+    ∙ ap (λ (b : Bool). cond b (map f g.numbers) (map f g.numbers ++ f n ∷ [])) (found_as_numbers f n g.numbers alone) ∙ kept_or_pushed f g.numbers n (list_any (nat_eq n) g.numbers)

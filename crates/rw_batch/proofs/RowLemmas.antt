@@ -1,10 +1,10 @@
 -- Samples by their series: a line for each series, as samples are taken.
-use Rattle.std.proofs.Common.{◌≡◌, ℕ, zero, suc, ◌+◌, ◌≤◌, ◌<◌, ◌||◌, Vec, vec_capacity, List, [], ◌∷◌, ◌++◌, length, map, set, take, drop, get_or, reverse, Bool, true, false, cond, not, Some, slice_get, refl, sym, ap, ◌∙◌, subst, length-append, arith}
+use Rattle.std.proofs.Common.{◌≡◌, ℕ, zero, suc, ◌+◌, ◌≤◌, ◌<◌, Vec, vec_capacity, List, [], ◌∷◌, ◌++◌, length, map, set, take, drop, get_or, reverse, Bool, true, false, cond, not, Some, slice_get, refl, sym, ap, ◌∙◌, subst, length-append, arith}
 use Rattle.std.specs.Global.{Global}
 use Rattle.std.specs.List.{list_any, AllByRecursion, flat_map}
 use Rattle.std.specs.Arc.{arc_value}
 use Rattle.std.specs.Option.{option_map}
-use Rattle.std.proofs.lemmas.List.{length_push, length-map, length-set, map-append, append-nil, reverse-append}
+use Rattle.std.proofs.lemmas.List.{length_push, length-map, length-set, append-nil, reverse-append}
 use Rattle.std.proofs.lemmas.List.Concat.{flat_map-cons}
 use Rattle.std.proofs.lemmas.Grind.{flat_map-append}
 use Rattle.std.proofs.lemmas.Option.{slice_get-get_or, slice_get-map, get_or_from_slice_get}
@@ -18,7 +18,7 @@ use Rattle.rw_batch.specs.Grouping.{LabelledSample, message, with_labels, labels
 use Rattle.rw_batch.specs.Kept.{samples_alone, field_at, GoesBack, IsTrail, IsLine, HasLines, Shared, AreRows}
 use Rattle.rw_batch.specs.declared.rows.Line.{Line}
 use Rattle.rw_batch.proofs.FieldLemmas.{one_field, fields-append, fields-push, field_at-is, get_here}
-use Rattle.rw_batch.proofs.KeysLemmas.{opened, keys_stay, grown}
+use Rattle.rw_batch.proofs.KeysLemmas.{any-map, kept_or_pushed, opened, keys_stay, grown}
 use Rattle.rw_batch.proofs.MessageLemmas.{message-push, message_is_distinct, labels_of-with_sample}
 
 get_last : {A : Type 0} (xs : List A) (x : A) (n : ℕ) → n ≡ length xs → slice_get (xs ++ x ∷ []) n ≡ Some x
@@ -217,20 +217,12 @@ within_back xs before at (j ∷ back) ss h =
 
 -- what is kept after one more sample
 module _ (v : Shared → Labels) where
-  kept_or_pushed : (series : List Shared) (key : Shared) (b : Bool) → cond b (map v series) (map v series ++ v key ∷ []) ≡ map v (cond b series (series ++ key ∷ []))
-  kept_or_pushed series key true = refl
-  kept_or_pushed series key false = sym (map-append v series (key ∷ []))
-
-  any_of : (l : Labels) (series : List Shared) → list_any (labels_eq l) (map v series) ≡ list_any (λ k. labels_eq l (v k)) series
-  any_of l [] = refl
-  any_of l (k ∷ series) = ap (λ b. labels_eq l (v k) || b) (any_of l series)
-
   labels_after : (series : List Shared) (key : Shared) (xs : List LabelledSample) (x : LabelledSample) → map v series ≡ labels_of (message xs) → x.labels ≡ v key
       → map v (cond (list_any (λ k. labels_eq (v key) (v k)) series) series (series ++ key ∷ [])) ≡ labels_of (message (xs ++ x ∷ []))
   labels_after series key xs x same is =
       sym (ap labels_of (message-push xs x) ∙ labels_of-with_sample x.labels x.sample (message xs) ∙ ap (λ (l : Labels). with_labels l (labels_of (message xs))) is
-      ∙ ap (with_labels (v key)) (sym same) ∙ ap (λ (b : Bool). cond b (map v series) (map v series ++ v key ∷ [])) (any_of (v key) series)
-      ∙ kept_or_pushed series key (list_any (λ k. labels_eq (v key) (v k)) series))
+      ∙ ap (with_labels (v key)) (sym same) ∙ ap (λ (b : Bool). cond b (map v series) (map v series ++ v key ∷ [])) (any-map v (v key) series)
+      ∙ kept_or_pushed v series key (list_any (λ k. labels_eq (v key) (v k)) series))
 
 pub short_field : (s : Sample) → length (sample_fields (s ∷ [])) ≤ 22
 short_field s = omega (arith, ap length (one_field s), sample-field-length s)

@@ -1,6 +1,6 @@
 //! The body of a batch.
 
-ghost use Rattle.std.specs.Prelude.{◌≡◌, ◌+◌, ◌<◌, ◌≤◌, ◌^◌, ◌++◌, length, IfOk, IfSome, IfNone};
+ghost use Rattle.std.specs.Prelude.{◌≡◌, ◌+◌, ◌<◌, ◌≤◌, ◌^◌, ◌++◌, length, IfSome, IfNone, OnOk, OnErr};
 ghost use Rattle.std.specs.Vec.{vec_len, vec_capacity};
 ghost use Rattle.std.specs.List.{AllByRecursion, flat_map};
 ghost use Rattle.rw_write_request.specs.Canon.{series_field, canon};
@@ -12,7 +12,7 @@ ghost use Rattle.rw_batch.specs.Kept.{samples_alone, field_at, parts_len, HasLab
 use crate::fields::Fields;
 use crate::rows::Rows;
 use rw_write_request::{put_series_head, series_head_len};
-use std::alloc::{AllocError, Global};
+use std::alloc::AllocError;
 
 /// How many bytes the field of the series at this place takes, if that fits 64 bits.
 fn series_len(rows: &Rows, place: usize) -> Option<usize>
@@ -26,7 +26,7 @@ fn series_len(rows: &Rows, place: usize) -> Option<usize>
 }
 
 /// How many bytes the body takes, if that fits 64 bits.
-fn body_len(rows: &Rows) -> Option<usize>
+pub(crate) fn body_len(rows: &Rows) -> Option<usize>
     ensures some { IfSome result (λ n. n ≡ length (canon (message rows.now.samples))) }
     ensures none { IfNone result (2 ^ 64 ≤ length (canon (message rows.now.samples))) }
 {
@@ -89,17 +89,15 @@ fn put_all_series(out: &mut Vec<u8>, rows: &Rows, fields: &Fields, row: &mut Vec
     }
 }
 
-/// The canonical spelling of the message that groups the samples by label set, in one buffer of exactly its length.
-pub(crate) fn body_of(alloc: Global, rows: &Rows, fields: &Fields) -> Result<Vec<u8>, AllocError>
-    requires { fields.now.samples ≡ samples_alone rows.now.samples }
-    ensures canonical { IfOk result (λ b. b.items ≡ canon (message rows.now.samples)) }
-    ensures spells { IfOk result (λ b. Spells b.items (message rows.now.samples)) }
+/// Writes the canonical spelling of the message that groups the samples by label set at the end.
+pub(crate) fn put_body(out: &mut Vec<u8>, rows: &Rows, fields: &Fields) -> Result<(), AllocError>
+    requires same { fields.now.samples ≡ samples_alone rows.now.samples }
+    requires room { vec_len out.old + length (canon (message rows.now.samples)) ≤ vec_capacity out.old }
+    ensures ok { OnOk result (out.new.items ≡ out.old.items ++ canon (message rows.now.samples)) }
+    ensures err { OnErr result (out.new ≡ out.old) }
+    ensures spells { OnOk result (Spells (canon (message rows.now.samples)) (message rows.now.samples)) }
 {
-    let Some(len) = body_len(rows) else {
-        return Err(AllocError);
-    };
-    let mut row = Vec::with_capacity(alloc, fields.len())?;
-    let mut body = Vec::with_capacity(alloc, len)?;
-    put_all_series(&mut body, rows, fields, &mut row);
-    Ok(body)
+    let mut row = Vec::with_capacity(*out.allocator(), fields.len())?;
+    put_all_series(out, rows, fields, &mut row);
+    Ok(())
 }

@@ -1,13 +1,14 @@
 //! A batch that grows sample by sample.
 
-ghost use Rattle.std.specs.Prelude.{◌≡◌, ◌↔◌, ◌+◌, ◌<◌, ◌≤◌, [], length, Some, slice_get, IsTrue, IfOk, IfErr, OnOk, OnErr};
+ghost use Rattle.std.specs.Prelude.{◌≡◌, ◌↔◌, ◌+◌, ◌<◌, ◌≤◌, ◌^◌, [], ◌++◌, length, Some, slice_get, IsTrue, IfOk, IfErr, IfSome, IfNone, OnOk, OnErr};
+ghost use Rattle.std.specs.Vec.{vec_len, vec_capacity};
 ghost use Rattle.rw_write_request.specs.Canon.{sample_field};
 ghost use Rattle.rw_write_request.specs.Spells.{Spells};
 ghost use Rattle.rw_batch.specs.Batches.{Follows, MayBeTaken, with_item, batch_of};
 ghost use Rattle.rw_batch.specs.Grouping.{LabelledSample, message};
 
 use crate::batch::Batch;
-use crate::body::body_of;
+use crate::body::{body_len, put_body};
 use crate::fields::Fields;
 use crate::rows::{Labelled, Rows};
 use bytes::Bytes;
@@ -133,6 +134,25 @@ impl Builder {
         self.fields.get(k)
     }
 
+    /// How many bytes the body of the batch takes, if that fits 64 bits.
+    pub fn body_len(&self) -> Option<usize>
+        ensures some { IfSome result (λ n. n ≡ length (batch_of self.now).body) }
+        ensures none { IfNone result (2 ^ 64 ≤ length (batch_of self.now).body) }
+    {
+        body_len(&self.rows)
+    }
+
+    /// Writes the body of the batch at the end of the bytes.
+    pub fn put_body(&self, out: &mut Vec<u8>) -> Result<(), AllocError>
+        requires { vec_len out.old + length (batch_of self.now).body ≤ vec_capacity out.old }
+        ensures ok { OnOk result (out.new.items ≡ out.old.items ++ (batch_of self.now).body) }
+        ensures err { OnErr result (out.new ≡ out.old) }
+        // A reader of the body finds the message of the samples.
+        ensures spells { OnOk result (Spells (batch_of self.now).body (message self.now.samples)) }
+    {
+        put_body(out, &self.rows, &self.fields)
+    }
+
     /// The body of the batch that `freeze` would make.
     pub fn body(&self) -> Result<Vec<u8>, AllocError>
         requires { 0 < length self.now.samples }
@@ -140,7 +160,12 @@ impl Builder {
         // A reader of it finds the message of the samples.
         ensures spells { IfOk result (λ v. Spells v.items (message self.now.samples)) }
     {
-        body_of(*self.places.allocator(), &self.rows, &self.fields)
+        let Some(len) = self.body_len() else {
+            return Err(AllocError);
+        };
+        let mut body = Vec::with_capacity(*self.places.allocator(), len)?;
+        self.put_body(&mut body)?;
+        Ok(body)
     }
 
     /// The body in a buffer that can be shared.
@@ -164,19 +189,30 @@ impl Builder {
         ensures builder { IfErr result (λ e. e.0 ≡ self) }
         ensures ledger { OnErr result (ledger.new ≡ ledger.old) }
     {
-        let count = self.places.len();
-        if ledger.room(count).is_err() {
+        match self.shared_body() {
+            Ok(body) => self.freeze_with(body, ledger),
+            Err(refused) => Err((self, refused)),
+        }
+    }
+
+    /// The same with the body, which was made before.
+    pub fn freeze_with(
+        self,
+        body: Bytes,
+        ledger: &mut Ledger,
+    ) -> Result<Batch, (Builder, AllocError)>
+        requires some { 0 < length self.samples }
+        requires body { body ≡ (batch_of self).body }
+        ensures batch { IfOk result (λ b. b ≡ batch_of self) }
+        ensures room { OnOk result (ledger.new.room ≡ ledger.old.room + length self.samples) }
+        ensures names { ledger.new.names ≡ ledger.old.names }
+        ensures builder { IfErr result (λ e. e.0 ≡ self) }
+        ensures ledger { OnErr result (ledger.new ≡ ledger.old) }
+    {
+        if ledger.room(self.places.len()).is_err() {
             return Err((self, AllocError));
         }
-        match self.shared_body() {
-            Ok(body) => {
-                let Builder { places, .. } = self;
-                Ok(Batch { places, body })
-            }
-            Err(refused) => {
-                ledger.give_back(count);
-                Err((self, refused))
-            }
-        }
+        let Builder { places, .. } = self;
+        Ok(Batch { places, body })
     }
 }

@@ -5,12 +5,10 @@ ghost use Rattle.rw_retry.specs.Judgements.{judgement_of};
 ghost use Rattle.std.specs.FinMap.{get};
 ghost use Rattle.rw_shard_queue.specs.Items.{samples_in};
 ghost use Rattle.rw_sender.specs.Inside.{RiseStrictly};
-ghost use Rattle.rw_batch.specs.Batches.{batch_of};
-ghost use Rattle.rw_sender.specs.SentRequest.{request_of};
 ghost use Rattle.rw_sender.specs.Shard.{IsCore, IsReadAgain, MayTake, HasRoomFor, new_core, is_empty, pending, is_due, can_take, mark, take_item, can_freeze, freeze, freeze_room, can_send, send, request_for, awaits, lose, attempt_for, batch_id, places_of, positions_of, positions, resolve, is_answer, name_all, reply, reply_names, kill};
 
 use crate::config::Target;
-use crate::request::request_bytes;
+use crate::request::{Carrying, request_with};
 use bytes::Bytes;
 use http::StatusCode;
 use rw_batch::{Batch, BatchId, Builder, MAX_BATCH};
@@ -40,16 +38,6 @@ pub struct Attempt {
     pub id: BatchId,
     /// The bytes of the request, the same at each attempt.
     pub request: Bytes,
-}
-
-/// The request that carries the samples of a builder, whole.
-fn request_with(alloc: Global, target: &Target, builder: &Builder) -> Result<Bytes, AllocError>
-    requires { 0 < length builder.now.samples }
-    ensures { IfOk result (λ b. b ≡ request_of target.now.host target.now.path (batch_of builder.now).body) }
-{
-    let body = builder.body()?;
-    let bytes = request_bytes(alloc, target, &body)?;
-    Ok(Bytes::from_vec(bytes)?)
 }
 
 /// Names all samples of a batch with the status that refused it.
@@ -303,8 +291,8 @@ impl ShardCore {
             return Ok(false);
         }
         let next = Builder::new(self.alloc, self.full)?;
-        let request = request_with(self.alloc, &self.target, &self.builder)?;
-        match mem::replace(&mut self.builder, next).freeze(ledger) {
+        let Carrying { request, body } = request_with(self.alloc, &self.target, &self.builder)?;
+        match mem::replace(&mut self.builder, next).freeze_with(body, ledger) {
             Ok(batch) => {
                 self.marked = false;
                 self.current = Some(OpenBatch {

@@ -1,4 +1,4 @@
-use Rattle.std.proofs.Common.{◌≡◌, Bool, true, cond, not, List, [], ◌∷◌, ◌++◌, ap, sym, ◌∙◌}
+use Rattle.std.proofs.Common.{◌≡◌, Bool, true, cond, not, [], ◌∷◌, ◌++◌, ap, sym, ◌∙◌}
 use Rattle.std.specs.Arc.{arc_value}
 use Rattle.std.specs.List.{list_any}
 use Rattle.std.proofs.lemmas.Map.Keys.{any_passes_from_place}
