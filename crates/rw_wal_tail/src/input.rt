@@ -1,6 +1,6 @@
 //! The bytes that are not read yet.
 
-ghost use Rattle.std.specs.Prelude.{◌≡◌, ◌≤◌, ◌<◌, ◌+◌, [], true, false, length, drop, take, map, IfOk, OnOk, OnErr};
+ghost use Rattle.std.specs.Prelude.{◌≡◌, ◌≤◌, ◌<◌, ◌+◌, ◌*◌, [], true, false, length, drop, take, map, IfOk, OnOk, OnErr};
 ghost use Rattle.rw_wal_tail.specs.Held.{has_ended, begun_with, extend_last, fed};
 
 use std::alloc::{AllocError, Global};
@@ -34,6 +34,20 @@ fn remove_front(buffer: &mut Vec<u8>, count: usize)
     ensures { buffer.new.items ≡ drop count buffer.old.items }
 {
     buffer.drain(..count);
+}
+
+/// Moves what is not read to the front, once that is no more than what was read: so each byte that is read pays for one that is moved, and what
+/// is kept is at most twice what is not read.
+fn compact(buffer: &mut Vec<u8>, at: &mut usize)
+    requires { at.old ≤ length buffer.old.items }
+    ensures within { at.new ≤ length buffer.new.items }
+    ensures rest { drop at.new buffer.new.items ≡ drop at.old buffer.old.items }
+    ensures few { length buffer.new.items ≤ 2 * length (drop at.old buffer.old.items) }
+{
+    if *at >= buffer.len() - *at {
+        remove_front(buffer, *at);
+        *at = 0;
+    }
 }
 
 /// Adds to the last segment.
@@ -120,16 +134,6 @@ impl Input {
         self.ended = true;
     }
 
-    /// Moves what is not read to the front, once that is no more than what was read: so each byte that is read pays for one that is moved.
-    fn compact(&mut self)
-        ensures { self.new ≡ self.old }
-    {
-        if self.at >= self.buffer.len() - self.at {
-            remove_front(&mut self.buffer, self.at);
-            self.at = 0;
-        }
-    }
-
     /// More bytes of the last segment.
     pub(crate) fn feed(&mut self, piece: &[u8]) -> Result<(), AllocError>
         ensures ok { OnOk result (self.new ≡ fed piece.now self.old) }
@@ -141,7 +145,7 @@ impl Input {
             self.ended = false;
             Ok(())
         } else if self.later.is_empty() {
-            self.compact();
+            compact(&mut self.buffer, &mut self.at);
             self.buffer.extend_from_slice(piece)
         } else {
             extend_last_segment(&mut self.later, piece)

@@ -31,7 +31,7 @@ pub(crate) struct Reader {
     pub(crate) left: usize,
     /// How many of the bytes at the front were seen to be zeros of the page's end.
     pub(crate) zeros: usize,
-    /// The data so far of the record that is open.
+    /// The data so far of the record that is open. That of one that was read stays here until the next in fragments begins.
     pub(crate) begun: Vec<u8>,
     pub(crate) is_open: bool,
     pub(crate) ready: VecDeque<Entry>,

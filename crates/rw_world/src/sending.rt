@@ -1,6 +1,6 @@
 //! The shards of an epoch, and the names of the dropped samples.
 
-ghost use Rattle.std.specs.Prelude.{◌≡◌, ℕ, ◌<◌, ◌≤◌, ◌^◌, ◌+◌, ◌++◌, ◌==◌, slice_get, true, false, length, map, Some, None, IfOk, IfSome, OnOk, OnErr};
+ghost use Rattle.std.specs.Prelude.{◌≡◌, ℕ, ◌<◌, ◌≤◌, ◌^◌, ◌+◌, ◌++◌, ◌==◌, slice_get, true, false, length, map, Some, None, IfOk, IfSome, MatchOption, OnOk, OnErr};
 ghost use Rattle.rw_schedule.specs.Shards.{shard_take, shard_freeze, shard_send, shard_lost, is_drained, pending};
 ghost use Rattle.rw_schedule.specs.Steps.{change};
 ghost use Rattle.std.specs.List.{list_all, list_any, position};
@@ -257,6 +257,7 @@ impl Senders {
         requires small { pos < 2 ^ 60 }
         ensures ok { OnOk result (self.new ≡ put_to self.old i pos series t word labels.value (slice_get self.old.shards i)) }
         ensures err { OnErr result (self.new ≡ self.old) }
+        ensures full { OnErr result (MatchOption (slice_get self.old.shards i) ⊥ (λ s. 2 ^ 60 ≤ length s.put)) }
     {
         if i >= self.shards.len() {
             return Ok(());

@@ -1,6 +1,6 @@
 //! Reading a message from its bytes.
 
-ghost use Rattle.std.specs.Prelude.{◌≡◌, ℕ, ◌+◌, ◌*◌, ◌^◌, ◌<◌, ◌≤◌, List, [], ◌∷◌, length, IfOk, IfErr, MatchResult, ◌≢◌, Err};
+ghost use Rattle.std.specs.Prelude.{◌≡◌, ℕ, ◌+◌, ◌*◌, ◌^◌, ◌<◌, ◌≤◌, List, [], ◌∷◌, length, vec_capacity, IfOk, IfErr, MatchResult, ◌≢◌, Err};
 ghost use Rattle.rw_write_request.specs.Message.{WriteRequest};
 ghost use Rattle.rw_types.specs.Labels.{text_label};
 ghost use Rattle.rw_write_request.specs.Texts.{series_of};
@@ -16,7 +16,7 @@ use crate::message::{Message, Series};
 use byteorder::{ByteOrder, LittleEndian};
 use rw_codes::get_uvarint;
 use rw_types::Word;
-use std::alloc::Global;
+use std::alloc::{AllocError, Global};
 
 /// What a field holds, by its wire type.
 #[derive(Clone, Copy)]
@@ -136,6 +136,14 @@ fn field_counts(kind: Kind, bytes: &[u8]) -> (usize, usize)
         rest = after;
     }
     (ones, twos)
+}
+
+/// Room for so many items of which each stands in some of the bytes, and for no more than there are bytes.
+fn room_for<T>(alloc: Global, count: usize, bytes: &[u8]) -> Result<Vec<T>, AllocError>
+    ensures items { IfOk result (λ v. v.items ≡ []) }
+    ensures room { IfOk result (λ v. vec_capacity v ≤ length bytes.now) }
+{
+    Vec::with_capacity(alloc, count.min(bytes.len()))
 }
 
 #[tactic(auto, unfolding(crate::specs::Read::text))]
@@ -282,8 +290,8 @@ fn read_series(alloc: Global, bytes: &[u8]) -> Result<Series, WireFault>
     ensures { GivesOrMemory (λ s. s) result (read_series bytes.now) }
 {
     let (label_count, sample_count) = field_counts(Kind::TimeSeries, bytes);
-    let mut labels = Vec::with_capacity(alloc, label_count)?;
-    let mut samples = Vec::with_capacity(alloc, sample_count)?;
+    let mut labels = room_for(alloc, label_count, bytes)?;
+    let mut samples = room_for(alloc, sample_count, bytes)?;
     let mut rest = bytes;
     while !rest.is_empty() {
         let (part, after) = field_at(Kind::TimeSeries, rest)?;
@@ -319,7 +327,7 @@ fn read_message(alloc: Global, bytes: &[u8]) -> Result<Message, WireFault>
     ensures { GivesOrMemory (λ m. m) result (read bytes.now) }
 {
     let (series_count, _) = field_counts(Kind::WriteRequest, bytes);
-    let mut series = Vec::with_capacity(alloc, series_count)?;
+    let mut series = room_for(alloc, series_count, bytes)?;
     let mut rest = bytes;
     while !rest.is_empty() {
         let (part, after) = field_at(Kind::WriteRequest, rest)?;

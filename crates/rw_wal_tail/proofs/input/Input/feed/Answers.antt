@@ -12,16 +12,16 @@ returns-in_ok-push_back-clause-ok c =
 
 pub returns-then-is_empty-clause-ok : goal.returns-then-is_empty-clause-ok
 returns-then-is_empty-clause-ok c =
-    let r : drop c.self-then-is_empty.inside.at c.self-then-is_empty.inside.buffer.items ≡ c.args.self.now.rest = ap (λ (h : Held). h.rest) (c.self-then-is_empty.view_is ∙ c.compact.ensures) in
-    let l : map (λ v. v.items) c.self-then-is_empty.inside.later.items ≡ c.args.self.now.later = ap (λ (h : Held). h.later) (c.self-then-is_empty.view_is ∙ c.compact.ensures) in
-    let d : c.self-then-is_empty.inside.ended ≡ c.args.self.now.ended = ap (λ (h : Held). h.ended) (c.self-then-is_empty.view_is ∙ c.compact.ensures) in
+    let r : drop c.compact.new.at c.compact.new.buffer.items ≡ c.args.self.now.rest = c.compact.ensures.rest ∙ ap (λ (h : Held). h.rest) c.self.view_is in
+    let l : map (λ v. v.items) c.self.inside.later.items ≡ c.args.self.now.later = ap (λ (h : Held). h.later) c.self.view_is in
+    let d : c.self.inside.ended ≡ c.args.self.now.ended = ap (λ (h : Held). h.ended) c.self.view_is in
     let e : c.args.self.now.ended ≡ false = ap (λ (h : Held). h.ended) (sym c.self.view_is) ∙ c.if-self.false in
     let n : length c.self.inside.later.items ≡ 0 = (let k : deque_len c.self.inside.later ≡ 0 = is_zero (deque_len c.self.inside.later) c.is_empty.result c.is_empty.ensures c.if-is_empty.true in omega (arith, c.self.inside.later.ok)) in
     let m : length c.args.self.now.later ≡ 0 = ap (λ (h : Held). length h.later) (sym c.self.view_is) ∙ length-map c.self.inside.later.items (λ v. v.items) ∙ n in
     on_ok_weaker c.extend_from_slice.result
     (λ q. rw (l, d) (fed_here c.args.piece.now _ c.args.self.now e m
-    (ap (λ (xs : List ℕ). drop c.self-then-is_empty.inside.at xs) q ∙ drop-append-le c.self-then-is_empty.inside.at c.self-then-is_empty.inside.buffer.items c.args.piece.now c.self-then-is_empty.invariant ∙ ap (λ (xs : List ℕ). xs ++ c.args.piece.now) r)))
-    (extended_ok c.extend_from_slice.result c.self-then-is_empty.inside.buffer.items c.extend_from_slice.new.self.items c.args.piece.now c.extend_from_slice.ensures.items)
+    (ap (λ (xs : List ℕ). drop c.compact.new.at xs) q ∙ drop-append-le c.compact.new.at c.compact.new.buffer.items c.args.piece.now c.compact.ensures.within ∙ ap (λ (xs : List ℕ). xs ++ c.args.piece.now) r)))
+    (extended_ok c.extend_from_slice.result c.compact.new.buffer.items c.extend_from_slice.new.self.items c.args.piece.now c.extend_from_slice.ensures.items)
 
 pub returns-else-is_empty-clause-ok : goal.returns-else-is_empty-clause-ok
 returns-else-is_empty-clause-ok c =
