@@ -99,3 +99,17 @@ fn limits(rt: HostRuntime) -> Result<(), Fail> {
     }
     Ok(())
 }
+
+/// A field too many is found before its head ends.
+#[test]
+fn a_field_too_many_decides(rt: HostRuntime) -> Result<(), Fail> {
+    for (fields, read) in [
+        (MAX_FIELDS, ReplyRead::Partial),
+        (MAX_FIELDS + 1, ReplyRead::Bad),
+    ] {
+        let head = head_of(rt.alloc(), b"204 ", fields, 1)?;
+        let begun = head.strip_suffix(b"\r\n").ok_or("no end")?;
+        assert_eq!(rt; read_reply(begun), read, "{fields}");
+    }
+    Ok(())
+}
