@@ -1,5 +1,5 @@
 -- HOST:PORT, as a word of the command line.
-use Rattle.std.specs.Prelude.{◌≡◌, ℕ, ◌<◌, ◌≤◌, List, ◌∷◌, ◌++◌}
+use Rattle.std.specs.Prelude.{◌≡◌, ◌≢◌, ◌⊎◌, ℕ, ◌<◌, ◌≤◌, List, [], ◌∷◌, ◌++◌}
 use Rattle.rw_text.specs.Numbers.{IsNumber}
 
 -- decimal digits of a number from 1 to 65535
@@ -13,3 +13,7 @@ pub record IsAddress (text host : List ℕ) (port : ℕ) : Type 0 where
   pub digits : List ℕ
   pub parts : text ≡ host ++ 58 ∷ digits
   pub is_port : IsPort digits port
+
+-- what stands between the brackets of a host, or a host that has none around it
+abbrev pub IsName : List ℕ → List ℕ → Type 0
+IsName host name = (host ≡ 91 ∷ name ++ 93 ∷ []) ⊎ ((host ≡ name) × ((inner : List ℕ) → host ≢ 91 ∷ inner ++ 93 ∷ []))

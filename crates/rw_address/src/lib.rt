@@ -2,7 +2,7 @@
 #![tactic(auto)]
 
 ghost use Rattle.std.specs.Prelude.{◌≡◌, ℕ, List, MatchOption};
-ghost use Rattle.rw_address.specs.Addresses.{IsPort, IsAddress};
+ghost use Rattle.rw_address.specs.Addresses.{IsPort, IsAddress, IsName};
 
 use rw_text::read_number;
 
@@ -25,7 +25,22 @@ fn port_of(digits: &[u8]) -> Option<u16>
     Some(port as u16)
 }
 
-/// Reads HOST:PORT, which is split at its last colon, so that a host may hold colons (`::1`). The port is in decimal digits.
+impl<'a> Address<'a> {
+    /// The host without brackets around it, in which an IPv6 address may stand (RFC 3986, section 3.2.2).
+    pub fn name(&self) -> &'a str
+        ensures { IsName self.now.host.now result.now }
+    {
+        let Some(rest) = self.host.strip_prefix('[') else {
+            return self.host;
+        };
+        match rest.strip_suffix(']') {
+            Some(name) => name,
+            None => self.host,
+        }
+    }
+}
+
+/// Reads HOST:PORT, which is split at its last colon, so that a host may hold colons (`::1`, `[::1]`). The port is in decimal digits.
 pub fn read_address(text: &str) -> Option<Address<'_>>
     ensures { MatchOption result
         ((host : List ℕ) (port : ℕ) → IsAddress text.now host port → ⊥)

@@ -1,6 +1,7 @@
 //! The command line: what each command is called, which options it takes, and what the words ask for.
 #![tactic(auto)]
 
+use clap::builder::ValueParser;
 use clap::{Arg, ArgAction, ArgMatches, Command, value_parser};
 use rw_address::{Address, read_address};
 use rw_types::Bounded;
@@ -53,6 +54,7 @@ fn settings<'a>(alloc: Global) -> Arg<'a> {
     Arg::new(alloc, "settings")
         .long("settings")
         .value_name("FILE")
+        .value_parser(ValueParser::NonEmptyString)
         .help("Read the settings from this TOML file")
 }
 
@@ -72,6 +74,7 @@ fn log_command<'a>(alloc: Global) -> Result<Command<'a>, AllocError> {
     let dir = Arg::new(alloc, "dir")
         .long("dir")
         .value_name("DIR")
+        .value_parser(ValueParser::NonEmptyString)
         .help("Write numbered segment files into this folder");
     Command::new(alloc, "log")
         .about("Reads log text and writes log segments")
@@ -97,6 +100,7 @@ fn send_command<'a>(alloc: Global) -> Result<Command<'a>, AllocError> {
     let dir = Arg::new(alloc, "dir")
         .long("dir")
         .value_name("DIR")
+        .value_parser(ValueParser::NonEmptyString)
         .required(true)
         .help("Ship the segments of this folder");
     let to = Arg::new(alloc, "to")
@@ -144,6 +148,19 @@ pub fn command_line<'a>(alloc: Global) -> Result<Command<'a>, AllocError> {
         .subcommand(receive_command(alloc)?)
 }
 
+/// The option and the value of a HOST:PORT that is none, if the words have one.
+pub fn bad_address<'a>(words: &ArgMatches<'a>) -> Option<(&'static str, &'a str)> {
+    let (_, options) = words.subcommand()?;
+    for option in ["to", "listen"] {
+        if let Some(value) = options.get_str(option) {
+            if read_address(value).is_none() {
+                return Some((option, value));
+            }
+        }
+    }
+    None
+}
+
 /// What a command's options ask for.
 fn task_named<'a>(name: &str, options: &ArgMatches<'a>) -> Option<Task<'a>> {
     let hex = options.get_flag("hex");
@@ -171,7 +188,7 @@ fn task_named<'a>(name: &str, options: &ArgMatches<'a>) -> Option<Task<'a>> {
     }
 }
 
-/// What the words ask for; none where a HOST:PORT is none.
+/// What the words ask for; none where a HOST:PORT is none, which `bad_address` tells.
 pub fn task_of<'a>(words: &ArgMatches<'a>) -> Option<Task<'a>> {
     let (name, options) = words.subcommand()?;
     task_named(name, options)

@@ -8,6 +8,7 @@ ghost use Rattle.std.specs.Process as process;
 ghost use Rattle.rw_tool.specs.Printed.{exit_status};
 ghost use Rattle.rwship.specs.Statuses.{unset_status};
 
+use clap::ArgMatches;
 use clap::error::ErrorKind as WordsErrorKind;
 use rw_address::Address;
 use rw_receive::run_receive;
@@ -17,7 +18,7 @@ use rw_settings::Settings;
 use rw_tcp::look_up;
 use rw_tool::{ToolFault, run_body, run_log, run_log_dir, run_plan};
 use rw_types::{Bounded, Std};
-use rw_words::{Task, command_line, task_of};
+use rw_words::{Task, bad_address, command_line, task_of};
 use settings::{Unset, settings_in};
 use std::env;
 use std::io::ErrorKind;
@@ -68,6 +69,22 @@ fn unparsed(rt: &HostRuntime, error: clap::Error) -> ExitCode {
     }
 }
 
+/// Says what is wrong with the words.
+fn bad_words(rt: &HostRuntime, text: &str) -> ExitCode
+    ensures { process.exit_status result ≡ 2 }
+{
+    let _ = eprintln!(rt; "{text}");
+    ExitCode::from(BAD_WORDS)
+}
+
+/// Says which HOST:PORT is none, in the form of the command-line parser.
+fn no_address(rt: &HostRuntime, words: &ArgMatches<'_>) -> ExitCode {
+    if let Some((option, value)) = bad_address(words) {
+        let _ = eprintln!(rt; "error: invalid value '{value}' for '--{option} <HOST:PORT>': a host, a colon and a port from 1 to 65535\n");
+    }
+    bad_words(rt, "For more information, try '--help'.")
+}
+
 /// Writes a segment of log text, or the segments into a folder.
 fn log(rt: &HostRuntime, hex: bool, pages: Bounded<1, 4096>, dir: Option<&str>) -> ExitCode {
     let mut input = Std::new(rt.stdin());
@@ -116,7 +133,7 @@ fn body(rt: &HostRuntime, hex: bool) -> ExitCode {
 
 /// The addresses of a receiver. A failed look-up is a fault of the device.
 fn addresses_of(rt: &HostRuntime, to: Address<'_>) -> Result<Vec<SocketAddr>, ToolFault> {
-    match look_up(rt, rt.alloc(), to.host, to.port) {
+    match look_up(rt, rt.alloc(), to.name(), to.port) {
         Ok(addresses) => Ok(addresses),
         Err(error) if error.kind() == ErrorKind::OutOfMemory => Err(ToolFault::OutOfMemory),
         Err(_) => Err(ToolFault::Device),
@@ -167,7 +184,7 @@ fn receive<R: Threads + Wait + Sync>(
         Ok(settings) => settings,
         Err(fault) => return unset(rt, fault),
     };
-    let Ok(listener) = TcpListener::bind(rt, (listen.host, listen.port)) else {
+    let Ok(listener) = TcpListener::bind(rt, (listen.name(), listen.port)) else {
         return ended(rt, Err(ToolFault::Device));
     };
     let outcome = run_receive(
@@ -209,16 +226,14 @@ fn run<R: Threads + Wait + Copy + Send + Sync + 'static>(
     let alloc = rt.alloc();
     let words: Vec<String> = match env::args(rt) {
         Ok(words) => words.collect(alloc)?,
-        Err(_) => return Err(ToolFault::OutOfMemory),
+        Err(error) if error.kind() == ErrorKind::OutOfMemory => return Err(ToolFault::OutOfMemory),
+        Err(_) => return Ok(bad_words(rt, "error: a word is not UTF-8\n\nFor more information, try '--help'.")),
     };
     match command_line(alloc)?.try_get_matches_from(words.as_slice()) {
         Err(error) => Ok(unparsed(rt, error)),
         Ok(matches) => match task_of(&matches) {
             Some(task) => Ok(perform(rt, threads, &task)),
-            None => {
-                let _ = eprintln!(rt; "error: a HOST:PORT has a port from 1 to 65535");
-                Ok(ExitCode::from(BAD_WORDS))
-            }
+            None => Ok(no_address(rt, &matches)),
         },
     }
 }
