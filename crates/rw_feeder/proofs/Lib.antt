@@ -1,4 +1,5 @@
 pub mod GatherLemmas
 pub mod HeldLemmas
 pub mod TailLemmas
+pub mod NotedLemmas
 pub mod FeederLemmas

@@ -10,11 +10,12 @@ use Rattle.rw_codes.specs.Pieces.{Piece, entries, fault}
 use Rattle.rw_codes.specs.declared.tail_fault.TailFault.{TailFault}
 use Rattle.rw_codes.specs.declared.tail_fault.TailFault.TheVariants as tail_fault
 use Rattle.rw_ledger.specs.declared.ledger.Reason.{Reason}
-use Rattle.rw_ledger.specs.declared.ledger.Reason.TheVariants.{BadLabels, NoSeries}
+use Rattle.rw_ledger.specs.declared.ledger.Reason.TheVariants.{BadLabels, NoSeries, NotRising}
 use Rattle.rw_relabel.specs.Rules.{RuleConfig}
 use Rattle.rw_series_cache.specs.Cached.{Taken}
 use Rattle.rw_series_cache.specs.Known.{Standing, Unknown, Bad, Filtered, Kept, known, label_fault_number, definitions_of}
-use Rattle.rw_series_cache.specs.Numbers.{HasNumber}
+use Rattle.rw_series_cache.specs.Numbers.{HasNumber, series_of}
+use Rattle.rw_series_cache.specs.Rising.{rises, IsNoted}
 use Rattle.rw_wal_tail.specs.Fed.{Fed}
 use Rattle.rw_feeder.specs.Logs.{Sent, sent_of, named, dropped, filtered}
 use Rattle.rw_feeder.specs.declared.feeder.Found.{Found}
@@ -41,6 +42,7 @@ pub record IsFeeder (tail : Fed) (cache : Taken) (names : FinMap nat_cmp Reason)
   pub taken : HasTaken tail (placed ++ hand)
   pub counted : count ≡ length placed
   pub defined : definitions_of placed ≡ cache.definitions
+  pub noted : IsNoted cache.rules placed cache.noted
   pub names_are : names ≡ named (dropped cache.rules placed)
   pub below : (p : ℕ) → count ≤ p → get names p ≡ None
   pub filter_counted : filter_count ≡ length (filtered cache.rules placed)
@@ -58,18 +60,23 @@ pub record IsNext (s : Sorting) (k : Standing) : Type 0 where
   pub hand : s.hand ≡ Sample reference t word ∷ []
   pub known_is : known s.rules s.placed reference ≡ k
 
--- for this reason a sample is dropped
-abbrev pub IsReason : Reason → Standing → Type 0
-IsReason reason Unknown = reason ≡ NoSeries
-IsReason reason (Bad f) = reason ≡ BadLabels (label_fault_number f)
-IsReason reason Filtered = ⊥
-IsReason reason (Kept l) = ⊥
+-- for this reason a sample is dropped that comes after these entries
+abbrev pub IsReason : List RuleConfig → List Entry → ℤ → Reason → Standing → Type 0
+IsReason rules before t reason Unknown = reason ≡ NoSeries
+IsReason rules before t reason (Bad f) = reason ≡ BadLabels (label_fault_number f)
+IsReason rules before t reason Filtered = ⊥
+IsReason rules before t reason (Kept l) = (reason ≡ NotRising) × (rises rules before l t ≡ false)
 
 abbrev pub IsDropped : Sorting → Reason → Type 0
-IsDropped s reason = (k : Standing) × IsNext s k × IsReason reason k
+IsDropped s reason = (k : Standing) × (next : IsNext s k) × IsReason s.rules s.placed next.t reason k
 
-abbrev pub IsToBeSent : Sorting → Type 0
-IsToBeSent s = (l : Labels) × IsNext s (Kept l)
+-- the next entry is a sample of the series of this number, which rises at this time
+pub record IsToBeSent (s : Sorting) (series : ℕ) (t : ℤ) : Type 0 where
+  pub labels : Labels
+  pub next : IsNext s (Kept labels)
+  pub timed : t ≡ next.t
+  pub numbered : HasNumber (series_of s.rules s.placed) labels series
+  pub rising : rises s.rules s.placed labels t ≡ true
 
 abbrev pub sent_by : Logged → Sent
 sent_by l = record { pos = l.pos; series = l.series; t = l.t; word = l.word; labels = arc_value l.labels }
@@ -88,7 +95,7 @@ Reads old new (next.Damaged f) = (new ≡ old) × HasRead old.pieces old.placed 
 -- an entry was placed that is not to be sent, or gives a sample that is
 abbrev pub Judges : Sorting → Sorting → Entry → Option Logged → Type 0
 Judges old new e None = HasPlaced old new × (sent_of old.rules old.placed e ≡ [])
-Judges old new e (Some l) = (new ≡ old) × (sent_of old.rules old.placed e ≡ sent_by l ∷ []) × IsToBeSent old
+Judges old new e (Some l) = (new ≡ old) × (sent_of old.rules old.placed e ≡ sent_by l ∷ []) × IsToBeSent old l.series l.t
 
 -- memory ran out, and the log has no fault
 abbrev pub is_refusal : TailFault → Bool

@@ -31,7 +31,7 @@ pub enum Next {
     Damaged(TailFault),
 }
 
-/// Sorts the entries of a log: it names the samples that have no series, or one whose labels are no label set, counts those whose series the rules drop, and gives the others with their series.
+/// Sorts the entries of a log: it names the samples that have no series, or one whose labels are no label set, and those that do not rise in their series, counts those whose series the rules drop, and gives the others with their series.
 ///
 /// It keeps no sample. Contracts see the rules, the pieces of the log, the entries that were placed, and those that were read and are to be placed.
 #[derive(Drop)]
@@ -197,11 +197,12 @@ impl Feeder {
         self.count = count;
     }
 
-    /// The sample that `place` gave was put.
-    pub fn sent(&mut self)
-        requires { IsToBeSent self.old }
+    /// The sample that `place` gave was put: of the series of this number, at this time.
+    pub fn sent(&mut self, series: u64, t: i64)
+        requires { IsToBeSent self.old series t }
         ensures { HasPlaced self.old self.new }
     {
+        self.cache.note(series, t);
         self.count = self.tail.entries_read();
     }
 
@@ -229,13 +230,19 @@ impl Feeder {
                 self.pass();
                 Ok(None)
             }
-            Found::Kept(series, labels) => Ok(Some(Logged {
-                pos: self.count,
-                series,
-                t,
-                word,
-                labels,
-            })),
+            Found::Kept(series, labels) => {
+                if !self.cache.rises(series, t) {
+                    self.name(Reason::NotRising)?;
+                    return Ok(None);
+                }
+                Ok(Some(Logged {
+                    pos: self.count,
+                    series,
+                    t,
+                    word,
+                    labels,
+                }))
+            }
         }
     }
 

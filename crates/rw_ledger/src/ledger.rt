@@ -19,6 +19,8 @@ pub enum Reason {
     BadLabels(u8),
     /// No series was defined under its reference before it.
     NoSeries,
+    /// An earlier sample of its series has the same timestamp or a later one.
+    NotRising,
 }
 
 /// The positions of dropped samples, each with its reason, and room for more of them.

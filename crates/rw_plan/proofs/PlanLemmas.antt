@@ -5,6 +5,7 @@ use Rattle.std.proofs.lemmas.List.Elements.{filter-append}
 use Rattle.std.proofs.lemmas.List.Sums.{sum_by_push}
 use Rattle.std.specs.Arc.{arc_value}
 use Rattle.std.specs.Result.{OnOk}
+use Rattle.std.specs.FinMap.{empty}
 use Rattle.rw_types.specs.Labels.{Labels, label_fault}
 use Rattle.rw_types.specs.declared.entry.Entry.{Entry}
 use Rattle.rw_types.specs.declared.entry.Entry.TheVariants.{Def, Sample}
@@ -115,7 +116,7 @@ same_rules : (rules now : List RuleConfig) (es : List Entry) (cached : Taken) (t
 same_rules rules now es cached text counts e h = subst (λ rs. IsPlanned rs es cached text counts) (sym e) h
 
 -- before the first entry
-pub planned_none : (rules : List RuleConfig) (es : List Entry) (cached : Taken) (text : List ℕ) → es ≡ [] → cached ≡ record { rules = rules; definitions = [] } → text ≡ []
+pub planned_none : (rules : List RuleConfig) (es : List Entry) (cached : Taken) (text : List ℕ) → es ≡ [] → cached ≡ record { rules = rules; definitions = []; noted = empty } → text ≡ []
     → IsPlanned cached.rules es cached text (record { kept = 0; filtered = 0; bad = 0; noseries = 0 })
 unfolding lines standings counts_of
 planned_none rules es cached text e c t =
@@ -138,7 +139,7 @@ planned_definition es cached new text now counts reference l h c line =
     (record {
       cache =
           c ∙ ap (λ (k : Taken). record k { definitions = k.definitions ++ Def reference l ∷ [] }) h.cache
-          ∙ ap (λ ds. record { rules = rules; definitions = ds }) (sym (definitions_of-definition es reference l));
+          ∙ ap (λ ds. record { rules = rules; definitions = ds; noted = empty }) (sym (definitions_of-definition es reference l));
       lines =
           line es (definitions_cached es cached text counts h) ∙ ap (λ x. x ++ line_of rules es (Def reference l)) h.lines
           ∙ sym (lines-push rules es (Def reference l));
@@ -153,7 +154,7 @@ pub planned_sample : (es : List Entry) (cached : Taken) (text : List ℕ) (count
 planned_sample es cached text counts now reference t word h counted =
     let rules = cached.rules in
     record {
-      cache = h.cache ∙ ap (λ ds. record { rules = rules; definitions = ds }) (sym (definitions_of-sample es reference t word));
+      cache = h.cache ∙ ap (λ ds. record { rules = rules; definitions = ds; noted = empty }) (sym (definitions_of-sample es reference t word));
       lines = h.lines ∙ sym (lines-push rules es (Sample reference t word) ∙ append-nil (lines rules es));
       counts =
           counted es (definitions_cached es cached text counts h) ∙ ap (λ (k : SampleCounts). with_sample k (known rules es reference)) h.counts

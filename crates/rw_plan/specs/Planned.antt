@@ -1,5 +1,6 @@
 -- What a planner keeps.
 use Rattle.std.specs.Prelude.{◌≡◌, ℕ, ◌+◌, List, Bool}
+use Rattle.std.specs.FinMap.{empty}
 use Rattle.rw_types.specs.declared.entry.Entry.{Entry}
 use Rattle.rw_relabel.specs.Rules.{RuleConfig}
 use Rattle.rw_series_cache.specs.Cached.{Taken}
@@ -16,9 +17,9 @@ pub record Planned : Type 0 where
   pub entries : List Entry
   pub has_failed : Bool
 
--- the cache has the definitions, and lines and counts are those of the entries
+-- the cache has the definitions and notes nothing, and lines and counts are those of the entries
 pub record IsPlanned (rules : List RuleConfig) (entries : List Entry) (cached : Taken) (text : List ℕ) (counted : SampleCounts) : Type 0 where
-  pub cache : cached ≡ record { rules = rules; definitions = definitions_of entries }
+  pub cache : cached ≡ record { rules = rules; definitions = definitions_of entries; noted = empty }
   pub lines : text ≡ lines rules entries
   pub counts : counted ≡ counts_of (standings rules entries)
 

@@ -1,9 +1,10 @@
--- An arrival keeps the invariant, where the samples of each kept series rise.
+-- An arrival keeps the invariant.
 use Rattle.std.proofs.Common.{◌≡◌, ℕ, ◌+◌, ◌-◌, ◌<◌, ◌==◌, Bool, true, false, cond, List, [], ◌∷◌, ◌++◌, length, map, filter, take, Option, Some, None, is_none, slice_get, refl, sym, ap, ◌∙◌, subst, ℤ, int_lt, not, append-nil, append_assoc, arith, inl, inr, ◌⊎◌}
 use Rattle.std.proofs.lemmas.Bool.{cases_eq}
 use Rattle.std.proofs.lemmas.Bool.Decides.{Decides-eqb}
 use Rattle.std.proofs.lemmas.List.{map-append}
 use Rattle.rw_schedule.proofs.Steps.{either, AllOf, all_append, all_more, all_map, same_is, is_same}
+use Rattle.rw_schedule.proofs.Risen.{AllLater, Rises, Rises-risen}
 use Rattle.rw_schedule.proofs.OrderRule.{Ascends, ascends_left, accept_repeats, accept_later, holds_append, holds_right, cond_true, cond_false, distinct_apart, Took, take_message}
 use Rattle.rw_schedule.proofs.Places.{Numbered, numbered_left, numbered_all, of_append}
 use Rattle.rw_schedule.proofs.Invariant.{Inv, as_points, waits, home, id_at, Past, SampleOk, ShardOk, GotOk, IsOpen, InStore, RequestOk, AnswersOpen, AnswerOk, by_bool}
@@ -19,8 +20,8 @@ use Rattle.rw_recv_head.specs.Order.{accept, holds}
 use Rattle.rw_recv_head.specs.Store.{list_of}
 use Rattle.rw_retry.specs.Judgements.{judgement_of}
 use Rattle.rw_retry.specs.declared.judgement.Judgement.TheVariants.{Again, Done, Refused}
-use Rattle.rw_schedule.proofs.Views.{IsKept, Ledger, Pairs, Store, is_let_in, message, of, owed_by, pairs, points}
-use Rattle.rw_schedule.specs.Promises.{AllLater, Point, Rises, pair_of}
+use Rattle.rw_schedule.proofs.Views.{IsKept, Ledger, Pairs, Store, is_let_in, logged_points, message, of, owed_by, pairs, points}
+use Rattle.rw_schedule.specs.Promises.{Point, pair_of}
 use Rattle.rw_schedule.specs.Shards.{Shard, samples_in}
 use Rattle.rw_schedule.specs.Steps.{answered, arrive, endpoint_answer}
 use Rattle.rw_schedule.specs.Worlds.{Reply, Request, Setup, World, log}
@@ -88,13 +89,13 @@ all_of_each : (P : Labels → Type 0) → ((l : Labels) → P l) → (ls : List 
 all_of_each P each [] = tt
 all_of_each P each (l ∷ ls) = (each l, all_of_each P each ls)
 
-module _ (c : Setup) (w : World) (at : Inv c w) (rises : (l : Labels) → IsKept c l → Rises (points c l (take w.placed (log w)))) (r : Request) (r_ok : RequestOk c w.epoch w.shards (list_of w.head.store) r) where
+module _ (c : Setup) (w : World) (at : Inv c w) (r : Request) (r_ok : RequestOk c w.epoch w.shards (list_of w.head.store) r) where
   abbrev kept_part : Labels → Pairs
   kept_part l = map pair_of (owed_by (get w.names) (at.done l))
 
   -- what the head has of a series, and what waits for it, rise
   ascends : (l : Labels) → IsKept c l → Ascends (kept_part l ++ pairs (of l (waits (slice_get w.shards (home at.width w.series l)))))
-  ascends l k = ascends_owed (get w.names) (at.done l) (pairs (of l (waits (slice_get w.shards (home at.width w.series l))))) (subst Ascends (ap (map pair_of) (at.mine l k) ∙ map-append pair_of (at.done l) (as_points (of l (waits (slice_get w.shards (home at.width w.series l))))) ∙ ap (λ ps. map pair_of (at.done l) ++ ps) (pairs_of_points (of l (waits (slice_get w.shards (home at.width w.series l)))))) (ascends_points (points c l (take w.placed (log w))) (rises l k)))
+  ascends l k = ascends_owed (get w.names) (at.done l) (pairs (of l (waits (slice_get w.shards (home at.width w.series l))))) (subst Ascends (ap (map pair_of) (at.mine l k) ∙ map-append pair_of (at.done l) (as_points (of l (waits (slice_get w.shards (home at.width w.series l))))) ∙ ap (λ ps. map pair_of (at.done l) ++ ps) (pairs_of_points (of l (waits (slice_get w.shards (home at.width w.series l)))))) (ascends_points (points c l (take w.placed (log w))) (Rises-risen (logged_points c l (take w.placed (log w))))))
 
   ascends_batch : (l : Labels) → IsKept c l → (s : Shard) → slice_get w.shards (home at.width w.series l) ≡ Some s → Ascends (kept_part l ++ pairs (of l s.core.batch))
   ascends_batch l k s e = ascends_left (kept_part l ++ pairs (of l s.core.batch)) (pairs (of l (s.core.builder ++ samples_in s.queue))) (subst Ascends (ap (λ o. kept_part l ++ pairs (of l (waits o))) e ∙ ap (λ xs. kept_part l ++ pairs (of l xs)) (pending_parts s) ∙ ap (λ ps. kept_part l ++ ps) (ap pairs (of_append l s.core.batch (s.core.builder ++ samples_in s.queue)) ∙ map-append _ (of l s.core.batch) (of l (s.core.builder ++ samples_in s.queue))) ∙ sym (append_assoc (kept_part l) (pairs (of l s.core.batch)) (pairs (of l (s.core.builder ++ samples_in s.queue))))) (ascends l k))
@@ -344,8 +345,8 @@ module _ (c : Setup) (w : World) (at : Inv c w) (rises : (l : Labels) → IsKept
       (λ fits none. absurd (no_order fits none))
       let_in_keeps
 
-pub arrive_keeps : (c : Setup) (w : World) (how : How) (o : Option Request) → ((l : Labels) → IsKept c l → Rises (points c l (take w.placed (log w)))) → ((at : Inv c w) (r : Request) → o ≡ Some r → RequestOk c w.epoch w.shards (list_of w.head.store) r) → Inv c w → Inv c (arrive c w how o)
-arrive_keeps c w how None rises requests at = at
-arrive_keeps c w Plain (Some r) rises requests at = plain_keeps c w at rises r (requests at r refl)
-arrive_keeps c w Busy (Some r) rises requests at = again_keeps c w at rises r (requests at r refl) (record { status = 429; head = w.head }) refl (λ l. refl) refl
-arrive_keeps c w Short (Some r) rises requests at = again_keeps c w at rises r (requests at r refl) (record { status = 503; head = w.head }) refl (λ l. refl) refl
+pub arrive_keeps : (c : Setup) (w : World) (how : How) (o : Option Request) → ((at : Inv c w) (r : Request) → o ≡ Some r → RequestOk c w.epoch w.shards (list_of w.head.store) r) → Inv c w → Inv c (arrive c w how o)
+arrive_keeps c w how None requests at = at
+arrive_keeps c w Plain (Some r) requests at = plain_keeps c w at r (requests at r refl)
+arrive_keeps c w Busy (Some r) requests at = again_keeps c w at r (requests at r refl) (record { status = 429; head = w.head }) refl (λ l. refl) refl
+arrive_keeps c w Short (Some r) requests at = again_keeps c w at r (requests at r refl) (record { status = 503; head = w.head }) refl (λ l. refl) refl

@@ -11,16 +11,15 @@ use Rattle.rw_schedule.specs.declared.event.Event.TheVariants as event
 use Rattle.std.specs.FinMap.{FinMap, get, get-empty, insert}
 use Rattle.std.specs.Ordering.{nat_cmp}
 use Rattle.rw_ledger.specs.declared.ledger.Reason.{Reason}
-use Rattle.rw_ledger.specs.declared.ledger.Reason.TheVariants.{BadLabels, NoSeries, Status}
+use Rattle.rw_ledger.specs.declared.ledger.Reason.TheVariants.{BadLabels, NoSeries, NotRising, Status}
 use Rattle.rw_retry.specs.Judgements.{judgement_of}
 use Rattle.rw_retry.specs.declared.judgement.Judgement.{Judgement}
 use Rattle.rw_retry.specs.declared.judgement.Judgement.TheVariants.{Again, Done, Refused}
 use Rattle.rw_schedule.proofs.Views.{Ledger}
-use Rattle.rw_schedule.specs.Promises.{Accounted, AccountedEntry, HasOneClassEach}
+use Rattle.rw_schedule.specs.Promises.{Accounted, AccountedKept, AccountedEntry, HasOneClassEach}
 use Rattle.rw_schedule.specs.Shards.{Shard, has_room, pending, shard_freeze, shard_lost, shard_put, shard_send, shard_take, with_core}
-use Rattle.rw_schedule.specs.Steps.{act, arrive, change, changed, flush_shard, names_after, next_sample, place, place_entry, place_sample, put_if_room, reply_to, restart_as, settled, run, send_batch, shard_of, take_reply}
+use Rattle.rw_schedule.specs.Steps.{act, arrive, change, changed, flush_shard, names_after, next_sample, place, place_entry, place_kept, place_sample, put_if_room, reply_to, restart_as, settled, run, send_batch, shard_of, take_reply}
 use Rattle.rw_schedule.specs.Worlds.{Reply, Request, Setup, World, is_finished, log, start}
-use Rattle.rw_codes.specs.Pieces.{entries}
 use Rattle.rw_codes.specs.Pieces as pieces
 use Rattle.rw_wal_tail.specs.Fed.{piece_of}
 use Rattle.rw_schedule.specs.declared.event.Event.{Event}
@@ -28,6 +27,7 @@ use Rattle.rw_schedule.specs.declared.event.How.{How}
 use Rattle.rw_schedule.specs.declared.event.How.TheVariants.{Busy, Plain, Short}
 use Rattle.rw_sender.specs.Shard.{can_send, name_all, positions, settle, settle_names}
 use Rattle.rw_series_cache.specs.Known.{Bad, Filtered, Kept, Standing, Unknown, known, label_fault_number, standing_of}
+use Rattle.rw_series_cache.specs.Rising.{rises}
 use Rattle.rw_series_cache.specs.Numbers.{with_series}
 use Rattle.rw_shard_queue.specs.Items.{Placed}
 use Rattle.rw_types.specs.Labels.{Labels}
@@ -37,17 +37,17 @@ use Rattle.rw_types.specs.declared.entry.Entry.TheVariants.{Def, Sample}
 off : {P : Type 0} → true ≡ false → P
 off e = cc
 
--- at the position stands a sample of a kept series
-abbrev pub KeptKnown : Standing → Type 0
-KeptKnown Unknown = ⊥
-KeptKnown (Bad f) = ⊥
-KeptKnown Filtered = ⊥
-KeptKnown (Kept l) = Unit {0}
+-- at the position stands a sample of a kept series that rises
+abbrev pub KeptKnown : (Labels → Bool) → Standing → Type 0
+KeptKnown rising Unknown = ⊥
+KeptKnown rising (Bad f) = ⊥
+KeptKnown rising Filtered = ⊥
+KeptKnown rising (Kept l) = rising l ≡ true
 
 abbrev pub KeptEntry : Setup → List Entry → ℕ → Option Entry → Type 0
 KeptEntry c log p None = ⊥
 KeptEntry c log p (Some (Def r l)) = ⊥
-KeptEntry c log p (Some (Sample r t word)) = KeptKnown (known c.rules (take p log) r)
+KeptEntry c log p (Some (Sample r t word)) = KeptKnown (λ l. rises c.rules (take p log) l t) (known c.rules (take p log) r)
 
 abbrev pub KeptAt : Setup → ℕ → List Entry → Placed → Type 0
 KeptAt c placed log x = (x.place.pos < placed) × KeptEntry c log x.place.pos (slice_get log x.place.pos)
@@ -56,7 +56,7 @@ KeptAt c placed log x = (x.place.pos < placed) × KeptEntry c log x.place.pos (s
 abbrev pub Says : Setup → List Entry → ℕ → Option Reason → Option Entry → Type 0
 Says c log p named None = named ≡ None
 Says c log p named (Some (Def r l)) = named ≡ None
-Says c log p named (Some (Sample r t word)) = Accounted named (known c.rules (take p log) r)
+Says c log p named (Some (Sample r t word)) = Accounted named (λ l. rises c.rules (take p log) l t) (known c.rules (take p log) r)
 
 pub record Classes (c : Setup) (w : World) : Type 0 where
   pub placed_in : w.placed ≤ length (log w)
@@ -73,12 +73,12 @@ get_left (x ∷ xs) ys (suc p) lt = get_left xs ys p (omega arith)
 longer_says : (c : Setup) (xs ys : List Entry) (p : ℕ) (named : Option Reason) (o : Option Entry) → p ≤ length xs → Says c xs p named o → Says c (xs ++ ys) p named o
 longer_says c xs ys p named None le h = h
 longer_says c xs ys p named (Some (Def r l)) le h = h
-longer_says c xs ys p named (Some (Sample r t word)) le h = subst (λ es. Accounted named (known c.rules es r)) (sym (take-append-le p xs ys le)) h
+longer_says c xs ys p named (Some (Sample r t word)) le h = subst (λ es. Accounted named (λ l. rises c.rules es l t) (known c.rules es r)) (sym (take-append-le p xs ys le)) h
 
 longer_kept : (c : Setup) (xs ys : List Entry) (p : ℕ) (o : Option Entry) → p ≤ length xs → KeptEntry c xs p o → KeptEntry c (xs ++ ys) p o
 longer_kept c xs ys p None le h = h
 longer_kept c xs ys p (Some (Def r l)) le h = h
-longer_kept c xs ys p (Some (Sample r t word)) le h = subst (λ es. KeptKnown (known c.rules es r)) (sym (take-append-le p xs ys le)) h
+longer_kept c xs ys p (Some (Sample r t word)) le h = subst (λ es. KeptKnown (λ l. rises c.rules es l t) (known c.rules es r)) (sym (take-append-le p xs ys le)) h
 
 classes_grow : (c : Setup) (w : World) (more : List pieces.Piece) → Classes c w → Classes c (record w { pieces = w.pieces ++ more })
 classes_grow c w more at = let grown = entries_grow w.pieces more in record {
@@ -131,24 +131,31 @@ classes_place c w at = either (Classes c) (is_some w.draining) w (place_entry c 
     later : Each (λ i s. AllOf (KeptAt c (suc w.placed) (log w)) (pending s)) w.shards
     later i s e = all_more (KeptAt c w.placed (log w)) (KeptAt c (suc w.placed) (log w)) (λ x h. (let lt : x.place.pos < w.placed = h.0 in omega arith, h.1)) (pending s) (at.kept i s e)
 
+    rising : ℤ → Labels → Bool
+    rising t l = rises c.rules (take w.placed (log w)) l t
+
     unnamed : get w.names w.placed ≡ None
     unnamed = at.above w.placed (omega arith)
 
-    by_shard : (r : ℕ) (t : ℤ) (word : ℕ) (l : Labels) → slice_get (log w) w.placed ≡ Some (Sample r t word) → known c.rules (take w.placed (log w)) r ≡ Kept l → (i : ℕ) (o : Option Shard) → Classes c (put_if_room c w i l t word o)
-    by_shard r t word l e stands i None = at
-    by_shard r t word l e stands i (Some s) = either (Classes c) (has_room c.capacity s) _ w
-        (λ _. classes_next c w (Sample r t word) w.names w.series w.filtered (change i (shard_put (next_sample w i l t word s)) w.shards) e (λ p _. refl) (subst (Accounted (get w.names w.placed)) (sym stands) (inl unnamed))
-        (each_change (λ i s. AllOf (KeptAt c (suc w.placed) (log w)) (pending s)) (shard_put (next_sample w i l t word s)) i w.shards later (λ u _ h. subst (AllOf (KeptAt c (suc w.placed) (log w))) (sym (pending_put (next_sample w i l t word s) u)) (all_append (KeptAt c (suc w.placed) (log w)) (pending u) (next_sample w i l t word s ∷ []) h ((lt_own, subst (KeptEntry c (log w) w.placed) (sym e) (subst KeptKnown (sym stands) tt)), tt)))) at)
+    by_shard : (r : ℕ) (t : ℤ) (word : ℕ) (l : Labels) → slice_get (log w) w.placed ≡ Some (Sample r t word) → known c.rules (take w.placed (log w)) r ≡ Kept l → rising t l ≡ true → (i : ℕ) (o : Option Shard) → Classes c (put_if_room c w i l t word o)
+    by_shard r t word l e stands up i None = at
+    by_shard r t word l e stands up i (Some s) = either (Classes c) (has_room c.capacity s) _ w
+        (λ _. classes_next c w (Sample r t word) w.names w.series w.filtered (change i (shard_put (next_sample w i l t word s)) w.shards) e (λ p _. refl) (subst (Accounted (get w.names w.placed) (rising t)) (sym stands) (subst (AccountedKept (get w.names w.placed)) (sym up) (inl unnamed)))
+        (each_change (λ i s. AllOf (KeptAt c (suc w.placed) (log w)) (pending s)) (shard_put (next_sample w i l t word s)) i w.shards later (λ u _ h. subst (AllOf (KeptAt c (suc w.placed) (log w))) (sym (pending_put (next_sample w i l t word s) u)) (all_append (KeptAt c (suc w.placed) (log w)) (pending u) (next_sample w i l t word s ∷ []) h ((lt_own, subst (KeptEntry c (log w) w.placed) (sym e) (subst (KeptKnown (rising t)) (sym stands) up)), tt)))) at)
         (λ _. at)
       where
         lt_own : w.placed < suc w.placed
         lt_own = omega arith
 
+    by_rising : (r : ℕ) (t : ℤ) (word : ℕ) (l : Labels) → slice_get (log w) w.placed ≡ Some (Sample r t word) → known c.rules (take w.placed (log w)) r ≡ Kept l → (b : Bool) → rising t l ≡ b → Classes c (place_kept c w l t word b)
+    by_rising r t word l e stands true up = by_shard r t word l e stands up (shard_of w l) (slice_get w.shards (shard_of w l))
+    by_rising r t word l e stands false up = classes_next c w (Sample r t word) (insert w.names w.placed NotRising) w.series w.filtered w.shards e (λ p z. named_other w.placed p NotRising w.names z) (subst (Accounted (get (insert w.names w.placed NotRising) w.placed) (rising t)) (sym stands) (subst (AccountedKept (get (insert w.names w.placed NotRising) w.placed)) (sym up) (named_own w.placed NotRising w.names))) later at
+
     by_known : (r : ℕ) (t : ℤ) (word : ℕ) (k : Standing) → slice_get (log w) w.placed ≡ Some (Sample r t word) → known c.rules (take w.placed (log w)) r ≡ k → Classes c (place_sample c w t word k)
-    by_known r t word Unknown e stands = classes_next c w (Sample r t word) (insert w.names w.placed NoSeries) w.series w.filtered w.shards e (λ p z. named_other w.placed p NoSeries w.names z) (subst (Accounted (get (insert w.names w.placed NoSeries) w.placed)) (sym stands) (named_own w.placed NoSeries w.names)) later at
-    by_known r t word (Bad f) e stands = classes_next c w (Sample r t word) (insert w.names w.placed (BadLabels (label_fault_number f))) w.series w.filtered w.shards e (λ p z. named_other w.placed p (BadLabels (label_fault_number f)) w.names z) (subst (Accounted (get (insert w.names w.placed (BadLabels (label_fault_number f))) w.placed)) (sym stands) (named_own w.placed (BadLabels (label_fault_number f)) w.names)) later at
-    by_known r t word Filtered e stands = classes_next c w (Sample r t word) w.names w.series (suc w.filtered) w.shards e (λ p z. refl) (subst (Accounted (get w.names w.placed)) (sym stands) unnamed) later at
-    by_known r t word (Kept l) e stands = by_shard r t word l e stands (shard_of w l) (slice_get w.shards (shard_of w l))
+    by_known r t word Unknown e stands = classes_next c w (Sample r t word) (insert w.names w.placed NoSeries) w.series w.filtered w.shards e (λ p z. named_other w.placed p NoSeries w.names z) (subst (Accounted (get (insert w.names w.placed NoSeries) w.placed) (rising t)) (sym stands) (named_own w.placed NoSeries w.names)) later at
+    by_known r t word (Bad f) e stands = classes_next c w (Sample r t word) (insert w.names w.placed (BadLabels (label_fault_number f))) w.series w.filtered w.shards e (λ p z. named_other w.placed p (BadLabels (label_fault_number f)) w.names z) (subst (Accounted (get (insert w.names w.placed (BadLabels (label_fault_number f))) w.placed) (rising t)) (sym stands) (named_own w.placed (BadLabels (label_fault_number f)) w.names)) later at
+    by_known r t word Filtered e stands = classes_next c w (Sample r t word) w.names w.series (suc w.filtered) w.shards e (λ p z. refl) (subst (Accounted (get w.names w.placed) (rising t)) (sym stands) unnamed) later at
+    by_known r t word (Kept l) e stands = by_rising r t word l e stands (rises c.rules (take w.placed (log w)) l t) refl
 
     by_entry : (o : Option Entry) → slice_get (log w) w.placed ≡ o → Classes c (place_entry c w o)
     by_entry None e = at
@@ -177,16 +184,16 @@ settled_or_not Done status P xs names p h = inl refl
 settled_or_not Again status P xs names p h = inl refl
 settled_or_not Refused status P xs names p h = named_or_not status P xs names p h
 
-status_known : (named : Option Reason) (status : ℕ) (k : Standing) → KeptKnown k → named ≡ Some (Status status) → Accounted named k
-status_known named status Unknown h e = absurd h
-status_known named status (Bad f) h e = absurd h
-status_known named status Filtered h e = absurd h
-status_known named status (Kept l) h e = inr (status, e)
+status_known : (named : Option Reason) (status : ℕ) (rising : Labels → Bool) (k : Standing) → KeptKnown rising k → named ≡ Some (Status status) → Accounted named rising k
+status_known named status rising Unknown h e = absurd h
+status_known named status rising (Bad f) h e = absurd h
+status_known named status rising Filtered h e = absurd h
+status_known named status rising (Kept l) h e = subst (AccountedKept named) (sym h) (inr (status, e))
 
 status_entry : (c : Setup) (log : List Entry) (p : ℕ) (named : Option Reason) (status : ℕ) (o : Option Entry) → KeptEntry c log p o → named ≡ Some (Status status) → Says c log p named o
 status_entry c log p named status None h e = absurd h
 status_entry c log p named status (Some (Def r l)) h e = absurd h
-status_entry c log p named status (Some (Sample r t word)) h e = status_known named status (known c.rules (take p log) r) h e
+status_entry c log p named status (Some (Sample r t word)) h e = status_known named status (λ l. rises c.rules (take p log) l t) (known c.rules (take p log) r) h e
 
 classes_change : (c : Setup) (w : World) (j : ℕ) (f : Shard → Shard) → ((s : Shard) → AllOf (KeptAt c w.placed (log w)) (pending s) → AllOf (KeptAt c w.placed (log w)) (pending (f s))) → Classes c w → Classes c (changed w j f)
 classes_change c w j f step at = record { placed_in = at.placed_in; below = at.below; above = at.above; kept = each_change (λ i s. AllOf (KeptAt c w.placed (log w)) (pending s)) f j w.shards at.kept (λ s _ h. step s h) }

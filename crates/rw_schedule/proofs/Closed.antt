@@ -10,7 +10,7 @@ use Rattle.rw_retry.specs.Judgements.{judgement_of}
 use Rattle.rw_retry.specs.declared.judgement.Judgement.{Judgement}
 use Rattle.rw_retry.specs.declared.judgement.Judgement.TheVariants.{Again, Done, Refused}
 use Rattle.rw_schedule.specs.Shards.{EndMark, FlushMark, One, Queued, Shard, has_room, shard_end, shard_flush, shard_freeze, shard_lost, shard_put, shard_send, shard_take, take_front, with_core}
-use Rattle.rw_schedule.specs.Steps.{act, arrive, change, changed, close, feed, flush_shard, happens, mark, next_sample, place, place_entry, place_sample, put_if_room, reply_to, restart_as, run, send_batch, shard_of, take_reply, unless_over}
+use Rattle.rw_schedule.specs.Steps.{act, arrive, change, changed, close, feed, flush_shard, happens, mark, next_sample, place, place_entry, place_kept, place_sample, put_if_room, reply_to, restart_as, run, send_batch, shard_of, take_reply, unless_over}
 use Rattle.rw_schedule.specs.Worlds.{Reply, Request, Setup, World, all_drained, is_at, is_finished, is_over, log, new_shards, start}
 use Rattle.rw_schedule.specs.Promises.{IsClosedForGood}
 use Rattle.rw_shard_queue.specs.declared.item.Kind.{Kind}
@@ -20,6 +20,7 @@ use Rattle.rw_schedule.specs.declared.event.How.{How}
 use Rattle.rw_schedule.specs.declared.event.How.TheVariants.{Busy, Plain, Short}
 use Rattle.rw_sender.specs.Shard.{Core, again, awaits, can_freeze, can_send, can_take, settle}
 use Rattle.rw_series_cache.specs.Known.{Bad, Filtered, Kept, Standing, Unknown, known}
+use Rattle.rw_series_cache.specs.Rising.{rises}
 use Rattle.rw_types.specs.Labels.{Labels}
 use Rattle.rw_types.specs.declared.entry.Entry.{Entry}
 use Rattle.rw_types.specs.declared.entry.Entry.TheVariants.{Def, Sample}
@@ -127,11 +128,15 @@ ends_place c w at = by_bool (Ends (place c w)) (is_some w.draining) (λ d. subst
         (λ _. record { at_close = at.at_close; shapes = each_change (λ i u. ShapeOf u × MayEnd (record w { shards = change i (shard_put (next_sample w i l t word s)) w.shards; placed = suc w.placed }) u) (shard_put (next_sample w i l t word s)) i w.shards (λ n u at_u. let h = at.shapes n u at_u in (h.0, moved d x e (record w { shards = change i (shard_put (next_sample w i l t word s)) w.shards; placed = suc w.placed }) u h.1)) (λ u at_u h. (pushed u.end_put u.core.ended u.queue (One (next_sample w i l t word s)) (unput d x e u ((at.shapes i u at_u).1)) tt h.0, λ p. off (sym p ∙ unput d x e u ((at.shapes i u at_u).1)))) })
         (λ _. at)
 
+    by_rising : is_some w.draining ≡ false → (x : Entry) → slice_get (log w) w.placed ≡ Some x → (l : Labels) (t : ℤ) (word : ℕ) (b : Bool) → Ends (place_kept c w l t word b)
+    by_rising d x e l t word true = by_shard d x e l t word (shard_of w l) (slice_get w.shards (shard_of w l))
+    by_rising d x e l t word false = record { at_close = at.at_close; shapes = λ i s at_i. let h = at.shapes i s at_i in (h.0, λ p. off (sym p ∙ unput d x e s h.1)) }
+
     by_known : is_some w.draining ≡ false → (x : Entry) → slice_get (log w) w.placed ≡ Some x → (t : ℤ) (word : ℕ) (k : Standing) → Ends (place_sample c w t word k)
     by_known d x e t word Unknown = record { at_close = at.at_close; shapes = λ i s at_i. let h = at.shapes i s at_i in (h.0, λ p. off (sym p ∙ unput d x e s h.1)) }
     by_known d x e t word (Bad f) = record { at_close = at.at_close; shapes = λ i s at_i. let h = at.shapes i s at_i in (h.0, λ p. off (sym p ∙ unput d x e s h.1)) }
     by_known d x e t word Filtered = record { at_close = at.at_close; shapes = λ i s at_i. let h = at.shapes i s at_i in (h.0, λ p. off (sym p ∙ unput d x e s h.1)) }
-    by_known d x e t word (Kept l) = by_shard d x e l t word (shard_of w l) (slice_get w.shards (shard_of w l))
+    by_known d x e t word (Kept l) = by_rising d x e l t word (rises c.rules (take w.placed (log w)) l t)
 
     by_entry : is_some w.draining ≡ false → (o : Option Entry) → slice_get (log w) w.placed ≡ o → Ends (place_entry c w o)
     by_entry d None e = at

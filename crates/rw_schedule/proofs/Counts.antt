@@ -12,13 +12,14 @@ use Rattle.rw_wal_tail.specs.Fed.{piece_of}
 use Rattle.rw_schedule.specs.declared.event.Event.TheVariants as event
 use Rattle.rw_schedule.specs.Promises.{CountsFiltered, is_filtered, is_filtered_at, is_filtered_entry}
 use Rattle.rw_schedule.specs.Shards.{Shard, has_room}
-use Rattle.rw_schedule.specs.Steps.{act, arrive, place, place_entry, place_sample, put_if_room, run, send_batch, shard_of}
+use Rattle.rw_schedule.specs.Steps.{act, arrive, place, place_entry, place_kept, place_sample, put_if_room, run, send_batch, shard_of}
 use Rattle.rw_schedule.specs.Worlds.{Request, Setup, World, is_finished, log, start, up_to}
 use Rattle.rw_schedule.specs.declared.event.Event.{Event}
 use Rattle.rw_schedule.specs.declared.event.How.{How}
 use Rattle.rw_schedule.specs.declared.event.How.TheVariants.{Busy, Plain, Short}
 use Rattle.rw_sender.specs.Shard.{can_send}
 use Rattle.rw_series_cache.specs.Known.{Bad, Filtered, Kept, Standing, Unknown, known}
+use Rattle.rw_series_cache.specs.Rising.{rises}
 use Rattle.rw_types.specs.Labels.{Labels}
 use Rattle.rw_types.specs.declared.entry.Entry.{Entry}
 use Rattle.rw_types.specs.declared.entry.Entry.TheVariants.{Def, Sample}
@@ -80,11 +81,15 @@ count_place c w at = either (Count c) (is_some w.draining) w (place_entry c w (s
     by_shard x e f l t word i None = at
     by_shard x e f l t word i (Some s) = either (Count c) (has_room c.capacity s) _ w (λ _. let h = next c w x false w.filtered e f plus_none at in record { placed_in = h.0; is = h.1 }) (λ _. at)
 
+    by_rising : (x : Entry) → slice_get (log w) w.placed ≡ Some x → is_filtered_entry c (log w) w.placed (Some x) ≡ false → (l : Labels) (t : ℤ) (word : ℕ) (b : Bool) → Count c (place_kept c w l t word b)
+    by_rising x e f l t word true = by_shard x e f l t word (shard_of w l) (slice_get w.shards (shard_of w l))
+    by_rising x e f l t word false = let h = next c w x false w.filtered e f plus_none at in record { placed_in = h.0; is = h.1 }
+
     by_known : (r : ℕ) (t : ℤ) (word : ℕ) (k : Standing) → slice_get (log w) w.placed ≡ Some (Sample r t word) → known c.rules (take w.placed (log w)) r ≡ k → Count c (place_sample c w t word k)
     by_known r t word Unknown e known = let h = next c w (Sample r t word) false w.filtered e (ap is_filtered known) plus_none at in record { placed_in = h.0; is = h.1 }
     by_known r t word (Bad f) e known = let h = next c w (Sample r t word) false w.filtered e (ap is_filtered known) plus_none at in record { placed_in = h.0; is = h.1 }
     by_known r t word Filtered e known = let h = next c w (Sample r t word) true (suc w.filtered) e (ap is_filtered known) plus_one at in record { placed_in = h.0; is = h.1 }
-    by_known r t word (Kept l) e known = by_shard (Sample r t word) e (ap is_filtered known) l t word (shard_of w l) (slice_get w.shards (shard_of w l))
+    by_known r t word (Kept l) e known = by_rising (Sample r t word) e (ap is_filtered known) l t word (rises c.rules (take w.placed (log w)) l t)
 
     by_entry : (o : Option Entry) → slice_get (log w) w.placed ≡ o → Count c (place_entry c w o)
     by_entry None e = at

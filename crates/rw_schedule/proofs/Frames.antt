@@ -1,13 +1,14 @@
 -- What an event leaves alone.
-use Rattle.std.proofs.Common.{ℕ, List, Option, Some, None, is_some, slice_get, ℤ, take}
+use Rattle.std.proofs.Common.{ℕ, List, Option, Some, None, is_some, slice_get, ℤ, take, Bool, true, false}
 use Rattle.rw_schedule.proofs.Steps.{either}
 use Rattle.std.specs.FinMap.{FinMap}
 use Rattle.std.specs.Ordering.{nat_cmp}
 use Rattle.rw_ledger.specs.declared.ledger.Reason.{Reason}
 use Rattle.rw_schedule.specs.Shards.{Shard, has_room}
-use Rattle.rw_schedule.specs.Steps.{place, place_entry, place_sample, put_if_room, reply_to, restart_as, shard_of, take_reply}
+use Rattle.rw_schedule.specs.Steps.{place, place_entry, place_kept, place_sample, put_if_room, reply_to, restart_as, shard_of, take_reply}
 use Rattle.rw_schedule.specs.Worlds.{Reply, Setup, World, log}
 use Rattle.rw_series_cache.specs.Known.{Bad, Filtered, Kept, Standing, Unknown, known}
+use Rattle.rw_series_cache.specs.Rising.{rises}
 use Rattle.rw_types.specs.Labels.{Labels}
 use Rattle.rw_types.specs.declared.entry.Entry.{Entry}
 use Rattle.rw_types.specs.declared.entry.Entry.TheVariants.{Def, Sample}
@@ -23,11 +24,15 @@ place_frame P c w at = either P (is_some w.draining) w (place_entry c w (slice_g
     by_shard i l t word None = same
     by_shard i l t word (Some s) = either P (has_room c.capacity s) _ w (λ _. at _ w.series w.names w.filtered _) (λ _. same)
 
+    by_rising : (l : Labels) (t : ℤ) (word : ℕ) (b : Bool) → P (place_kept c w l t word b)
+    by_rising l t word true = by_shard (shard_of w l) l t word (slice_get w.shards (shard_of w l))
+    by_rising l t word false = at w.shards w.series _ w.filtered _
+
     by_known : (t : ℤ) (word : ℕ) (k : Standing) → P (place_sample c w t word k)
     by_known t word Unknown = at w.shards w.series _ w.filtered _
     by_known t word (Bad f) = at w.shards w.series _ w.filtered _
     by_known t word Filtered = at w.shards w.series w.names _ _
-    by_known t word (Kept l) = by_shard (shard_of w l) l t word (slice_get w.shards (shard_of w l))
+    by_known t word (Kept l) = by_rising l t word (rises c.rules (take w.placed (log w)) l t)
 
     by_entry : (o : Option Entry) → P (place_entry c w o)
     by_entry None = same

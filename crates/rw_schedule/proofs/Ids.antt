@@ -1,5 +1,5 @@
 -- Each id has one batch, whatever the timestamps.
-use Rattle.std.proofs.Common.{◌≡◌, ℕ, zero, suc, ◌+◌, ◌<◌, ◌≤◌, true, false, List, [], ◌∷◌, ◌++◌, length, take, Option, Some, None, is_some, slice_get, refl, sym, ap, ◌∙◌, subst, ℤ, ◌&&◌, not, nat_le, length-append, arith, inl, inr, ◌⊎◌}
+use Rattle.std.proofs.Common.{◌≡◌, ℕ, zero, suc, ◌+◌, ◌<◌, ◌≤◌, true, false, List, [], ◌∷◌, ◌++◌, length, take, Option, Some, None, is_some, slice_get, refl, sym, ap, ◌∙◌, subst, ℤ, ◌&&◌, not, nat_le, length-append, arith, inl, inr, ◌⊎◌, Bool}
 use Rattle.std.proofs.lemmas.Bool.{cases_eq}
 use Rattle.rw_retry.specs.Judgements.{judgement_of}
 use Rattle.rw_retry.specs.declared.judgement.Judgement.{Judgement}
@@ -13,7 +13,7 @@ use Rattle.rw_schedule.proofs.Keeps.{some_is}
 use Rattle.rw_schedule.proofs.Views.{shard_again, shard_resolve}
 use Rattle.rw_schedule.specs.Promises.{HasOneBatchEachId}
 use Rattle.rw_schedule.specs.Shards.{Shard, has_room, pending, samples_in, shard_put, shard_send, shard_freeze, shard_take, shard_lost, with_core}
-use Rattle.rw_schedule.specs.Steps.{act, arrive, change, changed, flush_shard, next_sample, place, place_entry, place_sample, put_if_room, reply_to, restart_as, run, send_batch, shard_of, take_reply}
+use Rattle.rw_schedule.specs.Steps.{act, arrive, change, changed, flush_shard, next_sample, place, place_entry, place_kept, place_sample, put_if_room, reply_to, restart_as, run, send_batch, shard_of, take_reply}
 use Rattle.rw_schedule.specs.Worlds.{Reply, Request, Setup, World, is_finished, log, new_shards, start}
 use Rattle.rw_schedule.specs.declared.event.Event.{Event}
 use Rattle.rw_schedule.specs.declared.event.Event.TheVariants as event
@@ -21,6 +21,7 @@ use Rattle.rw_schedule.specs.declared.event.How.{How}
 use Rattle.rw_schedule.specs.declared.event.How.TheVariants.{Busy, Plain, Short}
 use Rattle.rw_sender.specs.Shard.{awaits, batch_id, can_send, is_answer, is_empty, same_id, settle}
 use Rattle.rw_series_cache.specs.Known.{Bad, Filtered, Kept, Standing, Unknown, known}
+use Rattle.rw_series_cache.specs.Rising.{rises}
 use Rattle.rw_shard_queue.specs.Items.{Placed}
 use Rattle.rw_types.specs.Labels.{Labels}
 use Rattle.rw_types.specs.declared.entry.Entry.{Entry}
@@ -103,11 +104,15 @@ place_ids c w at = either Ids (is_some w.draining) w (place_entry c w (slice_get
         })
         (λ _. at)
 
+    by_rising : (l : Labels) (t : ℤ) (word : ℕ) (b : Bool) → Ids (place_kept c w l t word b)
+    by_rising l t word true = by_shard (shard_of w l) l t word (slice_get w.shards (shard_of w l)) refl
+    by_rising l t word false = at
+
     by_known : (t : ℤ) (word : ℕ) (k : Standing) → Ids (place_sample c w t word k)
     by_known t word Unknown = at
     by_known t word (Bad f) = at
     by_known t word Filtered = at
-    by_known t word (Kept l) = by_shard (shard_of w l) l t word (slice_get w.shards (shard_of w l)) refl
+    by_known t word (Kept l) = by_rising l t word (rises c.rules (take w.placed (log w)) l t)
 
     by_entry : (o : Option Entry) → Ids (place_entry c w o)
     by_entry None = at

@@ -1,5 +1,5 @@
 -- Feeding, placing, sending, resolving and restarting keep the invariant.
-use Rattle.std.proofs.Common.{◌≡◌, ℕ, suc, ◌+◌, ◌%◌, nat_eq, ◌<◌, ◌≤◌, ◌==◌, Bool, true, false, cond, List, [], ◌∷◌, ◌++◌, length, map, take, Option, Some, None, is_none, is_some, slice_get, refl, sym, ap, ◌∙◌, subst, ℤ, ◌||◌, append-nil, append_assoc, length-append, length-take-le, arith, inl, inr, ◌⊎◌}
+use Rattle.std.proofs.Common.{◌≡◌, ℕ, suc, ◌+◌, ◌%◌, nat_eq, ◌<◌, ◌≤◌, ◌==◌, Bool, true, false, cond, List, [], ◌∷◌, ◌++◌, length, map, take, Option, Some, None, is_none, is_some, slice_get, refl, sym, ap, ◌∙◌, subst, ℤ, ◌||◌, append-nil, append_assoc, length-append, length-take-le, arith, inl, inr, ◌⊎◌, ◌&&◌}
 use Rattle.std.specs.List.{list_any}
 use Rattle.std.proofs.lemmas.Bool.{cases_eq}
 use Rattle.std.proofs.lemmas.Bool.Decides.{Decides-eqb}
@@ -19,14 +19,15 @@ use Rattle.rw_wal_tail.specs.declared.piece.Piece.{Piece}
 use Rattle.rw_series_cache.proofs.KnownLemmas.{definitions_of-sample, known-definition, known-definitions_of}
 use Rattle.rw_batch.specs.declared.batch.BatchId.{BatchId}
 use Rattle.rw_ledger.specs.declared.ledger.Reason.{Reason}
-use Rattle.rw_ledger.specs.declared.ledger.Reason.TheVariants.{BadLabels, NoSeries, Status}
+use Rattle.rw_ledger.specs.declared.ledger.Reason.TheVariants.{BadLabels, NoSeries, NotRising, Status}
 use Rattle.rw_recv_head.specs.Store.{list_of}
 use Rattle.rw_schedule.proofs.Views.{IsKept, Ledger, is_let_in, is_of, named_at, of, owed_by, pairs, point_of, points}
 use Rattle.rw_schedule.specs.Promises.{Point, pair_of}
 use Rattle.rw_schedule.specs.Shards.{Shard, has_room, pending, samples_in, shard_put}
-use Rattle.rw_schedule.specs.Steps.{change, feed, next_sample, place, place_entry, place_sample, put_if_room, shard_of}
+use Rattle.rw_schedule.specs.Steps.{change, feed, next_sample, place, place_entry, place_kept, place_sample, put_if_room, shard_of}
 use Rattle.rw_schedule.specs.Worlds.{Reply, Request, Setup, World, log}
 use Rattle.rw_series_cache.specs.Known.{Bad, Filtered, Kept, Standing, Unknown, known, label_fault_number, standing_of}
+use Rattle.rw_series_cache.specs.Rising.{rises}
 use Rattle.rw_series_cache.specs.Numbers.{number_of, with_series}
 use Rattle.rw_shard_queue.specs.Items.{Placed}
 use Rattle.rw_types.specs.LabelOrder.{labels_eq}
@@ -185,14 +186,28 @@ moves_keeps c w e series names filtered m at = record {
     same_owed : (l : Labels) → IsKept c l → owed_by (get names) (at.done l) ≡ owed_by (get w.names) (at.done l)
     same_owed l k = owed_same (get names) (get w.names) (at.done l) (all_more (DoneOk w.epoch w.shards w.placed at.ident) (λ (q : Point). get names q.0 ≡ get w.names q.0) (λ q ok. m.below q.0 ok.1) (at.done l) (at.done_ok l k))
 
-of_is : (l : Labels) (k : Standing) → is_of l k ≡ true → k ≡ Kept l
+pub of_is : (l : Labels) (k : Standing) → is_of l k ≡ true → k ≡ Kept l
 of_is l Unknown h = off (sym h)
 of_is l (Bad f) h = off (sym h)
 of_is l Filtered h = off (sym h)
 of_is l (Kept m) h = ap Kept (sym (same_is l m h))
 
+-- no point of a series: another's, or one that does not rise
+no_point_by : (c : Setup) (l : Labels) (seen : List Entry) (r : ℕ) (t : ℤ) (word : ℕ) → (is_of l (known c.rules seen r) ≡ true → rises c.rules seen l t ≡ false) → point_of c l seen (Sample r t word) ≡ []
+no_point_by c l seen r t word h = by_test (is_of l (known c.rules seen r)) h
+  where
+    by_test : (b : Bool) → (b ≡ true → rises c.rules seen l t ≡ false) → cond {A = List Point} (b && rises c.rules seen l t) ((length seen, t, word) ∷ []) [] ≡ []
+    by_test true h = cond_false (rises c.rules seen l t) ((length seen, t, word) ∷ []) [] (h refl)
+    by_test false h = refl
+
+no_point_fallen : (c : Setup) (l m : Labels) (seen : List Entry) (r : ℕ) (t : ℤ) (word : ℕ) → known c.rules seen r ≡ Kept m → rises c.rules seen m t ≡ false → point_of c l seen (Sample r t word) ≡ []
+no_point_fallen c l m seen r t word is_known falls = no_point_by c l seen r t word (λ h. ap (λ (n : Labels). rises c.rules seen n t) (kept_same (sym (of_is l (known c.rules seen r) h) ∙ is_known)) ∙ falls)
+  where
+    kept_same : Kept l ≡ Kept m → l ≡ m
+    kept_same z = cc
+
 no_point_at : (c : Setup) (l : Labels) (seen : List Entry) (r : ℕ) (t : ℤ) (word : ℕ) → (known c.rules seen r ≡ Kept l → ⊥) → point_of c l seen (Sample r t word) ≡ []
-no_point_at c l seen r t word never = cond_false (is_of l (known c.rules seen r)) ((length seen, t, word) ∷ []) [] (by_bool (is_of l (known c.rules seen r) ≡ false) (is_of l (known c.rules seen r)) (λ h. absurd (never (of_is l (known c.rules seen r) h))) (λ h. h))
+no_point_at c l seen r t word never = no_point_by c l seen r t word (λ h. absurd (never (of_is l (known c.rules seen r) h)))
 
 -- a sample changes nothing of what is known
 pub known_sample : (c : Setup) (seen : List Entry) (q : ℕ) (t : ℤ) (word r : ℕ) → known c.rules (seen ++ Sample q t word ∷ []) r ≡ known c.rules seen r
@@ -240,13 +255,13 @@ def_moves c w q m e at = record {
     by_reference r l true h = adds (standing_of c.rules (Some m)) w.series l h
     by_reference r l false h = (grows (standing_of c.rules (Some m)) w.series l (at.series_in r l h)).0
 
-sample_moves : (c : Setup) (w : World) (r : ℕ) (t : ℤ) (word : ℕ) (ledger : Ledger) → slice_get (log w) w.placed ≡ Some (Sample r t word) → ((l : Labels) → known c.rules (take w.placed (log w)) r ≡ Kept l → ⊥) → ((p : ℕ) → p < w.placed → ledger p ≡ (get w.names) p) → ((p : ℕ) → suc w.placed ≤ p → ledger p ≡ None) → Inv c w → Moves c w (Sample r t word) w.series ledger
-sample_moves c w r t word ledger e never below above at = record {
+sample_moves : (c : Setup) (w : World) (r : ℕ) (t : ℤ) (word : ℕ) (ledger : Ledger) → slice_get (log w) w.placed ≡ Some (Sample r t word) → ((l : Labels) → point_of c l (take w.placed (log w)) (Sample r t word) ≡ []) → ((p : ℕ) → p < w.placed → ledger p ≡ (get w.names) p) → ((p : ℕ) → suc w.placed ≤ p → ledger p ≡ None) → Inv c w → Moves c w (Sample r t word) w.series ledger
+sample_moves c w r t word ledger e none below above at = record {
   next = e;
   stay = λ l h. (h, refl);
   below = below;
   above = above;
-  no_point = λ l k. no_point_at c l (take w.placed (log w)) r t word (never l);
+  no_point = λ l k. none l;
   met = λ q l h. at.series_in q l (sym (known_sample c (take w.placed (log w)) r t word q) ∙ h);
 }
 
@@ -257,8 +272,8 @@ named_above : (c : Setup) (w : World) (at : Inv c w) (reason : Reason) (p : ℕ)
 named_above c w at reason p le = ap (λ ledger. ledger p) (ledger_insert w.names w.placed reason) ∙ named_other w.placed p reason (get w.names) (λ e. omega arith) ∙ at.fresh p (omega arith)
 
 -- a kept sample is put
-put_keeps : (c : Setup) (w : World) (r : ℕ) (t : ℤ) (word : ℕ) (l : Labels) (i : ℕ) (s : Shard) → slice_get (log w) w.placed ≡ Some (Sample r t word) → known c.rules (take w.placed (log w)) r ≡ Kept l → i ≡ shard_of w l → slice_get w.shards i ≡ Some s → Inv c w → Inv c (record w { shards = change i (shard_put (next_sample w i l t word s)) w.shards; placed = suc w.placed })
-put_keeps c w r t word l i s e is_known i_is at_i at = record {
+put_keeps : (c : Setup) (w : World) (r : ℕ) (t : ℤ) (word : ℕ) (l : Labels) (i : ℕ) (s : Shard) → slice_get (log w) w.placed ≡ Some (Sample r t word) → known c.rules (take w.placed (log w)) r ≡ Kept l → rises c.rules (take w.placed (log w)) l t ≡ true → i ≡ shard_of w l → slice_get w.shards i ≡ Some s → Inv c w → Inv c (record w { shards = change i (shard_put (next_sample w i l t word s)) w.shards; placed = suc w.placed })
+put_keeps c w r t word l i s e is_known up i_is at_i at = record {
   width = at.width;
   ident = ident;
   done = at.done;
@@ -322,14 +337,14 @@ put_keeps c w r t word l i s e is_known i_is at_i at = record {
 
     -- the point of the entry is the sample's
     same_point : (m : Labels) → point_of c m seen (Sample r t word) ≡ as_points (of m (x ∷ []))
-    same_point m = ap (λ k. cond (is_of m k) ((length seen, t, word) ∷ []) []) is_known ∙ by_test (labels_eq m l)
+    same_point m = ap (λ k. cond (is_of m k && rises c.rules seen m t) ((length seen, t, word) ∷ []) []) is_known ∙ by_test (labels_eq m l) refl
       where
         long : length seen ≡ w.placed
         long = length-take-le w.placed (log w) at.placed_in
 
-        by_test : (b : Bool) → cond b ((length seen, t, word) ∷ []) [] ≡ as_points (cond b (x ∷ []) [])
-        by_test true = ap (λ (n : ℕ). (n, t, word) ∷ []) long
-        by_test false = refl
+        by_test : (b : Bool) → labels_eq m l ≡ b → cond (b && rises c.rules seen m t) ((length seen, t, word) ∷ []) [] ≡ as_points (cond b (x ∷ []) [])
+        by_test true same = cond_true (rises c.rules seen m t) ((length seen, t, word) ∷ []) [] (ap (λ (n : Labels). rises c.rules seen n t) (same_is m l same) ∙ up) ∙ ap (λ (n : ℕ). (n, t, word) ∷ []) long
+        by_test false differs = refl
 
     by_home : (m : Labels) → IsKept c m → (home at.width w.series m ≡ i) ⊎ (home at.width w.series m ≡ i → ⊥) → points c m seen ++ point_of c m seen (Sample r t word) ≡ at.done m ++ as_points (of m (waits (slice_get (change i (shard_put x) w.shards) (home at.width w.series m))))
     by_home m k (inl h) =
@@ -354,18 +369,22 @@ put_keeps c w r t word l i s e is_known i_is at_i at = record {
 pub place_keeps : (c : Setup) (w : World) → Inv c w → Inv c (place c w)
 place_keeps c w at = either (Inv c) (is_some w.draining) w (place_entry c w (slice_get (log w) w.placed)) (λ _. at) (λ _. by_entry (slice_get (log w) w.placed) refl)
   where
-    by_shard : (r : ℕ) (t : ℤ) (word : ℕ) (l : Labels) (o : Option Shard) → slice_get (log w) w.placed ≡ Some (Sample r t word) → known c.rules (take w.placed (log w)) r ≡ Kept l → slice_get w.shards (shard_of w l) ≡ o → Inv c (put_if_room c w (shard_of w l) l t word o)
-    by_shard r t word l None e is_known at_i = at
-    by_shard r t word l (Some s) e is_known at_i = either (Inv c) (has_room c.capacity s) _ w (λ _. put_keeps c w r t word l (shard_of w l) s e is_known refl at_i at) (λ _. at)
+    by_shard : (r : ℕ) (t : ℤ) (word : ℕ) (l : Labels) (o : Option Shard) → slice_get (log w) w.placed ≡ Some (Sample r t word) → known c.rules (take w.placed (log w)) r ≡ Kept l → rises c.rules (take w.placed (log w)) l t ≡ true → slice_get w.shards (shard_of w l) ≡ o → Inv c (put_if_room c w (shard_of w l) l t word o)
+    by_shard r t word l None e is_known up at_i = at
+    by_shard r t word l (Some s) e is_known up at_i = either (Inv c) (has_room c.capacity s) _ w (λ _. put_keeps c w r t word l (shard_of w l) s e is_known up refl at_i at) (λ _. at)
 
-    named : (r : ℕ) (t : ℤ) (word : ℕ) (reason : Reason) → slice_get (log w) w.placed ≡ Some (Sample r t word) → ((l : Labels) → known c.rules (take w.placed (log w)) r ≡ Kept l → ⊥) → Inv c (record w { names = insert w.names w.placed reason; placed = suc w.placed })
-    named r t word reason e never = moves_keeps c w (Sample r t word) w.series (insert w.names w.placed reason) w.filtered (sample_moves c w r t word (get (insert w.names w.placed reason)) e never (named_below w reason) (named_above c w at reason) at) at
+    named : (r : ℕ) (t : ℤ) (word : ℕ) (reason : Reason) → slice_get (log w) w.placed ≡ Some (Sample r t word) → ((l : Labels) → point_of c l (take w.placed (log w)) (Sample r t word) ≡ []) → Inv c (record w { names = insert w.names w.placed reason; placed = suc w.placed })
+    named r t word reason e none = moves_keeps c w (Sample r t word) w.series (insert w.names w.placed reason) w.filtered (sample_moves c w r t word (get (insert w.names w.placed reason)) e none (named_below w reason) (named_above c w at reason) at) at
+
+    by_rising : (r : ℕ) (t : ℤ) (word : ℕ) (l : Labels) → slice_get (log w) w.placed ≡ Some (Sample r t word) → known c.rules (take w.placed (log w)) r ≡ Kept l → (b : Bool) → rises c.rules (take w.placed (log w)) l t ≡ b → Inv c (place_kept c w l t word b)
+    by_rising r t word l e is_known true up = by_shard r t word l (slice_get w.shards (shard_of w l)) e is_known up refl
+    by_rising r t word l e is_known false falls = named r t word NotRising e (λ m. no_point_fallen c m l (take w.placed (log w)) r t word is_known falls)
 
     by_known : (r : ℕ) (t : ℤ) (word : ℕ) (k : Standing) → slice_get (log w) w.placed ≡ Some (Sample r t word) → known c.rules (take w.placed (log w)) r ≡ k → Inv c (place_sample c w t word k)
-    by_known r t word Unknown e is_known = named r t word NoSeries e (λ l h. let z : Unknown ≡ Kept l = sym is_known ∙ h in let never : Unknown ≡ Kept l → ⊥ = λ h. cc in never z)
-    by_known r t word (Bad f) e is_known = named r t word (BadLabels (label_fault_number f)) e (λ l h. let z : Bad f ≡ Kept l = sym is_known ∙ h in let never : Bad f ≡ Kept l → ⊥ = λ h. cc in never z)
-    by_known r t word Filtered e is_known = moves_keeps c w (Sample r t word) w.series w.names (suc w.filtered) (sample_moves c w r t word (get w.names) e (λ l h. let z : Filtered ≡ Kept l = sym is_known ∙ h in let never : Filtered ≡ Kept l → ⊥ = λ h. cc in never z) (λ p _. refl) (λ p le. at.fresh p (omega arith)) at) at
-    by_known r t word (Kept l) e is_known = by_shard r t word l (slice_get w.shards (shard_of w l)) e is_known refl
+    by_known r t word Unknown e is_known = named r t word NoSeries e (λ l. no_point_at c l (take w.placed (log w)) r t word (λ h. let z : Unknown ≡ Kept l = sym is_known ∙ h in let never : Unknown ≡ Kept l → ⊥ = λ h. cc in never z))
+    by_known r t word (Bad f) e is_known = named r t word (BadLabels (label_fault_number f)) e (λ l. no_point_at c l (take w.placed (log w)) r t word (λ h. let z : Bad f ≡ Kept l = sym is_known ∙ h in let never : Bad f ≡ Kept l → ⊥ = λ h. cc in never z))
+    by_known r t word Filtered e is_known = moves_keeps c w (Sample r t word) w.series w.names (suc w.filtered) (sample_moves c w r t word (get w.names) e (λ l. no_point_at c l (take w.placed (log w)) r t word (λ h. let z : Filtered ≡ Kept l = sym is_known ∙ h in let never : Filtered ≡ Kept l → ⊥ = λ h. cc in never z)) (λ p _. refl) (λ p le. at.fresh p (omega arith)) at) at
+    by_known r t word (Kept l) e is_known = by_rising r t word l e is_known (rises c.rules (take w.placed (log w)) l t) refl
 
     by_entry : (o : Option Entry) → slice_get (log w) w.placed ≡ o → Inv c (place_entry c w o)
     by_entry None e = at

@@ -14,8 +14,10 @@ pub mod Named
 pub mod Names
 pub mod OrderRule
 pub mod Others
+pub mod Owed
 pub mod Places
 pub mod Resolves
+pub mod Risen
 pub mod Rounds
 pub mod Runs
 pub mod Sent

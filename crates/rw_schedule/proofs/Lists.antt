@@ -1,5 +1,5 @@
 -- The lists of a shard.
-use Rattle.std.proofs.Common.{◌≡◌, ℕ, suc, ◌+◌, ◌<◌, ◌≤◌, true, false, cond, List, [], ◌∷◌, ◌++◌, length, take, Option, Some, None, is_some, slice_get, refl, sym, ap, ◌∙◌, subst, ℤ, ◌&&◌, not, nat_le, append-nil, append_assoc, length-append, arith}
+use Rattle.std.proofs.Common.{◌≡◌, ℕ, suc, ◌+◌, ◌<◌, ◌≤◌, true, false, cond, List, [], ◌∷◌, ◌++◌, length, take, Option, Some, None, is_some, slice_get, refl, sym, ap, ◌∙◌, subst, ℤ, ◌&&◌, not, nat_le, append-nil, append_assoc, length-append, arith, Bool}
 use Rattle.std.proofs.lemmas.Bool.{ltb-true}
 use Rattle.rw_schedule.proofs.Steps.{always, either, Each, each_change, each_new, and_right}
 use Rattle.rw_schedule.proofs.Others.{samples_append, no_batch}
@@ -10,7 +10,7 @@ use Rattle.rw_retry.specs.declared.judgement.Judgement.{Judgement}
 use Rattle.rw_retry.specs.declared.judgement.Judgement.TheVariants.{Again, Done, Refused}
 use Rattle.rw_schedule.proofs.Views.{shard_again, shard_resolve}
 use Rattle.rw_schedule.specs.Shards.{EndMark, FlushMark, One, Queued, Shard, has_room, samples_in, shard_end, shard_flush, shard_freeze, shard_lost, shard_put, shard_send, shard_take, take_front, with_core}
-use Rattle.rw_schedule.specs.Steps.{act, arrive, changed, flush_shard, mark, next_sample, place, place_entry, place_sample, put_if_room, reply_to, restart_as, run, send_batch, shard_of, take_reply}
+use Rattle.rw_schedule.specs.Steps.{act, arrive, changed, flush_shard, mark, next_sample, place, place_entry, place_kept, place_sample, put_if_room, reply_to, restart_as, run, send_batch, shard_of, take_reply}
 use Rattle.rw_schedule.specs.Worlds.{Reply, Request, Setup, World, is_finished, log, start}
 use Rattle.rw_schedule.specs.Promises.{HasShardLists}
 use Rattle.rw_schedule.specs.declared.event.Event.{Event}
@@ -18,6 +18,7 @@ use Rattle.rw_schedule.specs.declared.event.How.{How}
 use Rattle.rw_schedule.specs.declared.event.How.TheVariants.{Busy, Plain, Short}
 use Rattle.rw_sender.specs.Shard.{Core, again, awaits, can_freeze, can_send, can_take, settle}
 use Rattle.rw_series_cache.specs.Known.{Bad, Filtered, Kept, Standing, Unknown, known}
+use Rattle.rw_series_cache.specs.Rising.{rises}
 use Rattle.rw_shard_queue.specs.Items.{Placed}
 use Rattle.rw_types.specs.Labels.{Labels}
 use Rattle.rw_types.specs.declared.entry.Entry.{Entry}
@@ -105,11 +106,15 @@ all_place c w at = either (All c) (is_some w.draining) w (place_entry c w (slice
     by_shard i l t word None e = at
     by_shard i l t word (Some s) e = either (All c) (has_room c.capacity s) _ w (λ room. each_change (λ i s. Lists c s) (shard_put (next_sample w i l t word s)) i w.shards at (λ u at_u h. let same : s ≡ u = some_is (sym e ∙ at_u) in lists_put c (next_sample w i l t word s) u (subst (λ (v : Shard). has_room c.capacity v ≡ true) same room) h)) (λ _. at)
 
+    by_rising : (l : Labels) (t : ℤ) (word : ℕ) (b : Bool) → All c (place_kept c w l t word b)
+    by_rising l t word true = by_shard (shard_of w l) l t word (slice_get w.shards (shard_of w l)) refl
+    by_rising l t word false = at
+
     by_known : (t : ℤ) (word : ℕ) (k : Standing) → All c (place_sample c w t word k)
     by_known t word Unknown = at
     by_known t word (Bad f) = at
     by_known t word Filtered = at
-    by_known t word (Kept l) = by_shard (shard_of w l) l t word (slice_get w.shards (shard_of w l)) refl
+    by_known t word (Kept l) = by_rising l t word (rises c.rules (take w.placed (log w)) l t)
 
     by_entry : (o : Option Entry) → All c (place_entry c w o)
     by_entry None = at

@@ -20,13 +20,14 @@ use Rattle.rw_retry.specs.declared.judgement.Judgement.{Judgement}
 use Rattle.rw_retry.specs.declared.judgement.Judgement.TheVariants.{Again, Done, Refused}
 use Rattle.rw_schedule.proofs.Views.{shard_again, shard_resolve}
 use Rattle.rw_schedule.specs.Shards.{EndMark, FlushMark, One, Queued, Shard, has_room, new_shard, pending, samples_in, shard_end, shard_flush, shard_freeze, shard_lost, shard_put, shard_send, shard_take, take_front, with_core}
-use Rattle.rw_schedule.specs.Steps.{act, arrive, change, changed, flush_shard, mark, next_sample, place, place_entry, place_sample, put_if_room, reply_to, restart_as, run, send_batch, settled, shard_of, take_reply}
+use Rattle.rw_schedule.specs.Steps.{act, arrive, change, changed, flush_shard, mark, next_sample, place, place_entry, place_kept, place_sample, put_if_room, reply_to, restart_as, run, send_batch, settled, shard_of, take_reply}
 use Rattle.rw_schedule.specs.Worlds.{Reply, Request, Setup, World, is_finished, log, new_shards, start}
 use Rattle.rw_schedule.specs.declared.event.Event.{Event}
 use Rattle.rw_schedule.specs.declared.event.How.{How}
 use Rattle.rw_schedule.specs.declared.event.How.TheVariants.{Busy, Plain, Short}
 use Rattle.rw_sender.specs.Shard.{Core, again, awaits, batch_id, can_freeze, can_send, can_take, is_empty, new_core, same_id, settle}
 use Rattle.rw_series_cache.specs.Known.{Bad, Filtered, Kept, Standing, Unknown, known}
+use Rattle.rw_series_cache.specs.Rising.{rises}
 use Rattle.rw_shard_queue.specs.Items.{Placed}
 use Rattle.rw_types.specs.Labels.{Labels}
 use Rattle.rw_types.specs.declared.entry.Entry.{Entry}
@@ -259,11 +260,15 @@ place_live c w at = either (LiveIf c) (is_some w.draining) w (place_entry c w (s
         })
         (λ _ _. at)
 
+    by_rising : (x : Entry) → slice_get (log w) w.placed ≡ Some x → (l : Labels) (t : ℤ) (word : ℕ) (b : Bool) → LiveIf c (place_kept c w l t word b)
+    by_rising x e l t word true = by_shard x e l t word (shard_of w l) (slice_get w.shards (shard_of w l))
+    by_rising x e l t word false = λ ends. record { ends = ends; placed_in = moved x e; wide = at.wide; drains = at.drains; going = at.going }
+
     by_known : (x : Entry) → slice_get (log w) w.placed ≡ Some x → (t : ℤ) (word : ℕ) (k : Standing) → LiveIf c (place_sample c w t word k)
     by_known x e t word Unknown = λ ends. record { ends = ends; placed_in = moved x e; wide = at.wide; drains = at.drains; going = at.going }
     by_known x e t word (Bad f) = λ ends. record { ends = ends; placed_in = moved x e; wide = at.wide; drains = at.drains; going = at.going }
     by_known x e t word Filtered = λ ends. record { ends = ends; placed_in = moved x e; wide = at.wide; drains = at.drains; going = at.going }
-    by_known x e t word (Kept l) = by_shard x e l t word (shard_of w l) (slice_get w.shards (shard_of w l))
+    by_known x e t word (Kept l) = by_rising x e l t word (rises c.rules (take w.placed (log w)) l t)
 
     by_entry : (o : Option Entry) → slice_get (log w) w.placed ≡ o → LiveIf c (place_entry c w o)
     by_entry None e = λ ends. at

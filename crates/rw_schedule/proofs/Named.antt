@@ -1,4 +1,4 @@
--- A status is named of a position exactly where a reply refused it, whatever the timestamps.
+-- A status is named of a position exactly where a reply refused it.
 use Rattle.std.proofs.Common.{◌≡◌, ℕ, zero, suc, ◌+◌, ◌<◌, ◌≤◌, ◌==◌, Bool, true, false, cond, List, [], ◌∷◌, ◌++◌, length, length-append, map, take, Option, Some, None, is_some, slice_get, refl, sym, ap, ◌∙◌, subst, ℤ, ◌&&◌, not, nat_le, arith, inl, inr, ◌⊎◌}
 use Rattle.std.proofs.lemmas.Bool.{cases_eq}
 use Rattle.std.proofs.lemmas.Bool.Decides.{Decides-eqb}
@@ -12,20 +12,21 @@ use Rattle.rw_schedule.proofs.Invariant.{IsQuiet, quiet_again, quiet_flush, quie
 use Rattle.rw_schedule.proofs.Classes.{named_or_not, named_other, named_own}
 use Rattle.rw_schedule.specs.declared.event.Event.TheVariants as event
 use Rattle.rw_ledger.specs.declared.ledger.Reason.{Reason}
-use Rattle.rw_ledger.specs.declared.ledger.Reason.TheVariants.{BadLabels, NoSeries, Status}
+use Rattle.rw_ledger.specs.declared.ledger.Reason.TheVariants.{BadLabels, NoSeries, NotRising, Status}
 use Rattle.rw_retry.specs.Judgements.{judgement_of}
 use Rattle.rw_retry.specs.declared.judgement.Judgement.{Judgement}
 use Rattle.rw_retry.specs.declared.judgement.Judgement.TheVariants.{Again, Done, Refused}
 use Rattle.rw_schedule.proofs.Views.{shard_again, shard_resolve}
 use Rattle.rw_schedule.specs.Promises.{NamesRefusals, Stands, is_refused, refusal, refusal_by, refusals, refused_in}
 use Rattle.rw_schedule.specs.Shards.{Shard, has_room, pending, samples_in, shard_freeze, shard_lost, shard_put, shard_send, shard_take, with_core}
-use Rattle.rw_schedule.specs.Steps.{act, arrive, change, changed, flush_shard, happens, next_sample, place, place_entry, place_sample, put_if_room, reply_to, restart_as, run, send_batch, settled, shard_of, take_reply, unless_over}
+use Rattle.rw_schedule.specs.Steps.{act, arrive, change, changed, flush_shard, happens, next_sample, place, place_entry, place_kept, place_sample, put_if_room, reply_to, restart_as, run, send_batch, settled, shard_of, take_reply, unless_over}
 use Rattle.rw_schedule.specs.Worlds.{Reply, Request, Setup, World, all_drained, is_finished, is_over, log, start}
 use Rattle.rw_schedule.specs.declared.event.Event.{Event}
 use Rattle.rw_schedule.specs.declared.event.How.{How}
 use Rattle.rw_schedule.specs.declared.event.How.TheVariants.{Busy, Plain, Short}
 use Rattle.rw_sender.specs.Shard.{can_send, is_answer, name_all, positions, settle, settle_names}
 use Rattle.rw_series_cache.specs.Known.{Bad, Filtered, Kept, Standing, Unknown, known, label_fault_number}
+use Rattle.rw_series_cache.specs.Rising.{rises}
 use Rattle.rw_shard_queue.specs.Items.{Placed}
 use Rattle.rw_types.specs.Labels.{Labels}
 use Rattle.rw_types.specs.declared.entry.Entry.{Entry}
@@ -132,11 +133,15 @@ place_names c w p s = either P (is_some w.draining) w (place_entry c w (slice_ge
     by_shard i l t word None = same
     by_shard i l t word (Some u) = either (λ (v : World). NamesBy p s w.names [] v.names) (has_room c.capacity u) _ w (λ _. same) (λ _. same)
 
+    by_rising : (l : Labels) (t : ℤ) (word : ℕ) (b : Bool) → NamesBy p s w.names [] (place_kept c w l t word b).names
+    by_rising l t word true = by_shard (shard_of w l) l t word (slice_get w.shards (shard_of w l))
+    by_rising l t word false = by_name NotRising (λ h. let z : NotRising ≡ Status s = some_is h in let never : NotRising ≡ Status s → ⊥ = λ h. cc in never z)
+
     by_known : (t : ℤ) (word : ℕ) (k : Standing) → NamesBy p s w.names [] (place_sample c w t word k).names
     by_known t word Unknown = by_name NoSeries (λ h. let z : NoSeries ≡ Status s = some_is h in let never : NoSeries ≡ Status s → ⊥ = λ h. cc in never z)
     by_known t word (Bad f) = by_name (BadLabels (label_fault_number f)) (λ h. let z : BadLabels (label_fault_number f) ≡ Status s = some_is h in let never : BadLabels (label_fault_number f) ≡ Status s → ⊥ = λ h. cc in never z)
     by_known t word Filtered = same
-    by_known t word (Kept l) = by_shard (shard_of w l) l t word (slice_get w.shards (shard_of w l))
+    by_known t word (Kept l) = by_rising l t word (rises c.rules (take w.placed (log w)) l t)
 
     by_entry : (o : Option Entry) → NamesBy p s w.names [] (place_entry c w o).names
     by_entry None = same
@@ -264,11 +269,15 @@ unnamed_place c w at = either Unnamed (is_some w.draining) w (place_entry c w (s
         below_own : w.placed < suc w.placed
         below_own = omega arith
 
+    by_rising : (l : Labels) (t : ℤ) (word : ℕ) (b : Bool) → Unnamed (place_kept c w l t word b)
+    by_rising l t word true = by_shard (shard_of w l) l t word (slice_get w.shards (shard_of w l)) refl
+    by_rising l t word false = named NotRising
+
     by_known : (t : ℤ) (word : ℕ) (k : Standing) → Unnamed (place_sample c w t word k)
     by_known t word Unknown = named NoSeries
     by_known t word (Bad f) = named (BadLabels (label_fault_number f))
     by_known t word Filtered = moved w.series (suc w.filtered)
-    by_known t word (Kept l) = by_shard (shard_of w l) l t word (slice_get w.shards (shard_of w l)) refl
+    by_known t word (Kept l) = by_rising l t word (rises c.rules (take w.placed (log w)) l t)
 
     by_entry : (o : Option Entry) → Unnamed (place_entry c w o)
     by_entry None = at
@@ -397,11 +406,15 @@ module _ (c : Setup) (p : ℕ) (r : Reason) where
       by_shard i l t word None = q
       by_shard i l t word (Some u) = either Named (has_room c.capacity u) _ w (λ _. q) (λ _. q)
 
+      by_rising : (l : Labels) (t : ℤ) (word : ℕ) (b : Bool) → Named (place_kept c w l t word b)
+      by_rising l t word true = by_shard (shard_of w l) l t word (slice_get w.shards (shard_of w l))
+      by_rising l t word false = named_other w.placed p NotRising w.names apart ∙ q
+
       by_known : (t : ℤ) (word : ℕ) (k : Standing) → Named (place_sample c w t word k)
       by_known t word Unknown = named_other w.placed p NoSeries w.names apart ∙ q
       by_known t word (Bad f) = named_other w.placed p (BadLabels (label_fault_number f)) w.names apart ∙ q
       by_known t word Filtered = q
-      by_known t word (Kept l) = by_shard (shard_of w l) l t word (slice_get w.shards (shard_of w l))
+      by_known t word (Kept l) = by_rising l t word (rises c.rules (take w.placed (log w)) l t)
 
       by_entry : (o : Option Entry) → Named (place_entry c w o)
       by_entry None = q

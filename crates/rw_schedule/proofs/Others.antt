@@ -12,6 +12,7 @@ use Rattle.rw_codes.specs.Series.{labels_of}
 use Rattle.rw_codes.proofs.Growing.{reading-append}
 use Rattle.rw_relabel.specs.Rules.{keeps}
 use Rattle.rw_series_cache.specs.Known.{Standing, Unknown, Bad, Filtered, Kept, known, standing_of, standing_by}
+use Rattle.rw_series_cache.specs.Rising.{rises}
 use Rattle.rw_series_cache.proofs.PointLemmas.{sample_is_kept}
 use Rattle.rw_wal_tail.specs.Fed.{piece_of}
 use Rattle.rw_retry.specs.Judgements.{judgement_of}
@@ -23,7 +24,7 @@ use Rattle.rw_shard_queue.specs.declared.item.Kind.TheVariants as kind
 use Rattle.rw_batch.specs.Grouping.{distinct}
 use Rattle.rw_batch.specs.Grouping as grouping
 use Rattle.rw_write_request.specs.Message.{TimeSeries, WriteRequest}
-use Rattle.rw_sender.specs.Shard.{Core, body_of, labelled, batch_id, can_freeze, can_send, can_take, awaits, is_answer, is_empty, settle}
+use Rattle.rw_sender.specs.Shard.{Core, body_of, labelled, batch_id, can_freeze, can_send, can_take, awaits, is_empty, settle}
 use Rattle.rw_sender.specs.Shard as core
 use Rattle.rw_recv_head.specs.Head.{Answer, State, answer_to, answered, judged_body}
 use Rattle.rw_recv_head.specs.Store.{Store, list_of}
@@ -35,12 +36,12 @@ use Rattle.rw_schedule.specs.declared.event.Event.TheVariants as event
 use Rattle.rw_schedule.specs.declared.event.How.{How}
 use Rattle.rw_schedule.specs.declared.event.How.TheVariants.{Busy, Plain, Short}
 use Rattle.rw_schedule.specs.Shards.{EndMark, FlushMark, One, Queued, Shard, has_room, pending, samples_in, shard_end, shard_flush, shard_freeze, shard_lost, shard_put, shard_send, shard_take, take_front, with_core}
-use Rattle.rw_schedule.specs.Steps.{act, arrive, changed, endpoint_answer, flush_shard, mark, next_sample, place, place_entry, place_sample, put_if_room, reply_to, restart_as, run, send_batch, shard_of, take_reply}
+use Rattle.rw_schedule.specs.Steps.{act, arrive, changed, endpoint_answer, flush_shard, mark, next_sample, place, place_entry, place_kept, place_sample, put_if_room, reply_to, restart_as, run, send_batch, shard_of, take_reply}
 use Rattle.rw_schedule.specs.Worlds.{Reply, Request, Setup, World, is_finished, log, start}
 use Rattle.rw_schedule.specs.Promises.{HoldsNothingElse, Point}
-use Rattle.rw_schedule.proofs.Views.{IsKept, points, points_from, shard_resolve}
+use Rattle.rw_schedule.proofs.Views.{IsKept, logged_points, logged_from, shard_resolve}
 use Rattle.rw_schedule.proofs.Steps.{always, either, Each, each_change, each_new, AllOf, all_append, all_left, all_right, all_get, all_more, all_filter, all_map, and_left, and_right, same_is}
-use Rattle.rw_schedule.proofs.Places.{points_append, take_next}
+use Rattle.rw_schedule.proofs.Places.{logged_append, take_next}
 
 -- what `known` keeps is a kept label set
 pub look_kept : (c : Setup) (o : Option Labels) (l : Labels) → standing_of c.rules o ≡ Kept l → IsKept c l
@@ -122,7 +123,7 @@ entries_grow ps more = let grown = reading-append page_size ps more (omega arith
 
 -- a label set with samples in these entries, and a sample of such a one
 abbrev pub HasPoints : Setup → List Entry → Labels → Type 0
-HasPoints c es l = points c l es ≡ [] → ⊥
+HasPoints c es l = logged_points c l es ≡ [] → ⊥
 
 abbrev pub IsLogged : Setup → List Entry → Placed → Type 0
 IsLogged c es x = HasPoints c es x.labels
@@ -132,15 +133,15 @@ left_nil [] ys h = refl
 left_nil (x ∷ xs) ys h = let never : x ∷ (xs ++ ys) ≡ [] → ⊥ = λ e. cc in absurd (never h)
 
 -- they stay as more entries come
-pub points_less : (c : Setup) (l : Labels) (xs ys : List Entry) → points c l (xs ++ ys) ≡ [] → points c l xs ≡ []
-points_less c l xs ys h = left_nil (points c l xs) (points_from c l xs ys) (sym (points_append c l xs ys) ∙ h)
+pub logged_less : (c : Setup) (l : Labels) (xs ys : List Entry) → logged_points c l (xs ++ ys) ≡ [] → logged_points c l xs ≡ []
+logged_less c l xs ys h = left_nil (logged_points c l xs) (logged_from c l xs ys) (sym (logged_append c l xs ys) ∙ h)
 
 -- a sample of a kept series is one of its samples
 next_logged : (c : Setup) (es : List Entry) (n : ℕ) (l : Labels) (r : ℕ) (t : ℤ) (word : ℕ) → slice_get es n ≡ Some (Sample r t word) → known c.rules (take n es) r ≡ Kept l → HasPoints c es l
-next_logged c es n l r t word e kept h = never (points c l (take n es)) (sym (sample_is_kept c.rules (take n es) l r t word kept) ∙ ap (points c l) (sym (take_next es n (Sample r t word) e)) ∙ before)
+next_logged c es n l r t word e kept h = never (logged_points c l (take n es)) (sym (sample_is_kept c.rules (take n es) l r t word kept) ∙ ap (logged_points c l) (sym (take_next es n (Sample r t word) e)) ∙ before)
   where
-    before : points c l (take (suc n) es) ≡ []
-    before = points_less c l (take (suc n) es) (drop (suc n) es) (ap (points c l) (take-append-drop (suc n) es) ∙ h)
+    before : logged_points c l (take (suc n) es) ≡ []
+    before = logged_less c l (take (suc n) es) (drop (suc n) es) (ap (logged_points c l) (take-append-drop (suc n) es) ∙ h)
 
     never : (ps : List Point) → ps ++ (length (take n es), t, word) ∷ [] ≡ [] → ⊥
     never [] z = cc
@@ -195,7 +196,7 @@ answer_other c h batch l apart =
 pub record OnlyLogged (c : Setup) (w : World) : Type 0 where
   pub pending_logged : Each (λ i s. AllOf (IsLogged c (log w)) (pending s)) w.shards
   pub requests_logged : AllOf (λ (r : Request). AllOf (IsLogged c (log w)) r.batch) w.requests
-  pub nothing_else : (l : Labels) → points c l (log w) ≡ [] → list_of w.head.store l ≡ []
+  pub nothing_else : (l : Labels) → logged_points c l (log w) ≡ [] → list_of w.head.store l ≡ []
 
 -- one step of each kind
 others_change : (c : Setup) (w : World) (j : ℕ) (f : Shard → Shard) → ((s : Shard) → slice_get w.shards j ≡ Some s → AllOf (IsLogged c (log w)) (pending s) → AllOf (IsLogged c (log w)) (pending (f s))) → OnlyLogged c w → OnlyLogged c (changed w j f)
@@ -215,8 +216,8 @@ others_grow c w more at = record {
     later : List Entry
     later = entries (w.pieces ++ more)
 
-    fewer : (l : Labels) → points c l later ≡ [] → points c l (log w) ≡ []
-    fewer l h = let grown = entries_grow w.pieces more in points_less c l (log w) grown.0 (ap (points c l) (sym grown.1) ∙ h)
+    fewer : (l : Labels) → logged_points c l later ≡ [] → logged_points c l (log w) ≡ []
+    fewer l h = let grown = entries_grow w.pieces more in logged_less c l (log w) grown.0 (ap (logged_points c l) (sym grown.1) ∙ h)
 
     logged : (x : Placed) → IsLogged c (log w) x → IsLogged c later x
     logged x h none = h (fewer x.labels none)
@@ -235,22 +236,26 @@ others_place c w at = either (OnlyLogged c) (is_some w.draining) w (place_entry 
         })
         (λ _. at)
 
+    by_rising : (l : Labels) (t : ℤ) (word : ℕ) → HasPoints c (log w) l → (b : Bool) → OnlyLogged c (place_kept c w l t word b)
+    by_rising l t word logged true = by_shard l t word logged (shard_of w l) (slice_get w.shards (shard_of w l))
+    by_rising l t word logged false = record { pending_logged = at.pending_logged; requests_logged = at.requests_logged; nothing_else = at.nothing_else }
+
     by_known : (t : ℤ) (word : ℕ) (r : ℕ) (k : Standing) → slice_get (log w) w.placed ≡ Some (Sample r t word) → known c.rules (take w.placed (log w)) r ≡ k → OnlyLogged c (place_sample c w t word k)
     by_known t word r Unknown h e = record { pending_logged = at.pending_logged; requests_logged = at.requests_logged; nothing_else = at.nothing_else }
     by_known t word r (Bad f) h e = record { pending_logged = at.pending_logged; requests_logged = at.requests_logged; nothing_else = at.nothing_else }
     by_known t word r Filtered h e = record { pending_logged = at.pending_logged; requests_logged = at.requests_logged; nothing_else = at.nothing_else }
-    by_known t word r (Kept l) h e = by_shard l t word (next_logged c (log w) w.placed l r t word h e) (shard_of w l) (slice_get w.shards (shard_of w l))
+    by_known t word r (Kept l) h e = by_rising l t word (next_logged c (log w) w.placed l r t word h e) (rises c.rules (take w.placed (log w)) l t)
 
     by_entry : (o : Option Entry) → slice_get (log w) w.placed ≡ o → OnlyLogged c (place_entry c w o)
     by_entry None h = at
     by_entry (Some (Def r l)) h = record { pending_logged = at.pending_logged; requests_logged = at.requests_logged; nothing_else = at.nothing_else }
     by_entry (Some (Sample r t word)) h = by_known t word r (known c.rules (take w.placed (log w)) r) h refl
 
-apart_from : (c : Setup) (es : List Entry) (l m : Labels) → points c l es ≡ [] → HasPoints c es m → labels_eq l m ≡ false
+apart_from : (c : Setup) (es : List Entry) (l m : Labels) → logged_points c l es ≡ [] → HasPoints c es m → labels_eq l m ≡ false
 apart_from c es l m none logged = by_test (labels_eq l m) refl
   where
     by_test : (b : Bool) → labels_eq l m ≡ b → labels_eq l m ≡ false
-    by_test true e = absurd (logged (ap (λ k. points c k es) (sym (same_is l m e)) ∙ none))
+    by_test true e = absurd (logged (ap (λ k. logged_points c k es) (sym (same_is l m e)) ∙ none))
     by_test false e = e
 
 others_arrive : (c : Setup) (w : World) (how : How) (o : Option Request) → ((r : Request) → o ≡ Some r → AllOf (IsLogged c (log w)) r.batch) → OnlyLogged c w → OnlyLogged c (arrive c w how o)

@@ -1,15 +1,17 @@
 -- The points of a log that grows, a series' number as series are added, and a list of shards with one changed.
-use Rattle.std.proofs.Common.{◌≡◌, ℕ, zero, suc, ◌+◌, ◌<◌, ◌≤◌, Bool, true, false, cond, List, [], ◌∷◌, ◌++◌, length, take, Option, Some, None, slice_get, refl, sym, ap, ◌∙◌, subst, ◌||◌, not, append-nil, append_assoc, arith}
+use Rattle.std.proofs.Common.{◌≡◌, ℕ, zero, suc, ◌+◌, ◌<◌, ◌≤◌, Bool, true, false, cond, List, [], ◌∷◌, ◌++◌, length, take, Option, Some, None, slice_get, refl, sym, ap, ◌∙◌, subst, ℤ, ◌||◌, ◌&&◌, not, append-nil, append_assoc, arith}
 use Rattle.std.specs.List.{list_any}
 use Rattle.std.proofs.lemmas.List.Elements.{filter-append}
 use Rattle.rw_schedule.proofs.Steps.{AllOf, same_is, is_same}
-use Rattle.rw_schedule.proofs.Views.{of, points, is_of, point_of, points_from}
+use Rattle.rw_schedule.proofs.Risen.{risen, risen-push}
+use Rattle.rw_schedule.proofs.Views.{of, logged_points, logged_of, logged_from, points, is_of, point_of, points_from}
 use Rattle.rw_schedule.specs.Shards.{Shard}
 use Rattle.rw_schedule.specs.Steps.{change}
 use Rattle.rw_schedule.specs.Worlds.{Setup}
 use Rattle.rw_series_cache.specs.Known.{Standing, Unknown, Bad, Filtered, Kept, known}
 use Rattle.rw_series_cache.proofs.PointLemmas.{definition_gives_none, sample_is_kept, sample_is_other}
 use Rattle.rw_series_cache.specs.Numbers.{number_of}
+use Rattle.rw_series_cache.specs.Rising.{rises}
 use Rattle.rw_shard_queue.specs.Items.{Placed}
 use Rattle.rw_types.specs.LabelOrder.{labels_eq}
 use Rattle.rw_types.specs.Labels.{Labels}
@@ -17,24 +19,44 @@ use Rattle.rw_types.specs.declared.entry.Entry.{Entry}
 use Rattle.rw_types.specs.declared.entry.Entry.TheVariants.{Def, Sample}
 
 -- one more entry
-pub points_more : (c : Setup) (l : Labels) (xs : List Entry) (e : Entry) → points c l (xs ++ e ∷ []) ≡ points c l xs ++ point_of c l xs e
-points_more c l xs (Def r m) = definition_gives_none c.rules xs l m r ∙ sym (append-nil (points c l xs))
-points_more c l xs (Sample r t word) = by_standing (known c.rules xs r) refl
+pub logged_more : (c : Setup) (l : Labels) (xs : List Entry) (e : Entry) → logged_points c l (xs ++ e ∷ []) ≡ logged_points c l xs ++ logged_of c l xs e
+logged_more c l xs (Def r m) = definition_gives_none c.rules xs l m r ∙ sym (append-nil (logged_points c l xs))
+logged_more c l xs (Sample r t word) = by_standing (known c.rules xs r) refl
   where
-    other : (known c.rules xs r ≡ Kept l → ⊥) → is_of l (known c.rules xs r) ≡ false → points c l (xs ++ Sample r t word ∷ []) ≡ points c l xs ++ point_of c l xs (Sample r t word)
-    other h e = sample_is_other c.rules xs l r t word h ∙ sym (append-nil (points c l xs)) ∙ ap (λ b. points c l xs ++ cond b ((length xs, t, word) ∷ []) []) (sym e)
+    other : (known c.rules xs r ≡ Kept l → ⊥) → is_of l (known c.rules xs r) ≡ false → logged_points c l (xs ++ Sample r t word ∷ []) ≡ logged_points c l xs ++ logged_of c l xs (Sample r t word)
+    other h e = sample_is_other c.rules xs l r t word h ∙ sym (append-nil (logged_points c l xs)) ∙ ap (λ b. logged_points c l xs ++ cond b ((length xs, t, word) ∷ []) []) (sym e)
 
-    by_standing : (k : Standing) → known c.rules xs r ≡ k → points c l (xs ++ Sample r t word ∷ []) ≡ points c l xs ++ point_of c l xs (Sample r t word)
+    by_standing : (k : Standing) → known c.rules xs r ≡ k → logged_points c l (xs ++ Sample r t word ∷ []) ≡ logged_points c l xs ++ logged_of c l xs (Sample r t word)
     by_standing Unknown e = other (λ h. let no : Unknown ≡ Kept l → ⊥ = λ z. cc in no (sym e ∙ h)) (ap (is_of l) e)
     by_standing (Bad f) e = other (λ h. let no : Bad f ≡ Kept l → ⊥ = λ z. cc in no (sym e ∙ h)) (ap (is_of l) e)
     by_standing Filtered e = other (λ h. let no : Filtered ≡ Kept l → ⊥ = λ z. cc in no (sym e ∙ h)) (ap (is_of l) e)
     by_standing (Kept m) e = by_test (labels_eq l m) refl
       where
-        by_test : (b : Bool) → labels_eq l m ≡ b → points c l (xs ++ Sample r t word ∷ []) ≡ points c l xs ++ point_of c l xs (Sample r t word)
-        by_test true same = sample_is_kept c.rules xs l r t word (e ∙ ap Kept (sym (same_is l m same))) ∙ ap (λ b. points c l xs ++ cond b ((length xs, t, word) ∷ []) []) (sym (ap (is_of l) e ∙ same))
+        by_test : (b : Bool) → labels_eq l m ≡ b → logged_points c l (xs ++ Sample r t word ∷ []) ≡ logged_points c l xs ++ logged_of c l xs (Sample r t word)
+        by_test true same = sample_is_kept c.rules xs l r t word (e ∙ ap Kept (sym (same_is l m same))) ∙ ap (λ b. logged_points c l xs ++ cond b ((length xs, t, word) ∷ []) []) (sym (ap (is_of l) e ∙ same))
         by_test false differs = other (λ h. let kept_same : Kept l ≡ Kept m → l ≡ m = λ z. cc in let no : true ≡ false → ⊥ = λ z. cc in no (sym (is_same l m (kept_same (sym h ∙ e))) ∙ differs)) (ap (is_of l) e ∙ differs)
 
 -- further entries
+pub logged_append : (c : Setup) (l : Labels) (xs ys : List Entry) → logged_points c l (xs ++ ys) ≡ logged_points c l xs ++ logged_from c l xs ys
+logged_append c l xs [] = ap (logged_points c l) (append-nil xs) ∙ sym (append-nil (logged_points c l xs))
+logged_append c l xs (y ∷ ys) =
+    ap (logged_points c l) (sym (append_assoc xs (y ∷ []) ys))
+    ∙ logged_append c l (xs ++ y ∷ []) ys
+    ∙ ap (λ ps. ps ++ logged_from c l (xs ++ y ∷ []) ys) (logged_more c l xs y)
+    ∙ append_assoc (logged_points c l xs) (logged_of c l xs y) (logged_from c l (xs ++ y ∷ []) ys)
+
+-- one more entry, and those that rise
+rising_more : (c : Setup) (l : Labels) (xs : List Entry) (t : ℤ) (word : ℕ) (b : Bool)
+    → risen (logged_points c l xs ++ cond b ((length xs, t, word) ∷ []) []) ≡ points c l xs ++ cond (b && rises c.rules xs l t) ((length xs, t, word) ∷ []) []
+unfolding rises
+rising_more c l xs t word true = risen-push (logged_points c l xs) (length xs, t, word)
+rising_more c l xs t word false = ap risen (append-nil (logged_points c l xs)) ∙ sym (append-nil (points c l xs))
+
+pub points_more : (c : Setup) (l : Labels) (xs : List Entry) (e : Entry) → points c l (xs ++ e ∷ []) ≡ points c l xs ++ point_of c l xs e
+points_more c l xs (Def r m) = ap risen (logged_more c l xs (Def r m) ∙ append-nil (logged_points c l xs)) ∙ sym (append-nil (points c l xs))
+points_more c l xs (Sample r t word) = ap risen (logged_more c l xs (Sample r t word)) ∙ rising_more c l xs t word (is_of l (known c.rules xs r))
+
+-- further entries, and those that rise
 pub points_append : (c : Setup) (l : Labels) (xs ys : List Entry) → points c l (xs ++ ys) ≡ points c l xs ++ points_from c l xs ys
 points_append c l xs [] = ap (points c l) (append-nil xs) ∙ sym (append-nil (points c l xs))
 points_append c l xs (y ∷ ys) =
@@ -47,6 +69,11 @@ pub take_next : (log : List Entry) (n : ℕ) (e : Entry) → slice_get log n ≡
 take_next [] n e h = let no : None ≡ Some e → ⊥ = λ h. cc in absurd (no h)
 take_next (x ∷ xs) zero e h = let same : x ≡ e = cc in ap (λ y. y ∷ []) same
 take_next (x ∷ xs) (suc n) e h = ap (λ ys. x ∷ ys) (take_next xs n e h)
+
+pub get_some : {X : Type 0} (xs : List X) (n : ℕ) → n < length xs → (x : X) × (slice_get xs n ≡ Some x)
+get_some [] n lt = absurd (omega arith)
+get_some (x ∷ xs) zero lt = (x, refl)
+get_some (x ∷ xs) (suc n) lt = get_some xs n (omega arith)
 
 pub get_below : {X : Type 0} (xs : List X) (n : ℕ) (x : X) → slice_get xs n ≡ Some x → n < length xs
 get_below [] n x h = let no : None ≡ Some x → ⊥ = λ h. cc in absurd (no h)

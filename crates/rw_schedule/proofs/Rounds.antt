@@ -20,7 +20,7 @@ use Rattle.rw_recv_head.specs.Head.{Answer, State, answer_to, status_of}
 use Rattle.rw_recv_head.specs.Head as head
 use Rattle.rw_recv_head.specs.Order.{Point, points, accept}
 use Rattle.rw_recv_head.specs.Store.{Store, list_of}
-use Rattle.rw_recv_head.specs.Verdicts.{LabelLimits, accepted, judged, refusal, taken, taken_all, taken_next, taken_unless}
+use Rattle.rw_recv_head.specs.Verdicts.{LabelLimits, accepted, judged, refusal, taken, taken_all, taken_unless}
 use Rattle.rw_recv_head.specs.Verdicts as verdicts
 use Rattle.rw_recv_head.specs.declared.verdict.Verdict.{Verdict}
 use Rattle.rw_recv_head.specs.declared.verdict.Verdict.TheVariants.{BadLabels, OverLimit}
@@ -29,12 +29,13 @@ use Rattle.rw_types.specs.Labels.{label_fault}
 use Rattle.rw_write_request.specs.Message.{TimeSeries, WriteRequest}
 use Rattle.rw_schedule.specs.Settling.{can_place, can_place_entry, can_place_known, newest_from, room_at}
 use Rattle.rw_schedule.specs.Shards.{EndMark, FlushMark, One, Queued, Shard, has_room, samples_in, shard_end, shard_flush, shard_freeze, shard_put, shard_send, shard_take, take_front, with_core}
-use Rattle.rw_schedule.specs.Steps.{act, answered, arrive, change, changed, endpoint_answer, flush_shard, happens, mark, next_sample, place, place_entry, place_sample, put_if_room, reply_to, run, send_batch, settled, shard_of, take_reply, unless_over}
+use Rattle.rw_schedule.specs.Steps.{act, answered, arrive, change, changed, endpoint_answer, flush_shard, happens, mark, next_sample, place, place_entry, place_kept, place_sample, put_if_room, reply_to, run, send_batch, settled, shard_of, take_reply, unless_over}
 use Rattle.rw_schedule.specs.Worlds.{Reply, Request, Setup, World, is_finished, is_over, log}
 use Rattle.rw_schedule.specs.declared.event.Event.{Event}
 use Rattle.rw_schedule.specs.declared.event.How.TheVariants.{Plain}
 use Rattle.rw_sender.specs.Shard.{Core, awaits, batch_id, body_of, can_freeze, can_send, can_take, is_answer, is_empty, labelled, same_id, settle}
 use Rattle.rw_series_cache.specs.Known.{Bad, Filtered, Kept, Standing, Unknown, known}
+use Rattle.rw_series_cache.specs.Rising.{rises}
 use Rattle.rw_shard_queue.specs.Items.{Placed}
 use Rattle.rw_types.specs.Labels.{Labels}
 use Rattle.rw_types.specs.declared.entry.Entry.{Entry}
@@ -105,11 +106,15 @@ place_round c w can = subst (Round w) (sym (cond_false (is_some w.draining) w (p
       same = record { killed = refl; pieces = refl; closed = refl };
     })
 
-    by_known : (x : Entry) → slice_get (log w) w.placed ≡ Some x → (t : ℤ) (word : ℕ) (k : Standing) → can_place_known c w k ≡ true → Round w (place_sample c w t word k)
+    by_rising : (x : Entry) → slice_get (log w) w.placed ≡ Some x → (l : Labels) (t : ℤ) (word : ℕ) (b : Bool) → (not b || room_at c (slice_get w.shards (shard_of w l))) ≡ true → Round w (place_kept c w l t word b)
+    by_rising x e l t word true h = by_shard x e l t word (shard_of w l) (slice_get w.shards (shard_of w l)) refl h
+    by_rising x e l t word false h = record { lower = left x e; same = record { killed = refl; pieces = refl; closed = refl } }
+
+    by_known : (x : Entry) → slice_get (log w) w.placed ≡ Some x → (t : ℤ) (word : ℕ) (k : Standing) → can_place_known c w t k ≡ true → Round w (place_sample c w t word k)
     by_known x e t word Unknown h = record { lower = left x e; same = record { killed = refl; pieces = refl; closed = refl } }
     by_known x e t word (Bad f) h = record { lower = left x e; same = record { killed = refl; pieces = refl; closed = refl } }
     by_known x e t word Filtered h = record { lower = left x e; same = record { killed = refl; pieces = refl; closed = refl } }
-    by_known x e t word (Kept l) h = by_shard x e l t word (shard_of w l) (slice_get w.shards (shard_of w l)) refl h
+    by_known x e t word (Kept l) h = by_rising x e l t word (rises c.rules (take w.placed (log w)) l t) h
 
     by_entry : (o : Option Entry) → slice_get (log w) w.placed ≡ o → can_place_entry c w o ≡ true → Round w (place_entry c w o)
     by_entry None e h = off (sym h)

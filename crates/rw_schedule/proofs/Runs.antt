@@ -1,11 +1,13 @@
 -- Over a whole schedule: the head holds a beginning, and all once complete.
 use Rattle.std.proofs.Common.{◌≡◌, ℕ, ◌+◌, Bool, true, false, cond, List, [], ◌∷◌, ◌++◌, length, map, filter, take, drop, Option, Some, None, is_some, slice_get, refl, sym, ap, ◌∙◌, subst, ℤ, ◌&&◌, not, nat_le, append-nil, append_assoc, arith, inl, inr, ◌⊎◌, is_none, take-append-drop}
 use Rattle.std.proofs.lemmas.List.{map-append}
-use Rattle.rw_schedule.proofs.Steps.{unless, either, each_new, AllOf, all_get, all_map, all_filter, and_right}
-use Rattle.rw_schedule.proofs.Frames.{place_frame, reply_frame, restart_frame}
-use Rattle.rw_schedule.proofs.Others.{entries_grow, others, pending_parts}
+use Rattle.rw_schedule.proofs.Steps.{always, unless, either, each_new, AllOf, all_get, all_map, all_filter, and_right}
+use Rattle.rw_schedule.proofs.Risen.{risen}
+use Rattle.rw_schedule.proofs.Classes.{classes}
+use Rattle.rw_schedule.proofs.Owed.{no_logged, owed_points}
+use Rattle.rw_schedule.proofs.Others.{others, pending_parts}
 use Rattle.rw_schedule.proofs.OrderRule.{cond_false}
-use Rattle.rw_schedule.proofs.Places.{points_append, numbered_all, of_append}
+use Rattle.rw_schedule.proofs.Places.{logged_append, numbered_all, of_append}
 use Rattle.rw_schedule.proofs.Invariant.{Inv, id_at, as_points, waits, home, SampleOk, ShardOk, GotOk, RequestOk, AnswerOk, quiet, quiet_take, quiet_freeze, quiet_flush, quiet_lost}
 use Rattle.rw_schedule.proofs.Keeps.{feed_keeps, place_keeps, owed_all, owed_append, pairs_of_points, some_is}
 use Rattle.rw_schedule.proofs.Resolves.{send_keeps, reply_keeps, restart_keeps, drained, drained_got, batch_numbered, length_new}
@@ -16,23 +18,19 @@ use Rattle.std.specs.Ordering.{nat_cmp}
 use Rattle.rw_codes.specs.Pieces.{fault}
 use Rattle.rw_codes.specs.Series.{samples_after}
 use Rattle.rw_codes.specs.declared.tail_fault.TailFault.{TailFault}
-use Rattle.rw_relabel.specs.Rules.{RuleConfig, keeps}
+use Rattle.rw_relabel.specs.Rules.{keeps}
 use Rattle.rw_recv_head.proofs.StoreLemmas.{list_of-empty}
-use Rattle.rw_series_cache.specs.Points.{is_kept, kept_points}
+use Rattle.rw_series_cache.specs.Points.{is_kept}
 use Rattle.rw_series_cache.proofs.KnownLemmas.{known-none}
 use Rattle.rw_series_cache.proofs.PointLemmas.{below_a_position}
 use Rattle.rw_types.specs.declared.label_fault.LabelFault.{LabelFault}
-use Rattle.rw_wal_tail.specs.Fed.{piece_of}
 use Rattle.rw_recv_head.specs.Store.{list_of}
-use Rattle.rw_schedule.proofs.Views.{IsKept, of, owed_by, pairs, points, points_from}
-use Rattle.rw_schedule.specs.Promises.{AllLater, EachRises, HoldsAll, HoldsBeginning, HoldsNothingElse, IsInOrder, IsWhole, IsWholeBeforeDamage, Point, Rises, owed, pair_of}
+use Rattle.rw_schedule.proofs.Views.{IsKept, logged_from, logged_points, of, owed_by, pairs, points}
+use Rattle.rw_schedule.specs.Promises.{HasOneClassEach, HoldsAll, HoldsBeginning, HoldsNothingElse, IsInOrder, IsWhole, IsWholeBeforeDamage, Point, owed, pair_of}
 use Rattle.rw_schedule.specs.Shards.{Shard, pending, samples_in, shard_freeze, shard_lost, shard_take}
-use Rattle.rw_schedule.specs.Steps.{act, arrive, flush_shard, happens, place, restart_as, run, send_batch, take_reply}
-use Rattle.rw_schedule.specs.Worlds.{Abandoned, Complete, Damaged, Reply, Request, Setup, World, all_drained, ended_as, is_finished, is_over, is_pending, log, new_shards, report, start, up_to}
+use Rattle.rw_schedule.specs.Steps.{act, flush_shard, happens, run}
+use Rattle.rw_schedule.specs.Worlds.{Abandoned, Complete, Damaged, Setup, World, all_drained, ended_as, is_finished, is_over, is_pending, log, new_shards, report, start, up_to}
 use Rattle.rw_schedule.specs.declared.event.Event.{Event}
-use Rattle.rw_schedule.specs.declared.event.How.{How}
-use Rattle.rw_schedule.specs.declared.event.How.TheVariants.{Busy, Plain, Short}
-use Rattle.rw_sender.specs.Shard.{can_send}
 use Rattle.rw_series_cache.specs.Known.{Kept, Unknown}
 use Rattle.rw_shard_queue.specs.Items.{Placed}
 use Rattle.rw_types.specs.LabelOrder.{labels_eq}
@@ -43,102 +41,28 @@ use Rattle.rw_types.specs.declared.entry.Entry.{Entry}
 still : (c : Setup) (w : World) (draining closed : Option ℕ) (killed : Bool) → Inv c w → Inv c (record w { draining = draining; closed = closed; killed = killed })
 still c w draining closed killed at = record { width = at.width; ident = at.ident; done = at.done; got = at.got; limited = at.limited; wide = at.wide; placed_in = at.placed_in; series_in = at.series_in; shards_ok = at.shards_ok; got_ok = at.got_ok; mine = at.mine; stored = at.stored; done_ok = at.done_ok; fresh = at.fresh; requests_ok = at.requests_ok; answers_ok = at.answers_ok }
 
-act_keeps : (c : Setup) (w : World) (e : Event) → ((l : Labels) → IsKept c l → Rises (points c l (take w.placed (log w)))) → Inv c w → Inv c (act c w e)
-act_keeps c w (event.Feed piece) rises at = feed_keeps c w piece at
-act_keeps c w event.Place rises at = place_keeps c w at
-act_keeps c w (event.Flush i) rises at = quiet c w i (flush_shard c w) (quiet_flush c w) at
-act_keeps c w (event.Take i) rises at = quiet c w i shard_take quiet_take at
-act_keeps c w (event.Freeze i) rises at = quiet c w i shard_freeze quiet_freeze at
-act_keeps c w (event.Send i) rises at = send_keeps c w i (slice_get w.shards i) refl at
-act_keeps c w (event.Arrive k how) rises at = arrive_keeps c w how (slice_get w.requests k) rises (λ at' r e. all_get (RequestOk c w.epoch w.shards (list_of w.head.store)) w.requests k r at'.requests_ok e) at
-act_keeps c w (event.Reply k) rises at = reply_keeps c w (slice_get w.replies k) (λ a e at'. all_get (AnswerOk c w.epoch w.shards at'.got) w.replies k a at'.answers_ok e) at
-act_keeps c w (event.Lost i) rises at = quiet c w i shard_lost quiet_lost at
-act_keeps c w (event.Reshard n) rises at = either (Inv c) (not (is_some w.draining) && (not (is_finished w) && (nat_le 1 n && nat_le n 1000))) (record w { draining = Some n }) w (λ _. still c w (Some n) w.closed w.killed at) (λ _. at)
-act_keeps c w event.Restart rises at = restart_keeps c w w.draining at
-act_keeps c w event.Close rises at = either (Inv c) (is_some w.closed) w (record w { closed = Some (length (log w)) }) (λ _. at) (λ _. still c w w.draining (Some (length (log w))) w.killed at)
-act_keeps c w event.Kill rises at = still c w w.draining w.closed true at
+act_keeps : (c : Setup) (w : World) (e : Event) → Inv c w → Inv c (act c w e)
+act_keeps c w (event.Feed piece) at = feed_keeps c w piece at
+act_keeps c w event.Place at = place_keeps c w at
+act_keeps c w (event.Flush i) at = quiet c w i (flush_shard c w) (quiet_flush c w) at
+act_keeps c w (event.Take i) at = quiet c w i shard_take quiet_take at
+act_keeps c w (event.Freeze i) at = quiet c w i shard_freeze quiet_freeze at
+act_keeps c w (event.Send i) at = send_keeps c w i (slice_get w.shards i) refl at
+act_keeps c w (event.Arrive k how) at = arrive_keeps c w how (slice_get w.requests k) (λ at' r e. all_get (RequestOk c w.epoch w.shards (list_of w.head.store)) w.requests k r at'.requests_ok e) at
+act_keeps c w (event.Reply k) at = reply_keeps c w (slice_get w.replies k) (λ a e at'. all_get (AnswerOk c w.epoch w.shards at'.got) w.replies k a at'.answers_ok e) at
+act_keeps c w (event.Lost i) at = quiet c w i shard_lost quiet_lost at
+act_keeps c w (event.Reshard n) at = either (Inv c) (not (is_some w.draining) && (not (is_finished w) && (nat_le 1 n && nat_le n 1000))) (record w { draining = Some n }) w (λ _. still c w (Some n) w.closed w.killed at) (λ _. at)
+act_keeps c w event.Restart at = restart_keeps c w w.draining at
+act_keeps c w event.Close at = either (Inv c) (is_some w.closed) w (record w { closed = Some (length (log w)) }) (λ _. at) (λ _. still c w w.draining (Some (length (log w))) w.killed at)
+act_keeps c w event.Kill at = still c w w.draining w.closed true at
 
--- the log only grows
-pub record Grows (old new : List Entry) : Type 0 where
-  pub more : List Entry
-  pub is : old ++ more ≡ new
-
-stays : (old new : List Entry) → old ≡ new → Grows old new
-stays old new e = record { more = []; is = append-nil old ∙ e }
-
-pub place_log : (c : Setup) (w : World) → log w ≡ log (place c w)
-place_log c w = place_frame (λ v. log w ≡ log v) c w (λ _ _ _ _ _. refl)
-
-send_log : (w : World) (i : ℕ) (o : Option Shard) → log w ≡ log (send_batch w i o)
-send_log w i None = refl
-send_log w i (Some s) = either (λ v. log w ≡ log v) (can_send s.core) _ w (λ _. refl) (λ _. refl)
-
-arrive_log : (c : Setup) (w : World) (how : How) (o : Option Request) → log w ≡ log (arrive c w how o)
-arrive_log c w how None = refl
-arrive_log c w Plain (Some r) = refl
-arrive_log c w Busy (Some r) = refl
-arrive_log c w Short (Some r) = refl
-
-reply_log : (w : World) (o : Option Reply) → log w ≡ log (take_reply w o)
-reply_log w o = reply_frame (λ v. log w ≡ log v) w o (λ _ _. refl)
-
-restart_log : (c : Setup) (w : World) (o : Option ℕ) → log w ≡ log (restart_as c w o)
-restart_log c w o = restart_frame (λ v. log w ≡ log v) c w o (λ _ _ _. refl)
-
-act_grows : (c : Setup) (w : World) (e : Event) → Grows (log w) (log (act c w e))
-act_grows c w (event.Feed piece) = either (λ v. Grows (log w) (log v)) (is_some w.closed) w _ (λ _. stays (log w) (log w) refl) (λ _. let grown = entries_grow w.pieces (piece_of piece ∷ []) in record { more = grown.0; is = sym grown.1 })
-act_grows c w event.Place = stays (log w) _ (place_log c w)
-act_grows c w (event.Flush i) = stays (log w) (log w) refl
-act_grows c w (event.Take i) = stays (log w) (log w) refl
-act_grows c w (event.Freeze i) = stays (log w) (log w) refl
-act_grows c w (event.Send i) = stays (log w) _ (send_log w i (slice_get w.shards i))
-act_grows c w (event.Arrive k how) = stays (log w) _ (arrive_log c w how (slice_get w.requests k))
-act_grows c w (event.Reply k) = stays (log w) _ (reply_log w (slice_get w.replies k))
-act_grows c w (event.Lost i) = stays (log w) (log w) refl
-act_grows c w (event.Reshard n) = stays (log w) _ (either (λ v. log w ≡ log v) (not (is_some w.draining) && (not (is_finished w) && (nat_le 1 n && nat_le n 1000))) _ w (λ _. refl) (λ _. refl))
-act_grows c w event.Restart = stays (log w) _ (restart_log c w w.draining)
-act_grows c w event.Close = stays (log w) _ (either (λ v. log w ≡ log v) (is_some w.closed) w _ (λ _. refl) (λ _. refl))
-act_grows c w event.Kill = stays (log w) (log w) refl
-
-pub run_grows : (c : Setup) (events : List Event) (w : World) → Grows (log w) (log (run c events w))
-run_grows c [] w = stays (log w) (log w) refl
-run_grows c (e ∷ es) w =
-    let first : Grows (log w) (log (happens c w e)) = unless (λ v. Grows (log w) (log v)) c w e (is_over w) (stays (log w) (log w) refl) (act_grows c w e) in
-    let rest = run_grows c es (happens c w e) in
-    record { more = first.more ++ rest.more; is = sym (append_assoc (log w) first.more rest.more) ∙ ap (λ xs. xs ++ rest.more) first.is ∙ rest.is }
-
--- the samples of each series rise
-abbrev pub LogRises : Setup → List Entry → Type 0
-LogRises c es = (l : Labels) → Rises (points c l es)
-
-later_left : (t : ℤ) (ps qs : List Point) → AllLater t (ps ++ qs) → AllLater t ps
-later_left t [] qs h = tt
-later_left t (p ∷ ps) qs h = (h.0, later_left t ps qs h.1)
-
-rises_left : (ps qs : List Point) → Rises (ps ++ qs) → Rises ps
-rises_left [] qs h = tt
-rises_left (p ∷ ps) qs h = (later_left p.1 ps qs h.0, rises_left ps qs h.1)
-
-pub front_rises : (c : Setup) (xs ys : List Entry) → LogRises c (xs ++ ys) → LogRises c xs
-front_rises c xs ys rises l = rises_left (points c l xs) (points_from c l xs ys) (subst Rises (points_append c l xs ys) (rises l))
-
--- where they rise in the log at the end, they rise in what is placed now
-pub placed_rises : (c : Setup) (events : List Event) (w : World) → EachRises c (run c events w) → (l : Labels) → IsKept c l → Rises (points c l (take w.placed (log w)))
-placed_rises c events w rises l k =
-    let grown = run_grows c events w in
-    let now : LogRises c (log w) = front_rises c (log w) grown.more (subst (LogRises c) (sym grown.is) rises) in
-    front_rises c (take w.placed (log w)) (drop w.placed (log w)) (subst (LogRises c) (sym (take-append-drop w.placed (log w))) now) l
-
-pub run_keeps : (c : Setup) (events : List Event) (w : World) → EachRises c (run c events w) → Inv c w → Inv c (run c events w)
-run_keeps c [] w rises at = at
-run_keeps c (e ∷ es) w rises at = run_keeps c es (happens c w e) rises (unless (Inv c) c w e (is_over w) at (act_keeps c w e (placed_rises c (e ∷ es) w rises) at))
+pub run_keeps : (c : Setup) (events : List Event) (w : World) → Inv c w → Inv c (run c events w)
+run_keeps c events w at = always (Inv c) c (act_keeps c) events w at
 
 -- a fact that goes through each step where the invariant holds
-pub along : (c : Setup) (Q : World → Type 0) → ((w : World) (e : Event) → ((l : Labels) → IsKept c l → Rises (points c l (take w.placed (log w)))) → Inv c w → Q w → Q (act c w e)) → (events : List Event) (w : World) → EachRises c (run c events w) → Inv c w → Q w → Q (run c events w)
-along c Q keep [] w rises at q = q
-along c Q keep (e ∷ es) w rises at q =
-    let placed = placed_rises c (e ∷ es) w rises in
-    along c Q keep es (happens c w e) rises (unless (Inv c) c w e (is_over w) at (act_keeps c w e placed at)) (unless Q c w e (is_over w) q (keep w e placed at q))
+pub along : (c : Setup) (Q : World → Type 0) → ((w : World) (e : Event) → Inv c w → Q w → Q (act c w e)) → (events : List Event) (w : World) → Inv c w → Q w → Q (run c events w)
+along c Q keep [] w at q = q
+along c Q keep (e ∷ es) w at q = along c Q keep es (happens c w e) (unless (Inv c) c w e (is_over w) at (act_keeps c w e at)) (unless Q c w e (is_over w) q (keep w e at q))
 
 pub begins : (c : Setup) → Inv c (start c)
 begins c = record {
@@ -152,7 +76,7 @@ begins c = record {
   series_in = λ r l h. let never : Unknown ≡ Kept l → ⊥ = λ h. cc in absurd (never (sym (known-none c.rules r) ∙ h));
   shards_ok = each_new (ShardOk c 0 0 c.shards [] (get empty) (λ _. id_at 0 0 0)) c 0 0 (λ i. record { counted = refl; numbered = tt }) c.shards;
   got_ok = λ i. nothing i (slice_get (new_shards c 0 0 c.shards) i) refl;
-  mine = λ l k. nothing_logged c.rules l ∙ ap (λ ps. as_points (of l ps)) (sym (waits_none (home c.shards [] l) (slice_get (new_shards c 0 0 c.shards) (home c.shards [] l)) refl));
+  mine = λ l k. ap risen (no_logged c l) ∙ ap (λ ps. as_points (of l ps)) (sym (waits_none (home c.shards [] l) (slice_get (new_shards c 0 0 c.shards) (home c.shards [] l)) refl));
   stored = λ l k. list_of-empty l;
   done_ok = λ l k. tt;
   fresh = λ p _. get-empty nat_cmp p;
@@ -160,9 +84,6 @@ begins c = record {
   answers_ok = tt;
 }
   where
-    nothing_logged : (rules : List RuleConfig) (l : Labels) → kept_points rules [] l ≡ []
-    nothing_logged rules l = either (λ ps. ps ≡ []) (is_kept rules l) [] [] (λ _. refl) (λ _. refl)
-
     nothing : (i : ℕ) (o : Option Shard) → slice_get (new_shards c 0 0 c.shards) i ≡ o → GotOk c o []
     nothing i None e = refl
     nothing i (Some s) e = inl refl
@@ -171,18 +92,22 @@ begins c = record {
     waits_none i None e = refl
     waits_none i (Some s) e = each_new (λ _ (s : Shard). pending s ≡ []) c 0 0 (λ _. refl) c.shards i s e
 
-pub holds_at_end : (c : Setup) (events : List Event) → EachRises c (run c events (start c)) → Inv c (run c events (start c))
-holds_at_end c events rises = run_keeps c events (start c) rises (begins c)
+pub holds_at_end : (c : Setup) (events : List Event) → Inv c (run c events (start c))
+holds_at_end c events = run_keeps c events (start c) (begins c)
+
+-- what is owed of all that is placed
+owed_placed : (c : Setup) (w : World) → Inv c w → HasOneClassEach c w → (l : Labels) → owed_by (get w.names) (logged_points c l (take w.placed (log w))) ≡ owed_by (get w.names) (points c l (take w.placed (log w)))
+owed_placed c w at one l = owed_points c w l one at.placed_in w.placed (omega arith)
 
 -- what the head holds is a beginning
-beginning : (c : Setup) (w : World) → Inv c w → (l : Labels) → IsKept c l → HoldsBeginning c w l
-beginning c w at l k = (tail.0 ++ u, whole)
+beginning : (c : Setup) (w : World) → Inv c w → HasOneClassEach c w → (l : Labels) → IsKept c l → HoldsBeginning c w l
+beginning c w at one l k = (tail.0 ++ u, whole)
   where
     part : List (ℤ × ℕ)
     part = map pair_of (owed_by (get w.names) (at.done l))
 
     rest : List Point
-    rest = points_from c l (take w.placed (log w)) (drop w.placed (log w))
+    rest = logged_from c l (take w.placed (log w)) (drop w.placed (log w))
 
     u : List (ℤ × ℕ)
     u = map pair_of (owed_by (get w.names) rest)
@@ -216,17 +141,18 @@ beginning c w at l k = (tail.0 ++ u, whole)
     v : List (ℤ × ℕ)
     v = map pair_of (owed_by (get w.names) (as_points (of l (waits (slice_get w.shards (home at.width w.series l))))))
 
-    total : map pair_of (owed_by (get w.names) (points c l (log w))) ≡ (part ++ v) ++ u
+    total : map pair_of (owed_by (get w.names) (logged_points c l (log w))) ≡ (part ++ v) ++ u
     total =
-        ap (λ es. map pair_of (owed_by (get w.names) (points c l es))) (sym (take-append-drop w.placed (log w)))
-        ∙ ap (λ ps. map pair_of (owed_by (get w.names) ps)) (points_append c l (take w.placed (log w)) (drop w.placed (log w)))
-        ∙ ap (map pair_of) (owed_append (get w.names) (points c l (take w.placed (log w))) rest)
-        ∙ map-append pair_of (owed_by (get w.names) (points c l (take w.placed (log w)))) (owed_by (get w.names) rest)
+        ap (λ es. map pair_of (owed_by (get w.names) (logged_points c l es))) (sym (take-append-drop w.placed (log w)))
+        ∙ ap (λ ps. map pair_of (owed_by (get w.names) ps)) (logged_append c l (take w.placed (log w)) (drop w.placed (log w)))
+        ∙ ap (map pair_of) (owed_append (get w.names) (logged_points c l (take w.placed (log w))) rest)
+        ∙ map-append pair_of (owed_by (get w.names) (logged_points c l (take w.placed (log w)))) (owed_by (get w.names) rest)
+        ∙ ap (λ ps. map pair_of ps ++ u) (owed_placed c w at one l)
         ∙ ap (λ ps. map pair_of (owed_by (get w.names) ps) ++ u) (at.mine l k)
         ∙ ap (λ ps. map pair_of ps ++ u) (owed_append (get w.names) (at.done l) (as_points (of l (waits (slice_get w.shards (home at.width w.series l))))))
         ∙ ap (λ ps. ps ++ u) (map-append pair_of (owed_by (get w.names) (at.done l)) (owed_by (get w.names) (as_points (of l (waits (slice_get w.shards (home at.width w.series l)))))))
 
-    whole : list_of w.head.store l ++ (tail.0 ++ u) ≡ map pair_of (owed_by (get w.names) (points c l (log w)))
+    whole : list_of w.head.store l ++ (tail.0 ++ u) ≡ map pair_of (owed_by (get w.names) (logged_points c l (log w)))
     whole =
         ap (λ ps. ps ++ (tail.0 ++ u)) (at.stored l k)
         ∙ sym (append_assoc (part ++ g) tail.0 u)
@@ -234,32 +160,32 @@ beginning c w at l k = (tail.0 ++ u, whole)
         ∙ sym total
 
 -- labels that are kept, or that have no samples
-kept_or_none : (c : Setup) (l : Labels) → IsKept c l ⊎ ((es : List Entry) → points c l es ≡ [])
+kept_or_none : (c : Setup) (l : Labels) → IsKept c l ⊎ ((es : List Entry) → logged_points c l es ≡ [])
 kept_or_none c l = by_fault (label_fault l) refl
   where
-    by_keeps : (b : Bool) → label_fault l ≡ None → keeps c.rules l ≡ b → IsKept c l ⊎ ((es : List Entry) → points c l es ≡ [])
+    by_keeps : (b : Bool) → label_fault l ≡ None → keeps c.rules l ≡ b → IsKept c l ⊎ ((es : List Entry) → logged_points c l es ≡ [])
     by_keeps true n e = inl (n, e)
     by_keeps false n e = inr (λ es. cond_false (is_kept c.rules l) (samples_after l [] es) [] (ap (λ (o : Option LabelFault). is_none o && keeps c.rules l) n ∙ e))
 
-    by_fault : (o : Option LabelFault) → label_fault l ≡ o → IsKept c l ⊎ ((es : List Entry) → points c l es ≡ [])
+    by_fault : (o : Option LabelFault) → label_fault l ≡ o → IsKept c l ⊎ ((es : List Entry) → logged_points c l es ≡ [])
     by_fault None n = by_keeps (keeps c.rules l) n refl
     by_fault (Some f) n = inr (λ es. cond_false (is_kept c.rules l) (samples_after l [] es) [] (ap (λ (o : Option LabelFault). is_none o && keeps c.rules l) n))
 
 -- where a label set has no samples the head holds none
-nothing_held : (c : Setup) (w : World) → HoldsNothingElse c w → (l : Labels) → ((es : List Entry) → points c l es ≡ []) → HoldsBeginning c w l
-nothing_held c w nothing l none = (map pair_of (owed w.names (points c l (log w))), ap (λ ps. ps ++ map pair_of (owed w.names (points c l (log w)))) (nothing l (none (log w))))
+nothing_held : (c : Setup) (w : World) → HoldsNothingElse c w → (l : Labels) → ((es : List Entry) → logged_points c l es ≡ []) → HoldsBeginning c w l
+nothing_held c w nothing l none = (map pair_of (owed w.names (logged_points c l (log w))), ap (λ ps. ps ++ map pair_of (owed w.names (logged_points c l (log w)))) (nothing l (none (log w))))
 
-all_of_kept : (c : Setup) (w : World) → Inv c w → all_drained w ≡ true → (l : Labels) → IsKept c l → HoldsAll c w w.placed l
-all_of_kept c w at all l k =
+all_of_kept : (c : Setup) (w : World) → Inv c w → HasOneClassEach c w → all_drained w ≡ true → (l : Labels) → IsKept c l → HoldsAll c w w.placed l
+all_of_kept c w at one all l k =
     let mine : points c l (take w.placed (log w)) ≡ at.done l = at.mine l k ∙ ap (λ ps. at.done l ++ as_points (of l ps)) (drained c w at all (home at.width w.series l) (slice_get w.shards (home at.width w.series l)) refl) ∙ append-nil (at.done l) in
-    at.stored l k ∙ ap (λ b. map pair_of (owed_by (get w.names) (at.done l)) ++ pairs (of l b)) (drained_got c w at all (home at.width w.series l)) ∙ append-nil (map pair_of (owed_by (get w.names) (at.done l))) ∙ ap (λ ps. map pair_of (owed_by (get w.names) ps)) (sym mine ∙ sym (below_a_position c.rules (log w) l w.placed))
+    at.stored l k ∙ ap (λ b. map pair_of (owed_by (get w.names) (at.done l)) ++ pairs (of l b)) (drained_got c w at all (home at.width w.series l)) ∙ append-nil (map pair_of (owed_by (get w.names) (at.done l))) ∙ ap (λ ps. map pair_of (owed_by (get w.names) ps)) (sym mine) ∙ ap (map pair_of) (sym (owed_placed c w at one l)) ∙ ap (λ ps. map pair_of (owed_by (get w.names) ps)) (sym (below_a_position c.rules (log w) l w.placed))
 
 -- once all that was placed is resolved the head holds all of it
-pub all_of_it : (c : Setup) (w : World) → Inv c w → HoldsNothingElse c w → all_drained w ≡ true → (l : Labels) → HoldsAll c w w.placed l
-all_of_it c w at nothing all l = by_kept (kept_or_none c l)
+pub all_of_it : (c : Setup) (w : World) → Inv c w → HasOneClassEach c w → HoldsNothingElse c w → all_drained w ≡ true → (l : Labels) → HoldsAll c w w.placed l
+all_of_it c w at one nothing all l = by_kept (kept_or_none c l)
   where
-    by_kept : IsKept c l ⊎ ((es : List Entry) → points c l es ≡ []) → HoldsAll c w w.placed l
-    by_kept (inl k) = all_of_kept c w at all l k
+    by_kept : IsKept c l ⊎ ((es : List Entry) → logged_points c l es ≡ []) → HoldsAll c w w.placed l
+    by_kept (inl k) = all_of_kept c w at one all l k
     by_kept (inr none) = nothing l (none (log w)) ∙ ap (λ ps. map pair_of (owed w.names ps)) (sym (below_a_position c.rules (log w) l w.placed ∙ none (take w.placed (log w))))
 
 -- a report that is complete is of all that was placed
@@ -290,17 +216,17 @@ damaged_is w f e = by_killed w.killed e
     by_killed false e = by_drained (is_finished w && all_drained w) refl e
 
 pub in_order : (c : Setup) (events : List Event) → IsInOrder c (run c events (start c))
-in_order c events rises l = by_kept (kept_or_none c l)
+in_order c events l = by_kept (kept_or_none c l)
   where
-    by_kept : IsKept c l ⊎ ((es : List Entry) → points c l es ≡ []) → HoldsBeginning c (run c events (start c)) l
-    by_kept (inl k) = beginning c (run c events (start c)) (holds_at_end c events rises) l k
+    by_kept : IsKept c l ⊎ ((es : List Entry) → logged_points c l es ≡ []) → HoldsBeginning c (run c events (start c)) l
+    by_kept (inl k) = beginning c (run c events (start c)) (holds_at_end c events) (classes c events) l k
     by_kept (inr none) = nothing_held c (run c events (start c)) (others c events) l none
 
 pub all_when_complete : (c : Setup) (events : List Event) → IsWhole c (run c events (start c))
-all_when_complete c events end rises e l =
+all_when_complete c events end e l =
     let w : World = run c events (start c) in
     let is = complete_is w end e in
-    subst (λ (n : ℕ). HoldsAll c w n l) is.1 (all_of_it c w (holds_at_end c events rises) (others c events) is.0 l)
+    subst (λ (n : ℕ). HoldsAll c w n l) is.1 (all_of_it c w (holds_at_end c events) (classes c events) (others c events) is.0 l)
 
 pub all_when_damaged : (c : Setup) (events : List Event) → IsWholeBeforeDamage c (run c events (start c))
-all_when_damaged c events f rises e l = all_of_it c (run c events (start c)) (holds_at_end c events rises) (others c events) (damaged_is (run c events (start c)) f e) l
+all_when_damaged c events f e l = all_of_it c (run c events (start c)) (holds_at_end c events) (classes c events) (others c events) (damaged_is (run c events (start c)) f e) l

@@ -1,22 +1,23 @@
 -- `settle` comes to a report.
-use Rattle.std.proofs.Common.{◌≡◌, ℕ, zero, suc, ◌+◌, ◌-◌, ◌*◌, ◌<◌, ◌≤◌, ◌==◌, Bool, true, false, cond, List, [], ◌∷◌, ◌++◌, length, take, filter, Option, Some, None, is_some, slice_get, refl, sym, ap, ◌∙◌, subst, ◌||◌, ◌&&◌, not, nat_le, nat_lt, arith}
+use Rattle.std.proofs.Common.{◌≡◌, ℕ, zero, suc, ◌+◌, ◌-◌, ◌*◌, ◌<◌, ◌≤◌, ◌==◌, Bool, true, false, cond, List, [], ◌∷◌, ◌++◌, length, take, filter, Option, Some, None, is_some, slice_get, refl, sym, ap, ◌∙◌, subst, ◌||◌, ◌&&◌, not, nat_le, nat_lt, arith, ℤ}
 use Rattle.std.specs.List.{list_all, position_or_len}
 use Rattle.std.proofs.Math.Nat.{mod-lt}
 use Rattle.std.proofs.lemmas.Bool.{leb-true, lt-ltb, ltb-true}
 use Rattle.std.proofs.lemmas.Bool.Decides.{Decides-eqb}
 use Rattle.rw_schedule.proofs.Steps.{either, and_left, and_right, and_both, not_true, unless}
+use Rattle.rw_schedule.proofs.Classes.{classes}
 use Rattle.rw_schedule.proofs.Runs.{holds_at_end, all_of_it}
 use Rattle.rw_schedule.proofs.Others.{nil_of, others}
 use Rattle.rw_schedule.proofs.OrderRule.{cond_true, cond_false}
 use Rattle.rw_schedule.proofs.Invariant.{Inv, by_bool}
+use Rattle.rw_schedule.proofs.Places.{get_some}
 use Rattle.rw_schedule.proofs.Closed.{finished_end, Shape}
 use Rattle.rw_schedule.proofs.Live.{Live, live_act, live_at}
 use Rattle.rw_schedule.proofs.Measure.{shards_work, drain_work, work, new_work}
 use Rattle.rw_schedule.proofs.Rounds.{Round, acts, single, place_round, send_round, exchange_round, shard_round, frozen_less, taken_less, flush_less}
 use Rattle.rw_schedule.specs.declared.event.Event.TheVariants as event
 use Rattle.rw_codes.specs.Pieces.{entries, fault}
-use Rattle.rw_schedule.specs.Promises.{CanWork, EachRises, HoldsAll, HoldsNothingElse, IsSettled, Rises, SettleEnds}
-use Rattle.rw_series_cache.specs.Points.{kept_points}
+use Rattle.rw_schedule.specs.Promises.{CanWork, HasOneClassEach, HoldsAll, HoldsNothingElse, IsSettled, SettleEnds}
 use Rattle.rw_schedule.specs.Settling.{at_first, can_place, can_place_entry, can_place_known, exchange_at, first_of_these, made_at, next_events, room_at, settle, settle_events, settle_from, settle_if}
 use Rattle.rw_schedule.specs.Shards.{Shard, has_room, is_drained, pending, samples_in, shard_freeze, shard_take}
 use Rattle.rw_schedule.specs.Steps.{close, flush_shard, happens, restart_as, run, shard_of, unless_over}
@@ -24,6 +25,7 @@ use Rattle.rw_schedule.specs.Worlds.{Abandoned, Ending, Setup, World, all_draine
 use Rattle.rw_schedule.specs.declared.event.Event.{Event}
 use Rattle.rw_sender.specs.Shard.{can_take, is_due, is_empty}
 use Rattle.rw_series_cache.specs.Known.{Bad, Filtered, Kept, Standing, Unknown, known}
+use Rattle.rw_series_cache.specs.Rising.{rises}
 use Rattle.rw_series_cache.specs.Numbers.{number_of}
 use Rattle.rw_types.specs.Labels.{Labels}
 use Rattle.rw_types.specs.declared.entry.Entry.{Entry}
@@ -59,11 +61,6 @@ by_first P w p make rest some none = either (λ o. P (first_of_these (made_at ma
     (λ h. let at = hit p w.shards (ltb-true (position_or_len p w.shards) (length w.shards) h) in some (position_or_len p w.shards) at.0 at.1 at.2)
     (λ h. none (miss p w.shards (λ lt. off (sym (lt-ltb (position_or_len p w.shards) (length w.shards) lt) ∙ h))))
 
-get_some : {X : Type 0} (xs : List X) (n : ℕ) → n < length xs → (x : X) × (slice_get xs n ≡ Some x)
-get_some [] n lt = absurd (omega arith)
-get_some (x ∷ xs) zero lt = (x, refl)
-get_some (x ∷ xs) (suc n) lt = get_some xs n (omega arith)
-
 all_from : (p : Shard → Bool) (ss : List Shard) → ((i : ℕ) (s : Shard) → slice_get ss i ≡ Some s → p s ≡ true) → list_all p ss ≡ true
 all_from p [] h = refl
 all_from p (x ∷ ss) h = and_both (p x) (list_all p ss) (h zero x refl) (all_from p ss (λ i s e. h (suc i) s e))
@@ -87,6 +84,10 @@ or_false_left false b h = refl
 or_false_right : (a b : Bool) → (a || b) ≡ false → b ≡ false
 or_false_right true b h = off h
 or_false_right false b h = h
+
+or_right : (a b : Bool) → b ≡ true → (a || b) ≡ true
+or_right true b h = refl
+or_right false b h = h
 
 -- where no step of `settle` can be made but a restart
 module _ (c : Setup) (w : World) (can : CanWork c) (at : Live c w) (end : ℕ) (shut : w.closed ≡ Some end) (over : is_over w ≡ false)
@@ -117,21 +118,21 @@ module _ (c : Setup) (w : World) (can : CanWork c) (at : Live c w) (end : ℕ) (
   ending : (is_finished w || is_some w.draining) ≡ true
   ending = by_bool ((is_finished w || is_some w.draining) ≡ true) (is_finished w || is_some w.draining) (λ h. h) (λ h. absurd (stuck (or_false_left (is_finished w) (is_some w.draining) h) (or_false_right (is_finished w) (is_some w.draining) h)))
     where
-      space : (l : Labels) → can_place_known c w (Kept l) ≡ true
-      space l = by_some (get_some w.shards (shard_of w l) (mod-lt (number_of w.series l) (let le : 1 ≤ length w.shards = at.wide in omega arith)))
+      space : (l : Labels) (t : ℤ) → can_place_known c w t (Kept l) ≡ true
+      space l t = by_some (get_some w.shards (shard_of w l) (mod-lt (number_of w.series l) (let le : 1 ≤ length w.shards = at.wide in omega arith)))
         where
-          by_some : (s : Shard) × (slice_get w.shards (shard_of w l) ≡ Some s) → can_place_known c w (Kept l) ≡ true
-          by_some h = ap (room_at c) h.1 ∙ has_space (shard_of w l) h.0 h.1
+          by_some : (s : Shard) × (slice_get w.shards (shard_of w l) ≡ Some s) → can_place_known c w t (Kept l) ≡ true
+          by_some h = or_right (not (rises c.rules (take w.placed (log w)) l t)) (room_at c (slice_get w.shards (shard_of w l))) (ap (room_at c) h.1 ∙ has_space (shard_of w l) h.0 h.1)
 
-      by_known : (k : Standing) → can_place_known c w k ≡ true
-      by_known Unknown = refl
-      by_known (Bad f) = refl
-      by_known Filtered = refl
-      by_known (Kept l) = space l
+      by_known : (t : ℤ) (k : Standing) → can_place_known c w t k ≡ true
+      by_known t Unknown = refl
+      by_known t (Bad f) = refl
+      by_known t Filtered = refl
+      by_known t (Kept l) = space l t
 
       by_entry : (e : Entry) → can_place_entry c w (Some e) ≡ true
       by_entry (Def r l) = refl
-      by_entry (Sample r t word) = by_known (known c.rules (take w.placed (log w)) r)
+      by_entry (Sample r t word) = by_known t (known c.rules (take w.placed (log w)) r)
 
       stuck : is_finished w ≡ false → is_some w.draining ≡ false → ⊥
       stuck f d =
@@ -165,10 +166,6 @@ module _ (c : Setup) (w : World) (can : CanWork c) (at : Live c w) (end : ℕ) (
 
         no_builder : s.core.builder ≡ []
         no_builder = nil_of s.core.builder (by_bool (is_empty s.core.builder ≡ true) (is_empty s.core.builder) (λ h. h) (λ h. off (sym (or_right (nat_le s.core.full (length s.core.builder)) s.core.marked ((at.going i s e).closes ended h)) ∙ undue i s e)))
-          where
-            or_right : (a b : Bool) → b ≡ true → (a || b) ≡ true
-            or_right true b h = refl
-            or_right false b h = h
 
         nothing : pending s ≡ []
         nothing = (λ j. (nil_of s.core.batch (not_false (is_empty s.core.batch) (no_open i s e)) j ++ no_builder j) ++ samples_in (no_queue i s e j))
@@ -316,7 +313,7 @@ settle_ends c events can = (work u, λ n le. (settled n (rounds c n u can live (
       reports = reported v t.over;
       same_log = log_is;
       ending = λ alive. report_ended v (killed_is alive) (end_is alive) ∙ (λ i. Some (ended_as (fault (pieces_are i)) (place_is alive i)));
-      holds = λ alive rises l. subst (λ (m : ℕ). HoldsAll c v m l) (place_is alive) (all_there rises (and_right (is_finished v) (all_drained v) (end_is alive)) l);
+      holds = λ alive l. subst (λ (m : ℕ). HoldsAll c v m l) (place_is alive) (all_there (and_right (is_finished v) (all_drained v) (end_is alive)) l);
     }
       where
         v : World
@@ -343,5 +340,5 @@ settle_ends c events can = (work u, λ n le. (settled n (rounds c n u can live (
         whole : run c later (start c) ≡ v
         whole = run_append c events (settle_events c n w) (start c) ∙ sym (settle_runs c n w)
 
-        all_there : EachRises c w → all_drained v ≡ true → (l : Labels) → HoldsAll c v v.placed l
-        all_there rises all l = all_of_it c v (subst (Inv c) whole (holds_at_end c later (subst (λ es. (m : Labels) → Rises (kept_points c.rules es m)) (sym (ap (λ (x : World). log x) whole ∙ log_is)) rises))) (subst (HoldsNothingElse c) whole (others c later)) all l
+        all_there : all_drained v ≡ true → (l : Labels) → HoldsAll c v v.placed l
+        all_there all l = all_of_it c v (subst (Inv c) whole (holds_at_end c later)) (subst (HasOneClassEach c) whole (classes c later)) (subst (HoldsNothingElse c) whole (others c later)) all l

@@ -1,23 +1,27 @@
 -- What no shard holds any more is in the store, or named.
-use Rattle.std.proofs.Common.{◌≡◌, ℕ, zero, suc, ◌<◌, ◌≤◌, ◌==◌, Bool, true, false, cond, List, [], ◌∷◌, ◌++◌, length, map, take, Option, Some, None, is_none, slice_get, refl, sym, ap, ◌∙◌, subst, ℤ, ◌||◌, length-take-le, arith, inl, inr, ◌⊎◌}
+use Rattle.std.proofs.Common.{◌≡◌, ℕ, zero, suc, ◌<◌, ◌≤◌, ◌==◌, Bool, true, false, cond, List, [], ◌∷◌, ◌++◌, length, map, take, Option, Some, None, is_none, slice_get, refl, sym, ap, ◌∙◌, subst, ℤ, ◌||◌, ◌&&◌, length-take-le, arith, inl, inr, ◌⊎◌}
 use Rattle.std.specs.List.{list_any}
 use Rattle.std.proofs.lemmas.Bool.Decides.{Decides-eqb}
-use Rattle.rw_schedule.proofs.Steps.{either, is_same}
+use Rattle.rw_schedule.proofs.Steps.{and_both, either, is_same}
 use Rattle.rw_schedule.proofs.Others.{known_kept}
 use Rattle.rw_schedule.proofs.OrderRule.{cond_true, holds_append, holds_right, holds_own}
 use Rattle.rw_schedule.proofs.Places.{points_append}
-use Rattle.rw_schedule.proofs.Invariant.{Inv, as_points, waits, home}
+use Rattle.rw_schedule.proofs.Invariant.{Inv, as_points, waits, home, by_bool}
+use Rattle.rw_schedule.proofs.Classes.{classes}
+use Rattle.rw_schedule.proofs.Owed.{named_fallen}
 use Rattle.rw_schedule.proofs.Runs.{holds_at_end}
 use Rattle.std.specs.FinMap.{get}
 use Rattle.rw_recv_head.specs.Order.{holds}
 use Rattle.rw_recv_head.specs.Store.{list_of}
 use Rattle.rw_schedule.proofs.Views.{IsKept, Ledger, is_of, of, owed_by, pairs, point_of, points, points_from}
-use Rattle.rw_schedule.specs.Promises.{Point, StoresResolved, pair_of}
+use Rattle.rw_schedule.specs.Promises.{AccountedEntry, Point, StoresResolved, pair_of}
 use Rattle.rw_schedule.specs.Shards.{Shard, pending}
 use Rattle.rw_schedule.specs.Steps.{run}
 use Rattle.rw_schedule.specs.declared.event.Event.{Event}
 use Rattle.rw_schedule.specs.Worlds.{Setup, World, is_pending, log, start}
+use Rattle.rw_ledger.specs.declared.ledger.Reason.TheVariants.{NotRising}
 use Rattle.rw_series_cache.specs.Known.{Kept, known}
+use Rattle.rw_series_cache.specs.Rising.{rises}
 use Rattle.rw_shard_queue.specs.Items.{Placed}
 use Rattle.rw_types.specs.LabelOrder.{labels_eq}
 use Rattle.rw_types.specs.Labels.{Labels}
@@ -48,13 +52,13 @@ split_at (x ∷ log) p zero e h lt = absurd (omega arith)
 split_at (x ∷ log) zero (suc n) e h lt = let same : x ≡ e = cc in (take n log, ap (λ y. y ∷ take n log) same)
 split_at (x ∷ log) (suc p) (suc n) e h lt = let r = split_at log p n e h (omega arith) in (r.0, ap (λ es. x ∷ es) r.1)
 
--- a sample of the series is one of its points
-is_point : (c : Setup) (log : List Entry) (p n r : ℕ) (t : ℤ) (word : ℕ) (l : Labels) → p < n → length (take p log) ≡ p → slice_get log p ≡ Some (Sample r t word) → known c.rules (take p log) r ≡ Kept l → In (p, t, word) (points c l (take n log))
-is_point c log p n r t word l lt long e is_known =
+-- a sample of the series that rises is one of its points
+is_point : (c : Setup) (log : List Entry) (p n r : ℕ) (t : ℤ) (word : ℕ) (l : Labels) → p < n → length (take p log) ≡ p → slice_get log p ≡ Some (Sample r t word) → known c.rules (take p log) r ≡ Kept l → rises c.rules (take p log) l t ≡ true → In (p, t, word) (points c l (take n log))
+is_point c log p n r t word l lt long e is_known up =
     let split = split_at log p n (Sample r t word) e lt in
     let here : point_of c l (take p log) (Sample r t word) ≡ (p, t, word) ∷ [] =
-    ap (λ k. cond (is_of l k) ((length (take p log), t, word) ∷ []) []) is_known
-    ∙ cond_true (labels_eq l l) ((length (take p log), t, word) ∷ []) [] (is_same l l refl)
+    ap (λ k. cond (is_of l k && rises c.rules (take p log) l t) ((length (take p log), t, word) ∷ []) []) is_known
+    ∙ cond_true (labels_eq l l && rises c.rules (take p log) l t) ((length (take p log), t, word) ∷ []) [] (and_both (labels_eq l l) (rises c.rules (take p log) l t) (is_same l l refl) up)
     ∙ ap (λ (m : ℕ). (m, t, word) ∷ []) long in
     subst (λ es. In (p, t, word) (points c l es)) (sym split.1)
     (subst (In (p, t, word)) (sym (points_append c l (take p log) (Sample r t word ∷ split.0)))
@@ -94,13 +98,13 @@ any_at f (x ∷ ss) zero s e h = let same : x ≡ s = cc in or_here (f x) (list_
 any_at f (x ∷ ss) (suc i) s e h = or_true (f x) (list_any f ss) (any_at f ss i s e h)
 
 pub resolved_is_stored : (c : Setup) (events : List Event) → StoresResolved c (run c events (start c))
-resolved_is_stored c events rises p r t word l lt e is_known gone free = by_place (in_append q (at.done l) (as_points (of l (waits (slice_get w.shards (home at.width w.series l))))) (subst (In q) (at.mine l kept) (is_point c (log w) p w.placed r t word l lt long e is_known)))
+resolved_is_stored c events p r t word l lt e is_known gone free = by_place (in_append q (at.done l) (as_points (of l (waits (slice_get w.shards (home at.width w.series l))))) (subst (In q) (at.mine l kept) (is_point c (log w) p w.placed r t word l lt long e is_known up)))
   where
     w : World
     w = run c events (start c)
 
     at : Inv c w
-    at = holds_at_end c events rises
+    at = holds_at_end c events
 
     q : Point
     q = (p, t, word)
@@ -110,6 +114,11 @@ resolved_is_stored c events rises p r t word l lt e is_known gone free = by_plac
 
     long : length (take p (log w)) ≡ p
     long = length-take-le p (log w) (let le : w.placed ≤ length (log w) = at.placed_in in omega arith)
+
+    -- one that does not rise is named
+    up : rises c.rules (take p (log w)) l t ≡ true
+    up = by_bool (rises c.rules (take p (log w)) l t ≡ true) (rises c.rules (take p (log w)) l t) (λ h. h)
+        (λ falls. let named : get w.names p ≡ Some NotRising = named_fallen c w p r t word l (subst (AccountedEntry c w p) e ((classes c events p).0 lt)) is_known falls in let never : None ≡ Some NotRising → ⊥ = λ h. cc in absurd (never (sym free ∙ named)))
 
     by_shard : (o : Option Shard) → slice_get w.shards (home at.width w.series l) ≡ o → In q (as_points (of l (waits o))) → is_pending w p ≡ true
     by_shard None at_i h = absurd h

@@ -8,6 +8,7 @@ use Rattle.rw_types.specs.declared.entry.Entry.TheVariants.{Def, Sample}
 use Rattle.rw_relabel.specs.Rules.{keeps}
 use Rattle.rw_series_cache.specs.Known.{Standing, Unknown, Bad, Filtered, Kept, known}
 use Rattle.rw_series_cache.specs.Points.{kept_points}
+use Rattle.rw_series_cache.specs.Rising.{rises}
 use Rattle.rw_ledger.specs.declared.ledger.Reason.{Reason}
 use Rattle.rw_shard_queue.specs.Items.{Placed}
 use Rattle.rw_batch.specs.Grouping.{distinct}
@@ -17,14 +18,19 @@ use Rattle.rw_recv_head.specs.Verdicts.{LabelLimits, is_over}
 use Rattle.rw_schedule.specs.Shards.{Shard, with_core}
 use Rattle.rw_schedule.specs.Worlds.{Setup}
 use Rattle.rw_schedule.specs.Promises.{Point}
+use Rattle.rw_schedule.proofs.Risen.{risen}
 
 -- a label set that the rules keep
 abbrev pub IsKept : Setup → Labels → Type 0
 IsKept c l = (label_fault l ≡ None) × (keeps c.rules l ≡ true)
 
 -- its samples in a log
+abbrev pub logged_points : Setup → Labels → List Entry → List Point
+logged_points c l es = kept_points c.rules es l
+
+-- those of them that rise
 abbrev pub points : Setup → Labels → List Entry → List Point
-points c l es = kept_points c.rules es l
+points c l es = risen (logged_points c l es)
 
 abbrev pub is_of : Labels → Standing → Bool
 is_of l Unknown = false
@@ -32,10 +38,20 @@ is_of l (Bad f) = false
 is_of l Filtered = false
 is_of l (Kept m) = labels_eq l m
 
--- the sample that an entry adds to them, after the entries before it
+-- the sample that an entry adds to its samples, after the entries before it
+abbrev pub logged_of : Setup → Labels → List Entry → Entry → List Point
+logged_of c l before (Def r m) = []
+logged_of c l before (Sample r t word) = if is_of l (known c.rules before r) then (length before, t, word) ∷ [] else []
+
+-- those that further entries add
+abbrev pub logged_from : Setup → Labels → List Entry → List Entry → List Point
+logged_from c l before [] = []
+logged_from c l before (e ∷ es) = logged_of c l before e ++ logged_from c l (before ++ e ∷ []) es
+
+-- the sample that an entry adds to those that rise
 abbrev pub point_of : Setup → Labels → List Entry → Entry → List Point
 point_of c l before (Def r m) = []
-point_of c l before (Sample r t word) = if is_of l (known c.rules before r) then (length before, t, word) ∷ [] else []
+point_of c l before (Sample r t word) = if is_of l (known c.rules before r) && rises c.rules before l t then (length before, t, word) ∷ [] else []
 
 -- those that further entries add
 abbrev pub points_from : Setup → Labels → List Entry → List Entry → List Point

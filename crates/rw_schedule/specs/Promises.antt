@@ -1,5 +1,5 @@
 -- What every schedule keeps, in the words of the log, the rules, the named samples and the store.
-use Rattle.std.specs.Prelude.{◌≡◌, ◌⊎◌, ◌&&◌, if◌then◌else◌, ℕ, ◌<◌, ◌≤◌, ℤ, int_lt, Bool, true, false, List, [], ◌∷◌, ◌++◌, length, take, map, filter, Option, Some, None, is_none, slice_get}
+use Rattle.std.specs.Prelude.{◌≡◌, ◌⊎◌, ◌&&◌, if◌then◌else◌, ℕ, ◌<◌, ◌≤◌, ℤ, Bool, true, false, List, [], ◌∷◌, ◌++◌, length, take, map, filter, Option, Some, None, is_none, slice_get}
 use Rattle.std.specs.Ordering.{nat_cmp}
 use Rattle.std.specs.FinMap.{FinMap, get}
 use Rattle.rw_types.specs.Labels.{Labels}
@@ -9,8 +9,9 @@ use Rattle.rw_codes.specs.Pieces.{fault}
 use Rattle.rw_codes.specs.declared.tail_fault.TailFault.{TailFault}
 use Rattle.rw_series_cache.specs.Known.{Standing, Unknown, Bad, Filtered, Kept, known, label_fault_number}
 use Rattle.rw_series_cache.specs.Points.{kept_points, kept_points_below}
+use Rattle.rw_series_cache.specs.Rising.{rises}
 use Rattle.rw_ledger.specs.declared.ledger.Reason.{Reason}
-use Rattle.rw_ledger.specs.declared.ledger.Reason.TheVariants.{Status, BadLabels, NoSeries}
+use Rattle.rw_ledger.specs.declared.ledger.Reason.TheVariants.{Status, BadLabels, NoSeries, NotRising}
 use Rattle.rw_retry.specs.Judgements.{judgement_of}
 use Rattle.rw_retry.specs.declared.judgement.Judgement.{Judgement}
 use Rattle.rw_retry.specs.declared.judgement.Judgement.TheVariants.{Done, Again, Refused}
@@ -27,19 +28,6 @@ use Rattle.rw_schedule.specs.declared.event.Event.TheVariants as event
 -- a sample of a series in the log: its position, timestamp and word
 abbrev pub Point : Type 0
 Point = ℕ × ℤ × ℕ
-
-abbrev pub AllLater : ℤ → List Point → Type 0
-AllLater t [] = Unit {0}
-AllLater t (p ∷ ps) = (int_lt t p.1 ≡ true) × AllLater t ps
-
--- timestamps rise strictly
-abbrev pub Rises : List Point → Type 0
-Rises [] = Unit {0}
-Rises (p ∷ ps) = AllLater p.1 ps × Rises ps
-
--- in the log, the samples of each kept series rise
-abbrev pub EachRises : Setup → World → Type 0
-EachRises c w = (l : Labels) → Rises (kept_points c.rules (log w) l)
 
 -- what a store holds of a sample
 abbrev pub pair_of : Point → ℤ × ℕ
@@ -61,19 +49,19 @@ HoldsBeginning c w l = IsBeginningOf (list_of w.head.store l) (map pair_of (owed
 abbrev pub HoldsAll : Setup → World → ℕ → Labels → Type 0
 HoldsAll c w end l = list_of w.head.store l ≡ map pair_of (owed w.names (kept_points_below c.rules (log w) l end))
 
--- whatever the schedule: each series in order, each sample once, less the dropped ones
+-- whatever the schedule and the timestamps: each series in order, each sample once, less the dropped ones
 abbrev pub IsInOrder : Setup → World → Type 0
-IsInOrder c w = EachRises c w → (l : Labels) → HoldsBeginning c w l
+IsInOrder c w = (l : Labels) → HoldsBeginning c w l
 
 -- and all of it up to the position asked for, once complete
 abbrev pub IsWhole : Setup → World → Type 0
-IsWhole c w = (end : ℕ) → EachRises c w → report w ≡ Some (Complete end) → (l : Labels) → HoldsAll c w end l
+IsWhole c w = (end : ℕ) → report w ≡ Some (Complete end) → (l : Labels) → HoldsAll c w end l
 
 -- as where the log was found damaged behind what was placed
 abbrev pub IsWholeBeforeDamage : Setup → World → Type 0
-IsWholeBeforeDamage c w = (f : TailFault) → EachRises c w → report w ≡ Some (Damaged f) → (l : Labels) → HoldsAll c w w.placed l
+IsWholeBeforeDamage c w = (f : TailFault) → report w ≡ Some (Damaged f) → (l : Labels) → HoldsAll c w w.placed l
 
--- a label set that the rules do not keep holds nothing, whatever the timestamps
+-- a label set that the rules do not keep holds nothing
 abbrev pub HoldsNothingElse : Setup → World → Type 0
 HoldsNothingElse c w = (l : Labels) → kept_points c.rules (log w) l ≡ [] → list_of w.head.store l ≡ []
 
@@ -81,17 +69,23 @@ HoldsNothingElse c w = (l : Labels) → kept_points c.rules (log w) l ≡ [] →
 abbrev pub IsClosedForGood : Setup → World → Type 0
 IsClosedForGood c w = (i : ℕ) (s : Shard) → slice_get w.shards i ≡ Some s → (s.core.ended ≡ true) ⊎ (w.killed ≡ true) → happens c w (event.Take i) ≡ w
 
--- how a sample below `placed` is accounted for, by what is known of its reference there
-abbrev pub Accounted : Option Reason → Standing → Type 0
-Accounted named Unknown = named ≡ Some NoSeries
-Accounted named (Bad f) = named ≡ Some (BadLabels (label_fault_number f))
-Accounted named Filtered = named ≡ None
-Accounted named (Kept l) = (named ≡ None) ⊎ ((status : ℕ) × (named ≡ Some (Status status)))
+-- how a sample of a kept series is accounted for, by whether it rises
+abbrev pub AccountedKept : Option Reason → Bool → Type 0
+AccountedKept named true = (named ≡ None) ⊎ ((status : ℕ) × (named ≡ Some (Status status)))
+AccountedKept named false = named ≡ Some NotRising
+
+-- how a sample below `placed` is accounted for, by what is known of its reference there, and whether it rises in a series
+abbrev pub Accounted : Option Reason → (Labels → Bool) → Standing → Type 0
+Accounted named rising Unknown = named ≡ Some NoSeries
+Accounted named rising (Bad f) = named ≡ Some (BadLabels (label_fault_number f))
+Accounted named rising Filtered = named ≡ None
+Accounted named rising (Kept l) = AccountedKept named (rising l)
 
 abbrev pub AccountedEntry : Setup → World → ℕ → Option Entry → Type 0
 AccountedEntry c w p None = get w.names p ≡ None
 AccountedEntry c w p (Some (Def r l)) = get w.names p ≡ None
-AccountedEntry c w p (Some (Sample r t word)) = Accounted (get w.names p) (known c.rules (take p (log w)) r)
+AccountedEntry c w p (Some (Sample r t word)) =
+    Accounted (get w.names p) (λ l. rises c.rules (take p (log w)) l t) (known c.rules (take p (log w)) r)
 
 -- each position below `placed` is in one class, and no other is named
 abbrev pub HasOneClassEach : Setup → World → Type 0
@@ -121,16 +115,15 @@ abbrev pub HasOneBatchEachId : World → Type 0
 HasOneBatchEachId w = (i j : ℕ) (r q : Request) → slice_get w.requests i ≡ Some r → slice_get w.requests j ≡ Some q → r.id ≡ q.id → r.batch ≡ q.batch
 
 -- no batch is both taken and refused for good, in whatever order: two replies to one id never say so
--- (where timestamps fall, later samples can make a refused batch a repeat, which is taken)
 abbrev pub NeverTakesAndRefuses : Setup → World → Type 0
 NeverTakesAndRefuses c w =
-    EachRises c w → (i j : ℕ) (a b : Reply) → slice_get w.replies i ≡ Some a → slice_get w.replies j ≡ Some b → a.id ≡ b.id →
+    (i j : ℕ) (a b : Reply) → slice_get w.replies i ≡ Some a → slice_get w.replies j ≡ Some b → a.id ≡ b.id →
     judgement_of a.status ≡ Done → judgement_of b.status ≡ Refused → ⊥
 
 -- a placed sample of a kept series that no shard holds any more, and that is not named, is in the store
 abbrev pub StoresResolved : Setup → World → Type 0
 StoresResolved c w =
-    EachRises c w → (p r : ℕ) (t : ℤ) (word : ℕ) (l : Labels) → p < w.placed → slice_get (log w) p ≡ Some (Sample r t word) →
+    (p r : ℕ) (t : ℤ) (word : ℕ) (l : Labels) → p < w.placed → slice_get (log w) p ≡ Some (Sample r t word) →
     known c.rules (take p (log w)) r ≡ Kept l → is_pending w p ≡ false → get w.names p ≡ None → holds (t, word) (list_of w.head.store l) ≡ true
 
 -- a shard's lists: what was put is what was taken and what the queue holds; what was taken is what was resolved, the open batch and the
@@ -184,7 +177,7 @@ pub record IsSettled (c : Setup) (w v : World) : Type 0 where
   pub reports : (e : Ending) × (report v ≡ Some e)
   pub same_log : log v ≡ log w
   pub ending : w.killed ≡ false → report v ≡ Some (ended_as (fault w.pieces) (length (log w)))
-  pub holds : w.killed ≡ false → EachRises c w → (l : Labels) → HoldsAll c v (length (log w)) l
+  pub holds : w.killed ≡ false → (l : Labels) → HoldsAll c v (length (log w)) l
 
 -- enough rounds of `settle` come to a report, and more rounds add no event
 abbrev pub SettleEnds : Setup → World → Type 0

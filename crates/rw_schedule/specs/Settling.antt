@@ -1,9 +1,10 @@
 -- An orderly shutdown: the events that bring the machine to its report.
-use Rattle.std.specs.Prelude.{ℕ, zero, suc, Bool, true, false, not, ◌&&◌, ◌||◌, if◌then◌else◌, List, [], ◌∷◌, ◌++◌, length, take, Option, Some, None, is_some, slice_get}
+use Rattle.std.specs.Prelude.{ℕ, zero, suc, Bool, true, false, not, ◌&&◌, ◌||◌, if◌then◌else◌, List, [], ◌∷◌, ◌++◌, length, take, ℤ, Option, Some, None, is_some, slice_get}
 use Rattle.std.specs.List.{position}
 use Rattle.rw_types.specs.declared.entry.Entry.{Entry}
 use Rattle.rw_types.specs.declared.entry.Entry.TheVariants.{Def, Sample}
 use Rattle.rw_series_cache.specs.Known.{Standing, Unknown, Bad, Filtered, Kept, known}
+use Rattle.rw_series_cache.specs.Rising.{rises}
 use Rattle.rw_batch.specs.declared.batch.BatchId.{BatchId}
 use Rattle.rw_sender.specs.Shard.{is_empty, batch_id, same_id, is_due, can_take}
 use Rattle.rw_schedule.specs.Shards.{Shard, has_room}
@@ -41,16 +42,17 @@ abbrev pub room_at : Setup → Option Shard → Bool
 room_at c None = false
 room_at c (Some s) = has_room c.capacity s
 
-abbrev pub can_place_known : Setup → World → Standing → Bool
-can_place_known c w (Kept l) = room_at c (slice_get w.shards (shard_of w l))
-can_place_known c w Unknown = true
-can_place_known c w (Bad f) = true
-can_place_known c w Filtered = true
+-- a sample that does not rise needs no room
+abbrev pub can_place_known : Setup → World → ℤ → Standing → Bool
+can_place_known c w t (Kept l) = not (rises c.rules (take w.placed (log w)) l t) || room_at c (slice_get w.shards (shard_of w l))
+can_place_known c w t Unknown = true
+can_place_known c w t (Bad f) = true
+can_place_known c w t Filtered = true
 
 abbrev pub can_place_entry : Setup → World → Option Entry → Bool
 can_place_entry c w None = false
 can_place_entry c w (Some (Def r l)) = true
-can_place_entry c w (Some (Sample r t word)) = can_place_known c w (known c.rules (take w.placed (log w)) r)
+can_place_entry c w (Some (Sample r t word)) = can_place_known c w t (known c.rules (take w.placed (log w)) r)
 
 -- the guard of Place
 abbrev pub can_place : Setup → World → Bool

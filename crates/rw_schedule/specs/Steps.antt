@@ -7,10 +7,11 @@ use Rattle.rw_types.specs.declared.entry.Entry.{Entry}
 use Rattle.rw_types.specs.declared.entry.Entry.TheVariants.{Def, Sample}
 use Rattle.rw_series_cache.specs.Known.{Standing, Unknown, Bad, Filtered, Kept, standing_of, known, label_fault_number}
 use Rattle.rw_series_cache.specs.Numbers.{with_series, number_of}
+use Rattle.rw_series_cache.specs.Rising.{rises}
 use Rattle.rw_wal_tail.specs.declared.piece.Piece.{Piece}
 use Rattle.rw_wal_tail.specs.Fed.{piece_of}
 use Rattle.rw_ledger.specs.declared.ledger.Reason.{Reason}
-use Rattle.rw_ledger.specs.declared.ledger.Reason.TheVariants.{BadLabels, NoSeries}
+use Rattle.rw_ledger.specs.declared.ledger.Reason.TheVariants.{BadLabels, NoSeries, NotRising}
 use Rattle.rw_retry.specs.Judgements.{judgement_of}
 use Rattle.rw_shard_queue.specs.Items.{Placed}
 use Rattle.rw_shard_queue.specs.declared.item.Kind.TheVariants as kind
@@ -58,11 +59,16 @@ put_if_room c w i l t word (Some s) =
     if has_room c.capacity s then record w { shards = change i (shard_put (next_sample w i l t word s)) w.shards; placed = suc w.placed }
     else w
 
+-- a sample of a kept series is put where it rises, and named where it does not
+abbrev pub place_kept : Setup → World → Labels → ℤ → ℕ → Bool → World
+place_kept c w l t word true = put_if_room c w (shard_of w l) l t word (slice_get w.shards (shard_of w l))
+place_kept c w l t word false = record w { names = insert w.names w.placed NotRising; placed = suc w.placed }
+
 abbrev pub place_sample : Setup → World → ℤ → ℕ → Standing → World
 place_sample c w t word Unknown = record w { names = insert w.names w.placed NoSeries; placed = suc w.placed }
 place_sample c w t word (Bad f) = record w { names = insert w.names w.placed (BadLabels (label_fault_number f)); placed = suc w.placed }
 place_sample c w t word Filtered = record w { filtered = suc w.filtered; placed = suc w.placed }
-place_sample c w t word (Kept l) = put_if_room c w (shard_of w l) l t word (slice_get w.shards (shard_of w l))
+place_sample c w t word (Kept l) = place_kept c w l t word (rises c.rules (take w.placed (log w)) l t)
 
 abbrev pub place_entry : Setup → World → Option Entry → World
 place_entry c w None = w

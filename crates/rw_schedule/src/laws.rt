@@ -8,8 +8,8 @@ ghost use Rattle.rw_schedule.specs.Promises.{CanWork, IsInOrder, IsWhole, IsWhol
 ghost use Rattle.rw_schedule.specs.declared.event.Event.{Event};
 
 /// For each label set the receiving head holds a beginning of its logged samples in log order, each once, less exactly those that are
-/// named as dropped; once an orderly shutdown is complete it holds all of them up to the position asked for, and where the log is damaged
-/// all before the damage. Other label sets hold nothing.
+/// named as dropped, whatever their timestamps; once an orderly shutdown is complete it holds all of them up to the position asked for,
+/// and where the log is damaged all before the damage. Other label sets hold nothing.
 pub fn logged_samples_arrive_in_order()
     ensures in_order { (c : Setup) (events : List Event) → IsInOrder c (run c events (start c)) }
     ensures whole { (c : Setup) (events : List Event) → IsWhole c (run c events (start c)) }
@@ -22,7 +22,8 @@ pub fn closed_queues_hand_out_nothing()
     ensures { (c : Setup) (events : List Event) → IsClosedForGood c (run c events (start c)) }
 {}
 
-/// Each placed sample is in exactly one class: filtered, named with its reason, or owed to the receiver.
+/// Each placed sample is in exactly one class: filtered, named with its reason, or owed to the receiver. One of a kept series that does not
+/// rise is named so, and only such a one.
 pub fn each_sample_has_one_class()
     ensures classes { (c : Setup) (events : List Event) → HasOneClassEach c (run c events (start c)) }
     ensures filtered { (c : Setup) (events : List Event) → CountsFiltered c (run c events (start c)) }

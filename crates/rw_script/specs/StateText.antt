@@ -7,7 +7,7 @@ use Rattle.rw_codes.specs.Faults.{log_fault_number}
 use Rattle.rw_text.specs.LabelText.{labels_text}
 use Rattle.rw_text.specs.ValueText.{value_text}
 use Rattle.rw_ledger.specs.declared.ledger.Reason.{Reason}
-use Rattle.rw_ledger.specs.declared.ledger.Reason.TheVariants.{Status, BadLabels, NoSeries}
+use Rattle.rw_ledger.specs.declared.ledger.Reason.TheVariants.{Status, BadLabels, NoSeries, NotRising}
 use Rattle.rw_recv_head.specs.Order.{Point}
 use Rattle.rw_recv_head.specs.Store.{Store, list_of, label_sets}
 use Rattle.rw_sender.specs.declared.outcome.Outcome.{Outcome}
@@ -31,6 +31,7 @@ abbrev pub reason_text : Reason → List ℕ
 reason_text (Status status) = codes "status " ++ decimal status
 reason_text (BadLabels fault) = codes "labels " ++ decimal fault
 reason_text NoSeries = codes "noseries"
+reason_text NotRising = codes "notrising"
 
 -- `dropped POS REASON`
 abbrev pub dropped_text : ℕ × Reason → List ℕ

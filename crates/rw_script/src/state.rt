@@ -81,10 +81,11 @@ fn push_reason(out: &mut Vec<u8>, reason: Reason) -> Result<(), AllocError>
             push_number(out, fault as u64)
         }
         Reason::NoSeries => out.extend_from_slice(b"noseries"),
+        Reason::NotRising => out.extend_from_slice(b"notrising"),
     }
 }
 
-/// Adds the line of a dropped sample: `dropped POS status S`, `dropped POS labels N` or `dropped POS noseries`.
+/// Adds the line of a dropped sample: `dropped POS status S`, `dropped POS labels N`, `dropped POS noseries` or `dropped POS notrising`.
 pub fn push_dropped(out: &mut Vec<u8>, name: &(u64, Reason)) -> Result<(), AllocError>
     ensures ok { OnOk result (out.new.items ≡ out.old.items ++ dropped_text name.now) }
     ensures err { OnErr result (Grown out.old.items out.new.items) }

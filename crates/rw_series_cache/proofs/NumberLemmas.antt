@@ -1,10 +1,11 @@
 -- Numbers of series.
-use Rattle.std.proofs.Common.{◌≡◌, ℕ, ◌+◌, zero, suc, List, [], ◌∷◌, ◌++◌, Bool, true, false, not, cond, ◌||◌, refl, sym, ◌∙◌, ap, Some, slice_get, arith}
+use Rattle.std.proofs.Common.{◌≡◌, ℕ, ◌+◌, ◌≤◌, zero, suc, List, [], ◌∷◌, ◌++◌, length, length-append, Bool, true, false, not, cond, ◌||◌, refl, sym, ◌∙◌, ap, Some, slice_get, arith}
 use Rattle.std.specs.List.{list_any}
 use Rattle.rw_types.specs.Labels.{Labels}
 use Rattle.rw_types.specs.LabelOrder.{labels_eq, same_if_equal}
 use Rattle.rw_types.proofs.OrderLemmas.{equal_if_same}
-use Rattle.rw_series_cache.specs.Numbers.{number_of, HasNumber}
+use Rattle.rw_series_cache.specs.Known.{Standing, Unknown, Bad, Filtered, Kept}
+use Rattle.rw_series_cache.specs.Numbers.{number_of, HasNumber, with_series}
 
 -- past a series that is another one, numbers grow by one
 number_at_first : (x l : Labels) (xs : List Labels) → labels_eq l x ≡ true → number_of (x ∷ xs) l ≡ 0
@@ -81,3 +82,14 @@ new_number xs l h =
     let numbered = number_at_end xs l h in
     let stands : slice_get (xs ++ l ∷ []) (number_of (xs ++ l ∷ []) l) ≡ Some l = stands_there (xs ++ l ∷ []) l (any_at_end xs l) in
     record { numbered = sym numbered; stands = ap (slice_get (xs ++ l ∷ [])) (sym numbered) ∙ stands }
+
+-- a label set that is kept adds one series at most
+pub one_more_at_most : (s : List Labels) (is : Standing) → length (with_series s is) ≤ length s + 1
+one_more_at_most s Unknown = omega arith
+one_more_at_most s (Bad f) = omega arith
+one_more_at_most s Filtered = omega arith
+one_more_at_most s (Kept l) = by_test (list_any (labels_eq l) s)
+  where
+    by_test : (b : Bool) → length (cond b s (s ++ l ∷ [])) ≤ length s + 1
+    by_test true = omega arith
+    by_test false = omega (arith, length-append s (l ∷ []))

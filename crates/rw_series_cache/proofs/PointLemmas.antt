@@ -83,11 +83,11 @@ no_point : (b : Bool) (p : Point) → (b ≡ true → ⊥) → cond b (p ∷ [])
 no_point true p h = absurd (h refl)
 no_point false p h = refl
 
-has_labels-only : (l : Labels) (o : Option Labels) → has_labels l o ≡ true → o ≡ Some l
+pub has_labels-only : (l : Labels) (o : Option Labels) → has_labels l o ≡ true → o ≡ Some l
 has_labels-only l None e = absurd cc
 has_labels-only l (Some m) e = ap Some (same_if_equal m l e)
 
-both_kept : (f : Option LabelFault) (b : Bool) → (is_none f && b) ≡ true → (f ≡ None) × (b ≡ true)
+pub both_kept : (f : Option LabelFault) (b : Bool) → (is_none f && b) ≡ true → (f ≡ None) × (b ≡ true)
 both_kept None b e = (refl, e)
 both_kept (Some f) b e = absurd cc
 

@@ -1,5 +1,7 @@
 -- What a cache is, and what it keeps.
-use Rattle.std.specs.Prelude.{◌≡◌, ℕ, List, Bool, true, Option, None, Some}
+use Rattle.std.specs.Prelude.{◌≡◌, ℕ, ℤ, List, Bool, true, Option, None, Some}
+use Rattle.std.specs.Ordering.{nat_cmp}
+use Rattle.std.specs.FinMap.{FinMap}
 use Rattle.std.specs.Arc.{arc_value}
 use Rattle.std.specs.List.{list_any}
 use Rattle.std.specs.declared.alloc.Global.{Global}
@@ -13,10 +15,11 @@ use Rattle.rw_series_cache.specs.Numbers.{with_series, series_of, HasNumber}
 use Rattle.rw_series_cache.specs.declared.verdict.Verdict.{Verdict}
 use Rattle.rw_series_cache.specs.declared.verdict.Verdict.TheVariants as verdict
 
--- the rules, and the definitions that were taken
+-- the rules, the definitions that were taken, and the latest timestamp that was noted of each series, by its number
 pub record Taken : Type 0 where
   pub rules : List RuleConfig
   pub definitions : List Entry
+  pub noted : FinMap nat_cmp ℤ
 
 -- the rules, and the label sets that they have kept
 pub record Judged : Type 0 where

@@ -1,13 +1,16 @@
 //! The series of the references of a log.
 
-ghost use Rattle.std.specs.Prelude.{◌≡◌, ◌∷◌, ◌++◌, [], List, length, OnOk, OnErr};
+ghost use Rattle.std.specs.Prelude.{◌≡◌, ◌<◌, ◌∷◌, ◌++◌, [], List, length, true, OnOk, OnErr};
+ghost use Rattle.std.specs.FinMap as map;
 ghost use Rattle.rw_types.specs.declared.entry.Entry.{Entry};
 ghost use Rattle.rw_series_cache.specs.Known.{definitions_of};
 ghost use Rattle.rw_series_cache.specs.Numbers.{series_of};
 ghost use Rattle.rw_series_cache.specs.Found.{Answers};
+ghost use Rattle.rw_series_cache.specs.Rising.{is_after};
 
 use crate::known::Known;
 use crate::label_sets::LabelSets;
+use crate::timestamps::Timestamps;
 use crate::verdict::Verdict;
 use rw_history::History;
 use rw_relabel::Rules;
@@ -16,35 +19,42 @@ use std::alloc::{AllocError, Global};
 use std::collections::HashMap;
 use std::marker::Model;
 
-/// What the definitions of a log say of its references. Contracts see the rules and the definitions taken so far.
+/// What the definitions of a log say of its references, and the latest timestamp that was noted of each series. Contracts see the
+/// rules, the definitions taken so far, and what is noted.
 #[derive(Drop)]
 pub struct Cache {
     taken: History<Entry>,
     sets: LabelSets,
     verdicts: HashMap<u64, Verdict>,
+    latest: Timestamps,
 }
 
 impl Model for Cache {
-    ghost use Rattle.std.specs.Prelude.{nat_eq};
+    ghost use Rattle.std.specs.Prelude.{◌≤◌, length, nat_eq};
     ghost use Rattle.std.specs.HashMap.{get};
+    ghost use Rattle.std.specs.Coded.{codes};
+    ghost use Rattle.std.specs.FinMap as map;
     ghost use Rattle.rw_series_cache.specs.Cached.{Taken, IsCache};
 
     ghost Value = { Taken };
 
-    ghost view = { λ c. record { rules = c.sets.rules; definitions = c.taken } };
+    ghost coded = { Prim.hlevel (codes, map.code) };
 
-    ghost invariant = { λ c. IsCache c.sets.rules c.taken (get nat_eq c.verdicts) c.sets.series };
+    ghost view = { λ c. record { rules = c.sets.rules; definitions = c.taken; noted = c.latest.times } };
+
+    ghost invariant = { λ c. IsCache c.sets.rules c.taken (get nat_eq c.verdicts) c.sets.series × (length c.sets.series ≤ c.latest.places) };
 }
 
 impl Cache {
     /// A cache that has taken no definition. This takes no memory.
     pub fn new(alloc: Global, rules: Rules) -> Cache
-        ensures { result ≡ record { rules = rules; definitions = [] } }
+        ensures { result ≡ record { rules = rules; definitions = []; noted = map.empty } }
     {
         Cache {
             taken: History::new(),
             sets: LabelSets::new(alloc, rules),
             verdicts: HashMap::new(alloc),
+            latest: Timestamps::new(alloc),
         }
     }
 
@@ -54,8 +64,9 @@ impl Cache {
         ensures ok { OnOk result (self.new ≡ record self.old { definitions = self.old.definitions ++ Entry.Def reference labels ∷ [] }) }
         ensures err { OnErr result (self.new ≡ self.old) }
     {
-        // This room is all that the reference takes: once a label set has its number, nothing is refused any more.
+        // This room is all that the reference and its series take: once a label set has its number, nothing is refused any more.
         self.verdicts.reserve(1)?;
+        self.latest.make_place(self.sets.len())?;
         let verdict = self.sets.judge(&labels)?;
         self.verdicts.insert(reference, verdict)?;
         self.taken.push(&Entry::Def { reference, labels });
@@ -76,6 +87,26 @@ impl Cache {
             Some(Verdict::Filtered) => Known::Filtered,
             Some(Verdict::Kept(number)) => Known::Kept(*number as u64, self.sets.get(*number)),
         }
+    }
+
+    /// Whether nothing is noted of a series, or this timestamp, in milliseconds since the Unix epoch, is later. This takes no memory.
+    pub fn rises(&self, series: u64, t: i64) -> bool
+        requires within { series < length (series_of self.now.rules self.now.definitions) }
+        ensures { result ≡ is_after (map.get self.now.noted series) t }
+    {
+        match self.latest.get(series as usize) {
+            Some(last) => last < t,
+            None => true,
+        }
+    }
+
+    /// Notes this timestamp of a series. This takes no memory.
+    pub fn note(&mut self, series: u64, t: i64)
+        requires within { series < length (series_of self.old.rules self.old.definitions) }
+        requires rising { is_after (map.get self.old.noted series) t ≡ true }
+        ensures { self.new ≡ record self.old { noted = map.insert self.old.noted series t } }
+    {
+        self.latest.set(series as usize, t);
     }
 
     /// How many series the rules keep.

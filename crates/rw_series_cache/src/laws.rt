@@ -1,6 +1,8 @@
 //! Laws of what the entries of a log say of its series, for the crates that keep a cache beside a log.
 
-ghost use Rattle.std.specs.Prelude.{◌≡◌, ◌≢◌, ◌++◌, ◌∷◌, [], ℕ, ℤ, List, length, take};
+ghost use Rattle.std.specs.Prelude.{◌≡◌, ◌≢◌, ◌++◌, ◌∷◌, [], ℕ, ℤ, true, false, List, length, take};
+ghost use Rattle.std.specs.Ordering.{nat_cmp};
+ghost use Rattle.std.specs.FinMap.{FinMap, empty, insert};
 ghost use Rattle.rw_types.specs.Labels.{Labels};
 ghost use Rattle.rw_types.specs.declared.entry.Entry.{Entry};
 ghost use Rattle.rw_types.specs.declared.entry.Entry.TheVariants.{Def, Sample};
@@ -9,6 +11,7 @@ ghost use Rattle.rw_relabel.specs.Rules.{RuleConfig};
 ghost use Rattle.rw_series_cache.specs.Known.{Kept, standing_of, known, definitions_of};
 ghost use Rattle.rw_series_cache.specs.Numbers.{series_of, HasNumber};
 ghost use Rattle.rw_series_cache.specs.Points.{kept_points, kept_points_below};
+ghost use Rattle.rw_series_cache.specs.Rising.{rises, IsNoted};
 
 /// Samples change nothing of what is known.
 pub fn samples_define_nothing()
@@ -51,4 +54,20 @@ pub fn points_entry_by_entry()
 pub fn points_below_a_position()
     ensures { (rules : List RuleConfig) (entries : List Entry) (labels : Labels) (end : ℕ)
         → kept_points_below rules entries labels end ≡ kept_points rules (take end entries) labels }
+{}
+
+/// What is noted decides which samples rise, entry by entry: a sample that rises is noted, and nothing else.
+pub fn notes_entry_by_entry()
+    ensures first { (rules : List RuleConfig) → IsNoted rules [] empty }
+    ensures definition { (rules : List RuleConfig) (entries : List Entry) (reference : ℕ) (labels : Labels) (noted : FinMap nat_cmp ℤ)
+        → IsNoted rules entries noted → IsNoted rules (entries ++ Def reference labels ∷ []) noted }
+    ensures other { (rules : List RuleConfig) (entries : List Entry) (reference : ℕ) (t : ℤ) (word : ℕ) (noted : FinMap nat_cmp ℤ)
+        → ((labels : Labels) → known rules entries reference ≢ Kept labels) → IsNoted rules entries noted
+        → IsNoted rules (entries ++ Sample reference t word ∷ []) noted }
+    ensures falling { (rules : List RuleConfig) (entries : List Entry) (reference : ℕ) (t : ℤ) (word : ℕ) (labels : Labels) (noted : FinMap nat_cmp ℤ)
+        → known rules entries reference ≡ Kept labels → rises rules entries labels t ≡ false → IsNoted rules entries noted
+        → IsNoted rules (entries ++ Sample reference t word ∷ []) noted }
+    ensures rising { (rules : List RuleConfig) (entries : List Entry) (reference : ℕ) (t : ℤ) (word : ℕ) (labels : Labels) (number : ℕ) (noted : FinMap nat_cmp ℤ)
+        → known rules entries reference ≡ Kept labels → HasNumber (series_of rules entries) labels number → rises rules entries labels t ≡ true
+        → IsNoted rules entries noted → IsNoted rules (entries ++ Sample reference t word ∷ []) (insert noted number t) }
 {}

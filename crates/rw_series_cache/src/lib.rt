@@ -8,11 +8,12 @@ mod cache;
 mod known;
 mod label_sets;
 mod laws;
+mod timestamps;
 mod verdict;
 
 pub use cache::Cache;
 pub use known::Known;
 pub use laws::{
-    known_at_a_position, numbers_stay, points_below_a_position, points_entry_by_entry,
-    samples_define_nothing,
+    known_at_a_position, notes_entry_by_entry, numbers_stay, points_below_a_position,
+    points_entry_by_entry, samples_define_nothing,
 };

@@ -3,13 +3,12 @@ use Rattle.std.proofs.Common.{◌≡◌, inl, inr, ℕ, ℤ, zero, suc, ◌+◌,
 use Rattle.std.specs.Prelude.{◌%◌, Bool, true, false, set, slice_get, Option, Result, Ok, Err, OnOk, IfSome, is_err, is_some}
 use Rattle.rw_worker.specs.Transcript.{Exchange}
 use Rattle.rw_shipper.specs.declared.report.Report.{Report}
-use Rattle.rw_types.specs.Labels.{Labels}
 use Rattle.rw_types.specs.declared.entry.Entry.{Entry}
 use Rattle.rw_types.specs.declared.entry.Entry.TheVariants as entry
 use Rattle.rw_types.specs.declared.place.Place.{Place}
 use Rattle.rw_relabel.specs.Rules.{RuleConfig}
 use Rattle.rw_series_cache.specs.Known.{Standing, Unknown, Bad, Filtered, Kept, known}
-use Rattle.rw_series_cache.specs.Numbers.{series_of}
+use Rattle.rw_series_cache.specs.Rising.{rises}
 use Rattle.rw_shard_queue.specs.Items.{places_in}
 use Rattle.rw_shard_queue.specs.declared.item.Kind.TheVariants.{Reshard}
 use Rattle.rw_fleet.specs.Lanes.{Lane, AreFresh, AreSame, IsPut, marks_of}
@@ -20,7 +19,7 @@ use Rattle.rw_fleet.specs.declared.joined.Finished.{Finished}
 use Rattle.rw_fleet.specs.declared.joined.Joined.{Joined}
 use Rattle.rw_feeder.specs.declared.logged.Logged.{Logged}
 use Rattle.rw_feeder.specs.Feeders.{Sorting, HasPlaced, HasRead, sent_by}
-use Rattle.rw_feeder.specs.Logs.{Sent, gather_from, sent_as, sent_of, sent}
+use Rattle.rw_feeder.specs.Logs.{Sent, gather_from, kept_sample, sent_where, sent_as, sent_of, sent}
 use Rattle.rw_shipper.specs.Placement.{shard_of, IsPlacing, ArePlaced}
 use Rattle.rw_codes.specs.Pieces.{Piece, reading}
 use Rattle.rw_codes.specs.Segments.{segment}
@@ -130,18 +129,22 @@ module _ {T : Type 0} where
   pub put_marks : (k : ℕ) (l : Logged) (was now : Shards T) → IsPut k l was.current now.current → map marks_of now.current ≡ map marks_of was.current
   put_marks k l was now put = ap (map marks_of) put.is ∙ marks_set was.current k put.was put.now put.at put.marks
 
-sent_as_pos : (pos : ℕ) (series : List Labels) (t : ℤ) (word : ℕ) (k : Standing) (x : Sent) → sent_as pos series t word k ≡ x ∷ [] → pos ≡ x.pos
-sent_as_pos pos series t word (Kept l) x is = ap (λ (s : Sent). s.pos) (first _ x is)
+sent_where_pos : (b : Bool) (s x : Sent) → sent_where b s ≡ x ∷ [] → s.pos ≡ x.pos
+sent_where_pos true s x is = ap (λ (y : Sent). y.pos) (first s x is)
   where
     first : (a b : Sent) → a ∷ [] ≡ b ∷ [] → a ≡ b
     first a b e = cc
-sent_as_pos pos series t word Unknown x is = absurd (cc)
-sent_as_pos pos series t word (Bad f) x is = absurd (cc)
-sent_as_pos pos series t word Filtered x is = absurd (cc)
+sent_where_pos false s x is = absurd (cc)
+
+sent_as_pos : (rules : List RuleConfig) (before : List Entry) (t : ℤ) (word : ℕ) (k : Standing) (x : Sent) → sent_as rules before t word k ≡ x ∷ [] → length before ≡ x.pos
+sent_as_pos rules before t word (Kept l) x is = sent_where_pos (rises rules before l t) (kept_sample rules before t word l) x is
+sent_as_pos rules before t word Unknown x is = absurd (cc)
+sent_as_pos rules before t word (Bad f) x is = absurd (cc)
+sent_as_pos rules before t word Filtered x is = absurd (cc)
 
 sent_pos : (rules : List RuleConfig) (before : List Entry) (e : Entry) (x : Sent) → sent_of rules before e ≡ x ∷ [] → length before ≡ x.pos
 sent_pos rules before (entry.Def reference labels) x is = absurd (cc)
-sent_pos rules before (entry.Sample reference t word) x is = sent_as_pos (length before) (series_of rules before) t word (known rules before reference) x is
+sent_pos rules before (entry.Sample reference t word) x is = sent_as_pos rules before t word (known rules before reference) x is
 
 module _ {T : Type 0} where
   -- a sample stands behind all that were put before it

@@ -42,10 +42,11 @@ fn place_entry<C: Connect + Drop, R: Wait>(
         return Ok(());
     };
     let shard = (sample.series % fleet.len() as u64) as usize;
+    let (series, t) = (sample.series, sample.t);
     if let Err(fault) = fleet.put(rt, shard, sample) {
         return Err(fault);
     }
-    feeder.sent();
+    feeder.sent(series, t);
     Ok(())
 }
 

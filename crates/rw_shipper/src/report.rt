@@ -8,7 +8,7 @@ use rw_sender::Outcome;
 #[derive(Drop)]
 pub struct Report<T> {
     pub outcome: Outcome,
-    /// The samples that have no series, or one whose labels are no label set; and then, for each of the workers, its refused samples.
+    /// The samples that have no series, or one whose labels are no label set, or that do not rise in their series; and then, for each of the workers, its refused samples.
     pub parts: Vec<Ledger>,
     /// How many samples were placed whose series the rules drop.
     pub filtered: u64,

@@ -1,5 +1,5 @@
 -- A round of an orderly shutdown.
-use Rattle.std.proofs.Common.{◌≡◌, ℕ, suc, zero, ◌+◌, ◌%◌, ◌<◌, Bool, true, false, not, ◌||◌, ◌&&◌, cond, List, [], ◌∷◌, ◌++◌, length, take, get_or, Option, None, Some, is_some, refl, sym, ap, subst, ◌∙◌, arith}
+use Rattle.std.proofs.Common.{◌≡◌, ℕ, ℤ, suc, zero, ◌+◌, ◌%◌, ◌<◌, Bool, true, false, not, ◌||◌, ◌&&◌, cond, List, [], ◌∷◌, ◌++◌, length, take, get_or, Option, None, Some, is_some, refl, sym, ap, subst, ◌∙◌, arith}
 use Rattle.std.proofs.lemmas.Bool.{ltb-true}
 use Rattle.std.proofs.lemmas.List.{take_more, map-append}
 use Rattle.std.specs.Prelude.{slice_get, nat_lt}
@@ -7,6 +7,7 @@ use Rattle.std.specs.List.{position, position_or_len}
 use Rattle.rw_batch.specs.declared.batch.BatchId.{BatchId}
 use Rattle.rw_series_cache.specs.Known.{Standing, Kept, known}
 use Rattle.rw_series_cache.specs.Numbers.{number_of}
+use Rattle.rw_series_cache.specs.Rising.{rises}
 use Rattle.rw_types.specs.Labels.{Labels}
 use Rattle.rw_types.specs.declared.entry.Entry.{Entry}
 use Rattle.rw_types.specs.declared.entry.Entry.TheVariants.{Def, Sample}
@@ -110,10 +111,27 @@ room_same c None = refl
 room_same c (Some s) = refl
 
 -- a kept sample may be placed where its shard has room
-pub kept_placed : (c : Setup) (w : World) (l : Labels) (st : Standing) (number n : ℕ) (b : Bool) → Kept l ≡ st → number ≡ number_of w.series l → n ≡ length w.shards → b ≡ room_at c.capacity (slice_get w.shards (number % n)) → b ≡ can_place_known c w st
-kept_placed c w l st number n b known is len room =
+not_or : (a b : Bool) → a ≡ false → true ≡ (not a || b)
+not_or true b e = absurd (cc)
+not_or false b e = refl
+
+or_room : (a b : Bool) → a ≡ true → b ≡ (not a || b)
+or_room true b e = refl
+or_room false b e = absurd (cc)
+
+-- a sample that does not rise needs no room
+pub falls_placed : (c : Setup) (w : World) (t : ℤ) (l : Labels) (st : Standing) → Kept l ≡ st → rises c.rules (take w.placed (log w)) l t ≡ false → true ≡ can_place_known c w t st
+falls_placed c w t l st known falls =
+    not_or (rises c.rules (take w.placed (log w)) l t) (settling.room_at c (slice_get w.shards (shard_of w l))) falls ∙ ap (can_place_known c w t) known
+
+-- one that rises needs room in the queue of its series' shard
+pub rising_placed : (c : Setup) (w : World) (t : ℤ) (l : Labels) (st : Standing) (number n : ℕ) (b : Bool) → Kept l ≡ st → number ≡ number_of w.series l → n ≡ length w.shards →
+    rises c.rules (take w.placed (log w)) l t ≡ true → b ≡ room_at c.capacity (slice_get w.shards (number % n)) → b ≡ can_place_known c w t st
+rising_placed c w t l st number n b known is len rising room =
     let here : number % n ≡ shard_of w l = ap (λ k. k % n) is ∙ ap (λ k. number_of w.series l % k) len in
-    room ∙ ap (λ k. room_at c.capacity (slice_get w.shards k)) here ∙ room_same c (slice_get w.shards (shard_of w l)) ∙ ap (can_place_known c w) known
+    room ∙ ap (λ k. room_at c.capacity (slice_get w.shards k)) here ∙ room_same c (slice_get w.shards (shard_of w l))
+    ∙ or_room (rises c.rules (take w.placed (log w)) l t) (settling.room_at c (slice_get w.shards (shard_of w l))) rising
+    ∙ ap (can_place_known c w t) known
 
 entry_none : (c : Setup) (w : World) (o : Option Entry) → ahead_of o ≡ ahead.Nothing → can_place_entry c w o ≡ false
 entry_none c w None e = refl
@@ -125,13 +143,15 @@ entry_defined c w None e = absurd (cc)
 entry_defined c w (Some (Def r l)) e = refl
 entry_defined c w (Some (Sample r t word)) e = absurd (cc)
 
-same_reference : (r s : ℕ) → ahead.Sample r ≡ ahead.Sample s → r ≡ s
-same_reference r s e = cc
+same_sample : (r s : ℕ) (t u : ℤ) → ahead.Sample r t ≡ ahead.Sample s u → (r ≡ s) × (t ≡ u)
+same_sample r s t u e = (cc, cc)
 
-entry_sampled : (c : Setup) (w : World) (o : Option Entry) (r : ℕ) → ahead_of o ≡ ahead.Sample r → can_place_entry c w o ≡ can_place_known c w (known c.rules (take w.placed (log w)) r)
-entry_sampled c w None r e = absurd (cc)
-entry_sampled c w (Some (Def s l)) r e = absurd (cc)
-entry_sampled c w (Some (Sample s t word)) r e = ap (λ k. can_place_known c w (known c.rules (take w.placed (log w)) k)) (same_reference s r e)
+entry_sampled : (c : Setup) (w : World) (o : Option Entry) (r : ℕ) (t : ℤ) → ahead_of o ≡ ahead.Sample r t → can_place_entry c w o ≡ can_place_known c w t (known c.rules (take w.placed (log w)) r)
+entry_sampled c w None r t e = absurd (cc)
+entry_sampled c w (Some (Def s l)) r t e = absurd (cc)
+entry_sampled c w (Some (Sample s u word)) r t e =
+    let same = same_sample s r u t e in
+    ap (λ k. can_place_known c w u (known c.rules (take w.placed (log w)) k)) same.0 ∙ ap (λ k. can_place_known c w k (known c.rules (take w.placed (log w)) r)) same.1
 
 stops : (a b : Bool) → a ≡ true → false ≡ (not a && b)
 stops true b e = refl
@@ -154,8 +174,8 @@ place_none c w d e = sym (entry_none c w (slice_get (log w) w.placed) e) ∙ pla
 pub place_defined : (c : Setup) (w : World) → is_some w.draining ≡ false → ahead_of (slice_get (log w) w.placed) ≡ ahead.Definition → true ≡ can_place c w
 place_defined c w d e = sym (entry_defined c w (slice_get (log w) w.placed) e) ∙ place_goes c w d
 
-pub place_sampled : (c : Setup) (w : World) (r : ℕ) → is_some w.draining ≡ false → ahead_of (slice_get (log w) w.placed) ≡ ahead.Sample r → can_place_known c w (known c.rules (take w.placed (log w)) r) ≡ can_place c w
-place_sampled c w r d e = sym (entry_sampled c w (slice_get (log w) w.placed) r e) ∙ place_goes c w d
+pub place_sampled : (c : Setup) (w : World) (r : ℕ) (t : ℤ) → is_some w.draining ≡ false → ahead_of (slice_get (log w) w.placed) ≡ ahead.Sample r t → can_place_known c w t (known c.rules (take w.placed (log w)) r) ≡ can_place c w
+place_sampled c w r t d e = sym (entry_sampled c w (slice_get (log w) w.placed) r t e) ∙ place_goes c w d
 
 -- what is left where nothing may be placed, no batch is open, no builder is due and nothing may be taken
 abbrev pub after_taking : Setup → World → List Event

@@ -17,7 +17,7 @@ use Rattle.rw_world.specs.declared.round.Next.TheVariants as next
 abbrev pub ahead_of : Option Entry → Ahead
 ahead_of None = ahead.Nothing
 ahead_of (Some (Def r l)) = ahead.Definition
-ahead_of (Some (Sample r t word)) = ahead.Sample r
+ahead_of (Some (Sample r t word)) = ahead.Sample r t
 
 -- the events of a round
 abbrev pub events_of : Next → List Event

@@ -39,8 +39,8 @@ impl Model for Log {
 pub(crate) enum Ahead {
     Nothing,
     Definition,
-    /// A sample of this reference.
-    Sample(u64),
+    /// A sample of this reference, and its timestamp.
+    Sample(u64, i64),
 }
 
 /// What an entry is.
@@ -49,7 +49,7 @@ fn ahead_of(entry: &Entry) -> Ahead
 {
     match entry {
         Entry::Def { .. } => Ahead::Definition,
-        Entry::Sample { reference, .. } => Ahead::Sample(*reference),
+        Entry::Sample { reference, t, .. } => Ahead::Sample(*reference, *t),
     }
 }
 

@@ -1,14 +1,14 @@
 //! The next entry of the log is placed.
 
-ghost use Rattle.std.specs.Prelude.{◌≡◌, ◌<◌, ◌^◌, suc, List, Some, slice_get, IfOk, OnOk, OnErr};
+ghost use Rattle.std.specs.Prelude.{◌≡◌, ◌<◌, ◌^◌, suc, true, List, Some, slice_get, IfOk, OnOk, OnErr};
 ghost use Rattle.rw_types.specs.declared.entry.Entry.{Entry};
 ghost use Rattle.std.specs.FinMap.{insert};
-ghost use Rattle.rw_series_cache.specs.Known.{Kept, known, label_fault_number, definitions_of};
+ghost use Rattle.rw_series_cache.specs.Known.{known, label_fault_number, definitions_of};
 ghost use Rattle.rw_series_cache.specs.Numbers.{series_of, number_of};
 ghost use Rattle.rw_codes.specs.Pieces.{entries};
-ghost use Rattle.rw_schedule.specs.Steps.{place, place_entry, place_sample};
+ghost use Rattle.rw_schedule.specs.Steps.{place, place_entry, place_kept};
 ghost use Rattle.rw_world.specs.Places.{standing_found, IsNumbered};
-ghost use Rattle.rw_world.specs.Machine.{IsSampleNext};
+ghost use Rattle.rw_world.specs.Machine.{IsPassedNext, IsRisingNext};
 
 use crate::engine::Engine;
 use rw_ledger::Reason;
@@ -47,6 +47,7 @@ fn label_fault_number(fault: LabelFault) -> u8
 fn find(cache: &Cache, reference: u64) -> Result<Found, AllocError>
     ensures standing { (entries : List Entry) → definitions_of entries ≡ cache.now.definitions → IfOk result (λ f. standing_found f ≡ known cache.now.rules entries reference) }
     ensures number { IfOk result (λ f. IsNumbered (series_of cache.now.rules cache.now.definitions) f) }
+    ensures numbered { (entries : List Entry) → definitions_of entries ≡ cache.now.definitions → IfOk result (λ f. IsNumbered (series_of cache.now.rules entries) f) }
 {
     match cache.look(reference) {
         Known::Unknown => Ok(Found::Unknown),
@@ -71,7 +72,7 @@ impl Engine {
 
     /// The next entry is a sample that is dropped.
     fn name_next(&mut self, reason: Reason) -> Result<(), AllocError>
-        requires next { IsSampleNext self.old.world }
+        requires next { IsPassedNext self.old }
         requires small { self.old.world.placed < 2 ^ 60 }
         ensures ok { OnOk result (self.new ≡ record self.old { world = record self.old.world { names = insert self.old.world.names self.old.world.placed reason; placed = suc self.old.world.placed } }) }
         ensures err { OnErr result (self.new ≡ self.old) }
@@ -83,7 +84,7 @@ impl Engine {
 
     /// The next entry is a sample that the rules drop.
     fn filter_next(&mut self)
-        requires next { IsSampleNext self.old.world }
+        requires next { IsPassedNext self.old }
         requires small { self.old.world.placed < 2 ^ 60 }
         ensures { self.new ≡ record self.old { world = record self.old.world { filtered = suc self.old.world.filtered; placed = suc self.old.world.placed } } }
     {
@@ -91,7 +92,7 @@ impl Engine {
         self.placed += 1;
     }
 
-    /// The next entry is a sample of the series of this number.
+    /// The next entry is a sample of the series of this number, and rises. It is noted once it was put.
     fn put_next(
         &mut self,
         number: u64,
@@ -99,10 +100,10 @@ impl Engine {
         word: Word,
         labels: Arc<LabelSet>,
     ) -> Result<(), AllocError>
-        requires next { IsSampleNext self.old.world }
+        requires next { IsRisingNext self.old number t labels.value }
         requires small { self.old.world.placed < 2 ^ 60 }
         requires number { number ≡ number_of self.old.world.series labels.value }
-        ensures ok { OnOk result (self.new ≡ record self.old { world = place_sample self.old.setup self.old.world t word (Kept labels.value) }) }
+        ensures ok { OnOk result (self.new ≡ record self.old { world = place_kept self.old.setup self.old.world labels.value t word true }) }
         ensures err { OnErr result (self.new ≡ self.old) }
     {
         let i = (number % self.senders.len() as u64) as usize;
@@ -110,6 +111,7 @@ impl Engine {
             return Ok(());
         }
         self.senders.put(i, self.placed, number, t, word, labels)?;
+        self.cache.note(number, t);
         self.placed += 1;
         Ok(())
     }
@@ -127,7 +129,13 @@ impl Engine {
                 self.filter_next();
                 Ok(())
             }
-            Found::Kept(number, labels) => self.put_next(number, t, word, labels),
+            Found::Kept(number, labels) => {
+                if self.cache.rises(number, t) {
+                    self.put_next(number, t, word, labels)
+                } else {
+                    self.name_next(Reason::NotRising)
+                }
+            }
         }
     }
 

@@ -56,9 +56,9 @@ fn newest(requests: &[Sent], id: BatchId) -> u64
 }
 
 impl Engine {
-    /// Whether a sample of this reference may be placed.
-    fn can_place_known(&self, reference: u64) -> bool
-        ensures { result ≡ can_place_known self.now.setup self.now.world (known self.now.setup.rules (take self.now.world.placed (entries self.now.world.pieces)) reference) }
+    /// Whether a sample of this reference and timestamp may be placed: one that does not rise needs no room.
+    fn can_place_known(&self, reference: u64, t: i64) -> bool
+        ensures { result ≡ can_place_known self.now.setup self.now.world t (known self.now.setup.rules (take self.now.world.placed (entries self.now.world.pieces)) reference) }
     {
         match self.cache.look(reference) {
             Known::Unknown => true,
@@ -66,7 +66,7 @@ impl Engine {
             Known::Filtered => true,
             Known::Kept(number, _) => {
                 let i = (number % self.senders.len() as u64) as usize;
-                self.senders.has_room(i)
+                !self.cache.rises(number, t) || self.senders.has_room(i)
             }
         }
     }
@@ -81,7 +81,7 @@ impl Engine {
         match self.log.ahead(self.placed) {
             Ahead::Nothing => false,
             Ahead::Definition => true,
-            Ahead::Sample(reference) => self.can_place_known(reference),
+            Ahead::Sample(reference, t) => self.can_place_known(reference, t),
         }
     }
 

@@ -6,7 +6,7 @@ use std::test::Fail;
 /// What a schedule shows, its settings, its script and the state at its end.
 type Row<'a> = (&'a str, &'a str, &'a str, &'a str);
 
-const ROWS: [Row<'_>; 16] = [
+const ROWS: [Row<'_>; 20] = [
     (
         "settle alone",
         "",
@@ -312,6 +312,79 @@ segment
 settle
 "#,
         "filtered 0\nreport damaged 8\n",
+    ),
+    (
+        "samples of a series that do not rise",
+        "",
+        r#"log series 1 {__name__="up"}
+log sample 1 10 1
+log sample 1 10 1
+log sample 1 5 2
+log sample 1 20 3
+settle
+"#,
+        r#"received {__name__="up"} 10=1 20=3
+dropped 2 notrising
+dropped 3 notrising
+filtered 0
+report complete 5
+"#,
+    ),
+    (
+        "two references of a series, of which the second is behind",
+        "",
+        r#"log series 1 {__name__="up"}
+log series 2 {__name__="up"}
+log sample 1 20 1
+log sample 2 10 2
+settle
+"#,
+        r#"received {__name__="up"} 20=1
+dropped 3 notrising
+filtered 0
+report complete 4
+"#,
+    ),
+    (
+        "what is noted outlives a reshard",
+        "",
+        r#"log series 1 {__name__="up"}
+log sample 1 10 1
+place
+place
+reshard 3
+log sample 1 10 2
+log sample 1 20 3
+settle
+"#,
+        r#"received {__name__="up"} 10=1 20=3
+dropped 2 notrising
+filtered 0
+report complete 4
+"#,
+    ),
+    (
+        "a sample that does not rise needs no room, and one that finds none is not noted",
+        "[send]\ncapacity = 1\n",
+        r#"log series 1 {__name__="up"}
+log sample 1 10 1
+log sample 1 10 2
+log sample 1 20 3
+log sample 1 20 4
+place
+place
+place
+place
+place
+take 0
+place
+place
+"#,
+        r#"dropped 2 notrising
+dropped 4 notrising
+filtered 0
+report running
+"#,
     ),
 ];
 

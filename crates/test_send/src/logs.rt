@@ -8,6 +8,14 @@ use std::test::Fail;
 /// One sample, the value 1 at 1000 of `{__name__="up"}`.
 pub(crate) const UP: &[u8] = b"series 1 {__name__=\"up\"}\nsample 1 1000 1\n";
 
+/// Of the samples of one series the second and the third do not rise.
+pub(crate) const FALLS: &[u8] =
+    b"series 1 {__name__=\"up\"}\nsample 1 10 1\nsample 1 10 1\nsample 1 5 2\nsample 1 20 3\n";
+
+/// Two references stand for one series, and the second is behind.
+pub(crate) const BEHIND: &[u8] =
+    b"series 1 {__name__=\"up\"}\nseries 2 {__name__=\"up\"}\nsample 1 20 1\nsample 2 10 2\n";
+
 /// The segment of log text.
 pub(crate) fn segment(alloc: Global, text: &[u8]) -> Result<Vec<u8>, Fail> {
     let mut reader = text;

@@ -1,6 +1,6 @@
 //! A sender and a receiver in one process, over the loopback interface.
 
-use crate::logs::{UP, segment};
+use crate::logs::{BEHIND, FALLS, UP, segment};
 use crate::runs::sent;
 use rw_receive::run_receive;
 use rw_send::TcpConnect;
@@ -42,37 +42,56 @@ fn received<R: Threads + Wait + Sync>(
     Ok(writer.into_bytes())
 }
 
-/// The receiver is busy for the first connections, and takes the sample of the last one.
+/// The settings of both, the connections, the log, and what the sender and the receiver print.
+type Row<'a> = (&'a [u8], Bounded<1, 1_000>, &'a [u8], &'a [u8], &'a [u8]);
+
+/// A receiver that is busy for the first connection takes the sample of the second one. Samples that do not rise are named and not sent.
 #[test]
 fn what_is_sent_is_received(rt: HostRuntime) -> Result<(), Fail> {
     let alloc = rt.alloc();
-    let rows: [(&[u8], Bounded<1, 1_000>); 2] = [
-        (b"", Bounded::of(1)),
-        (b"[receive]\nbusy_first = 1\n", Bounded::of(2)),
+    let complete: &[u8] = b"filtered 0\nreport complete 2\n";
+    let up: &[u8] = b"received {__name__=\"up\"} 1000=1\n";
+    let rows: [Row<'_>; 4] = [
+        (b"", Bounded::of(1), UP, complete, up),
+        (
+            b"[receive]\nbusy_first = 1\n",
+            Bounded::of(2),
+            UP,
+            complete,
+            up,
+        ),
+        (
+            b"",
+            Bounded::of(1),
+            FALLS,
+            b"dropped 2 notrising\ndropped 3 notrising\nfiltered 0\nreport complete 5\n",
+            b"received {__name__=\"up\"} 10=1 20=3\n",
+        ),
+        (
+            b"[send]\nshards = 3\n",
+            Bounded::of(1),
+            BEHIND,
+            b"dropped 3 notrising\nfiltered 0\nreport complete 4\n",
+            b"received {__name__=\"up\"} 20=1\n",
+        ),
     ];
-    for (settings, connections) in rows {
+    for (settings, connections, text, printed, held) in rows {
         let listener = TcpListener::bind(&rt, "127.0.0.1:0")?;
         let connect = connect_to(rt, alloc, &listener)?;
-        let log = segment(alloc, UP)?;
+        let log = segment(alloc, text)?;
         let segments = vec![in alloc; log.as_slice()]?;
-        let standard = read_settings(alloc, b"")?;
+        let configured = read_settings(alloc, settings)?;
         let (received, run) = thread::join(
             &rt,
             || received(&rt, alloc, settings, connections, &listener),
-            || sent(&rt, alloc, standard, segments, connect, 4096),
+            || sent(&rt, alloc, configured, segments, connect, 4096),
         );
         let (Ok(received), Ok(run)) = (received, run) else {
             return Err(Fail::from("not received"));
         };
         assert_eq!(rt; run.answer, Ok(()));
-        assert_eq!(rt;
-            run.printed.as_slice(),
-            b"filtered 0\nreport complete 2\n".as_slice()
-        );
-        assert_eq!(rt;
-            received.as_slice(),
-            b"received {__name__=\"up\"} 1000=1\n".as_slice()
-        );
+        assert_eq!(rt; run.printed.as_slice(), printed);
+        assert_eq!(rt; received.as_slice(), held);
     }
     Ok(())
 }

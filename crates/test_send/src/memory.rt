@@ -1,6 +1,6 @@
 //! Logs shipped over memory.
 
-use crate::logs::{Torn, UP, segment};
+use crate::logs::{BEHIND, FALLS, Torn, UP, segment};
 use crate::receivers::Receivers;
 use crate::runs::{Run, sent};
 use http::StatusCode;
@@ -39,7 +39,7 @@ fn shipped<R: Threads + Wait + Copy + Send + 'static>(
 #[test]
 fn logs_of_one_segment(rt: HostRuntime) -> Result<(), Fail> {
     let alloc = rt.alloc();
-    let rows: [(&[u8], &[u8], StatusCode, &[u8]); 7] = [
+    let rows: [(&[u8], &[u8], StatusCode, &[u8]); 9] = [
         (
             b"",
             UP,
@@ -81,6 +81,18 @@ fn logs_of_one_segment(rt: HostRuntime) -> Result<(), Fail> {
             b"series 1 {__name__=\"a\"}\nseries 2 {__name__=\"b\"}\nsample 2 10 1\nsample 1 10 1\nsample 3 10 1\nsample 2 20 1\nsample 1 20 1\n",
             StatusCode::BAD_REQUEST,
             b"dropped 2 status 400\ndropped 3 status 400\ndropped 4 noseries\ndropped 5 status 400\ndropped 6 status 400\nfiltered 0\nreport complete 7\n",
+        ),
+        (
+            b"",
+            FALLS,
+            StatusCode::NO_CONTENT,
+            b"dropped 2 notrising\ndropped 3 notrising\nfiltered 0\nreport complete 5\n",
+        ),
+        (
+            b"[send]\nshards = 3\n",
+            BEHIND,
+            StatusCode::NO_CONTENT,
+            b"dropped 3 notrising\nfiltered 0\nreport complete 4\n",
         ),
     ];
     for (settings, text, status, printed) in rows {

@@ -6,6 +6,7 @@ ghost use Rattle.std.specs.Arc.{arc_value};
 use crate::logs::{ONE, TWO, UP};
 use crate::seated::{Seated, Seats};
 use crate::work::{Step, Stop, Wanted, Work, config_of, feed, over_two_epochs, run};
+use rw_ledger::Reason;
 use rw_recv_head::{Head, Limits};
 use rw_shared_head::{Seat, SharedHead};
 use rw_shipper::Outcome;
@@ -161,6 +162,24 @@ fn the_head_has_the_samples_of_both_epochs(rt: HostRuntime) -> Result<(), Fail> 
         faults: &[None, None, None, None],
         outcome: &Outcome::Complete(6),
         named: &[],
+        resolved: &[1, 0, 0, 0, 1],
+        stopped: 0,
+    };
+    assert_eq!(rt; work.difference(wanted), None);
+    assert!(rt; holds(alloc, &head, "c", &[(10, ONE), (20, TWO)])?);
+    Ok(())
+}
+
+/// The third and the fourth reference are one series, of which the second epoch has a sample at the timestamp of the first one's.
+#[test]
+fn the_head_has_the_samples_that_rise(rt: HostRuntime) -> Result<(), Fail> {
+    let alloc = rt.alloc();
+    let steps = over_two_epochs(alloc, &[(3, 10, ONE)], &[(4, 10, TWO), (4, 20, TWO)])?;
+    let (work, head) = shipped_to_seats(&rt, alloc, Bounded::of(5), steps)?;
+    let wanted = Wanted {
+        faults: &[None, None, None, None],
+        outcome: &Outcome::Complete(7),
+        named: &[(0, 5, Reason::NotRising)],
         resolved: &[1, 0, 0, 0, 1],
         stopped: 0,
     };

@@ -5,6 +5,7 @@ use Rattle.rw_series_cache.specs.Known.{Filtered}
 use Rattle.rw_feeder.specs.Logs.{with_name, dropped_as, filtered_as}
 use Rattle.rw_feeder.specs.Feeders.{Sorting, IsNext}
 use Rattle.rw_feeder.proofs.GatherLemmas.{definitions_same}
+use Rattle.rw_feeder.proofs.NotedLemmas.{noted_filtered}
 use Rattle.rw_feeder.proofs.FeederLemmas.{placed_held}
 use Rattle.rw_feeder.proofs.feeder.Feeder.pass.Goals as goal
 
@@ -17,7 +18,8 @@ invariant_of-self c =
     let within = i.filter_within in
     placed_held s.tail s.cache s.cache s.part.names s.part.names s.filtered (s.filtered + 1) s.count c.entries_read-count.result s.read (Sample next.reference next.t next.word) i next.hand c.entries_read-count.ensures.count refl
     (definitions_same ps next.reference next.t next.word ∙ i.defined)
-    (sym (ap (λ x. fold with_name s.part.names (dropped_as (length ps) x)) next.known_is))
+    (noted_filtered s.cache.rules ps s.cache.noted next.reference next.t next.word next.known_is i.noted)
+    (sym (ap (λ x. fold with_name s.part.names (dropped_as s.cache.rules ps next.t x)) next.known_is))
     (λ p lt. i.below p (omega arith))
     (sym (ap (λ x. s.filtered + length (filtered_as (length ps) x)) next.known_is))
     (omega arith)

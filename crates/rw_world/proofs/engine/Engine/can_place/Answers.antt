@@ -1,7 +1,11 @@
-use Rattle.std.proofs.Common.{◌≡◌, ◌∙◌, true, false, is_some, sym, ap}
+use Rattle.std.proofs.Common.{rules, ◌≡◌, ◌∙◌, ℤ, true, false, is_some, sym, ap, take}
+use Rattle.std.proofs.lemmas.Int.{to_z-of_z}
+use Rattle.std.specs.Int.{w64}
+use Rattle.std.specs.Prelude.{FitsSigned}
 use Rattle.std.specs.Prelude.{slice_get}
 use Rattle.rw_codes.specs.Pieces.{entries}
-use Rattle.rw_schedule.specs.Settling.{can_place}
+use Rattle.rw_series_cache.specs.Known.{known}
+use Rattle.rw_schedule.specs.Settling.{can_place, can_place_known}
 use Rattle.rw_world.specs.Machine.{Machine}
 use Rattle.rw_world.specs.Rounds.{ahead_of}
 use Rattle.rw_world.specs.declared.log.Ahead.TheVariants as ahead
@@ -32,5 +36,8 @@ returns-in-Sample c =
     let u : Machine = the_view c.self.inside in
     let m = c.args.self.now in
     let d : is_some m.world.draining ≡ false = ap (λ (x : Machine). is_some x.world.draining) (sym c.self.view_is) ∙ sym c.is_some.ensures ∙ c.if-is_some.false in
-    let e : ahead_of (slice_get (entries m.world.pieces) m.world.placed) ≡ ahead.Sample c.in-Sample.reference = ap (λ (x : Machine). ahead_of (slice_get (entries x.world.pieces) x.world.placed)) (sym c.self.view_is) ∙ sym c.in-Sample.ensures in
-    c.can_place_known.ensures ∙ place_sampled m.setup m.world c.in-Sample.reference d e
+    let e : ahead_of (slice_get (entries m.world.pieces) m.world.placed) ≡ ahead.Sample c.in-Sample.reference c.in-Sample.t = ap (λ (x : Machine). ahead_of (slice_get (entries x.world.pieces) x.world.placed)) (sym c.self.view_is) ∙ sym c.in-Sample.ensures in
+    let fits : FitsSigned w64 c.in-Sample.t = search rules in
+    c.can_place_known.ensures
+    ∙ ap (λ (z : ℤ). can_place_known m.setup m.world z (known m.setup.rules (take m.world.placed (entries m.world.pieces)) c.in-Sample.reference)) (to_z-of_z w64 c.in-Sample.t fits)
+    ∙ place_sampled m.setup m.world c.in-Sample.reference c.in-Sample.t d e

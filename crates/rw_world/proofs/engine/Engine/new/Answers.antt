@@ -1,10 +1,10 @@
-use Rattle.std.proofs.Common.{◌≡◌, ◌∙◌, ap, arith}
+use Rattle.std.proofs.Common.{rules, ◌≡◌, ◌∙◌, ap, arith}
 use Rattle.rw_sender.specs.declared.config.ConfigFields.{ConfigFields}
 use Rattle.rw_recv_head.specs.declared.limits.Limits.{Limits}
 use Rattle.rw_schedule.specs.Worlds.{start}
 use Rattle.rw_world.specs.Machine.{setup_of}
 use Rattle.rw_world.specs.Sending.{Sending}
-use Rattle.rw_world.proofs.WorldLemmas.{started, head_is}
+use Rattle.rw_world.proofs.WorldLemmas.{started, head_is, world_begun}
 use Rattle.rw_world.proofs.engine.Engine.new.Goals as goal
 
 pub returns-clause-start : goal.returns-clause-start
@@ -28,3 +28,9 @@ returns-clause-can c =
       batch = omega (arith, c.get-2.ensures.low);
       shards = omega (arith, c.get-3.ensures.low, c.get-3.ensures.number);
     }
+
+pub invariant_of-result : goal.invariant_of-result
+invariant_of-result c = (
+  world_begun c.in_ok-senders.senders.next c.new-2.result c.into_fields-target.result.rules c.new-3.result (ap (λ (v : Sending). v.next) c.in_ok-senders.ensures) c.new-3.ensures,
+  search rules,
+)

@@ -1,0 +1,28 @@
+-- Which samples of a series rise: those that are later than all before them.
+use Rattle.std.specs.Prelude.{◌≡◌, ℕ, ◌≤◌, ℤ, int_lt, Bool, true, List, length, Option, None, Some}
+use Rattle.std.specs.List.{list_all}
+use Rattle.std.specs.Ordering.{nat_cmp}
+use Rattle.std.specs.FinMap.{FinMap, get}
+use Rattle.rw_types.specs.Labels.{Labels}
+use Rattle.rw_types.specs.declared.entry.Entry.{Entry}
+use Rattle.rw_relabel.specs.Rules.{RuleConfig}
+use Rattle.rw_series_cache.specs.Numbers.{series_of, HasNumber}
+use Rattle.rw_series_cache.specs.Points.{kept_points}
+
+-- a timestamp is later than that of each of these samples (position, timestamp, word)
+abbrev pub is_later : ℤ → List (ℕ × ℤ × ℕ) → Bool
+is_later t ps = list_all (λ (p : ℕ × ℤ × ℕ). int_lt p.1 t) ps
+
+-- a sample that comes after these entries rises: it is later than all samples of its series among them
+unfoldable pub rises : List RuleConfig → List Entry → Labels → ℤ → Bool
+rises rules before l t = is_later t (kept_points rules before l)
+
+-- later than what is noted, if something is
+abbrev pub is_after : Option ℤ → ℤ → Bool
+is_after None t = true
+is_after (Some last) t = int_lt last t
+
+-- What is noted of a series, by its number, decides which samples rise after these entries; of other numbers nothing is noted.
+pub record IsNoted (rules : List RuleConfig) (entries : List Entry) (noted : FinMap nat_cmp ℤ) : Type 0 where
+  pub decides : (l : Labels) (number : ℕ) (t : ℤ) → HasNumber (series_of rules entries) l number → is_after (get noted number) t ≡ rises rules entries l t
+  pub none : (number : ℕ) → length (series_of rules entries) ≤ number → get noted number ≡ None
