@@ -1,25 +1,35 @@
 -- A load with one shard more.
-use Rattle.std.proofs.Common.{◌≡◌, ℕ, ◌+◌, ◌<◌, List, length, take, ap, ◌∙◌, arith}
+use Rattle.std.proofs.Common.{◌≡◌, ℕ, ◌+◌, ◌<◌, ◌≤◌, List, length, take, sym, ap, ◌∙◌, subst, arith}
 use Rattle.std.specs.Prelude.{get_or}
 use Rattle.std.proofs.Math.Seq.{take-length}
 use Rattle.std.specs.List.{sum_by}
 use Rattle.std.proofs.lemmas.List.Sums.{sum_by_more}
-use Rattle.rw_fleet.specs.Loads.{load_of}
+use Rattle.rw_fleet.specs.Lanes.{Lane}
+use Rattle.rw_fleet.specs.Loads.{load_of, count_in, left_at_work, IsAdvised}
 use Rattle.rw_fleet.specs.declared.load.Load.{Load}
 
-module _ {X : Type 0} where
-  sum_on : (f : X → ℕ) (xs : List X) (i r m : ℕ) (x : X) → i < length xs → x ≡ get_or xs i x → m ≡ f x → (r + sum_by f (take i xs)) + m ≡ r + sum_by f (take (i + 1) xs)
-  sum_on f xs i r m x below is e =
-      let more = sum_by_more f xs i x below in
-      let same : f x ≡ f (get_or xs i x) = ap f is in
-      omega arith
+sum_on : (f : Lane → ℕ) (xs : List Lane) (i : ℕ) (x : Lane) → i < length xs → x ≡ get_or xs i x → sum_by f (take (i + 1) xs) ≡ sum_by f (take i xs) + f x
+sum_on f xs i x below is = sum_by_more f xs i x below ∙ ap (λ y. sum_by f (take i xs) + f y) (sym is)
 
-  pub load_on : (f g : X → ℕ) (xs : List X) (i r n a b : ℕ) (x : X) (new : Load) → i < length xs → x ≡ get_or xs i x → a ≡ f x → b ≡ g x
-      → new ≡ load_of ((r + sum_by f (take i xs)) + a) ((n + sum_by g (take i xs)) + b) → new ≡ load_of (r + sum_by f (take (i + 1) xs)) (n + sum_by g (take (i + 1) xs))
-  load_on f g xs i r n a b x new below is left right e =
-      e ∙ ap (λ k. load_of k ((n + sum_by g (take i xs)) + b)) (sum_on f xs i r a x below is left) ∙ ap (λ k. load_of (r + sum_by f (take (i + 1) xs)) k) (sum_on g xs i n b x below is right)
+pub waits_are_put : (window : ℕ) (x : Lane) (waiting : ℕ) → waiting ≤ left_at_work window x → waiting ≤ count_in x
+waits_are_put window x waiting few = omega (arith, few)
 
-  pub load_whole : (f g : X → ℕ) (xs : List X) (i r n : ℕ) (load : Load) → i ≡ length xs → load ≡ load_of (r + sum_by f (take i xs)) (n + sum_by g (take i xs)) → load ≡ load_of (r + sum_by f xs) (n + sum_by g xs)
-  load_whole f g xs i r n load whole e =
-      let all : take i xs ≡ xs = ap (λ k. take k xs) whole ∙ take-length xs in
-      e ∙ ap (λ (ys : List X). load_of (r + sum_by f ys) (n + sum_by g ys)) all
+pub advised_on : (window : ℕ) (xs : List Lane) (i r l a b : ℕ) (x : Lane) (load new : Load) → i < length xs → x ≡ get_or xs i x → a + b ≡ count_in x → b ≤ left_at_work window x
+    → IsAdvised window (take i xs) r l load → ((m n : ℕ) → load ≡ load_of m n → new ≡ load_of (m + a) (n + b)) → IsAdvised window (take (i + 1) xs) r l new
+advised_on window xs i r l a b x load new below is all few h more =
+    let counts = sum_on count_in xs i x below is in
+    let lefts = sum_on (left_at_work window) xs i x below is in
+    let was = h.all in
+    let within = h.few in
+    let settled : (r + h.settled) + a ≡ r + (h.settled + a) = omega arith in
+    let waiting : (l + h.waiting) + b ≡ l + (h.waiting + b) = omega arith in
+    record {
+      settled = h.settled + a;
+      waiting = h.waiting + b;
+      all = omega (arith, counts, was, all);
+      few = omega (arith, lefts, within, few);
+      load_is = more _ _ h.load_is ∙ ap (λ k. load_of k ((l + h.waiting) + b)) settled ∙ ap (λ k. load_of (r + (h.settled + a)) k) waiting;
+    }
+
+pub advised_whole : (window : ℕ) (xs : List Lane) (i r l : ℕ) (load : Load) → i ≡ length xs → IsAdvised window (take i xs) r l load → IsAdvised window xs r l load
+advised_whole window xs i r l load whole h = subst (λ (ys : List Lane). IsAdvised window ys r l load) (ap (λ k. take k xs) whole ∙ take-length xs) h

@@ -1,5 +1,5 @@
 -- How far the samples of all shards have come.
-use Rattle.std.specs.Prelude.{ℕ, ◌+◌, ◌-◌, ◌^◌, length, min}
+use Rattle.std.specs.Prelude.{◌≡◌, ℕ, ◌+◌, ◌-◌, ◌≤◌, ◌^◌, List, length, min}
 use Rattle.std.specs.List.{sum_by}
 use Rattle.rw_shard_queue.specs.Items.{places_in}
 use Rattle.rw_sender.specs.declared.config.ConfigFields.{ConfigFields}
@@ -30,13 +30,18 @@ count_in lane = length (places_in lane.put)
 abbrev pub left_at_work : ℕ → Lane → ℕ
 left_at_work window lane = min (count_in lane) window
 
-abbrev pub resolved_at_work : ℕ → Lane → ℕ
-resolved_at_work window lane = count_in lane - left_at_work window lane
-
 -- how many of the samples that a shard was put can wait to be resolved
 abbrev pub window_of : ConfigFields → ℕ
 window_of config = config.capacity + config.batch
 
+-- so many samples are resolved and so many are left, and beside them those that the shards at work were put: some of these wait, no more than can
+pub record IsAdvised (window : ℕ) (lanes : List Lane) (resolved left : ℕ) (load : Load) : Type 0 where
+  pub settled : ℕ
+  pub waiting : ℕ
+  pub all : settled + waiting ≡ sum_by count_in lanes
+  pub few : waiting ≤ sum_by (left_at_work window) lanes
+  pub load_is : load ≡ load_of (resolved + settled) (left + waiting)
+
 -- of the shards that have ended, and of those at work
-abbrev pub load_in : {T : Type 0} → Shards T → Load
-load_in s = load_of (sum_by resolved_in s.ended + sum_by (resolved_at_work (window_of s.config)) s.current) (sum_by left_in s.ended + sum_by (left_at_work (window_of s.config)) s.current)
+abbrev pub IsLoad : {T : Type 0} → Shards T → Load → Type 0
+IsLoad s load = IsAdvised (window_of s.config) s.current (sum_by resolved_in s.ended) (sum_by left_in s.ended) load

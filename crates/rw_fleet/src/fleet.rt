@@ -7,12 +7,12 @@ ghost use Rattle.rw_fleet.specs.Lanes.{Lane, AreFresh, AreSame, AreSetUp, IsPut,
 ghost use Rattle.rw_worker.specs.Report.{is_hard};
 ghost use Rattle.rw_fleet.specs.Work.{AreResolved, AreWorked, HasCut, lane_of, finished_of};
 ghost use Rattle.rw_fleet.specs.Fleets.{AreAll, EndBy, HasClosed};
-ghost use Rattle.rw_fleet.specs.Loads.{load_in, window_of};
+ghost use Rattle.rw_fleet.specs.Loads.{window_of, IsLoad};
 
 use crate::connect::Connect;
 use crate::joined::Joined;
 use crate::lists::{
-    all_resolved, end_all, join_all, load_at_work, load_of_ended, mark_all, open_all,
+    all_resolved, end_all, hand_over_all, join_all, load_at_work, load_of_ended, mark_all, open_all,
 };
 use crate::load::Load;
 use crate::running::{Ending, Fault, Running};
@@ -105,12 +105,13 @@ impl<C: Connect + Drop> Fleet<C> {
         fields.capacity.get() as usize + fields.batch.get() as usize
     }
 
-    /// How far the samples have come. Of a shard at work as many may wait as its queue and one batch hold.
+    /// How far the samples have come, as far as the workers have told. Those that only wait for a batch to be full count as resolved.
     pub fn load(&self) -> Load
-        ensures { result ≡ load_in self.now }
+        ensures { IsLoad self.now result }
     {
         let ended = load_of_ended(&self.joined);
-        load_at_work(ended, &self.running, self.window() as u64)
+        let batch = self.config.fields().batch.get();
+        load_at_work(ended, &self.running, batch, self.window() as u64)
     }
 
     /// Opens the queues of so many shards, and starts their workers. Where that is refused some may be at work.
@@ -167,6 +168,13 @@ impl<C: Connect + Drop> Fleet<C> {
         ensures memory { result ≡ Err Fault.OutOfMemory → ⊥ }
     {
         mark_all(rt, &mut self.running)
+    }
+
+    /// Hands over what the queues hold back, so that no worker waits for it. It may wait for room.
+    pub fn hand_over<R: Wait>(&mut self, rt: &R)
+        ensures { self.new ≡ self.old }
+    {
+        hand_over_all(rt, &mut self.running);
     }
 
     /// Ends all shards at work once all that was put is resolved, and waits for their workers: the next epoch has no shard yet. It answers whether all that was put in all epochs is resolved.

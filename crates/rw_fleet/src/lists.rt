@@ -3,7 +3,7 @@
 ghost use Rattle.std.specs.Prelude.{◌≡◌, ◌+◌, ◌≤◌, ℕ, List, [], ◌++◌, map, OnOk, Err, true, false, vec_len, vec_capacity};
 ghost use Rattle.std.specs.List.{sum_by};
 ghost use Rattle.rw_fleet.specs.Lanes.{AreFresh, AreSame, AreSetUp, marked, put_into};
-ghost use Rattle.rw_fleet.specs.Loads.{load_of, resolved_in, left_in, resolved_at_work, left_at_work};
+ghost use Rattle.rw_fleet.specs.Loads.{load_of, resolved_in, left_in, IsAdvised};
 ghost use Rattle.rw_fleet.specs.Work.{AreResolved, HasUnresolved, AreEndedBy, AreWorked, lane_of};
 
 use crate::connect::Connect;
@@ -65,6 +65,19 @@ pub(crate) fn mark_all<T: Transport + Send + Drop + 'static, R: Wait>(
         running[k].mark(rt)?;
     }
     Ok(())
+}
+
+/// Hands over what the queues hold back, as far as the workers still take.
+pub(crate) fn hand_over_all<T: Transport + Send + Drop + 'static, R: Wait>(
+    rt: &R,
+    running: &mut Vec<Running<T>>,
+)
+    ensures items { running.new.items ≡ running.old.items }
+    ensures len { (vec_len running.new ≡ vec_len running.old) × (vec_capacity running.new ≡ vec_capacity running.old) }
+{
+    for k in 0..running.len() {
+        running[k].hand_over(rt);
+    }
 }
 
 /// Puts an End into each queue.
@@ -129,19 +142,19 @@ pub(crate) fn load_of_ended<T: Transport>(joined: &Vec<Joined<T>>) -> Load
     load
 }
 
-/// A load with that of these shards at work, of each of which as many samples may wait as `window` says.
+/// A load with that of these shards at work, which send batches of so many samples. Of each as many samples may wait as `window` says.
 pub(crate) fn load_at_work<T: Transport + Send + Drop + 'static>(
     ended: Load,
     running: &Vec<Running<T>>,
+    batch: u64,
     window: u64,
 ) -> Load
-    ensures { (r l : ℕ) → ended ≡ load_of r l → result ≡ load_of (r + sum_by (resolved_at_work window) running.now.items) (l + sum_by (left_at_work window) running.now.items) }
+    ensures { (r l : ℕ) → ended ≡ load_of r l → IsAdvised window running.now.items r l result }
 {
     let mut load = ended;
     for shard in running.iter() {
-        let count = shard.count();
-        let left = count.min(window);
-        load = load.with(count - left, left);
+        let waiting = shard.waiting(batch, window);
+        load = load.with(shard.count() - waiting, waiting);
     }
     load
 }

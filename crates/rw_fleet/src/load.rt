@@ -3,14 +3,14 @@
 ghost use Rattle.std.specs.Prelude.{◌≡◌, ◌+◌, ℕ};
 ghost use Rattle.rw_fleet.specs.Loads.{load_of};
 
-/// How far the samples of all shards have come, as far as the one who puts them knows.
+/// How far the samples of all shards have come, as far as it is known: advice on how many shards are wanted.
 #[derive(Clone, Copy, Debug, PartialEq, Eq)]
 pub struct Load {
     /// How many samples were put into queues.
     pub placed: u64,
-    /// How many of them are resolved for certain.
+    /// How many of them are resolved, or wait for a batch to be full.
     pub resolved: u64,
-    /// How many of them may not be resolved.
+    /// How many of them wait to be resolved.
     pub backlog: u64,
 }
 

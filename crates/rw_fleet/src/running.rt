@@ -4,7 +4,7 @@ ghost use Rattle.std.specs.Prelude.{◌≡◌, ◌<◌, ◌≤◌, ◌^◌, ℕ,
 ghost use Rattle.rw_types.specs.declared.place.Place.{Place};
 ghost use Rattle.rw_shard_queue.specs.Items.{samples_in, places_in};
 ghost use Rattle.rw_fleet.specs.Lanes.{IsSetUp, put_as, marks_in};
-ghost use Rattle.rw_fleet.specs.Loads.{count_in};
+ghost use Rattle.rw_fleet.specs.Loads.{count_in, left_at_work};
 ghost use Rattle.rw_fleet.specs.Work.{lane_of, IsEndedBy, IsWorked};
 
 use crate::ends::{Fed, end_of, meet};
@@ -14,7 +14,7 @@ use rw_feeder::Logged;
 use rw_ruled_queue::{Feed, Item, Kind, Open, open};
 use rw_sender::Config;
 use rw_types::Place;
-use rw_worker::{Begun, Pause, StopFlag, Transport, Worker, WorkerReport, spawn};
+use rw_worker::{Begun, Pause, StopFlag, Tally, Transport, Worker, WorkerReport, spawn};
 use std::alloc::{AllocError, Global};
 use std::marker::Model;
 use std::snapshot::Snapshot;
@@ -37,6 +37,8 @@ pub(crate) struct Running<T: Transport + Send + Drop + 'static> {
     feed: Feed<Open>,
     /// Of the samples that were put.
     window: Window,
+    /// Of those that the worker has resolved.
+    tally: Tally,
     worker: Snapshot<Worker>,
     handle: PromisedHandle<WorkerReport<T>, Begun<T>>,
 }
@@ -112,6 +114,7 @@ impl<T: Transport + Send + Drop + 'static> Running<T> {
         let Ok(worker) = Worker::new(alloc, config, epoch, shard, drain) else {
             return Err(AllocError);
         };
+        let tally = worker.tally()?;
         let begun = Snapshot::of(&worker);
         let handle = spawn(rt, worker, transport, pause, stop)?;
         Ok(Running {
@@ -119,6 +122,7 @@ impl<T: Transport + Send + Drop + 'static> Running<T> {
             shard,
             feed,
             window,
+            tally,
             worker: begun,
             handle,
         })
@@ -129,6 +133,19 @@ impl<T: Transport + Send + Drop + 'static> Running<T> {
         ensures { result ≡ count_in self.now }
     {
         self.window.len()
+    }
+
+    /// How many samples wait to be resolved, as far as the worker has told: `most` where there are more, and none where they do not make a
+    /// batch of so many.
+    pub(crate) fn waiting(&self, batch: u64, most: u64) -> u64
+        ensures { result ≤ left_at_work most self.now }
+    {
+        let waiting = self.count().saturating_sub(self.tally.read());
+        if waiting < batch {
+            0
+        } else {
+            waiting.min(most)
+        }
     }
 
     /// Puts a sample. It may wait for room.
@@ -177,6 +194,13 @@ impl<T: Transport + Send + Drop + 'static> Running<T> {
         Ok(())
     }
 
+    /// Hands over what was put and is held back, where the worker still takes. It may wait for room.
+    pub(crate) fn hand_over<R: Wait>(&mut self, rt: &R)
+        ensures { self.new ≡ self.old }
+    {
+        let _ = self.feed.hand_over(rt);
+    }
+
     /// Puts an End, where the worker still takes. It may wait for room.
     pub(crate) fn end<R: Wait>(self, rt: &R, kind: Kind) -> Ending<T>
         ensures setup { result.setup ≡ self.setup }
@@ -188,6 +212,7 @@ impl<T: Transport + Send + Drop + 'static> Running<T> {
             shard: _,
             feed,
             window,
+            tally: _,
             worker,
             handle,
         } = self;

@@ -1,44 +1,46 @@
-//! The rule of a queue: what was put is what was taken and then what the channel holds, which is no more than its capacity.
+//! The rule of a queue in blocks: what was handed over is what was received and then what the blocks of the channel hold.
 
-ghost use Rattle.std.specs.Prelude.{ℕ};
-
+use crate::block::Block;
 use crossbeam_channel::protocol::{Join, Lesson, Outcome, Protocol, Split};
 use rw_shard_queue::Item;
 use std::collections::LinkedList;
 use std::marker::{Brand, PhantomData};
 
+/// Which queue it is, how many blocks the channel holds, and how many items a block has at most. No value of it is made.
+pub struct Name {
+    pub epoch: u64,
+    pub shard: u32,
+    pub capacity: usize,
+    pub slots: usize,
+    pub most: usize,
+}
+
 /// What the holder of an end knows: its queue, and what went through the end. No value of it is made.
 pub struct Log {
     pub feeds: bool,
     pub drains: bool,
-    pub epoch: u64,
-    pub shard: u32,
-    pub capacity: usize,
+    pub name: Name,
     pub put: LinkedList<Item>,
     pub taken: LinkedList<Item>,
 }
 
-/// Names a shard of an epoch, and the capacity of its queue.
+/// Names a queue.
 pub trait Naming {
-    ghost epoch: { ℕ };
+    ghost use Rattle.rw_ruled_queue.specs.declared.rule.Name.{Name};
 
-    ghost shard: { ℕ };
-
-    ghost capacity: { ℕ };
+    ghost name: { Name };
 }
 
 impl Naming for Brand {
-    ghost epoch = { 0 };
+    ghost use Rattle.rw_ruled_queue.specs.Rule.{no_name};
 
-    ghost shard = { 0 };
-
-    ghost capacity = { 0 };
+    ghost name = { no_name };
 }
 
 /// The rule.
 pub struct InOrder;
 
-impl Protocol<Item, Log> for InOrder {
+impl Protocol<Block, Log> for InOrder {
     ghost use Rattle.rw_ruled_queue.specs.Rule.{unnamed, IsRelayed};
 
     ghost holds = { IsRelayed };
@@ -55,9 +57,9 @@ impl<Q: Naming> Split<Log> for Opens<Q> {
     ghost use Rattle.std.specs.Prelude.{[]};
     ghost use Rattle.rw_ruled_queue.specs.Rule.{feeder, drainer};
 
-    ghost left = { λ v. feeder Q.epoch Q.shard Q.capacity [] };
+    ghost left = { λ v. feeder Q.name [] };
 
-    ghost right = { λ v. drainer Q.epoch Q.shard Q.capacity [] };
+    ghost right = { λ v. drainer Q.name [] };
 }
 
 /// Gives the ends of a queue in use to two hands.
@@ -66,9 +68,9 @@ pub struct Parts;
 impl Split<Log> for Parts {
     ghost use Rattle.rw_ruled_queue.specs.Rule.{feeder, drainer};
 
-    ghost left = { λ v. feeder v.epoch v.shard v.capacity v.put };
+    ghost left = { λ v. feeder v.name v.put };
 
-    ghost right = { λ v. drainer v.epoch v.shard v.capacity v.taken };
+    ghost right = { λ v. drainer v.name v.taken };
 }
 
 /// Brings both ends into one hand.
@@ -77,46 +79,46 @@ pub struct Meets;
 impl Join<Log> for Meets {
     ghost use Rattle.rw_ruled_queue.specs.Rule.{both, nobody};
 
-    ghost both = { λ v w. both v.epoch v.shard v.capacity v.put w.taken };
+    ghost both = { λ v w. both v.name v.put w.taken };
 
     ghost spent = { nobody };
 }
 
-/// An item joins what was put.
+/// The items of a block join what was put.
 pub struct Puts;
 
-impl Outcome<Item, Log> for Puts {
-    ghost use Rattle.std.specs.Prelude.{◌≡◌, ◌++◌, ◌∷◌, []};
+impl Outcome<Block, Log> for Puts {
+    ghost use Rattle.std.specs.Prelude.{◌≡◌, ◌++◌};
     ghost use Rattle.rw_ruled_queue.specs.Rule.{feeder};
 
-    ghost then = { λ v x w. w ≡ feeder v.epoch v.shard v.capacity (v.put ++ x ∷ []) };
+    ghost then = { λ v x w. w ≡ feeder v.name (v.put ++ x.items) };
 }
 
-impl Lesson<Item, Log> for Puts {
+impl Lesson<Block, Log> for Puts {
     ghost use Rattle.std.specs.Prelude.{⊤};
 
-    ghost fact = { λ v items. ⊤ };
+    ghost fact = { λ v blocks. ⊤ };
 }
 
-/// An item joins what was taken.
+/// The items of a block join what was taken.
 pub struct Takes;
 
-impl Outcome<Item, Log> for Takes {
+impl Outcome<Block, Log> for Takes {
     ghost use Rattle.rw_ruled_queue.specs.Rule.{Took};
 
     ghost then = { Took };
 }
 
-impl Lesson<Item, Log> for Takes {
+impl Lesson<Block, Log> for Takes {
     ghost use Rattle.std.specs.Prelude.{⊤};
 
-    ghost fact = { λ v items. ⊤ };
+    ghost fact = { λ v blocks. ⊤ };
 }
 
 /// What the two ends know of each other.
 pub struct Compares;
 
-impl Lesson<Item, Log> for Compares {
+impl Lesson<Block, Log> for Compares {
     ghost use Rattle.rw_ruled_queue.specs.Rule.{Remains};
 
     ghost fact = { Remains };

@@ -8,6 +8,9 @@ pub trait Stage {
     /// What is known of the items that went through the end.
     ghost stands: { List Item → Type 0 };
 
+    /// What is known of the items that an end holds back.
+    ghost held: { List Item → Type 0 };
+
     /// What is known of an end that let go of the channel, so that the other end is Gone.
     ghost let_go: { Type 0 };
 }
@@ -26,24 +29,33 @@ pub struct Killed;
 
 impl Stage for Open {
     ghost use Rattle.rw_shard_queue.specs.History.{IsOpen};
+    ghost use Rattle.std.specs.Prelude.{⊤};
 
     ghost stands = { IsOpen };
+
+    ghost held = { λ items. ⊤ };
 
     ghost let_go = { ⊥ };
 }
 
 impl Stage for Deserted {
+    ghost use Rattle.std.specs.Prelude.{⊤};
     ghost use Rattle.rw_shard_queue.specs.History.{IsOpen};
 
     ghost stands = { IsOpen };
+
+    ghost held = { λ items. ⊤ };
 
     ghost let_go = { ⊥ };
 }
 
 impl Stage for Ended {
     ghost use Rattle.rw_shard_queue.specs.History.{IsEnded};
+    ghost use Rattle.std.specs.Prelude.{◌≡◌, []};
 
     ghost stands = { IsEnded };
+
+    ghost held = { λ items. items ≡ [] };
 
     ghost let_go = { ⊥ };
 }
@@ -52,6 +64,8 @@ impl Stage for Killed {
     ghost use Rattle.std.specs.Prelude.{⊤};
 
     ghost stands = { λ items. ⊤ };
+
+    ghost held = { λ items. ⊤ };
 
     ghost let_go = { ⊤ };
 }

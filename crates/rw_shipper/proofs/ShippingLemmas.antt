@@ -199,6 +199,10 @@ module _ {T : Type 0} (tells : T → Type 0) (seen : T → List Exchange) (is_fo
   pub stopped_seen : (inside s : Shipping T) (r : Report T) → inside ≡ s → HasStopped tells seen is_for inside r → HasStopped tells seen is_for s r
   stopped_seen inside s r is h = subst (λ x. HasStopped tells seen is_for x r) is h
 
+-- what was handed over is as it was put
+pub rest_as : {T : Type 0} (old now new : Shards T) → new ≡ now → now ≡ record old { current = now.current } → new ≡ record old { current = new.current }
+rest_as {T} old now new e h = subst (λ (f : Shards T). f ≡ record old { current = f.current }) (sym e) h
+
 pub on_ok : {A E : Type 0} (r : Result A E) (P : Type 0) → is_err r ≡ false → OnOk r P → P
 on_ok (Ok x) P e h = h
 on_ok (Err x) P e h = absurd (cc)

@@ -6,7 +6,7 @@ ghost use Rattle.rw_shard_queue.specs.Items.{places_in};
 ghost use Rattle.rw_fleet.specs.Lanes.{Lane, AreFresh, AreSame, IsPut, IsUsedUp, marked};
 ghost use Rattle.rw_fleet.specs.Work.{AreResolved, HasCut};
 ghost use Rattle.rw_fleet.specs.Fleets.{HasClosed};
-ghost use Rattle.rw_fleet.specs.Loads.{load_in};
+ghost use Rattle.rw_fleet.specs.Loads.{IsLoad};
 ghost use Rattle.rw_shipper.specs.Reports.{HasListed};
 
 use crate::lists::{Lists, list_all};
@@ -82,9 +82,9 @@ impl<C: Connect + Drop> ListedFleet<C> {
         self.fleet.epoch()
     }
 
-    /// How far the samples have come, as far as the one who puts them knows.
+    /// How far the samples have come, as far as the workers have told.
     pub(crate) fn load(&self) -> Load
-        ensures { result ≡ load_in self.now }
+        ensures { IsLoad self.now result }
     {
         self.fleet.load()
     }
@@ -139,6 +139,13 @@ impl<C: Connect + Drop> ListedFleet<C> {
         ensures same { AreSame self.old.current self.new.current }
     {
         self.fleet.mark(rt)
+    }
+
+    /// Hands over what the queues hold back, so that no worker waits for it. It may wait for room.
+    pub(crate) fn hand_over<R: Wait>(&mut self, rt: &R)
+        ensures { self.new ≡ self.old }
+    {
+        self.fleet.hand_over(rt);
     }
 
     /// Ends all shards at work once all that was put is resolved, and waits for their workers: the next epoch has no shard yet. It answers whether all that was put in all epochs is resolved.

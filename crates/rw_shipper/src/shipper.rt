@@ -5,7 +5,7 @@ ghost use Rattle.rw_wal_tail.specs.Fed.{piece_of};
 ghost use Rattle.rw_fleet.specs.Lanes.{AreFresh, marked, marks_of};
 ghost use Rattle.rw_fleet.specs.Work.{AreResolved, HasCut};
 ghost use Rattle.rw_fleet.specs.Fleets.{EndBy};
-ghost use Rattle.rw_fleet.specs.Loads.{load_in};
+ghost use Rattle.rw_fleet.specs.Loads.{IsLoad};
 ghost use Rattle.rw_types.specs.declared.entry.Entry.{Entry};
 ghost use Rattle.rw_codes.specs.Pieces.{entries};
 ghost use Rattle.rw_shipper.specs.Reports.{IsAbandoned, IsAbandonedAt, ListsCut, end_of, kind_of};
@@ -166,7 +166,7 @@ impl<C: Connect + Drop> Shipper<C> {
         })
     }
 
-    /// Places the entries that the log has with one piece more. It may wait for room in a queue.
+    /// Places the entries that the log has with one piece more, and hands all of them to the workers. It may wait for room in a queue.
     pub fn feed<R: Wait>(&mut self, rt: &R, piece: Piece) -> Result<(), FeedFault>
         ensures failed { IfSome self.old.fault (λ f. (result ≡ Err (answer_to f)) × (self.new ≡ self.old)) }
         ensures fed { self.old.fault ≡ None → Feeds self.new result }
@@ -184,7 +184,9 @@ impl<C: Connect + Drop> Shipper<C> {
             self.fault = Some(Fault::OutOfMemory);
             return Err(FeedFault::OutOfMemory);
         }
-        match place_all(rt, &mut self.feeder, &mut self.fleet) {
+        let read = place_all(rt, &mut self.feeder, &mut self.fleet);
+        self.fleet.hand_over(rt);
+        match read {
             Ok(None) => {
                 self.damage = None;
                 Ok(())
@@ -261,9 +263,10 @@ impl<C: Connect + Drop> Shipper<C> {
         self.feeder.count()
     }
 
-    /// How far the samples have come, as far as the shipper knows: advice on how many shards are wanted. A sample of a shard at work counts as resolved once there is no place left where it could wait.
+    /// How far the samples have come, as far as the workers have told: advice on how many shards are wanted. Samples that only wait for a
+    /// batch to be full count as resolved. By contract as many wait as can, at most.
     pub fn load(&self) -> Load
-        ensures load { result ≡ load_in self.now.fleet }
+        ensures load { IsLoad self.now.fleet result }
         ensures placed { PlacesAll self.now.log self.now.fleet }
         ensures read { self.now.fault ≡ None → self.now.log.placed ≡ entries self.now.log.pieces }
     {

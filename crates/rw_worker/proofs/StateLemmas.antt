@@ -18,6 +18,7 @@ use Rattle.rw_sender.specs.Shard.{Core, IsCore, AreInRow, HasRoomFor, is_empty, 
 use Rattle.rw_worker.specs.declared.report.TakingEnd.{TakingEnd}
 use Rattle.rw_worker.specs.declared.report.TakingEnd.TheVariants as end
 use Rattle.rw_worker.specs.declared.report.WorkerReport.{WorkerReport}
+use Rattle.rw_worker.specs.declared.tally.Tally.{Tally}
 use Rattle.rw_worker.specs.declared.state.Intake.{Intake}
 use Rattle.rw_worker.specs.declared.state.Intake.TheVariants as intake
 use Rattle.rw_worker.specs.declared.state.Sending.{Sending}
@@ -70,9 +71,9 @@ module _ {T : Type 0} (tells : T → Type 0) (seen : T → List Exchange) (setup
   keeps-of drain s h = subst (λ (w : Working). KeepsAt drain h.steps w) h.now (keeps-made drain s.transport h.steps h.some h.made)
 
   -- no step was made
-  pub state-begun : (drain : Draining) (core : Core) (ledger : Named) (backoff : ℕ × ℕ) → 0 < setup.batch → drain.queue ≡ setup.queue → drain.taken ≡ [] → working core ledger ≡ start_of setup
-      → IsState tells seen setup begun (record { intake = intake.Open drain; sending = record { core = core; ledger = ledger; backoff = backoff; resolved = 0; retries = 0; transport = begun } })
-  state-begun drain core ledger backoff some queue none fresh = record {
+  pub state-begun : (drain : Draining) (core : Core) (ledger : Named) (backoff : ℕ × ℕ) (tally : Tally) → 0 < setup.batch → drain.queue ≡ setup.queue → drain.taken ≡ [] → working core ledger ≡ start_of setup
+      → IsState tells seen setup begun (record { intake = intake.Open drain; sending = record { core = core; ledger = ledger; backoff = backoff; resolved = 0; tally = tally; retries = 0; transport = begun } })
+  state-begun drain core ledger backoff tally some queue none fresh = record {
     sending = record {
       some = some;
       steps = [];
@@ -214,7 +215,7 @@ module _ {T : Type 0} (tells : T → Type 0) (seen : T → List Exchange) (setup
       → IsState tells seen setup begun (record { intake = i; sending = v })
   state-kept i s v h core ledger transport resolved =
       subst (λ (x : Sending T). IsState tells seen setup begun (record { intake = i; sending = x }))
-      (λ j. record { core = sym core j; ledger = sym ledger j; backoff = v.backoff; resolved = sym resolved j; retries = v.retries; transport = sym transport j })
+      (λ j. record { core = sym core j; ledger = sym ledger j; backoff = v.backoff; resolved = sym resolved j; tally = v.tally; retries = v.retries; transport = sym transport j })
       (record {
         sending = record { some = h.sending.some; steps = h.sending.steps; made = h.sending.made; now = h.sending.now; counted = h.sending.counted };
         closed = h.closed;

@@ -8,11 +8,13 @@ mod send;
 mod state;
 mod step;
 mod stop;
+mod tally;
 mod transport;
 mod worker;
 
 pub use begun::{Begun, spawn};
 pub use report::{TakingEnd, WorkerReport};
 pub use stop::{StopFlag, Stopped};
+pub use tally::Tally;
 pub use transport::{Lost, Pause, Reply, Transport};
 pub use worker::Worker;

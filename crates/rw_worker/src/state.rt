@@ -6,6 +6,7 @@ ghost use Rattle.rw_worker.specs.Report.{given_back, report_of};
 use crate::backoff::Backoff;
 use crate::report::{TakingEnd, WorkerReport};
 use crate::stop::Stopped;
+use crate::tally::Tally;
 use rw_ledger::Ledger;
 use rw_ruled_queue::{Drain, Ended, Kind, Open};
 use rw_sender::ShardCore;
@@ -38,6 +39,8 @@ pub(crate) struct Sending<T> {
     pub(crate) backoff: Backoff,
     /// How many samples are resolved.
     pub(crate) resolved: u64,
+    /// Told the same.
+    pub(crate) tally: Tally,
     /// How often the open batch was sent in vain.
     pub(crate) retries: u64,
     pub(crate) transport: T,

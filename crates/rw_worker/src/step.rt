@@ -57,6 +57,7 @@ fn send<T: Transport + Drop, P: Pause>(
     ) {
         Ok(true) => {
             sending.resolved += count;
+            sending.tally.tell(sending.resolved);
             sending.retries = 0;
         }
         Ok(false) => {

@@ -9,6 +9,7 @@ use crate::report::WorkerReport;
 use crate::state::{Intake, Progress, Sending, State};
 use crate::step::step;
 use crate::stop::StopFlag;
+use crate::tally::Tally;
 use crate::transport::{Pause, Transport};
 use rw_ledger::Ledger;
 use rw_ruled_queue::{Drain, Open};
@@ -25,6 +26,7 @@ pub struct Worker {
     core: ShardCore,
     ledger: Ledger,
     backoff: Backoff,
+    tally: Tally,
 }
 
 impl Model for Worker {
@@ -68,15 +70,24 @@ impl Worker {
     {
         let fields = config.fields();
         let batch = fields.batch.get() as usize;
+        let Ok(tally) = Tally::new(alloc) else {
+            return Err((drain, AllocError));
+        };
         match ShardCore::new(alloc, &fields.target, epoch, shard, batch) {
             Ok(core) => Ok(Worker {
                 drain,
                 core,
                 ledger: Ledger::new(alloc),
                 backoff: Backoff::of(config),
+                tally,
             }),
             Err(refused) => Err((drain, refused)),
         }
+    }
+
+    /// Where it tells how many samples it has resolved.
+    pub fn tally(&self) -> Result<Tally, AllocError> {
+        self.tally.share()
     }
 
     /// Sends what comes out of the queue, batch by batch, until an End, a set stop flag or a lost feeder.
@@ -116,6 +127,7 @@ impl Worker {
             core,
             ledger,
             backoff,
+            tally,
         } = self;
         State {
             intake: Intake::Open(drain),
@@ -124,6 +136,7 @@ impl Worker {
                 ledger,
                 backoff,
                 resolved: 0,
+                tally,
                 retries: 0,
                 transport,
             },

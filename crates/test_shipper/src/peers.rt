@@ -9,7 +9,7 @@ use std::sync::atomic::{AtomicBool, Ordering};
 use std::thread;
 
 /// How often a gate looks before it gives up.
-const TURNS: u32 = 10_000_000;
+pub(crate) const TURNS: u32 = 10_000_000;
 
 /// Takes no time, so that a sender tries again at once.
 #[derive(Drop)]

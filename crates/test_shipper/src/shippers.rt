@@ -1,18 +1,18 @@
 //! What a shipper places and sends, and what its report says.
 
 use crate::logs::{FOUR, ONE, TWO, UP, segment};
-use crate::peers::{Peer, Peers};
+use crate::peers::{Peer, Peers, TURNS};
 use crate::work::{Step, Stop, Wanted, Work, config_of, feed, over_two_epochs, run};
 use http::StatusCode;
 use rw_ledger::Reason;
-use rw_shipper::{FeedFault, Load, Outcome};
+use rw_shipper::{FeedFault, Load, Outcome, Shipper};
 use rw_types::Bounded;
 use rw_wal_tail::{Piece, TailFault};
 use std::alloc::{AllocError, Global};
 use std::sync::atomic::AtomicBool;
 use std::sync::{Arc, Wait};
 use std::test::Fail;
-use std::thread::Threads;
+use std::thread::{self, Threads};
 
 /// The message of the samples 1 at 10 ms and 2 at 20 ms of the series `up`.
 const BOTH_OF_UP: &[u8] = &[
@@ -139,7 +139,7 @@ fn samples_that_are_not_stored_are_named(rt: HostRuntime) -> Result<(), Fail> {
     Ok(())
 }
 
-/// An epoch that ended is no backlog.
+/// An epoch that ended is no backlog, and neither is a sample that only waits for its batch to be full.
 #[test]
 fn one_series_goes_on_in_the_next_epoch(rt: HostRuntime) -> Result<(), Fail> {
     let alloc = rt.alloc();
@@ -156,7 +156,7 @@ fn one_series_goes_on_in_the_next_epoch(rt: HostRuntime) -> Result<(), Fail> {
     assert_eq!(rt; work.difference(wanted), None);
     assert!(rt; sent_once(peers.first(), FIRST_OF_C));
     assert!(rt; sent_once(peers.last(), SECOND_OF_C));
-    let loads = [load(1, 0, 1), load(1, 1, 0), load(1, 1, 0), load(2, 1, 1)];
+    let loads = [load(1, 1, 0), load(1, 1, 0), load(1, 1, 0), load(2, 2, 0)];
     assert_eq!(rt; work.loads.as_slice(), loads.as_slice());
     Ok(())
 }
@@ -324,5 +324,32 @@ fn workers_send_at_once(rt: HostRuntime) -> Result<(), Fail> {
         assert_eq!(rt; outcome, Outcome::Complete(6));
         assert_eq!(rt; counts.as_slice(), [1, 1].as_slice());
     }
+    Ok(())
+}
+
+/// Whether a sample that was fed is resolved in time, with no call behind it.
+fn is_resolved_in_time<R: Threads + Wait + Copy + Send + 'static>(
+    rt: &R,
+    alloc: Global,
+) -> Result<bool, Fail> {
+    let config = config_of(alloc, Bounded::of(1), Bounded::of(1))?;
+    let log = segment(alloc, &[UP], &[(1, 10, ONE)])?;
+    let peers = always(alloc, StatusCode::NO_CONTENT)?;
+    let mut shipper = Shipper::start(rt, alloc, config, peers)?;
+    let mut is_resolved = false;
+    if shipper.feed(rt, Piece::Bytes(log)).is_ok() {
+        is_resolved = (0..TURNS).any(|_| {
+            thread::yield_now();
+            shipper.load() == load(1, 1, 0)
+        });
+    }
+    shipper.stop_hard(rt);
+    Ok(is_resolved)
+}
+
+/// What was fed is with the workers, and they tell what they have done.
+#[test]
+fn a_fed_sample_is_resolved_without_a_flush(rt: HostRuntime) -> Result<(), Fail> {
+    assert!(rt; is_resolved_in_time(&rt, rt.alloc())?);
     Ok(())
 }
