@@ -4,6 +4,7 @@ ghost use Rattle.std.specs.Prelude.{◌≡◌, ◌+◌, ◌<◌, ◌⊎◌, IfOk
 ghost use Rattle.rw_recv_head.specs.Growth.{EachRises};
 ghost use Rattle.rw_tool.specs.declared.fault.ToolFault.TheVariants.{OutOfMemory, Device};
 
+use crate::parting::part;
 use rw_recv_head::{Head, Limits};
 use rw_recv_http::serve;
 use rw_shared_head::{Asking, Seat, SharedHead};
@@ -15,9 +16,10 @@ use std::sync::Wait;
 use std::sync::ledger::{Blank, Ledger};
 use std::thread;
 use std::thread::{JoinHandle, Scope, Threads};
+use std::time::Clock;
 
-/// Serves a connection to its end, however it ends, and gives the seat back.
-fn served<L: Ledger, R: Wait>(
+/// Serves a connection to its end, however it ends, parts from the client, and gives the seat back.
+fn served<L: Ledger, R: Wait + Clock>(
     rt: &R,
     alloc: Global,
     shared: &SharedHead<L>,
@@ -34,6 +36,7 @@ fn served<L: Ledger, R: Wait>(
         seat: &mut seat,
     };
     serve(alloc, &mut reader, &mut writer, &mut asking, limits);
+    part(rt, &stream);
     seat
 }
 
@@ -48,7 +51,7 @@ fn accepted(listener: &TcpListener) -> Result<TcpStream, ToolFault>
 }
 
 /// Begins to serve a connection in a thread of the scope.
-fn begun<'s, E, L: Ledger + Send + Sync + 's, R: Wait + Sync>(
+fn begun<'s, E, L: Ledger + Send + Sync + 's, R: Wait + Clock + Sync>(
     scope: &Scope<'s, E>,
     rt: &'s R,
     alloc: Global,
@@ -66,7 +69,7 @@ fn begun<'s, E, L: Ledger + Send + Sync + 's, R: Wait + Sync>(
 }
 
 /// Accepts a connection for each seat, and begins to serve it in a thread of the scope.
-fn start_each<'s, E, L: Ledger + Send + Sync + 's, R: Wait + Sync>(
+fn start_each<'s, E, L: Ledger + Send + Sync + 's, R: Wait + Clock + Sync>(
     scope: &Scope<'s, E>,
     rt: &'s R,
     alloc: Global,
@@ -101,11 +104,12 @@ fn join_each<L: Ledger, R: Threads>(
     Ok(seats)
 }
 
-/// Serves one connection from each seat, each in a thread of its own, and gives the seats back.
-fn serve_each<L: Ledger + Send + Sync, R: Threads + Wait + Sync>(
+/// Serves one connection from each seat, each in a thread of its own, and gives the seats back. Nobody is listened to once the last one
+/// has come, or none can be served any more: whoever comes then is refused at once, and does not wait for those in work.
+fn serve_each<L: Ledger + Send + Sync, R: Threads + Wait + Clock + Sync>(
     rt: &R,
     alloc: Global,
-    listener: &TcpListener,
+    listener: TcpListener,
     shared: &SharedHead<L>,
     limits: &Limits,
     seats: Vec<Seat<L>>,
@@ -119,20 +123,21 @@ fn serve_each<L: Ledger + Send + Sync, R: Threads + Wait + Sync>(
         move |scope| -> Result<Vec<Seat<L>>, ToolFault>
             ensures { IfOk result (λ back. vec_len back ≡ vec_len seats) × IfErr result (λ e. (e ≡ OutOfMemory) ⊎ (e ≡ Device)) }
         {
-            let handles = start_each(scope, rt, alloc, listener, shared, limits, seats)?;
-            Ok(join_each(rt, alloc, handles)?)
+            let started = start_each(scope, rt, alloc, &listener, shared, limits, seats);
+            drop(listener);
+            Ok(join_each(rt, alloc, started?)?)
         },
     )
 }
 
 /// Serves so many connections over one head, which had nothing. Gives the head that they leave.
-pub(crate) fn receive_all<L: Ledger + Send + Sync, R: Threads + Wait + Sync>(
+pub(crate) fn receive_all<L: Ledger + Send + Sync, R: Threads + Wait + Clock + Sync>(
     rt: &R,
     alloc: Global,
     blank: Blank,
     limits: &Limits,
     connections: usize,
-    listener: &TcpListener,
+    listener: TcpListener,
 ) -> Result<Head, ToolFault>
     requires some { 0 < connections }
     requires name { blank.name ≡ L.name }

@@ -2,6 +2,7 @@
 #![tactic(auto)]
 
 mod connections;
+mod parting;
 mod receive;
 
 pub use receive::run_receive;

@@ -18,6 +18,7 @@ use std::net::TcpListener;
 use std::sync::Wait;
 use std::sync::ledger::Blank;
 use std::thread::Threads;
+use std::time::Clock;
 
 /// Prints what a head holds.
 fn print_held<W: Sink>(alloc: Global, head: &Head, writer: &mut W) -> Result<(), ToolFault>
@@ -38,13 +39,17 @@ fn print_held<W: Sink>(alloc: Global, head: &Head, writer: &mut W) -> Result<(),
 /// ` T=VALUE`, the line ended by LF. How a connection ends is no fault.
 ///
 /// A failed accept is `Device`; the connections that were accepted before it are still served to their ends. A thread that cannot be made
-/// counts as refused memory. Waits until so many connections have come and ended.
-pub fn run_receive<R: Threads + Wait + Sync, W: Sink>(
+/// counts as refused memory. Waits until so many connections have come and ended. Once the last one has come, or none can be accepted any
+/// more, the listener is closed, so that further clients are refused at once.
+///
+/// A connection is ended by its writing side; what the client still writes is read and forgotten until it ends its own, for a second at
+/// most, so that it sees the last reply.
+pub fn run_receive<R: Threads + Wait + Clock + Sync, W: Sink>(
     rt: &R,
     alloc: Global,
     settings: &Settings,
     connections: Bounded<1, 1_000>,
-    listener: &TcpListener,
+    listener: TcpListener,
     writer: &mut W,
 ) -> Result<(), ToolFault>
     ensures ok { OnOk result (WritesHeld (W.contents writer.old) (W.contents writer.new)) }

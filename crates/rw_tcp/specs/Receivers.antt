@@ -4,4 +4,4 @@ use Rattle.std.specs.declared.net.socket_addr.SocketAddr.{SocketAddr}
 
 pub record Receiver : Type 0 where
   pub addresses : List SocketAddr
-  pub timeout : ℕ  -- of each connect, read and write, in nanoseconds
+  pub timeout : ℕ  -- of an attempt, in nanoseconds

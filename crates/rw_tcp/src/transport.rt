@@ -8,13 +8,17 @@ ghost use Rattle.rw_retry.specs.declared.judgement.Judgement.TheVariants as judg
 ghost use Rattle.rw_tcp.specs.Hearing.{Hears};
 
 use crate::reply::ask;
+use rw_socket::{Deadline, Timely};
 use rw_types::{Bounded, Sink, Source, Std};
 use rw_worker::{Lost, Reply, Transport};
 use std::alloc::Global;
 use std::io;
 use std::marker::Model;
 use std::net::{Net, SocketAddr, TcpStream, ToSocketAddrs};
-use std::time::Duration;
+use std::time::{Clock, Duration};
+
+/// How many addresses are tried.
+const MOST_ADDRESSES: usize = 1_000;
 
 /// The addresses of a host, at least one. An `Err` of another kind than `OutOfMemory` is a failed look-up.
 pub fn look_up<N: Net>(net: &N, alloc: Global, host: &str, port: u16) -> io::Result<Vec<SocketAddr>>
@@ -32,8 +36,8 @@ pub fn look_up<N: Net>(net: &N, alloc: Global, host: &str, port: u16) -> io::Res
 
 /// Sends each request over a connection of its own, to the first of its addresses that answers.
 ///
-/// Whatever fails is `Lost`: to connect, to write and to read, each also by a wait that is longer than the timeout, and a reply that is none.
-/// It tells of no exchange, since nobody can know what a socket really took. Contracts see the addresses and the timeout.
+/// Whatever fails is `Lost`: to connect, to write and to read, whatever is not done when the timeout has passed since the attempt began,
+/// and a reply that is none. It tells of no exchange, since nobody can know what a socket really took. Contracts see the addresses and the timeout.
 #[derive(Drop)]
 pub struct TcpTransport<N> {
     alloc: Global,
@@ -51,8 +55,9 @@ impl<N> Model for TcpTransport<N> {
     ghost view = { λ t. record { addresses = t.addresses.items; timeout = as_nanos t.timeout } };
 }
 
-impl<N: Net<Stream = TcpStream>> TcpTransport<N> {
-    /// A transport to these addresses of one receiver, tried in turn. The timeout is in milliseconds, for each connect, read and write.
+impl<N: Net<Stream = TcpStream> + Clock + Copy> TcpTransport<N> {
+    /// A transport to these addresses of one receiver, tried in turn. The timeout is in milliseconds, for a whole attempt: the connects,
+    /// all writes and all reads together.
     pub fn new(
         alloc: Global,
         net: N,
@@ -70,20 +75,15 @@ impl<N: Net<Stream = TcpStream>> TcpTransport<N> {
         }
     }
 
-    /// A connection to one address.
-    fn connect_to(&self, address: &SocketAddr) -> io::Result<TcpStream> {
-        let stream = TcpStream::connect_timeout(&self.net, address, self.timeout)?;
-        stream.set_read_timeout(Some(self.timeout))?;
-        stream.set_write_timeout(Some(self.timeout))?;
-        Ok(stream)
-    }
-
-    /// A connection to the first address that answers.
-    fn connect(&self) -> Option<TcpStream> {
+    /// A connection to the first address that answers. Those that were not tried yet share the time that is left.
+    fn connect(&self, deadline: &Deadline<N>) -> Option<TcpStream> {
+        let mut untried = self.addresses.len().min(MOST_ADDRESSES) as u32;
         for address in &self.addresses {
-            if let Ok(stream) = self.connect_to(address) {
+            let share = deadline.left()?.checked_div(untried)?;
+            if let Ok(stream) = TcpStream::connect_timeout(&self.net, address, share) {
                 return Some(stream);
             }
+            untried = untried.saturating_sub(1);
         }
         None
     }
@@ -105,8 +105,13 @@ fn exchange_over<R: Source, W: Sink>(
     }
 }
 
-/// Sends a request over a connection, where there is one.
-fn exchange_through(alloc: Global, stream: Option<TcpStream>, request: &[u8]) -> Result<Reply, Lost>
+/// Sends a request over a connection, where there is one, before the deadline.
+fn exchange_through<C: Clock + Copy>(
+    alloc: Global,
+    stream: Option<TcpStream>,
+    deadline: Deadline<C>,
+    request: &[u8],
+) -> Result<Reply, Lost>
     ensures { IsOk result → IsSome stream }
 {
     let Some(stream) = stream else {
@@ -114,13 +119,13 @@ fn exchange_through(alloc: Global, stream: Option<TcpStream>, request: &[u8]) ->
     };
     exchange_over(
         alloc,
-        &mut Std::new(&stream),
-        &mut Std::new(&stream),
+        &mut Std::new(Timely::new(&stream, deadline)),
+        &mut Std::new(Timely::new(&stream, deadline)),
         request,
     )
 }
 
-impl<N: Net<Stream = TcpStream>> Transport for TcpTransport<N> {
+impl<N: Net<Stream = TcpStream> + Clock + Copy> Transport for TcpTransport<N> {
     ghost use Rattle.std.specs.Prelude.{[], ⊤};
 
     ghost is_for = { λ _ _ _. ⊤ };
@@ -130,6 +135,8 @@ impl<N: Net<Stream = TcpStream>> Transport for TcpTransport<N> {
     ghost seen = { λ _. [] };
 
     fn exchange(&mut self, request: &[u8]) -> Result<Reply, Lost> {
-        exchange_through(self.alloc, self.connect(), request)
+        let deadline = Deadline::new(self.net, self.timeout);
+        let stream = self.connect(&deadline);
+        exchange_through(self.alloc, stream, deadline, request)
     }
 }

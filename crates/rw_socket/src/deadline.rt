@@ -1,0 +1,36 @@
+//! A time by the clock after which nothing is waited for.
+
+ghost use Rattle.std.specs.Prelude.{◌<◌, IfSome};
+ghost use Rattle.std.specs.Duration.{as_nanos};
+
+use std::time::{Clock, Duration, Instant};
+
+/// A time by the clock after which nothing is waited for.
+#[derive(Clone, Copy, Drop)]
+pub struct Deadline<C> {
+    clock: C,
+    /// Not known where the clock could not be read.
+    begun: Option<Instant>,
+    after: Duration,
+}
+
+impl<C: Clock> Deadline<C> {
+    /// So long after now.
+    pub fn new(clock: C, after: Duration) -> Deadline<C> {
+        let begun = Instant::now(&clock).ok();
+        Deadline {
+            clock,
+            begun,
+            after,
+        }
+    }
+
+    /// The time that is left, where some is. None is left where the clock cannot be read.
+    pub fn left(&self) -> Option<Duration>
+        ensures { IfSome result (λ left. 0 < as_nanos left) }
+    {
+        let passed = self.begun?.elapsed(&self.clock).ok()?;
+        let left = self.after.checked_sub(passed)?;
+        if left.is_zero() { None } else { Some(left) }
+    }
+}
