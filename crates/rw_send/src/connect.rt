@@ -30,7 +30,7 @@ impl<N> Model for TcpConnect<N> {
 }
 
 impl<N> TcpConnect<N> {
-    /// To these addresses of one receiver, tried in turn. The timeout is in milliseconds, for each connect, read and write.
+    /// To these addresses of one receiver, tried in turn. The timeout is in milliseconds, for a whole attempt.
     pub fn new(
         alloc: Global,
         net: N,
@@ -49,7 +49,7 @@ impl<N> TcpConnect<N> {
     }
 }
 
-impl<N: Net<Stream = TcpStream> + Copy> TcpConnect<N> {
+impl<N: Net<Stream = TcpStream> + Clock + Copy> TcpConnect<N> {
     /// A transport to the addresses, with the timeout.
     fn to_receiver(&self) -> Result<TcpTransport<N>, AllocError>
         ensures { IfOk result (λ transport. transport ≡ self.now) }

@@ -19,6 +19,7 @@ use rw_types::{Sink, Source};
 use std::alloc::{AllocError, Global};
 use std::sync::Wait;
 use std::thread::Threads;
+use std::time::Clock;
 
 /// What came of shipping.
 #[derive(Drop)]
@@ -76,7 +77,7 @@ fn stopped<R: Threads + Wait, C: Connect + Drop>(
 }
 
 /// Ships segments, and stops.
-fn ship<R: Threads + Wait + Copy + Send + 'static, S: Source + Drop, C: Connect + Drop>(
+fn ship<R: Threads + Wait + Clock + Copy + Send + 'static, S: Source + Drop, C: Connect + Drop>(
     rt: &R,
     alloc: Global,
     config: Config,
@@ -95,12 +96,13 @@ fn ship<R: Threads + Wait + Copy + Send + 'static, S: Source + Drop, C: Connect 
 /// `abandoned POS` by position, and `report ..`, each line ended by LF. Of what was read the labels of series, the samples that wait to be
 /// answered for and the dropped ones are kept, and nothing else.
 ///
-/// A segment is fed as it is read, in pieces of at most 64 KiB. After each one the number of shards is changed to what is wanted under the load.
+/// A segment is fed as it is read, in pieces of at most 64 KiB. Between two of them the number of shards is changed to what is wanted under the
+/// load, for which the workers are given a moment to catch up.
 /// A log fault ends the reading, and what stands before it is still shipped. Where memory or a thread is refused, a worker has gone or a
 /// segment cannot be read, the work is stopped at once. Where it could not start, or the report could not be printed for want of memory,
 /// nothing is printed. Waits until the receiver has answered for all that was read, or the work is stopped.
 pub fn run_send<
-    R: Threads + Wait + Copy + Send + 'static,
+    R: Threads + Wait + Clock + Copy + Send + 'static,
     S: Source + Drop,
     C: Connect + Drop,
     W: Sink,

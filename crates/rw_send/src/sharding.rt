@@ -10,7 +10,8 @@ use rw_reshard::want;
 use rw_sender::Config;
 use rw_shipper::{Connect, Load, Shipper};
 use std::sync::Wait;
-use std::thread::Threads;
+use std::thread::{self, Threads};
+use std::time::{Clock, Duration};
 
 /// How many shards there are, and the fewest and the most that there may be.
 #[derive(Clone, Copy, Debug)]
@@ -61,15 +62,31 @@ impl Sharding {
     }
 }
 
-/// Changes the number of shards to what is wanted under the load, where that is another one.
-pub(crate) fn resharded<R: Threads + Wait + Copy + Send + 'static, C: Connect + Drop>(
+/// How often, and for how many milliseconds, the workers are waited for behind a segment: 50 ms at most.
+const MOMENTS: u32 = 10;
+
+const MOMENT_MS: u64 = 5;
+
+/// Waits a moment for the workers to resolve what was put, so that the load tells whether they keep up.
+fn let_catch_up<R: Clock, C: Connect + Drop>(rt: &R, shipper: &Shipper<C>) {
+    for _ in 0..MOMENTS {
+        if shipper.load().backlog == 0 {
+            return;
+        }
+        thread::sleep(rt, Duration::from_millis(MOMENT_MS));
+    }
+}
+
+/// Changes the number of shards to what is wanted under the load, where that is another one and more is to come.
+pub(crate) fn resharded<R: Threads + Wait + Clock + Copy + Send + 'static, C: Connect + Drop>(
     rt: &R,
     shipper: &mut Shipper<C>,
     sharding: Sharding,
+    is_more: bool,
 ) -> Result<Sharding, Halt>
     requires { length shipper.old.fleet.current ≡ sharding.shards }
     ensures put { shipper.old.fault ≡ None → HasPutAll shipper.old }
-    ensures set { OnOk result (IsSet sharding.fewest sharding.most shipper.old shipper.new) }
+    ensures set { OnOk result (IsSet is_more sharding.fewest sharding.most shipper.old shipper.new) }
     ensures shards { IfOk result (λ s. s.shards ≡ length shipper.new.fleet.current) }
     ensures range { IfOk result (λ s. (s.fewest ≡ sharding.fewest) × (s.most ≡ sharding.most)) }
     ensures log { shipper.new.log ≡ shipper.old.log }
@@ -78,8 +95,14 @@ pub(crate) fn resharded<R: Threads + Wait + Copy + Send + 'static, C: Connect + 
     ensures sound { shipper.old.fault ≡ None → OnOk result (shipper.new.fault ≡ None) }
     ensures err { OnErr result (result ≡ Err Halt.Failed) }
 {
+    if is_more && sharding.fewest < sharding.most {
+        let_catch_up(rt, shipper);
+    }
     let next = sharding.under(shipper.load());
-    if next.shards != sharding.shards && shipper.reshard(rt, next.shards).is_err() {
+    if !is_more || next.shards == sharding.shards {
+        return Ok(sharding);
+    }
+    if shipper.reshard(rt, next.shards).is_err() {
         return Err(Halt::Failed);
     }
     Ok(next)

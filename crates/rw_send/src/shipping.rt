@@ -15,6 +15,7 @@ use rw_wal_tail::Piece;
 use std::alloc::{AllocError, Global};
 use std::sync::Wait;
 use std::thread::Threads;
+use std::time::Clock;
 
 /// The most bytes of a piece.
 const PIECE_BYTES: usize = 65_536;
@@ -111,9 +112,9 @@ fn begin_segment<R: Wait, C: Connect + Drop>(
     Ok(())
 }
 
-/// Feeds the segments of a log one after the other. After each one the number of shards is changed to what is wanted under the load.
+/// Feeds the segments of a log one after the other. Between two of them the number of shards is changed to what is wanted under the load.
 pub(crate) fn ship_all<
-    R: Threads + Wait + Copy + Send + 'static,
+    R: Threads + Wait + Clock + Copy + Send + 'static,
     S: Source + Drop,
     C: Connect + Drop,
 >(
@@ -138,11 +139,13 @@ pub(crate) fn ship_all<
 {
     let mut sharding = sharding;
     let mut is_first = true;
+    let mut left = segments.len();
     for segment in segments {
         begin_segment(rt, shipper, is_first)?;
         ship_segment(rt, alloc, shipper, segment)?;
         is_first = false;
-        sharding = resharded(rt, shipper, sharding)?;
+        left -= 1;
+        sharding = resharded(rt, shipper, sharding, left > 0)?;
     }
     Ok(())
 }

@@ -26,6 +26,7 @@ use std::net::{SocketAddr, TcpListener};
 use std::process::ExitCode;
 use std::sync::Wait;
 use std::thread::Threads;
+use std::time::Clock;
 
 /// The exit status for words and settings that the program does not take.
 const BAD_WORDS: u8 = 2;
@@ -80,7 +81,9 @@ fn bad_words(rt: &HostRuntime, text: &str) -> ExitCode
 /// Says which HOST:PORT is none, in the form of the command-line parser.
 fn no_address(rt: &HostRuntime, words: &ArgMatches<'_>) -> ExitCode {
     if let Some((option, value)) = bad_address(words) {
-        let _ = eprintln!(rt; "error: invalid value '{value}' for '--{option} <HOST:PORT>': a host, a colon and a port from 1 to 65535\n");
+        let _ = eprintln!(rt;
+            "error: invalid value '{value}' for '--{option} <HOST:PORT>': a host, a colon and a port from 1 to 65535\n"
+        );
     }
     bad_words(rt, "For more information, try '--help'.")
 }
@@ -141,7 +144,7 @@ fn addresses_of(rt: &HostRuntime, to: Address<'_>) -> Result<Vec<SocketAddr>, To
 }
 
 /// Ships the segments of a folder to a receiver, and prints the report.
-fn ship<R: Threads + Wait + Copy + Send + 'static>(
+fn ship<R: Threads + Wait + Clock + Copy + Send + 'static>(
     rt: &HostRuntime,
     threads: &R,
     settings: Settings,
@@ -158,7 +161,7 @@ fn ship<R: Threads + Wait + Copy + Send + 'static>(
 }
 
 /// The same, by the settings in a file.
-fn send<R: Threads + Wait + Copy + Send + 'static>(
+fn send<R: Threads + Wait + Clock + Copy + Send + 'static>(
     rt: &HostRuntime,
     threads: &R,
     settings: Option<&str>,
@@ -172,7 +175,7 @@ fn send<R: Threads + Wait + Copy + Send + 'static>(
 }
 
 /// Serves connections, and prints what they left.
-fn receive<R: Threads + Wait + Sync>(
+fn receive<R: Threads + Wait + Clock + Sync>(
     rt: &HostRuntime,
     threads: &R,
     settings: Option<&str>,
@@ -192,14 +195,14 @@ fn receive<R: Threads + Wait + Sync>(
         rt.alloc(),
         &settings,
         connections,
-        &listener,
+        listener,
         &mut output,
     );
     ended(rt, outcome)
 }
 
 /// Does what the words ask for.
-fn perform<R: Threads + Wait + Copy + Send + Sync + 'static>(
+fn perform<R: Threads + Wait + Clock + Copy + Send + Sync + 'static>(
     rt: &HostRuntime,
     threads: &R,
     task: &Task<'_>,
@@ -219,7 +222,7 @@ fn perform<R: Threads + Wait + Copy + Send + Sync + 'static>(
 }
 
 /// Reads the words and does what they ask for.
-fn run<R: Threads + Wait + Copy + Send + Sync + 'static>(
+fn run<R: Threads + Wait + Clock + Copy + Send + Sync + 'static>(
     rt: &HostRuntime,
     threads: &R,
 ) -> Result<ExitCode, ToolFault> {
@@ -227,7 +230,10 @@ fn run<R: Threads + Wait + Copy + Send + Sync + 'static>(
     let words: Vec<String> = match env::args(rt) {
         Ok(words) => words.collect(alloc)?,
         Err(error) if error.kind() == ErrorKind::OutOfMemory => return Err(ToolFault::OutOfMemory),
-        Err(_) => return Ok(bad_words(rt, "error: a word is not UTF-8\n\nFor more information, try '--help'.")),
+        Err(_) => return Ok(bad_words(
+            rt,
+            "error: a word is not UTF-8\n\nFor more information, try '--help'.",
+        )),
     };
     match command_line(alloc)?.try_get_matches_from(words.as_slice()) {
         Err(error) => Ok(unparsed(rt, error)),

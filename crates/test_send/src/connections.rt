@@ -13,7 +13,7 @@ use std::net::{Net, Shutdown, SocketAddr, TcpListener, TcpStream};
 use std::sync::Wait;
 use std::test::Fail;
 use std::thread::Threads;
-use std::time::{Duration, Instant};
+use std::time::{Clock, Duration, Instant};
 use std::{io, thread};
 
 const UP_AT_1000: &[u8] = b"received {__name__=\"up\"} 1000=1\n";
@@ -43,6 +43,10 @@ enum Client {
     Asks(u64),
     /// It asks once, and its first address is one where nobody listens.
     AsksBehindDeserted,
+    /// It writes a whole request before it reads.
+    WritesFirst,
+    /// It comes again while its first connection is served, until it is refused.
+    ComesAgain,
 }
 
 /// What a receiver is set to, and what a client does.
@@ -79,6 +83,36 @@ fn replies_in_turn<N: Net<Stream = TcpStream>>(
     Ok(replies)
 }
 
+/// What is replied to a request that is written whole before anything is read.
+fn reply_after_all<N: Net<Stream = TcpStream>>(
+    net: &N,
+    alloc: Global,
+    address: SocketAddr,
+    request: &[u8],
+) -> io::Result<Vec<u8>> {
+    let mut stream = TcpStream::connect(net, address)?;
+    let mut reply = Vec::new(alloc);
+    stream.write_all(request)?;
+    stream.read_to_end(&mut reply)?;
+    Ok(reply)
+}
+
+/// Connects again and again while a first connection stands open, and says whether it was refused in the end.
+fn comes_again<N: Net<Stream = TcpStream> + Clock>(
+    net: &N,
+    alloc: Global,
+    address: SocketAddr,
+) -> io::Result<Vec<u8>> {
+    let _first = TcpStream::connect(net, address)?;
+    for _ in 0..1_000 {
+        if TcpStream::connect_timeout(net, &address, Duration::from_secs(1)).is_err() {
+            return Ok(Vec::from_slice(alloc, b"refused")?);
+        }
+        thread::sleep(net, Duration::from_millis(5));
+    }
+    Ok(Vec::new(alloc))
+}
+
 /// Writes nothing on one connection, a request without its last byte on the next, and no HTTP on the last.
 fn stray<N: Net<Stream = TcpStream>>(
     net: &N,
@@ -101,7 +135,7 @@ fn deserted<N: Net<Stream = TcpStream, Listener = TcpListener>>(net: &N) -> io::
 }
 
 /// The statuses of so many requests with the same bytes, each behind a space.
-fn statuses<N: Net<Stream = TcpStream>>(
+fn statuses<N: Net<Stream = TcpStream> + Clock + Copy>(
     alloc: Global,
     transport: &mut TcpTransport<N>,
     count: u64,
@@ -119,7 +153,7 @@ fn statuses<N: Net<Stream = TcpStream>>(
 }
 
 /// What a client reads.
-fn read_by<N: Net<Stream = TcpStream, Listener = TcpListener> + Copy>(
+fn read_by<N: Net<Stream = TcpStream, Listener = TcpListener> + Clock + Copy>(
     net: &N,
     alloc: Global,
     client: Client,
@@ -132,6 +166,8 @@ fn read_by<N: Net<Stream = TcpStream, Listener = TcpListener> + Copy>(
             stray(net, address, request)?;
             return Ok(Vec::new(alloc));
         }
+        Client::WritesFirst => return reply_after_all(net, alloc, address, request),
+        Client::ComesAgain => return comes_again(net, alloc, address),
         Client::Asks(count) => (count, look_up(net, alloc, "127.0.0.1", address.port())?),
         Client::AsksBehindDeserted => (1, vec![in alloc; deserted(net)?, address]?),
     };
@@ -141,14 +177,20 @@ fn read_by<N: Net<Stream = TcpStream, Listener = TcpListener> + Copy>(
 
 /// Receives while a client does its work in a thread of its own. Gives the first difference from what a row says.
 fn difference<
-    R: Net<Stream = TcpStream, Listener = TcpListener> + Threads + Wait + Copy + Send + Sync,
+    R: Net<Stream = TcpStream, Listener = TcpListener>
+        + Threads
+        + Wait
+        + Clock
+        + Copy
+        + Send
+        + Sync,
 >(
     rt: &R,
     alloc: Global,
     row: &Row<'_>,
     settings: &Settings,
     connections: Bounded<1, 1_000>,
-    listener: &TcpListener,
+    listener: TcpListener,
     address: SocketAddr,
     request: &[u8],
     printed: &mut Room,
@@ -169,11 +211,15 @@ fn difference<
 }
 
 /// The first difference from what a row says.
-fn odd<R: Net<Stream = TcpStream, Listener = TcpListener> + Threads + Wait + Copy + Send + Sync>(
-    rt: &R,
-    alloc: Global,
-    row: &Row<'_>,
-) -> Result<Option<&'static str>, Fail> {
+fn odd<
+    R: Net<Stream = TcpStream, Listener = TcpListener>
+        + Threads
+        + Wait
+        + Clock
+        + Copy
+        + Send
+        + Sync,
+>(rt: &R, alloc: Global, row: &Row<'_>) -> Result<Option<&'static str>, Fail> {
     let request = request_of(alloc, row.body)?;
     let mut printed = Room::new(alloc, row.room)?;
     let listener = TcpListener::bind(rt, "127.0.0.1:0")?;
@@ -186,7 +232,7 @@ fn odd<R: Net<Stream = TcpStream, Listener = TcpListener> + Threads + Wait + Cop
         row,
         &settings,
         connections,
-        &listener,
+        listener,
         address,
         &request,
         &mut printed,
@@ -197,7 +243,7 @@ fn odd<R: Net<Stream = TcpStream, Listener = TcpListener> + Threads + Wait + Cop
     Ok(odd)
 }
 
-const ROWS: [Row<'_>; 5] = [
+const ROWS: [Row<'_>; 6] = [
     Row {
         name: "connections do not wait for one another",
         settings: b"",
@@ -244,6 +290,18 @@ const ROWS: [Row<'_>; 5] = [
         ended: Ok(()),
         printed: UP_AT_1000,
     },
+    // the listener is closed once the last connection has come
+    Row {
+        name: "whoever comes late is refused",
+        settings: b"",
+        connections: 1,
+        room: 4096,
+        client: Client::ComesAgain,
+        body: &UP_BODY,
+        read: b"refused",
+        ended: Ok(()),
+        printed: b"",
+    },
     // what is held does not fit into the writer
     Row {
         name: "a failed writer is a device fault",
@@ -267,22 +325,30 @@ fn what_is_sent_is_received(rt: HostRuntime) -> Result<(), Fail> {
     Ok(())
 }
 
-/// The body is refused by its length alone, while most of it is still to be written.
+const TOO_LARGE: &[u8] =
+    b"HTTP/1.1 413 Content Too Large\r\nContent-Length: 0\r\nConnection: close\r\n\r\n";
+
+/// The body is refused by its length alone, while most of it is still to be written. A client that writes all of it first sees the reply too.
 #[test]
 fn a_body_over_the_limit_is_refused(rt: HostRuntime) -> Result<(), Fail> {
     let body: Vec<u8> = vec![in rt.alloc(); 0; 1 << 24]?;
-    let row = Row {
-        name: "a body over the limit",
-        settings: b"[receive]\nmax_body_bytes = 1000\n",
-        connections: 1,
-        room: 4096,
-        client: Client::Asks(1),
-        body: &body,
-        read: b" 413",
-        ended: Ok(()),
-        printed: b"",
-    };
-    assert_eq!(rt; odd(&rt, rt.alloc(), &row)?, None);
+    for (client, read) in [
+        (Client::Asks(1), b" 413".as_slice()),
+        (Client::WritesFirst, TOO_LARGE),
+    ] {
+        let row = Row {
+            name: "a body over the limit",
+            settings: b"[receive]\nmax_body_bytes = 1000\n",
+            connections: 1,
+            room: 4096,
+            client,
+            body: &body,
+            read,
+            ended: Ok(()),
+            printed: b"",
+        };
+        assert_eq!(rt; odd(&rt, rt.alloc(), &row)?, None);
+    }
     Ok(())
 }
 
@@ -299,7 +365,7 @@ fn a_pause_lasts_so_many_milliseconds(rt: HostRuntime) -> Result<(), Fail> {
 
 /// What a receiver answers and prints whose listener does not wait for a connection.
 fn received_without_waiting<
-    R: Net<Stream = TcpStream, Listener = TcpListener> + Threads + Wait + Sync,
+    R: Net<Stream = TcpStream, Listener = TcpListener> + Threads + Wait + Clock + Sync,
 >(rt: &R, alloc: Global) -> Result<(Result<(), ToolFault>, Room), Fail> {
     let listener = TcpListener::bind(rt, "127.0.0.1:0")?;
     listener.set_nonblocking(true)?;
@@ -310,7 +376,7 @@ fn received_without_waiting<
         alloc,
         &settings,
         Bounded::of(1_000),
-        &listener,
+        listener,
         &mut printed,
     );
     Ok((ended, printed))
@@ -326,7 +392,7 @@ fn a_failed_accept_is_a_device_fault(rt: HostRuntime) -> Result<(), Fail> {
 }
 
 /// The statuses of a request that nobody answers within the timeout, and of one where nobody listens any more.
-fn unanswered<N: Net<Stream = TcpStream, Listener = TcpListener> + Copy>(
+fn unanswered<N: Net<Stream = TcpStream, Listener = TcpListener> + Clock + Copy>(
     net: &N,
     alloc: Global,
 ) -> io::Result<(Vec<u8>, Vec<u8>)> {
@@ -344,5 +410,41 @@ fn no_reply_is_lost(rt: HostRuntime) -> Result<(), Fail> {
     let (first, then) = unanswered(&rt, rt.alloc())?;
     assert_eq!(rt; first.as_slice(), b" 0".as_slice());
     assert_eq!(rt; then.as_slice(), b" 0".as_slice());
+    Ok(())
+}
+
+/// Writes the head of a reply to one connection, a byte each 20 ms, until the client has gone or 40 s have passed.
+fn drip<R: Clock>(clock: &R, listener: &TcpListener) -> io::Result<()> {
+    let (mut stream, _) = listener.accept()?;
+    stream.write_all(b"HTTP/1.1 204 No Content\r\nX: ")?;
+    for _ in 0..2_000 {
+        stream.write_all(b"x")?;
+        thread::sleep(clock, Duration::from_millis(20));
+    }
+    Ok(())
+}
+
+/// The status of a request whose reply comes byte by byte, and how long it took, with a timeout of 200 ms.
+fn dripped<
+    R: Net<Stream = TcpStream, Listener = TcpListener> + Threads + Clock + Copy + Send + Sync,
+>(rt: &R, alloc: Global) -> io::Result<(Vec<u8>, Duration)> {
+    let listener = TcpListener::bind(rt, "127.0.0.1:0")?;
+    let addresses = vec![in alloc; listener.local_addr()?]?;
+    let mut transport = TcpTransport::new(alloc, *rt, addresses, Bounded::of(200));
+    let start = Instant::now(rt)?;
+    let (statuses, _) = thread::join(
+        rt,
+        || statuses(alloc, &mut transport, 1, b"POST"),
+        || drip(rt, &listener),
+    );
+    Ok((statuses?, start.elapsed(rt)?))
+}
+
+/// The timeout holds for the attempt, and not for each read of it.
+#[test]
+fn a_reply_that_drips_is_lost(rt: HostRuntime) -> Result<(), Fail> {
+    let (statuses, took) = dripped(&rt, rt.alloc())?;
+    assert_eq!(rt; statuses.as_slice(), b" 0".as_slice());
+    assert!(rt; took < Duration::from_secs(10));
     Ok(())
 }

@@ -14,6 +14,7 @@ use std::sync::Wait;
 use std::test::Fail;
 use std::thread;
 use std::thread::Threads;
+use std::time::Clock;
 
 /// Connections to a receiver.
 fn connect_to<N: Net<Stream = TcpStream> + Drop>(
@@ -27,12 +28,12 @@ fn connect_to<N: Net<Stream = TcpStream> + Drop>(
 }
 
 /// What a receiver prints that is set to this.
-fn received<R: Threads + Wait + Sync>(
+fn received<R: Threads + Wait + Clock + Sync>(
     rt: &R,
     alloc: Global,
     settings: &[u8],
     connections: Bounded<1, 1_000>,
-    listener: &TcpListener,
+    listener: TcpListener,
 ) -> Result<Vec<u8>, ToolFault> {
     let Ok(settings) = read_settings(alloc, settings) else {
         return Err(ToolFault::OutOfMemory);
@@ -83,7 +84,7 @@ fn what_is_sent_is_received(rt: HostRuntime) -> Result<(), Fail> {
         let configured = read_settings(alloc, settings)?;
         let (received, run) = thread::join(
             &rt,
-            || received(&rt, alloc, settings, connections, &listener),
+            || received(&rt, alloc, settings, connections, listener),
             || sent(&rt, alloc, configured, segments, connect, 4096),
         );
         let (Ok(received), Ok(run)) = (received, run) else {

@@ -11,25 +11,35 @@ use std::alloc::Global;
 use std::sync::Wait;
 use std::test::Fail;
 use std::thread::Threads;
+use std::time::{Clock, Duration};
 
-/// Receivers that answer by this status; for the shards of a later epoch there is no memory.
-fn at_first(status: StatusCode) -> Receivers {
-    Receivers { status, epochs: 1 }
+/// Receivers that answer by this status at once; for the shards of a later epoch there is no memory.
+fn at_first<R>(clock: R, status: StatusCode) -> Receivers<R> {
+    Receivers {
+        clock,
+        status,
+        takes: Duration::ZERO,
+        epochs: 1,
+    }
 }
 
 /// Receivers that take all, for so many epochs.
-fn for_epochs(epochs: u64) -> Receivers {
-    let status = StatusCode::NO_CONTENT;
-    Receivers { status, epochs }
+fn for_epochs<R>(clock: R, takes: Duration, epochs: u64) -> Receivers<R> {
+    Receivers {
+        clock,
+        status: StatusCode::NO_CONTENT,
+        takes,
+        epochs,
+    }
 }
 
 /// Ships segments to receivers, with room for so many bytes of print.
-fn shipped<R: Threads + Wait + Copy + Send + 'static>(
+fn shipped<R: Threads + Wait + Clock + Copy + Send + 'static>(
     rt: &R,
     alloc: Global,
     settings: &[u8],
     segments: Vec<&[u8]>,
-    receivers: Receivers,
+    receivers: Receivers<R>,
     room: usize,
 ) -> Result<Run, Fail> {
     let settings = read_settings(alloc, settings)?;
@@ -98,7 +108,7 @@ fn logs_of_one_segment(rt: HostRuntime) -> Result<(), Fail> {
     for (settings, text, status, printed) in rows {
         let log = segment(alloc, text)?;
         let segments = vec![in alloc; log.as_slice()]?;
-        let run = shipped(&rt, alloc, settings, segments, at_first(status), 4096)?;
+        let run = shipped(&rt, alloc, settings, segments, at_first(rt, status), 4096)?;
         assert_eq!(rt; run.answer, Ok(()));
         assert_eq!(rt; run.printed.as_slice(), printed);
     }
@@ -106,20 +116,21 @@ fn logs_of_one_segment(rt: HostRuntime) -> Result<(), Fail> {
 }
 
 /// Ships a first and a second segment, where they are there.
-fn shipped_in_turn<R: Threads + Wait + Copy + Send + 'static>(
+fn shipped_in_turn<R: Threads + Wait + Clock + Copy + Send + 'static>(
     rt: &R,
     alloc: Global,
-    first: Option<&[u8]>,
-    second: Option<&[u8]>,
+    settings: &[u8],
+    log: (Option<&[u8]>, Option<&[u8]>),
+    receivers: Receivers<R>,
 ) -> Result<Run, Fail> {
     let mut segments = Vec::new(alloc);
-    if let Some(first) = first {
+    if let Some(first) = log.0 {
         segments.push(first)?;
     }
-    if let Some(second) = second {
+    if let Some(second) = log.1 {
         segments.push(second)?;
     }
-    shipped(rt, alloc, b"", segments, for_epochs(1), 4096)
+    shipped(rt, alloc, settings, segments, receivers, 4096)
 }
 
 /// A sample in a later segment may be one of a series of an earlier one. A segment that ends inside a record is no fault where it is the
@@ -160,7 +171,8 @@ fn logs_of_several_segments(rt: HostRuntime) -> Result<(), Fail> {
         ),
     ];
     for (first, second, answer, printed) in rows {
-        let run = shipped_in_turn(&rt, alloc, first, second)?;
+        let receivers = for_epochs(rt, Duration::ZERO, 1);
+        let run = shipped_in_turn(&rt, alloc, b"", (first, second), receivers)?;
         assert_eq!(rt; run.answer, answer);
         assert_eq!(rt; run.printed.as_slice(), printed);
     }
@@ -178,7 +190,8 @@ fn nothing_is_printed(rt: HostRuntime) -> Result<(), Fail> {
     for (epochs, room, fault) in rows {
         let log = segment(alloc, UP)?;
         let segments = vec![in alloc; log.as_slice()]?;
-        let run = shipped(&rt, alloc, b"", segments, for_epochs(epochs), room)?;
+        let receivers = for_epochs(rt, Duration::ZERO, epochs);
+        let run = shipped(&rt, alloc, b"", segments, receivers, room)?;
         assert_eq!(rt; run.answer, Err(fault));
         assert!(rt; run.printed.is_empty());
     }
@@ -201,7 +214,7 @@ fn a_reader_that_fails(rt: HostRuntime) -> Result<(), Fail> {
         };
         let segments = vec![in alloc; torn]?;
         let settings = read_settings(alloc, b"")?;
-        let busy = at_first(StatusCode::SERVICE_UNAVAILABLE);
+        let busy = at_first(rt, StatusCode::SERVICE_UNAVAILABLE);
         let run = sent(&rt, alloc, settings, segments, busy, 4096)?;
         assert_eq!(rt; run.answer, Err(ToolFault::Device));
         assert_eq!(rt; run.printed.as_slice(), printed);
@@ -209,36 +222,69 @@ fn a_reader_that_fails(rt: HostRuntime) -> Result<(), Fail> {
     Ok(())
 }
 
-/// A queue and a batch of one sample each: of four samples two may wait, so one shard is to become three. Where that is refused the work ends.
+/// A first segment of four samples, and a second one behind it with one.
+const FOUR: &[u8] =
+    b"series 1 {__name__=\"up\"}\nsample 1 10 1\nsample 1 20 1\nsample 1 30 1\nsample 1 40 1\n";
+
+const ONE_MORE: &[u8] = b"sample 1 50 1\n";
+
+/// A queue and a batch of one sample each: where the receiver is slow, two of four samples may wait, so one shard is to become three. Where
+/// that is refused the work ends. Nothing changes where the receiver keeps up, and behind the last segment.
 #[test]
 fn the_number_of_shards_follows_the_load(rt: HostRuntime) -> Result<(), Fail> {
     let alloc = rt.alloc();
-    let rows: [(&[u8], u64, Result<(), ToolFault>, &[u8]); 3] = [
+    let narrow: &[u8] = b"[send]\ncapacity = 1\nbatch = 1\n";
+    let fixed: &[u8] = b"[send]\ncapacity = 1\nbatch = 1\nmax_shards = 1\n";
+    let (slow, quick) = (Duration::from_millis(300), Duration::ZERO);
+    let refused = Err(ToolFault::OutOfMemory);
+    let rows: [(&[u8], bool, Duration, u64, Result<(), ToolFault>, &[u8]); 5] = [
         (
-            b"[send]\ncapacity = 1\nbatch = 1\n",
+            narrow,
+            true,
+            slow,
             1,
-            Err(ToolFault::OutOfMemory),
+            refused,
             b"filtered 0\nreport abandoned 5\n",
         ),
         (
-            b"[send]\ncapacity = 1\nbatch = 1\n",
+            narrow,
+            true,
+            slow,
             2,
             Ok(()),
-            b"filtered 0\nreport complete 5\n",
+            b"filtered 0\nreport complete 6\n",
         ),
         (
-            b"[send]\ncapacity = 1\nbatch = 1\nmax_shards = 1\n",
+            narrow,
+            true,
+            quick,
+            1,
+            Ok(()),
+            b"filtered 0\nreport complete 6\n",
+        ),
+        (
+            narrow,
+            false,
+            slow,
             1,
             Ok(()),
             b"filtered 0\nreport complete 5\n",
         ),
+        (
+            fixed,
+            true,
+            slow,
+            1,
+            Ok(()),
+            b"filtered 0\nreport complete 6\n",
+        ),
     ];
-    let text =
-        b"series 1 {__name__=\"up\"}\nsample 1 10 1\nsample 1 20 1\nsample 1 30 1\nsample 1 40 1\n";
-    for (settings, epochs, answer, printed) in rows {
-        let log = segment(alloc, text)?;
-        let segments = vec![in alloc; log.as_slice()]?;
-        let run = shipped(&rt, alloc, settings, segments, for_epochs(epochs), 4096)?;
+    let first = segment(alloc, FOUR)?;
+    let second = segment(alloc, ONE_MORE)?;
+    for (settings, is_more, takes, epochs, answer, printed) in rows {
+        let log = (Some(first.as_slice()), is_more.then_some(second.as_slice()));
+        let receivers = for_epochs(rt, takes, epochs);
+        let run = shipped_in_turn(&rt, alloc, settings, log, receivers)?;
         assert_eq!(rt; run.answer, answer);
         assert_eq!(rt; run.printed.as_slice(), printed);
     }

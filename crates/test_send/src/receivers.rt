@@ -4,14 +4,18 @@ use http::StatusCode;
 use rw_shipper::Connect;
 use rw_worker::{Lost, Pause, Reply, Transport};
 use std::alloc::AllocError;
+use std::thread;
+use std::time::{Clock, Duration};
 
-/// Answers each request by one status.
+/// Answers each request by one status, after some time.
 #[derive(Drop)]
-pub(crate) struct Always {
+pub(crate) struct Always<R> {
+    clock: R,
     status: StatusCode,
+    takes: Duration,
 }
 
-impl Transport for Always {
+impl<R: Clock> Transport for Always<R> {
     ghost use Rattle.std.specs.Prelude.{[], ⊤};
 
     ghost is_for = { λ _ _ _. ⊤ };
@@ -21,6 +25,7 @@ impl Transport for Always {
     ghost seen = { λ _. [] };
 
     fn exchange(&mut self, _request: &[u8]) -> Result<Reply, Lost> {
+        thread::sleep(&self.clock, self.takes);
         Ok(Reply {
             status: self.status,
         })
@@ -35,24 +40,28 @@ impl Pause for Quick {
     fn pause(&mut self, _ms: u64) {}
 }
 
-/// Each worker's receiver answers by this status. For the epochs after the first few there is no memory.
+/// Each worker's receiver answers by this status, after so long. For the epochs after the first few there is no memory.
 #[derive(Drop)]
-pub(crate) struct Receivers {
+pub(crate) struct Receivers<R> {
+    pub(crate) clock: R,
     pub(crate) status: StatusCode,
+    pub(crate) takes: Duration,
     pub(crate) epochs: u64,
 }
 
-impl Connect for Receivers {
-    type T = Always;
+impl<R: Clock + Copy + Send + 'static> Connect for Receivers<R> {
+    type T = Always<R>;
 
     type P = Quick;
 
-    fn transport(&mut self, epoch: u64, _shard: u32) -> Result<(Always, Quick), AllocError> {
+    fn transport(&mut self, epoch: u64, _shard: u32) -> Result<(Always<R>, Quick), AllocError> {
         if epoch >= self.epochs {
             return Err(AllocError);
         }
         let always = Always {
+            clock: self.clock,
             status: self.status,
+            takes: self.takes,
         };
         Ok((always, Quick))
     }

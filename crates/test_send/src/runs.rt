@@ -8,6 +8,7 @@ use rw_types::{Room, Source};
 use std::alloc::{AllocError, Global};
 use std::sync::Wait;
 use std::thread::Threads;
+use std::time::Clock;
 
 /// What a run answers, and what it prints.
 #[derive(Drop)]
@@ -17,7 +18,11 @@ pub(crate) struct Run {
 }
 
 /// Runs with room for so many bytes of print.
-pub(crate) fn sent<R: Threads + Wait + Copy + Send + 'static, S: Source + Drop, C: Connect + Drop>(
+pub(crate) fn sent<
+    R: Threads + Wait + Clock + Copy + Send + 'static,
+    S: Source + Drop,
+    C: Connect + Drop,
+>(
     rt: &R,
     alloc: Global,
     settings: Settings,

@@ -1,11 +1,11 @@
-use Rattle.std.proofs.Common.{◌≡◌, ◌∷◌, length, sym, ap, ◌∙◌, subst, arith}
+use Rattle.std.proofs.Common.{◌≡◌, ◌-◌, ◌∷◌, Bool, nat_lt, length, map, sym, ap, ◌∙◌, subst, arith}
 use Rattle.std.specs.Vec.Iter.{into_iter_items}
 use Rattle.rw_feeder.specs.Feeders.{Sorting}
 use Rattle.rw_send.specs.Segments.{AreShort}
-use Rattle.rw_send.specs.Steps.{IsSet}
+use Rattle.rw_send.specs.Steps.{IsSet, is_some_more}
 use Rattle.rw_send.proofs.PartLemmas.{begins_on, halted_at_begin, halted_within}
 use Rattle.rw_send.proofs.SegmentLemmas.{going_step}
-use Rattle.rw_send.proofs.StepLemmas.{between, halts_at_begin, halts_behind, halts_within, is_shipped, part_first, part_halts, ships_first, stays_kept, stays_on}
+use Rattle.rw_send.proofs.StepLemmas.{between, halts_at_begin, halts_behind, halts_within, is_shipped, part_first, part_halts, ships_first, some_more, stays_kept, stays_on}
 use Rattle.rw_send.proofs.SureLemmas.{sure_rest}
 use Rattle.rw_send.proofs.shipping.ship_all.Goals as goal
 
@@ -15,8 +15,12 @@ loop-segment-preserved g c =
     let was = c.loop-segment.invariant.kept in
     let stays = stays_on _ _ _ c.in_ok-begin_segment.ensures.stays c.in_ok-ship_segment.ensures.stays in
     let kept = stays_kept _ _ stays in
-    let one = is_shipped _ _ _ _ _ _ _ _ c.in_ok-begin_segment.ensures.begun c.in_ok-ship_segment.ensures.whole (c.in_ok-sharding.ensures.put c.in_ok-ship_segment.ensures.sound) stays
-    (between (λ fewest most. IsSet fewest most c.ship_segment.new.shipper c.resharded.new.shipper) c.loop-segment.invariant.range.0 c.loop-segment.invariant.range.1 c.in_ok-sharding.ensures.set) in
+    let left : c.loop-segment.left - 1 ≡ length (into_iter_items c.next.new.self) = let was = c.loop-segment.invariant.left in let short = ap length steps in omega arith in
+    let set = between (λ fewest most. IsSet (nat_lt 0 (c.loop-segment.left - 1)) fewest most c.ship_segment.new.shipper c.resharded.new.shipper) c.loop-segment.invariant.range.0 c.loop-segment.invariant.range.1
+    c.in_ok-sharding.ensures.set in
+    let one = is_shipped _ _ _ _ (is_some_more (map g.S.Source.remaining (into_iter_items c.next.new.self))) _ _ _ _ c.in_ok-begin_segment.ensures.begun c.in_ok-ship_segment.ensures.whole
+    (c.in_ok-sharding.ensures.put c.in_ok-ship_segment.ensures.sound) stays
+    (subst (λ (b : Bool). IsSet b c.args.sharding.fewest c.args.sharding.most c.ship_segment.new.shipper c.resharded.new.shipper) (sym (some_more g.S.Source.remaining (into_iter_items c.next.new.self) (c.loop-segment.left - 1) left)) set) in
     record {
       kept = (ap (λ (l : Sorting). l.rules) c.in_ok-sharding.ensures.log ∙ kept.0 ∙ was.0, c.in_ok-sharding.ensures.config ∙ kept.1 ∙ was.1);
       short = subst AreShort (sym (ap (λ (l : Sorting). l.pieces) c.in_ok-sharding.ensures.log)) (c.in_ok-ship_segment.ensures.short (c.in_ok-begin_segment.ensures.short c.loop-segment.invariant.short));
@@ -27,6 +31,7 @@ loop-segment-preserved g c =
       going = going_step _ _ _ _ _ _ _ _ _ _ steps c.loop-segment.invariant.going c.in_ok-begin_segment.ensures.begun c.in_ok-ship_segment.ensures.whole
           (ap (λ (l : Sorting). l.pieces) c.in_ok-sharding.ensures.log);
       sound = c.in_ok-sharding.ensures.sound c.in_ok-ship_segment.ensures.sound;
+      left = left;
       sure = sure_rest _ _ _ _ _ steps c.loop-segment.invariant.sure;
       counted = let counted = c.loop-segment.invariant.counted in
           let gone = c.in-Some.ensures.steps.1 in

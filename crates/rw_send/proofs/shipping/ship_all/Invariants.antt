@@ -19,6 +19,7 @@ invariant-loop-segment g l = record {
       → AreShippedPart l.fn.sharding.fewest l.fn.sharding.most true (map g.S.Source.remaining l.fn.segments.items) l.fn.shipper last;
   going : IsGoing (map g.S.Source.remaining l.fn.segments.items) (map g.S.Source.remaining (into_iter_items l.segment-iterator)) l.is_first l.shipper.log.pieces;
   sound : l.shipper.fault ≡ None;
+  left : l.left ≡ length (into_iter_items l.segment-iterator);
   sure : AreSure (map g.S.Source.is_sure l.fn.segments.items) → AreSure (map g.S.Source.is_sure (into_iter_items l.segment-iterator));
   counted : into_iter_len l.segment-iterator ≡ length (into_iter_items l.segment-iterator);
 }
