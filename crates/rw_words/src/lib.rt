@@ -1,6 +1,8 @@
 //! The command line: what each command is called, which options it takes, and what the words ask for.
 #![tactic(auto)]
 
+mod help;
+
 use clap::builder::ValueParser;
 use clap::{Arg, ArgAction, ArgMatches, Command, value_parser};
 use rw_address::{Address, read_address};
@@ -61,6 +63,7 @@ fn settings<'a>(alloc: Global) -> Arg<'a> {
 fn body_command<'a>(alloc: Global) -> Result<Command<'a>, AllocError> {
     Command::new(alloc, "body")
         .about("Reads one log segment and writes the remote-write body of its samples")
+        .after_help(help::BODY)
         .arg(hex(alloc))
 }
 
@@ -78,6 +81,7 @@ fn log_command<'a>(alloc: Global) -> Result<Command<'a>, AllocError> {
         .help("Write numbered segment files into this folder");
     Command::new(alloc, "log")
         .about("Reads log text and writes log segments")
+        .after_help(help::LOG)
         .arg(hex(alloc))?
         .arg(pages)?
         .arg(dir)
@@ -86,6 +90,7 @@ fn log_command<'a>(alloc: Global) -> Result<Command<'a>, AllocError> {
 fn plan_command<'a>(alloc: Global) -> Result<Command<'a>, AllocError> {
     Command::new(alloc, "plan")
         .about("Reads one log segment and prints which of its series the rules keep")
+        .after_help(help::PLAN)
         .arg(settings(alloc))?
         .arg(hex(alloc))
 }
@@ -93,6 +98,7 @@ fn plan_command<'a>(alloc: Global) -> Result<Command<'a>, AllocError> {
 fn replay_command<'a>(alloc: Global) -> Result<Command<'a>, AllocError> {
     Command::new(alloc, "replay")
         .about("Reads an event script and prints the state at its end")
+        .after_help(help::REPLAY)
         .arg(settings(alloc))
 }
 
@@ -110,6 +116,7 @@ fn send_command<'a>(alloc: Global) -> Result<Command<'a>, AllocError> {
         .help("Send to this receiver");
     Command::new(alloc, "send")
         .about("Ships all segments of a folder and prints a report")
+        .after_help(help::SEND)
         .arg(settings(alloc))?
         .arg(dir)?
         .arg(to)
@@ -129,6 +136,7 @@ fn receive_command<'a>(alloc: Global) -> Result<Command<'a>, AllocError> {
         .help("Serve this many connections, 1 to 1000");
     Command::new(alloc, "receive")
         .about("Serves connections and prints what they left")
+        .after_help(help::RECEIVE)
         .arg(settings(alloc))?
         .arg(listen)?
         .arg(connections)
@@ -139,6 +147,7 @@ pub fn command_line<'a>(alloc: Global) -> Result<Command<'a>, AllocError> {
     Command::new(alloc, "rwship")
         .version("0.1.0")
         .about("Remote-write shipper and receiving head of Prometheus")
+        .after_help(help::ALL)
         .subcommand_required(true)
         .subcommand(body_command(alloc)?)?
         .subcommand(log_command(alloc)?)?

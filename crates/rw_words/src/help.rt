@@ -1,0 +1,66 @@
+//! What stands behind the options of each command's help: an example, what it reads and writes, and its exit statuses.
+
+pub(crate) const ALL: &str = "\
+Example:
+  rwship receive --listen 127.0.0.1:9090 --connections 10 > held &
+  rwship send --dir data/wal --to 127.0.0.1:9090
+
+'rwship help COMMAND' shows an example of each. docs/OPERATING.md tells how to run them, and
+docs/SETTINGS.md what a settings file may hold.";
+
+pub(crate) const BODY: &str = "\
+Example:
+  rwship body < data/wal/00000000 > body
+
+Exit status: 0; 1 for a fault of the log (docs/OPERATING.md has the numbers); 2 for bad words;
+3 out of memory; 4 where standard input or output failed.";
+
+pub(crate) const LOG: &str = "\
+Example:
+  printf 'series 1 {__name__=\"up\"}\\nsample 1 1000 1\\n' | rwship log --dir wal
+
+docs/REPLAY.md tells the lines, there with 'log' before them. With --dir the folder has to be there.
+
+Exit status: 0; 1 for a bad line or a full segment; 2 for bad words; 3 out of memory; 4 where a
+file, standard input or output failed.";
+
+pub(crate) const PLAN: &str = "\
+Example:
+  rwship plan --settings rwship.toml < data/wal/00000000
+
+It prints 'REFERENCE kept NUMBER LABELS' or 'REFERENCE filtered LABELS' for each series, and how many
+samples are kept and filtered. docs/SETTINGS.md tells the rules.
+
+Exit status: 0; 1 for a fault of the log; 2 for bad words or settings; 3 out of memory; 4 where a
+file, standard input or output failed.";
+
+pub(crate) const REPLAY: &str = "\
+Example:
+  printf 'log series 1 {__name__=\"up\"}\\nlog sample 1 1000 1\\nsettle\\n' | rwship replay
+
+Sender, network and receiver run on one thread. docs/REPLAY.md tells the events, and docs/SETTINGS.md
+the settings.
+
+Exit status: 0; 1 for a bad line or a fault of the log; 2 for bad words or settings; 3 out of memory;
+4 where a file, standard input or output failed.";
+
+pub(crate) const SEND: &str = "\
+Example:
+  rwship send --settings rwship.toml --dir data/wal --to receiver.example:9090
+
+DIR is the folder 'wal' of a server that has stopped, or a copy of it, from its first segment on. The
+report names each sample that was not taken; docs/OPERATING.md tells its lines, and docs/SETTINGS.md
+the settings.
+
+Exit status: 0 where each sample is answered for (look for 'dropped' lines); 1 for a fault of the log;
+2 for bad words or settings; 3 out of memory; 4 where a file, the look-up or standard output failed.";
+
+pub(crate) const RECEIVE: &str = "\
+Example:
+  rwship receive --listen 127.0.0.1:9090 --connections 10 > held
+
+Each attempt of a sender is one connection. What is held is in memory alone, and is printed when N
+connections have ended. docs/OPERATING.md tells how to count them, and docs/SETTINGS.md the settings.
+
+Exit status: 0; 2 for bad words or settings; 3 out of memory; 4 where a file, the network or standard
+output failed.";
