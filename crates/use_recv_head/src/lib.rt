@@ -1,0 +1,20 @@
+//! A caller of `rw_recv_head`: a head that has taken one message.
+#![tactic(auto)]
+
+ghost use Rattle.std.specs.Prelude.{IfOk};
+ghost use Rattle.rw_recv_head.specs.Growth.{EachRises};
+
+use rw_recv_head::{Head, Limits, Verdict};
+use rw_write_request::Message;
+use std::alloc::Global;
+
+/// Gives a message to a new head, in whose lists the timestamps then rise. A refused one has its verdict.
+pub fn head_of(alloc: Global, limits: &Limits, message: &Message) -> Result<Head, Verdict>
+    ensures { IfOk result (λ head. EachRises head.store) }
+{
+    let mut head = Head::new(alloc, limits);
+    match head.apply(message) {
+        Verdict::Stored(_) => Ok(head),
+        refused => Err(refused),
+    }
+}
