@@ -1,11 +1,10 @@
 //! Request bodies and the statuses that answer them.
 
-use crate::order::message;
+use crate::messages::{UP, message, standard};
 use rw_recv_head::{Head, Limits};
 use rw_types::Bounded;
 use rw_write_request::encode;
 use std::alloc::{AllocError, Global};
-use std::test::Fail;
 
 /// One series `{__name__="up"}` with the sample 1 at 1000.
 pub(crate) const ONE: [u8; 32] = [
@@ -13,57 +12,100 @@ pub(crate) const ONE: [u8; 32] = [
     0x75, 0x70, 0x12, 0x0c, 0x09, 0, 0, 0, 0, 0, 0, 0xf0, 0x3f, 0x10, 0xe8, 0x07,
 ];
 
-#[test]
-fn a_busy_head_looks_at_nothing(rt: HostRuntime) -> Result<(), Fail> {
-    let alloc = rt.alloc();
-    for first in [&ONE[..31], &ONE] {
-        let mut limits = Limits::standard(alloc)?;
-        limits.busy_first = Bounded::of(1);
-        let mut head = Head::new(alloc, &limits);
-        assert_eq!(rt; head.answer(first), 429);
-        assert_eq!(rt; head.total(), 0);
-        assert_eq!(rt; head.answer(&ONE[..31]), 400);
-        assert_eq!(rt; head.answer(&ONE), 204);
-        assert_eq!(rt; head.answer(&ONE), 204);
-        assert_eq!(rt; head.total(), 1);
+/// One series `{__name__="down"}` and one `{__name__="up"}`, each with the sample 1 at 2000.
+pub(crate) const TWO: [u8; 66] = [
+    0x0a, 0x20, 0x0a, 0x10, 0x0a, 0x08, 0x5f, 0x5f, 0x6e, 0x61, 0x6d, 0x65, 0x5f, 0x5f, 0x12, 0x04,
+    0x64, 0x6f, 0x77, 0x6e, 0x12, 0x0c, 0x09, 0, 0, 0, 0, 0, 0, 0xf0, 0x3f, 0x10, 0xd0, 0x0f, 0x0a,
+    0x1e, 0x0a, 0x0e, 0x0a, 0x08, 0x5f, 0x5f, 0x6e, 0x61, 0x6d, 0x65, 0x5f, 0x5f, 0x12, 0x02, 0x75,
+    0x70, 0x12, 0x0c, 0x09, 0, 0, 0, 0, 0, 0, 0xf0, 0x3f, 0x10, 0xd0, 0x0f,
+];
+
+/// The word of the value 1.
+pub(crate) const WORD_OF_ONE: u64 = 0x3ff0_0000_0000_0000;
+
+/// A head that is busy for one request.
+fn busy(alloc: Global) -> Result<Head, AllocError> {
+    let mut limits = Limits::standard(alloc)?;
+    limits.busy_first = Bounded::of(1);
+    Ok(Head::new(alloc, &limits))
+}
+
+/// Asks with bodies one after the other. Gives the first one with another status, or another number of samples after it.
+fn first_wrong(head: &mut Head, rows: &[(&[u8], u16, u64)]) -> Option<usize> {
+    for (i, (body, status, total)) in rows.iter().enumerate() {
+        if head.answer(body) != *status || head.total() != *total {
+            return Some(i);
+        }
     }
-    Ok(())
+    None
+}
+
+/// The first body that a head wrongly answers that is busy for this one.
+fn wrong_of_busy(alloc: Global, first: &[u8]) -> Result<Option<usize>, AllocError> {
+    let mut head = busy(alloc)?;
+    let rows = [
+        (first, 429, 0),
+        (&ONE[..31], 400, 0),
+        (&ONE, 204, 1),
+        (&ONE, 204, 1),
+    ];
+    Ok(first_wrong(&mut head, &rows))
 }
 
 #[test]
-fn statuses_tell_verdicts(rt: HostRuntime) -> Result<(), Fail> {
-    let alloc = rt.alloc();
-    let mut head = Head::new(alloc, &Limits::standard(alloc)?);
-    let older = message(alloc, &[(&[("__name__", "up")], &[(999, 1)])])?;
-    let unsorted = message(alloc, &[(&[("b", "1"), ("a", "1")], &[])])?;
-    assert_eq!(rt; head.answer(&[]), 204);
-    assert_eq!(rt; head.answer(&ONE), 204);
-    assert_eq!(rt; head.answer(&encode(alloc, &older)?), 400);
-    assert_eq!(rt; head.answer(&encode(alloc, &unsorted)?), 400);
-    assert_eq!(rt; head.total(), 1);
-    Ok(())
+fn a_busy_head_looks_at_nothing(rt: HostRuntime) {
+    assert_eq!(rt; wrong_of_busy(rt.alloc(), &ONE[..31]), Ok(None));
+    assert_eq!(rt; wrong_of_busy(rt.alloc(), &ONE), Ok(None));
 }
 
-/// So many samples of one series, with no timestamp that is short.
+/// `ONE` with the word 1 at 999.
+const OLDER: [u8; 32] = [
+    0x0a, 0x1e, 0x0a, 0x0e, 0x0a, 0x08, 0x5f, 0x5f, 0x6e, 0x61, 0x6d, 0x65, 0x5f, 0x5f, 0x12, 0x02,
+    0x75, 0x70, 0x12, 0x0c, 0x09, 1, 0, 0, 0, 0, 0, 0, 0, 0x10, 0xe7, 0x07,
+];
+
+/// One series `{b="1", a="1"}` without samples.
+const UNSORTED: [u8; 18] = [
+    0x0a, 0x10, 0x0a, 0x06, 0x0a, 0x01, 0x62, 0x12, 0x01, 0x31, 0x0a, 0x06, 0x0a, 0x01, 0x61, 0x12,
+    0x01, 0x31,
+];
+
+/// Bodies one after the other, the statuses that answer them, and how many samples the head then holds.
+static BODIES: [(&[u8], u16, u64); 4] = [
+    (&[], 204, 0),
+    (&ONE, 204, 1),
+    (&OLDER, 400, 1),
+    (&UNSORTED, 400, 1),
+];
+
+fn wrong_status(alloc: Global) -> Result<Option<usize>, AllocError> {
+    let mut head = standard(alloc)?;
+    Ok(first_wrong(&mut head, &BODIES))
+}
+
+#[test]
+fn statuses_tell_verdicts(rt: HostRuntime) {
+    assert_eq!(rt; wrong_status(rt.alloc()), Ok(None));
+}
+
+/// The body of so many samples of one series, with no timestamp that is short.
 fn long_body(alloc: Global, count: i64) -> Result<Vec<u8>, AllocError> {
     let mut samples = Vec::new(alloc);
     for t in 0..count {
         samples.push((t | 1 << 62, 1))?;
     }
-    encode(
-        alloc,
-        &message(alloc, &[(&[("__name__", "up")], &samples)])?,
-    )
+    encode(alloc, &message(alloc, &[(UP, &samples)])?)
+}
+
+fn takes_a_long_body(alloc: Global) -> Result<bool, AllocError> {
+    let body = long_body(alloc, 800_000)?;
+    let mut head = standard(alloc)?;
+    let status = head.answer(&body);
+    Ok(body.len() > 16_777_216 && status == 204 && head.total() == 800_000)
 }
 
 /// Nothing is refused for its length but by the endpoint's limit, which a head does not know.
 #[test]
-fn a_long_body_is_taken(rt: HostRuntime) -> Result<(), Fail> {
-    let alloc = rt.alloc();
-    let body = long_body(alloc, 800_000)?;
-    assert!(rt; body.len() > 16_777_216);
-    let mut head = Head::new(alloc, &Limits::standard(alloc)?);
-    assert_eq!(rt; head.answer(&body), 204);
-    assert_eq!(rt; head.total(), 800_000);
-    Ok(())
+fn a_long_body_is_taken(rt: HostRuntime) {
+    assert_eq!(rt; takes_a_long_body(rt.alloc()), Ok(true));
 }

@@ -3,12 +3,10 @@
 ghost use Rattle.std.specs.Prelude.{⊤};
 
 use crate::devices::{Giving, Taking};
-use crate::store::{Store, limits};
-use rw_recv_http::{Answer, ServeEnd, serve};
-use rw_types::{Room, Sink, Source};
-use std::alloc::{AllocGlobal, Global};
-use std::process::Abort;
-use std::test::Fail;
+use crate::store::{Store, is_served_by, served};
+use rw_recv_http::{Answer, ServeEnd};
+use rw_types::Room;
+use std::alloc::{AllocError, Global};
 
 const REQUESTS: &[u8] =
     b"POST /api/v1/write HTTP/1.1\r\nContent-Length: 5\r\n\r\nfirstPOST /api/v1/write HTTP/1.1\r\nConnection: close\r\nContent-Length: 6\r\n\r\nsecond";
@@ -21,86 +19,88 @@ const FIRST_REPLY: &[u8] = b"HTTP/1.1 204 No Content\r\n\r\n";
 /// More reads and writes than these connections take.
 const MANY: usize = 1000;
 
-fn serve_store<R: Source, W: Sink>(
+/// How the requests end with a reader and a writer that fail after so many calls. None, where what was written is no beginning of the
+/// replies, or the end does not tell whether a device failed.
+fn end_of_broken(
     alloc: Global,
-    reader: &mut R,
-    writer: &mut W,
     store: &mut Store,
-) -> Result<ServeEnd, Fail> {
-    let limits = limits(alloc)?;
-    Ok(serve(alloc, reader, writer, store, &limits))
-}
-
-/// Serves the requests with a reader and a writer that fail after so many calls. Then the same requests come again.
-fn break_and_repeat<R: AllocGlobal + Abort>(
-    rt: &R,
     reads: usize,
     writes: usize,
-) -> Result<ServeEnd, Fail> {
-    let alloc = rt.alloc();
+) -> Option<ServeEnd> {
+    let mut reader = Giving::new(REQUESTS, 7, reads);
+    let mut writer = Taking::new(alloc, 5, writes);
+    let end = served(alloc, &mut reader, &mut writer, store);
+    let has_failed = reader.failed || writer.failed;
+    if REPLIES.starts_with(&writer.taken) && has_failed == (end == ServeEnd::Device) {
+        Some(end)
+    } else {
+        None
+    }
+}
+
+/// Whether the requests have all their replies, and two bodies are then stored.
+fn is_answered(alloc: Global, store: &mut Store) -> bool {
+    let mut reader = REQUESTS;
+    is_served_by(alloc, &mut reader, store, REPLIES, ServeEnd::Closed) && store.bodies.len() == 2
+}
+
+/// The same end, where the requests that come again are answered.
+fn end_before_answered(alloc: Global, reads: usize, writes: usize) -> Option<ServeEnd> {
     let mut store = Store::new(alloc);
-    let mut reader = Giving {
-        left: REQUESTS,
-        most: 7,
-        reads_left: reads,
-        failed: false,
-    };
-    let mut writer = Taking {
-        taken: Vec::new(alloc),
-        most: 5,
-        writes_left: writes,
-        failed: false,
-    };
-    let end = serve_store(alloc, &mut reader, &mut writer, &mut store)?;
-    assert!(rt; REPLIES.starts_with(&writer.taken));
-    assert_eq!(rt; end == ServeEnd::Device, reader.failed || writer.failed);
+    let end = end_of_broken(alloc, &mut store, reads, writes);
+    if is_answered(alloc, &mut store) {
+        end
+    } else {
+        None
+    }
+}
 
-    let mut again = REQUESTS;
-    let mut room = Room::new(alloc, 128)?;
-    let last = serve_store(alloc, &mut again, &mut room, &mut store)?;
-    assert_eq!(rt; last, ServeEnd::Closed);
-    assert_eq!(rt; room.as_slice(), REPLIES);
-    assert_eq!(rt; store.bodies.len(), 2);
-    Ok(end)
+/// What fails.
+#[derive(Clone, Copy)]
+enum Side {
+    Reader,
+    Writer,
+}
+
+/// Whether the requests take more than ten calls of one side, and all is well where one of them fails.
+fn may_fail(alloc: Global, side: Side) -> bool {
+    for n in 0..MANY {
+        let (reads, writes) = match side {
+            Side::Reader => (n, MANY),
+            Side::Writer => (MANY, n),
+        };
+        match end_before_answered(alloc, reads, writes) {
+            Some(ServeEnd::Device) => {}
+            Some(_) => return n > 10,
+            None => return false,
+        }
+    }
+    false
 }
 
 #[test]
-fn each_read_may_fail(rt: HostRuntime) -> Result<(), Fail> {
-    for reads in 0..MANY {
-        if break_and_repeat(&rt, reads, MANY)? != ServeEnd::Device {
-            assert!(rt; reads > 10);
-            return Ok(());
-        }
-    }
-    Err("no end".into())
+fn each_read_may_fail(rt: HostRuntime) {
+    assert!(rt; may_fail(rt.alloc(), Side::Reader));
 }
 
 #[test]
-fn each_write_may_fail(rt: HostRuntime) -> Result<(), Fail> {
-    for writes in 0..MANY {
-        if break_and_repeat(&rt, MANY, writes)? != ServeEnd::Device {
-            assert!(rt; writes > 10);
-            return Ok(());
-        }
-    }
-    Err("no end".into())
+fn each_write_may_fail(rt: HostRuntime) {
+    assert!(rt; may_fail(rt.alloc(), Side::Writer));
+}
+
+/// Whether a room of 50 bytes holds the first reply, and both bodies are asked for.
+fn holds_first_reply(alloc: Global) -> Result<bool, AllocError> {
+    let mut room = Room::new(alloc, 50)?;
+    let mut store = Store::new(alloc);
+    let mut reader = REQUESTS;
+    let end = served(alloc, &mut reader, &mut room, &mut store);
+    Ok(end == ServeEnd::Device && room.as_slice() == FIRST_REPLY && store.asked == 2)
 }
 
 /// A writer with too little room for the second reply holds the first one.
 #[test]
-fn rooms_hold_whole_replies(rt: HostRuntime) -> Result<(), Fail> {
-    let alloc = rt.alloc();
-    let mut store = Store::new(alloc);
-    let mut reader = REQUESTS;
-    let mut writer = Room::new(alloc, 50)?;
-    let end = serve_store(alloc, &mut reader, &mut writer, &mut store)?;
-    assert_eq!(rt; end, ServeEnd::Device);
-    assert_eq!(rt;
-        writer.as_slice(),
-        b"HTTP/1.1 204 No Content\r\n\r\n".as_slice()
-    );
-    assert_eq!(rt; store.asked, 2);
-    Ok(())
+fn rooms_hold_whole_replies(rt: HostRuntime) {
+    assert_eq!(rt; holds_first_reply(rt.alloc()), Ok(true));
 }
 
 /// Counts the bodies that it is asked for, and takes no memory.
@@ -118,23 +118,33 @@ impl Answer for Counter {
     }
 }
 
+/// What is written and how the connection ends after so many bodies, where all have their replies or memory was refused.
+static ENDS: [(&[u8], ServeEnd); 3] = [
+    (b"", ServeEnd::OutOfMemory),
+    (FIRST_REPLY, ServeEnd::OutOfMemory),
+    (REPLIES, ServeEnd::Closed),
+];
+
+fn is_whole(asked: usize, written: &[u8], end: ServeEnd) -> bool {
+    match ENDS.get(asked) {
+        Some((replies, how)) => written == *replies && end == *how,
+        None => false,
+    }
+}
+
+/// Whether the requests leave whole replies, if there is memory for a room.
+fn leaves_whole_replies(alloc: Global) -> bool {
+    let Ok(mut room) = Room::new(alloc, 128) else {
+        return true;
+    };
+    let mut counter = Counter { asked: 0 };
+    let mut reader = REQUESTS;
+    let end = served(alloc, &mut reader, &mut room, &mut counter);
+    is_whole(counter.asked, room.as_slice(), end)
+}
+
 /// Where memory is refused, what was asked has its whole reply, and what was not asked has none.
 #[test]
 fn refused_memory_leaves_whole_replies(rt: HostRuntime) {
-    let alloc = rt.alloc();
-    if let (Ok(limits), Ok(mut writer)) = (limits(alloc), Room::new(alloc, 128)) {
-        let mut counter = Counter { asked: 0 };
-        let mut reader = REQUESTS;
-        let end = serve(alloc, &mut reader, &mut writer, &mut counter, &limits);
-        let whole: [&[u8]; 3] = [b"", FIRST_REPLY, REPLIES];
-        let written = writer.as_slice();
-        assert!(rt; counter.asked < whole.len());
-        assert_eq!(rt; written, whole[counter.asked]);
-        let expected = if written == REPLIES {
-            ServeEnd::Closed
-        } else {
-            ServeEnd::OutOfMemory
-        };
-        assert_eq!(rt; end, expected);
-    }
+    assert!(rt; leaves_whole_replies(rt.alloc()));
 }

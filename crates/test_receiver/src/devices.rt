@@ -1,14 +1,27 @@
 //! Readers and writers that give and take a few bytes at a time, and fail in mid-stream.
 
 use rw_types::{Failed, Sink, Source};
+use std::alloc::Global;
 
 /// Gives a few bytes at each read, and fails at one of them and then for good.
 #[derive(Drop)]
 pub(crate) struct Giving<'a> {
-    pub(crate) left: &'a [u8],
-    pub(crate) most: usize,
-    pub(crate) reads_left: usize,
+    left: &'a [u8],
+    most: usize,
+    reads_left: usize,
     pub(crate) failed: bool,
+}
+
+impl<'a> Giving<'a> {
+    /// Gives an input, at most so many bytes at each of so many reads.
+    pub(crate) fn new(input: &'a [u8], most: usize, reads: usize) -> Giving<'a> {
+        Giving {
+            left: input,
+            most,
+            reads_left: reads,
+            failed: false,
+        }
+    }
 }
 
 impl Source for Giving<'_> {
@@ -38,9 +51,21 @@ impl Source for Giving<'_> {
 #[derive(Drop)]
 pub(crate) struct Taking {
     pub(crate) taken: Vec<u8>,
-    pub(crate) most: usize,
-    pub(crate) writes_left: usize,
+    most: usize,
+    writes_left: usize,
     pub(crate) failed: bool,
+}
+
+impl Taking {
+    /// Takes at most so many bytes at each of so many writes.
+    pub(crate) fn new(alloc: Global, most: usize, writes: usize) -> Taking {
+        Taking {
+            taken: Vec::new(alloc),
+            most,
+            writes_left: writes,
+            failed: false,
+        }
+    }
 }
 
 impl Sink for Taking {

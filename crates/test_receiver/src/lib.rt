@@ -16,13 +16,13 @@ mod limits;
 #[cfg(test)]
 mod memory;
 #[cfg(test)]
+mod messages;
+#[cfg(test)]
 mod order;
 #[cfg(test)]
 mod places;
 #[cfg(test)]
 mod replies;
-#[cfg(test)]
-mod seat_bodies;
 #[cfg(test)]
 mod seats;
 #[cfg(test)]

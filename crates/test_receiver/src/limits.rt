@@ -1,73 +1,78 @@
 //! Heads at their limits: 64 fields, and 8,192 bytes with the last empty line.
 
-use crate::store::{Store, limits};
-use rw_recv_http::{ServeEnd, serve};
-use rw_types::Room;
-use std::alloc::{AllocError, AllocGlobal, Global};
-use std::process::Abort;
-use std::test::Fail;
+use crate::store::is_served;
+use rw_recv_http::ServeEnd;
+use std::alloc::{AllocError, Global};
 
 const START: &[u8] = b"POST /api/v1/write HTTP/1.1\r\nContent-Length: 0\r\nConnection: close\r\n";
+
+const FIELD: &[u8] = b"A: b\r\n";
+
+const END: &[u8] = b"\r\n";
 
 const TAKEN: &[u8] = b"HTTP/1.1 204 No Content\r\nConnection: close\r\n\r\n";
 
 const REFUSED: &[u8] =
     b"HTTP/1.1 400 Bad Request\r\nContent-Length: 0\r\nConnection: close\r\n\r\n";
 
-/// A request of this many fields, which are at least two.
-fn request_with_fields(alloc: Global, count: usize) -> Result<Vec<u8>, AllocError> {
-    let mut head = Vec::from_slice(alloc, START)?;
-    for _ in 2..count {
-        head.extend_from_slice(b"A: b\r\n")?;
+/// Texts, and how often each stands.
+type Texts = &'static [(&'static [u8], usize)];
+
+/// Requests, their bytes, and the replies to them.
+static REQUESTS: [(Texts, usize, &[u8]); 6] = [
+    // fields
+    (&[(START, 1), (FIELD, 62), (END, 1)], 441, TAKEN),
+    (&[(START, 1), (FIELD, 63), (END, 1)], 447, REFUSED),
+    // bytes
+    (
+        &[(START, 1), (b"A: ", 1), (b"b", 8118), (END, 2)],
+        8192,
+        TAKEN,
+    ),
+    (
+        &[(START, 1), (b"A: ", 1), (b"b", 8119), (END, 2)],
+        8193,
+        REFUSED,
+    ),
+    // empty lines before a request also count
+    (&[(b"\n", 8123), (START, 1), (END, 1)], 8192, TAKEN),
+    (&[(b"\n", 8124), (START, 1), (END, 1)], 8193, REFUSED),
+];
+
+fn request(alloc: Global, texts: &[(&[u8], usize)]) -> Result<Vec<u8>, AllocError> {
+    let mut request = Vec::new(alloc);
+    for (text, often) in texts {
+        for _ in 0..*often {
+            request.extend_from_slice(text)?;
+        }
     }
-    head.extend_from_slice(b"\r\n")?;
-    Ok(head)
+    Ok(request)
 }
 
-/// A request whose head has this many bytes, if they are enough.
-fn request_of_len(alloc: Global, len: usize) -> Result<Vec<u8>, AllocError> {
-    let mut head = Vec::from_slice(alloc, START)?;
-    head.extend_from_slice(b"A: ")?;
-    for _ in head.len()..len.saturating_sub(4) {
-        head.push(b'b')?;
-    }
-    head.extend_from_slice(b"\r\n\r\n")?;
-    Ok(head)
+/// Whether a request has this length and this reply, which closes.
+fn is_replied(
+    alloc: Global,
+    texts: &[(&[u8], usize)],
+    len: usize,
+    reply: &[u8],
+) -> Result<bool, AllocError> {
+    let request = request(alloc, texts)?;
+    let mut reader = request.as_slice();
+    let is_served = is_served(alloc, &mut reader, reply, ServeEnd::Closed);
+    Ok(is_served && request.len() == len)
 }
 
-/// Empty lines before a request also count.
-fn request_after_lines(alloc: Global, count: usize) -> Result<Vec<u8>, AllocError> {
-    let mut head = Vec::new(alloc);
-    for _ in 0..count {
-        head.push(b'\n')?;
+/// The first request that has another length or another reply.
+fn first_wrong(alloc: Global) -> Result<Option<usize>, AllocError> {
+    for (i, (texts, len, reply)) in REQUESTS.iter().enumerate() {
+        if !is_replied(alloc, texts, *len, reply)? {
+            return Ok(Some(i));
+        }
     }
-    head.extend_from_slice(START)?;
-    head.extend_from_slice(b"\r\n")?;
-    Ok(head)
-}
-
-fn check<R: AllocGlobal + Abort>(rt: &R, request: &[u8], replies: &[u8]) -> Result<(), Fail> {
-    let alloc = rt.alloc();
-    let limits = limits(alloc)?;
-    let mut writer = Room::new(alloc, 128)?;
-    let mut store = Store::new(alloc);
-    let mut reader = request;
-    let end = serve(alloc, &mut reader, &mut writer, &mut store, &limits);
-    assert_eq!(rt; writer.as_slice(), replies);
-    assert_eq!(rt; end, ServeEnd::Closed);
-    Ok(())
+    Ok(None)
 }
 
 #[test]
-fn heads_end_within_limits(rt: HostRuntime) -> Result<(), Fail> {
-    let alloc = rt.alloc();
-    check(&rt, &request_with_fields(alloc, 64)?, TAKEN)?;
-    check(&rt, &request_with_fields(alloc, 65)?, REFUSED)?;
-    let longest = request_of_len(alloc, 8192)?;
-    assert_eq!(rt; longest.len(), 8192);
-    check(&rt, &longest, TAKEN)?;
-    check(&rt, &request_of_len(alloc, 8193)?, REFUSED)?;
-    let lines = 8190 - START.len();
-    check(&rt, &request_after_lines(alloc, lines)?, TAKEN)?;
-    check(&rt, &request_after_lines(alloc, lines + 1)?, REFUSED)
+fn heads_end_within_limits(rt: HostRuntime) {
+    assert_eq!(rt; first_wrong(rt.alloc()), Ok(None));
 }

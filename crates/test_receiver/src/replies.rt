@@ -1,15 +1,12 @@
 //! Inputs with the replies to them, byte for byte. `|` stands for CR LF.
 
 use crate::devices::Giving;
-use crate::store::{Store, limits};
+use crate::store::{Store, is_served, served};
 use crate::waiting::{Hearing, Waiting};
 use ServeEnd::{Closed, Eof, Torn};
-use rw_recv_http::{ServeEnd, serve};
-use rw_types::{Room, Source};
-use std::alloc::{AllocError, AllocGlobal, Global};
+use rw_recv_http::ServeEnd;
+use std::alloc::{AllocError, Global};
 use std::cell::Cell;
-use std::process::Abort;
-use std::test::Fail;
 
 /// The line that each request begins with whose fields alone are of interest.
 const LINE: &[u8] = b"POST /api/v1/write HTTP/1.1|";
@@ -21,70 +18,49 @@ const HEAD: &[u8] =
 const MESSAGE: &[u8] =
     b"\n\x1e\n\x0e\n\x08__name__\x12\x02up\x12\x0c\x09\x00\x00\x00\x00\x00\x00\xf0?\x10\xe8\x07";
 
-/// Adds a text, with CR LF for each `|`.
-fn put_lines(out: &mut Vec<u8>, text: &[u8]) -> Result<(), AllocError> {
-    for b in text {
-        if *b == b'|' {
-            out.extend_from_slice(b"\r\n")?;
-        } else {
-            out.push(*b)?;
+/// Texts one after the other, with CR LF for each `|`.
+fn lines(alloc: Global, texts: &[&[u8]]) -> Result<Vec<u8>, AllocError> {
+    let mut out = Vec::new(alloc);
+    for text in texts {
+        for b in *text {
+            match b {
+                b'|' => out.extend_from_slice(b"\r\n")?,
+                b => out.push(*b)?,
+            }
         }
     }
-    Ok(())
-}
-
-fn lines(alloc: Global, text: &[u8]) -> Result<Vec<u8>, AllocError> {
-    let mut out = Vec::new(alloc);
-    put_lines(&mut out, text)?;
     Ok(out)
 }
 
-/// Whether an input has these replies and ends so.
-fn is_served<R: Source>(
-    alloc: Global,
-    reader: &mut R,
-    replies: &[u8],
-    how: ServeEnd,
-) -> Result<bool, Fail> {
-    let limits = limits(alloc)?;
-    let mut writer = Room::new(alloc, 1024)?;
-    let mut store = Store::new(alloc);
-    let end = serve(alloc, reader, &mut writer, &mut store, &limits);
-    let replies = lines(alloc, replies)?;
-    Ok(end == how && writer.as_slice() == replies.as_slice())
-}
-
 /// Whether an input has these replies for one who sends it and then waits for them: no more is read before they are written.
-fn is_served_at_once(alloc: Global, input: &[u8], replies: &[u8]) -> Result<bool, Fail> {
-    let limits = limits(alloc)?;
-    let replies = lines(alloc, replies)?;
+fn is_served_at_once(alloc: Global, input: &[u8], replies: &[u8]) -> bool {
     let heard = Cell::new(0);
     let mut reader = Waiting::new(input, replies.len(), &heard);
     let mut writer = Hearing::new(alloc, &heard);
     let mut store = Store::new(alloc);
-    serve(alloc, &mut reader, &mut writer, &mut store, &limits);
-    Ok(!reader.waited && writer.taken.as_slice() == replies.as_slice())
+    served(alloc, &mut reader, &mut writer, &mut store);
+    !reader.waited && writer.taken.as_slice() == replies
 }
 
-/// The same, for an input that comes whole, for one that comes byte by byte, and for one who waits.
-fn is_served_however_it_comes(
+/// Whether an input has these replies and ends so: where it comes whole, where it comes byte by byte, and for one who waits.
+fn is_served_however_it_comes(alloc: Global, input: &[u8], replies: &[u8], how: ServeEnd) -> bool {
+    let mut whole = input;
+    let mut slow = Giving::new(input, 1, usize::MAX);
+    is_served(alloc, &mut whole, replies, how)
+        && is_served(alloc, &mut slow, replies, how)
+        && is_served_at_once(alloc, input, replies)
+}
+
+/// The same, for an input and replies that are written with `|`.
+fn are_served(
     alloc: Global,
-    input: &[u8],
+    input: &[&[u8]],
     replies: &[u8],
     how: ServeEnd,
-) -> Result<bool, Fail> {
-    let mut whole = input;
-    let mut slow = Giving {
-        left: input,
-        most: 1,
-        reads_left: usize::MAX,
-        failed: false,
-    };
-    Ok(
-        is_served(alloc, &mut whole, replies, how)?
-            && is_served(alloc, &mut slow, replies, how)?
-            && is_served_at_once(alloc, input, replies)?,
-    )
+) -> Result<bool, AllocError> {
+    let input = lines(alloc, input)?;
+    let replies = lines(alloc, &[replies])?;
+    Ok(is_served_however_it_comes(alloc, &input, &replies, how))
 }
 
 const LENGTH_REQUIRED: &[u8] =
@@ -110,7 +86,7 @@ const SERVICE_UNAVAILABLE_KEPT: &[u8] = b"HTTP/1.1 503 Service Unavailable|Conte
 const NO_CONTENT: &[u8] = b"HTTP/1.1 204 No Content|Connection: close||";
 
 /// What stands behind the first line of a request, and the reply.
-const FIELDS: [(&[u8], &[u8]); 28] = [
+static FIELDS: [(&[u8], &[u8]); 28] = [
     // no length, or a transfer encoding
     (b"|", LENGTH_REQUIRED),
     (b"Transfer-Encoding: chunked||0||", LENGTH_REQUIRED),
@@ -204,7 +180,7 @@ const FIELDS: [(&[u8], &[u8]); 28] = [
 ];
 
 /// Inputs, the replies to them, and how their connections end.
-const INPUTS: [(&[u8], &[u8], ServeEnd); 16] = [
+static INPUTS: [(&[u8], &[u8], ServeEnd); 16] = [
     // two requests that keep the connection
     (
         b"POST /api/v1/write HTTP/1.1|Content-Length: 0||POST /api/v1/write HTTP/1.1|Content-Length: 0||",
@@ -292,40 +268,58 @@ const INPUTS: [(&[u8], &[u8], ServeEnd); 16] = [
     ),
 ];
 
-#[test]
-fn fields_are_judged(rt: HostRuntime) -> Result<(), Fail> {
-    let alloc = rt.alloc();
-    for (fields, reply) in &FIELDS {
-        let mut input = lines(alloc, LINE)?;
-        put_lines(&mut input, *fields)?;
+/// The first fields with another reply.
+fn wrong_fields(alloc: Global) -> Result<Option<usize>, AllocError> {
+    for (i, (fields, reply)) in FIELDS.iter().enumerate() {
         let closes = reply.ends_with(b"Connection: close||");
         let how = if closes { Closed } else { Eof };
-        assert!(rt; is_served_however_it_comes(alloc, &input, *reply, how)?);
+        if !are_served(alloc, &[LINE, *fields], *reply, how)? {
+            return Ok(Some(i));
+        }
     }
-    Ok(())
+    Ok(None)
 }
 
 #[test]
-fn connections_have_their_replies(rt: HostRuntime) -> Result<(), Fail> {
-    let alloc = rt.alloc();
-    for (input, replies, how) in &INPUTS {
-        let input = lines(alloc, *input)?;
-        assert!(rt; is_served_however_it_comes(alloc, &input, *replies, *how)?);
+fn fields_are_judged(rt: HostRuntime) {
+    assert_eq!(rt; wrong_fields(rt.alloc()), Ok(None));
+}
+
+/// The first input with other replies or another end.
+fn wrong_input(alloc: Global) -> Result<Option<usize>, AllocError> {
+    for (i, (input, replies, how)) in INPUTS.iter().enumerate() {
+        if !are_served(alloc, &[*input], *replies, *how)? {
+            return Ok(Some(i));
+        }
     }
-    Ok(())
+    Ok(None)
+}
+
+#[test]
+fn connections_have_their_replies(rt: HostRuntime) {
+    assert_eq!(rt; wrong_input(rt.alloc()), Ok(None));
+}
+
+/// Where the shipper's request may be cut so that it has a reply, or ends otherwise than a torn one.
+fn wrong_cut(alloc: Global) -> Result<Option<usize>, AllocError> {
+    let request = lines(alloc, &[HEAD, MESSAGE])?;
+    for len in 0..request.len() {
+        let mut part = &request[..len];
+        let how = if len == 0 { Eof } else { Torn };
+        if !is_served(alloc, &mut part, b"", how) {
+            return Ok(Some(len));
+        }
+    }
+    Ok(None)
 }
 
 /// The shipper's request has its reply, and none where it is cut before one of its bytes.
 #[test]
-fn cut_requests_have_no_reply(rt: HostRuntime) -> Result<(), Fail> {
+fn cut_requests_have_no_reply(rt: HostRuntime) {
     let alloc = rt.alloc();
-    let mut request = lines(alloc, HEAD)?;
-    request.extend_from_slice(MESSAGE)?;
-    assert!(rt; is_served_however_it_comes(alloc, &request, NO_CONTENT, Closed)?);
-    for len in 0..request.len() {
-        let mut part = &request[..len];
-        let how = if len == 0 { Eof } else { Torn };
-        assert!(rt; is_served(alloc, &mut part, b"", how)?);
-    }
-    Ok(())
+    assert_eq!(rt;
+        are_served(alloc, &[HEAD, MESSAGE], NO_CONTENT, Closed),
+        Ok(true)
+    );
+    assert_eq!(rt; wrong_cut(alloc), Ok(None));
 }

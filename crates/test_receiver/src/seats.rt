@@ -3,9 +3,12 @@
 ghost use Rattle.std.specs.Prelude.{◌≡◌, ◌+◌, IfOk};
 ghost use Rattle.rw_recv_head.specs.Store.{total};
 
-use crate::seat_bodies::{ONE, TWO, empty_head, holds_ones};
+use crate::bodies::{ONE, TWO, WORD_OF_ONE};
+use crate::messages::{UP, holds, standard};
+use crate::store::is_served_by;
 use rw_recv_head::Head;
-use rw_shared_head::{Seat, SharedHead};
+use rw_recv_http::{Answer, ServeEnd};
+use rw_shared_head::{Asking, Seat, SharedHead};
 use std::alloc::{AllocError, Global};
 use std::marker::Brand;
 use std::sync::Wait;
@@ -45,10 +48,11 @@ fn asked_at_once<L: Ledger + Send + Sync, R: Threads + Wait + Sync>(
     requires parts { (blank.parts ≡ 3) × (L.parts ≡ 3) }
     ensures { IfOk result (λ o. total o.head.store ≡ total head.store + o.stored.0 + o.stored.1) }
 {
-    let (shared, mut seats) = SharedHead::<L>::seats(alloc, blank, head, 2).map_err(|e| e.1)?;
-    let (Some(second), Some(first)) = (seats.pop(), seats.pop()) else {
+    let Ok((shared, mut seats)) = SharedHead::<L>::seats(alloc, blank, head, 2) else {
         return Err(AllocError);
     };
+    let second = seats.pop().unwrap();
+    let first = seats.pop().unwrap();
     let lent = &shared;
     let (first, second) = thread::join(
         rt,
@@ -57,9 +61,8 @@ fn asked_at_once<L: Ledger + Send + Sync, R: Threads + Wait + Sync>(
     );
     let statuses = (first.0, second.0);
     let stored = (first.1.stored(), second.1.stored());
-    let mut seats = Vec::new(alloc);
-    seats.push(first.1)?;
-    seats.push(second.1)?;
+    seats.push_reserved(first.1);
+    seats.push_reserved(second.1);
     Ok(Outcome {
         statuses,
         stored,
@@ -67,71 +70,111 @@ fn asked_at_once<L: Ledger + Send + Sync, R: Threads + Wait + Sync>(
     })
 }
 
+/// Whether both seats answered 204, and one of them stored the sample.
+fn is_stored_once(alloc: Global, outcome: &Outcome) -> bool {
+    outcome.statuses == (204, 204)
+        && matches!(outcome.stored, (1, 0) | (0, 1))
+        && outcome.head.total() == 1
+        && holds(alloc, &outcome.head, UP, &[(1000, WORD_OF_ONE)])
+}
+
 #[test]
 fn one_body_from_two_seats_is_stored_once(rt: HostRuntime) -> Result<(), Fail> {
     let alloc = rt.alloc();
-    let outcome = asked_at_once::<Brand, HostRuntime>(
-        &rt,
-        alloc,
-        Blank::new(3),
-        empty_head(alloc)?,
-        &ONE,
-    )?;
-    assert_eq!(rt; outcome.statuses, (204, 204));
-    assert!(rt; matches!(outcome.stored, (1, 0) | (0, 1)));
-    assert_eq!(rt; outcome.head.total(), 1);
-    assert!(rt; holds_ones(alloc, &outcome.head, &[1000])?);
+    let head = standard(alloc)?;
+    let outcome = asked_at_once::<Brand, HostRuntime>(&rt, alloc, Blank::new(3), head, &ONE)?;
+    assert!(rt; is_stored_once(alloc, &outcome));
     Ok(())
 }
 
-/// Asks with one body after the other from one seat. Gives the statuses with what the seat stored up to each, and the head. Where no seat could
-/// be had there are none, and the head is as it was.
-fn asked_in_turn<L: Ledger, R: Wait>(
+/// What a seat is asked, and what it is to answer.
+#[derive(Clone, Copy)]
+pub(crate) enum Talk<'a> {
+    /// Bodies one after the other, each with its status and with what the seat then has stored.
+    Bodies(&'a [(&'a [u8], u16, u64)]),
+    /// The input of a connection, its replies, and what the seat then has stored. The last reply closes it.
+    Connection(&'a [u8], &'a [u8], u64),
+}
+
+/// Whether each body has its status, and the seat then has stored so much.
+fn answers<L: Ledger, R: Wait>(
+    asking: &mut Asking<'_, R, L>,
+    bodies: &[(&[u8], u16, u64)],
+) -> bool {
+    for (body, status, stored) in bodies {
+        if asking.answer(body) != *status || asking.seat.stored() != *stored {
+            return false;
+        }
+    }
+    true
+}
+
+/// Whether a seat answers as it is to.
+fn is_answered<L: Ledger, R: Wait>(
+    alloc: Global,
+    asking: &mut Asking<'_, R, L>,
+    talk: Talk<'_>,
+) -> bool {
+    match talk {
+        Talk::Bodies(bodies) => answers(asking, bodies),
+        Talk::Connection(input, replies, stored) => {
+            let mut reader = input;
+            is_served_by(alloc, &mut reader, asking, replies, ServeEnd::Closed)
+                && asking.seat.stored() == stored
+        }
+    }
+}
+
+/// Asks from the one seat of a head. Gives whether it answers as it is to, and the head. Where no seat could be had there is no answer, and the
+/// head is as it was.
+pub(crate) fn answered<L: Ledger, R: Wait>(
     rt: &R,
     alloc: Global,
     blank: Blank,
     head: Head,
-    bodies: &[&[u8]],
-) -> (Vec<(u16, u64)>, Head)
+    talk: Talk<'_>,
+) -> (Option<bool>, Head)
     requires name { blank.name ≡ L.name }
     requires parts { (blank.parts ≡ 2) × (L.parts ≡ 2) }
 {
-    let mut answers = Vec::new(alloc);
     let (shared, mut seats) = match SharedHead::<L>::seats(alloc, blank, head, 1) {
         Ok(shared) => shared,
-        Err((head, _)) => return (answers, head),
+        Err((head, _)) => return (None, head),
     };
+    let mut is_so = None;
     if let Some(seat) = seats.first_mut() {
-        for body in bodies {
-            let status = seat.answer(rt, &shared, body);
-            let _ = answers.push((status, seat.stored()));
-        }
+        let mut asking = Asking {
+            rt,
+            shared: &shared,
+            seat,
+        };
+        is_so = Some(is_answered(alloc, &mut asking, talk));
     }
-    (answers, shared.gather(seats))
+    (is_so, shared.gather(seats))
 }
 
-/// The statuses for the bodies below, with what the seat stored up to each.
-const ANSWERS: [(u16, u64); 4] = [(400, 0), (204, 2), (204, 2), (204, 2)];
+/// Whether the head holds what it did before the bodies, or after them.
+fn holds_what_was_stored(alloc: Global, is_answered: Option<bool>, head: &Head) -> bool {
+    let samples = [(1000, WORD_OF_ONE), (2000, WORD_OF_ONE)];
+    match is_answered {
+        None => head.total() == 1 && holds(alloc, head, UP, &samples[..1]),
+        Some(is_so) => is_so && head.total() == 3 && holds(alloc, head, UP, &samples),
+    }
+}
 
 #[test]
 fn a_seat_counts_what_was_stored(rt: HostRuntime) -> Result<(), Fail> {
     let alloc = rt.alloc();
-    let mut head = empty_head(alloc)?;
-    assert_eq!(rt; head.answer(&ONE), 204);
-    let bodies: [&[u8]; 4] = [&TWO[..65], &TWO, &TWO, &ONE];
-    let (answers, head) = asked_in_turn::<Brand, HostRuntime>(
-        &rt,
-        alloc,
-        Blank::new(2),
-        head,
-        &bodies,
-    );
-    let (expected, total, times) = match answers.len() {
-        0 => ([].as_slice(), 1, [1000].as_slice()),
-        _ => (ANSWERS.as_slice(), 3, [1000, 2000].as_slice()),
-    };
-    assert_eq!(rt; answers.as_slice(), expected);
-    assert_eq!(rt; head.total(), total);
-    assert!(rt; holds_ones(alloc, &head, times)?);
+    let mut head = standard(alloc)?;
+    let status = head.answer(&ONE);
+    let bodies: [(&[u8], u16, u64); 4] = [
+        (&TWO[..65], 400, 0),
+        (&TWO, 204, 2),
+        (&TWO, 204, 2),
+        (&ONE, 204, 2),
+    ];
+    let talk = Talk::Bodies(&bodies);
+    let (is_so, head) = answered::<Brand, HostRuntime>(&rt, alloc, Blank::new(2), head, talk);
+    assert!(rt; status == 204 && holds_what_was_stored(alloc, is_so, &head));
     Ok(())
 }

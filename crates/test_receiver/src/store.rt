@@ -1,14 +1,11 @@
-//! What answers bodies in these tests.
+//! What answers bodies in these tests, and a connection that it serves.
 
 ghost use Rattle.std.specs.Prelude.{⊤};
 
 use rw_recv_head::Limits;
-use rw_recv_http::Answer;
-use rw_types::Bounded;
+use rw_recv_http::{Answer, ServeEnd, serve};
+use rw_types::{Bounded, Room, Sink, Source};
 use std::alloc::{AllocError, Global};
-
-/// The most bytes of a body in these tests.
-pub(crate) const MAX_BODY_BYTES: u64 = 32;
 
 /// Stores each body that it does not hold yet, and answers 204. A body `bad` is 400, `busy` 429 and `full` 503.
 #[derive(Drop)]
@@ -58,9 +55,48 @@ impl Answer for Store {
     }
 }
 
-/// The limits of these tests.
-pub(crate) fn limits(alloc: Global) -> Result<Limits, AllocError> {
+/// The limits of these tests: a body has at most 32 bytes.
+fn limits(alloc: Global) -> Result<Limits, AllocError> {
     let mut limits = Limits::standard(alloc)?;
-    limits.max_body_bytes = Bounded::of(MAX_BODY_BYTES);
+    limits.max_body_bytes = Bounded::of(32);
     Ok(limits)
+}
+
+/// Serves a connection within these limits. It ends for want of memory also where they have none.
+pub(crate) fn served<R: Source, W: Sink, A: Answer>(
+    alloc: Global,
+    reader: &mut R,
+    writer: &mut W,
+    answer: &mut A,
+) -> ServeEnd {
+    match limits(alloc) {
+        Ok(limits) => serve(alloc, reader, writer, answer, &limits),
+        Err(_) => ServeEnd::OutOfMemory,
+    }
+}
+
+/// Whether a connection has these replies and ends so. No, where memory is refused.
+pub(crate) fn is_served_by<R: Source, A: Answer>(
+    alloc: Global,
+    reader: &mut R,
+    answer: &mut A,
+    replies: &[u8],
+    how: ServeEnd,
+) -> bool {
+    match Room::new(alloc, 1024) {
+        Ok(mut room) => {
+            served(alloc, reader, &mut room, answer) == how && room.as_slice() == replies
+        }
+        Err(_) => false,
+    }
+}
+
+/// The same of a connection to an empty store.
+pub(crate) fn is_served<R: Source>(
+    alloc: Global,
+    reader: &mut R,
+    replies: &[u8],
+    how: ServeEnd,
+) -> bool {
+    is_served_by(alloc, reader, &mut Store::new(alloc), replies, how)
 }

@@ -3,40 +3,18 @@
 
 ghost use Rattle.std.specs.Prelude.{◌<◌, ◌≤◌};
 
-use crate::metrics::metric;
+use crate::rows::none_is_wrong;
+use crate::samples::{Row, sample};
 use rw_batch::{Batch, BatchId, Builder};
 use rw_ledger::Ledger;
 use rw_shard_queue::{Item, Kind};
-use rw_types::{LabelFault, LabelSet, Place, Word};
+use rw_types::LabelFault;
 use std::alloc::{AllocError, Global};
-use std::process::Abort;
-use std::sync::Arc;
 use std::test::Fail;
 
-/// A metric's name, a word and a time.
-type Row = (&'static str, u64, i64);
-
-fn shared(alloc: Global, name: &str) -> Result<Arc<LabelSet>, LabelFault> {
-    match Arc::new(alloc, metric(alloc, name)?) {
-        Ok(labels) => Ok(labels),
-        Err(refused) => match Arc::new(alloc, refused.value) {
-            Ok(labels) => Ok(labels),
-            Err(_) => Err(LabelFault::OutOfMemory),
-        },
-    }
-}
-
-/// The sample numbered `seq` of shard 1 of epoch 3. Its label set is its own, and its number of series is 0.
+/// The sample numbered `seq`, at the position of that number.
 fn item(alloc: Global, seq: u64, row: Row) -> Result<Item, LabelFault> {
-    let (name, word, t) = row;
-    let place = Place {
-        epoch: 3,
-        shard: 1,
-        seq,
-        pos: seq,
-        series: 0,
-    };
-    Ok(Item::Sample(place, t, Word(word), shared(alloc, name)?))
+    sample(alloc, seq, seq, row)
 }
 
 fn builder_of(alloc: Global, batch: usize) -> Result<Builder, AllocError>
@@ -49,109 +27,199 @@ fn builder_of(alloc: Global, batch: usize) -> Result<Builder, AllocError>
     }
 }
 
-/// A builder with room for so many samples that took these, the first one with the number 7.
-fn built(rt: &(impl Abort + AllocGlobal), batch: usize, rows: &[Row]) -> Result<Builder, Fail>
+/// Takes a sample, where there is room and it is the next one.
+fn take(builder: &mut Builder, item: Item) -> bool {
+    if builder.is_full() || !builder.can_take(&item) {
+        return false;
+    }
+    builder.take(item);
+    true
+}
+
+/// Takes these samples, the first one with the number 7, up to one that it cannot take.
+fn take_all(alloc: Global, builder: &mut Builder, rows: &[Row]) -> Result<(), LabelFault> {
+    let mut seq = 7;
+    for row in rows {
+        if !take(builder, item(alloc, seq, *row)?) {
+            return Ok(());
+        }
+        seq = seq.saturating_add(1);
+    }
+    Ok(())
+}
+
+/// A builder with room for so many samples that took these.
+fn built(alloc: Global, batch: usize, rows: &[Row]) -> Result<Builder, LabelFault>
     requires some { 0 < batch }
     requires most { batch ≤ 10000 }
 {
-    let mut builder = builder_of(rt.alloc(), batch)?;
-    let mut seq = 7;
-    for row in rows {
-        assert!(rt; !builder.is_full(), "{seq}");
-        let item = item(rt.alloc(), seq, *row)?;
-        assert!(rt; builder.can_take(&item), "{seq}");
-        builder.take(item);
-        seq = seq.saturating_add(1);
-    }
+    let mut builder = builder_of(alloc, batch)?;
+    take_all(alloc, &mut builder, rows)?;
     Ok(builder)
 }
 
-/// The body that the builder's batch would have.
-fn body_of(rt: &impl Abort, builder: &Builder) -> Result<Vec<u8>, AllocError> {
-    assert!(rt; !builder.is_empty());
+/// Samples, and the body of their batch.
+static BODIES: [(&[Row], &[u8]); 2] = [
+    (
+        &[("a", 0, 1), ("b", 0, 2), ("a", 0, 3)],
+        b"\x0a\x17\x0a\x0d\x0a\x08__name__\x12\x01a\x12\x02\x10\x01\x12\x02\x10\x03\
+          \x0a\x13\x0a\x0d\x0a\x08__name__\x12\x01b\x12\x02\x10\x02",
+    ),
+    (
+        &[("up", 0x3ff0_0000_0000_0000, 1000)],
+        b"\x0a\x1e\x0a\x0e\x0a\x08__name__\x12\x02up\x12\x0c\x09\0\0\0\0\0\0\xf0\x3f\x10\xe8\x07",
+    ),
+];
+
+/// Whether the builder's batch would have this body.
+fn has_body(builder: &Builder, body: &[u8]) -> Result<bool, AllocError> {
+    if builder.is_empty() {
+        return Ok(false);
+    }
     match builder.body() {
-        Ok(body) => Ok(body),
-        Err(_) => builder.body(),
+        Ok(found) => Ok(found.as_slice() == body),
+        Err(_) => Ok(builder.body()?.as_slice() == body),
     }
 }
 
-/// Freezes, and where memory is refused sees that nothing was changed, and freezes again.
-fn frozen(rt: &impl Abort, builder: Builder, ledger: &mut Ledger) -> Result<Batch, AllocError> {
-    let (len, left) = (builder.len(), ledger.left());
-    assert!(rt; len > 0);
-    match builder.freeze(ledger) {
+/// Freezes a builder that has samples.
+fn freeze(builder: Builder, ledger: &mut Ledger) -> Result<Batch, (Builder, AllocError)> {
+    if builder.is_empty() {
+        return Err((builder, AllocError));
+    }
+    builder.freeze(ledger)
+}
+
+fn freeze_again(builder: Builder, ledger: &mut Ledger) -> Result<Batch, AllocError> {
+    match freeze(builder, ledger) {
         Ok(batch) => Ok(batch),
-        Err((builder, _)) => {
-            assert_eq!(rt; builder.len(), len);
-            assert_eq!(rt; ledger.left(), left);
-            match builder.freeze(ledger) {
-                Ok(batch) => Ok(batch),
-                Err((_, refused)) => Err(refused),
+        Err((_, refused)) => Err(refused),
+    }
+}
+
+/// Freezes, and where memory is refused and nothing was changed freezes again.
+fn frozen(builder: Builder, ledger: &mut Ledger) -> Result<Batch, AllocError> {
+    let (len, left) = (builder.len(), ledger.left());
+    match freeze(builder, ledger) {
+        Ok(batch) => Ok(batch),
+        Err((builder, refused)) => {
+            if builder.len() == len && ledger.left() == left {
+                freeze_again(builder, ledger)
+            } else {
+                Err(refused)
             }
         }
     }
 }
 
+/// Whether a batch has so many samples from the number 7 on, and this body.
+fn is_batch(batch: &Batch, samples: usize, body: &[u8]) -> bool {
+    let id = BatchId {
+        epoch: 3,
+        shard: 1,
+        seq: 7,
+    };
+    batch.id() == id && batch.places().len() == samples && batch.body().as_slice() == body
+}
+
+/// Whether a builder makes a batch of so many samples with this body, and room for them in the ledger.
+fn makes_batch(
+    alloc: Global,
+    builder: Builder,
+    samples: usize,
+    body: &[u8],
+) -> Result<bool, AllocError> {
+    let mut ledger = Ledger::new(alloc);
+    let batch = frozen(builder, &mut ledger)?;
+    let is_right = is_batch(&batch, samples, body);
+    Ok(is_right && ledger.left() == samples && ledger.total() == 0)
+}
+
+/// Whether these samples make this body, and a batch with it.
+fn make_body(alloc: Global, samples: &[Row], body: &[u8]) -> Result<bool, LabelFault> {
+    let builder = built(alloc, 3, samples)?;
+    if !has_body(&builder, body)? {
+        return Ok(false);
+    }
+    Ok(makes_batch(alloc, builder, samples.len(), body)?)
+}
+
+fn wrong_body(alloc: Global) -> Result<Option<usize>, LabelFault> {
+    for (i, (samples, body)) in BODIES.iter().enumerate() {
+        if !make_body(alloc, samples, body)? {
+            return Ok(Some(i));
+        }
+    }
+    Ok(None)
+}
+
 #[test]
 fn bodies_group_by_labels(rt: HostRuntime) -> Result<(), Fail> {
-    let rows: [(&[Row], &[u8]); 2] = [
-        (
-            &[("a", 0, 1), ("b", 0, 2), ("a", 0, 3)],
-            b"\x0a\x17\x0a\x0d\x0a\x08__name__\x12\x01a\x12\x02\x10\x01\x12\x02\x10\x03\
-              \x0a\x13\x0a\x0d\x0a\x08__name__\x12\x01b\x12\x02\x10\x02",
-        ),
-        (
-            &[("up", 0x3ff0_0000_0000_0000, 1000)],
-            b"\x0a\x1e\x0a\x0e\x0a\x08__name__\x12\x02up\x12\x0c\x09\0\0\0\0\0\0\xf0\x3f\x10\xe8\x07",
-        ),
-    ];
-    for (samples, body) in rows {
-        let builder = built(&rt, 3, samples)?;
-        assert_eq!(rt; body_of(&rt, &builder)?.as_slice(), body);
-        let mut ledger = Ledger::new(rt.alloc());
-        let batch = frozen(&rt, builder, &mut ledger)?;
-        assert_eq!(rt; ledger.left(), samples.len());
-        assert_eq!(rt; ledger.total(), 0);
-        assert_eq!(rt; batch.places().len(), samples.len());
-        assert_eq!(rt;
-            batch.id(),
-            BatchId {
-                epoch: 3,
-                shard: 1,
-                seq: 7
-            }
-        );
-        assert_eq!(rt; batch.body().as_slice(), body);
-    }
+    none_is_wrong(&rt, wrong_body(rt.alloc())?);
     Ok(())
+}
+
+const TWO: &[Row] = &[("a", 0, 1), ("b", 0, 2)];
+
+const THREE: &[Row] = &[("a", 0, 1), ("b", 0, 2), ("b", 0, 3)];
+
+/// Samples that a builder of three took, a sample with its number, and whether that can be taken next.
+static NEXT: [(&[Row], u64, Row, bool); 4] = [
+    (TWO, 8, ("a", 0, 3), false),
+    (TWO, 9, ("a", 0, 3), true),
+    (TWO, 10, ("a", 0, 3), false),
+    (THREE, 10, ("a", 0, 4), false),
+];
+
+/// Whether a builder of three has so many samples, is full or not, and takes no mark.
+fn has_taken(builder: &Builder, count: usize) -> bool {
+    builder.len() == count
+        && builder.is_full() == (count == 3)
+        && !builder.can_take(&Item::Flush)
+        && !builder.can_take(&Item::End(Kind::Orderly))
+}
+
+/// Whether a builder of three that took these samples can take the next one, or not.
+fn takes(alloc: Global, samples: &[Row], next: &Item, can: bool) -> Result<bool, LabelFault> {
+    let builder = built(alloc, 3, samples)?;
+    Ok(has_taken(&builder, samples.len()) && builder.can_take(next) == can)
+}
+
+fn wrong_next(alloc: Global) -> Result<Option<usize>, LabelFault> {
+    for (i, (samples, seq, row, can)) in NEXT.iter().enumerate() {
+        let next = item(alloc, *seq, *row)?;
+        if !takes(alloc, samples, &next, *can)? {
+            return Ok(Some(i));
+        }
+    }
+    Ok(None)
 }
 
 #[test]
 fn only_the_next_sample_is_taken(rt: HostRuntime) -> Result<(), Fail> {
-    let builder = built(&rt, 3, &[("a", 0, 1), ("b", 0, 2)])?;
-    assert_eq!(rt; builder.len(), 2);
-    for (seq, may) in [(8, false), (9, true), (10, false)] {
-        let item = item(rt.alloc(), seq, ("a", 0, 3))?;
-        assert_eq!(rt; builder.can_take(&item), may, "{seq}");
-    }
-    assert!(rt; !builder.can_take(&Item::Flush));
-    assert!(rt; !builder.can_take(&Item::End(Kind::Orderly)));
-    let full = built(&rt, 3, &[("a", 0, 1), ("b", 0, 2), ("b", 0, 3)])?;
-    assert!(rt; full.is_full());
-    let item = item(rt.alloc(), 10, ("a", 0, 4))?;
-    assert!(rt; !full.can_take(&item));
+    none_is_wrong(&rt, wrong_next(rt.alloc())?);
     Ok(())
+}
+
+/// Whether a builder has ten samples, each with this field.
+fn has_fields(builder: &Builder, field: &[u8]) -> bool {
+    for k in 0..builder.len() {
+        if builder.field(k) != field {
+            return false;
+        }
+    }
+    builder.len() == 10
+}
+
+/// Whether ten samples of the word 3 at -1 ms have this field each.
+fn have_field(alloc: Global, field: &[u8]) -> Result<bool, LabelFault> {
+    let builder = built(alloc, 10, &[("up", 0x4008_0000_0000_0000, -1); 10])?;
+    Ok(has_fields(&builder, field))
 }
 
 #[test]
 fn fields_are_lent(rt: HostRuntime) -> Result<(), Fail> {
-    let rows: [Row; 10] = [("up", 0x4008_0000_0000_0000, -1); 10];
-    let builder = built(&rt, 10, &rows)?;
-    assert_eq!(rt; builder.len(), 10);
-    let field: &[u8] =
-        b"\x12\x14\x09\0\0\0\0\0\0\x08\x40\x10\xff\xff\xff\xff\xff\xff\xff\xff\xff\x01";
-    for k in 0..builder.len() {
-        assert_eq!(rt; builder.field(k), field);
-    }
+    let field = b"\x12\x14\x09\0\0\0\0\0\0\x08\x40\x10\xff\xff\xff\xff\xff\xff\xff\xff\xff\x01";
+    assert!(rt; have_field(rt.alloc(), field)?);
     Ok(())
 }

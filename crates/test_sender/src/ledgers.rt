@@ -1,56 +1,91 @@
 //! Dropped samples. The calls that take memory are made again where it is refused, so each test can be run with each
 //! allocation refused in turn: the refused call changes nothing.
 
-ghost use Rattle.std.specs.Prelude.{◌≡◌, ◌+◌, OnOk};
-
 use rw_ledger::{Ledger, Reason};
 use std::alloc::AllocError;
-use std::process::Abort;
 use std::test::Fail;
 
-fn room(rt: &impl Abort, ledger: &mut Ledger, n: usize) -> Result<(), AllocError>
-    ensures { OnOk result (ledger.new.room ≡ ledger.old.room + n) }
-{
+/// A position, and why its sample was dropped.
+type Name = (u64, Reason);
+
+/// Names, in the order in which they are made.
+static MADE: [Name; 4] = [
+    (5, Reason::Status(400)),
+    (9, Reason::NoSeries),
+    (2, Reason::BadLabels(3)),
+    (7, Reason::Status(404)),
+];
+
+/// The same in the order of their positions.
+static SORTED: [Name; 4] = [
+    (2, Reason::BadLabels(3)),
+    (5, Reason::Status(400)),
+    (7, Reason::Status(404)),
+    (9, Reason::NoSeries),
+];
+
+/// Adds room for so many names, and answers whether a refused call, if there was one, changed nothing.
+fn add_room(ledger: &mut Ledger, n: usize) -> Result<bool, AllocError> {
     let (left, total) = (ledger.left(), ledger.total());
-    match ledger.room(n) {
-        Ok(()) => Ok(()),
-        Err(_) => {
-            assert_eq!(rt; ledger.left(), left);
-            assert_eq!(rt; ledger.total(), total);
-            ledger.room(n)
-        }
+    if ledger.room(n).is_ok() {
+        return Ok(true);
     }
+    let is_same = ledger.left() == left && ledger.total() == total;
+    ledger.room(n)?;
+    Ok(is_same)
 }
 
-fn name(rt: &impl Abort, ledger: &mut Ledger, pos: u64, reason: Reason) {
-    assert!(rt; ledger.left() > 0, "{pos}");
-    assert!(rt; ledger.get(pos).is_none(), "{pos}");
+/// Names a position, where there is room for it and it has no name.
+fn add_name(ledger: &mut Ledger, pos: u64, reason: Reason) -> bool {
+    if ledger.left() == 0 || ledger.get(pos).is_some() {
+        return false;
+    }
     ledger.name(pos, reason);
+    true
+}
+
+fn add_names(ledger: &mut Ledger) -> bool {
+    for (pos, reason) in MADE {
+        if !add_name(ledger, pos, reason) {
+            return false;
+        }
+    }
+    true
+}
+
+/// Gives the room back that is left, where that is so much.
+fn give_back(ledger: &mut Ledger, n: usize) -> bool {
+    if ledger.left() != n {
+        return false;
+    }
+    ledger.give_back(n);
+    ledger.left() == 0
+}
+
+/// Whether a position has this name, and the one behind it none.
+fn is_named(ledger: &Ledger, pos: u64, reason: Reason) -> bool {
+    ledger.get(pos) == Some(reason) && ledger.get(pos.saturating_add(1)).is_none()
+}
+
+/// Whether these are all names that there are.
+fn has_names(ledger: &Ledger) -> bool {
+    for (pos, reason) in SORTED {
+        if !is_named(ledger, pos, reason) {
+            return false;
+        }
+    }
+    ledger.total() == 4 && ledger.iter().eq(SORTED.iter())
+}
+
+/// Whether names can be made in room for five, and one of the five given back.
+fn names_stand(ledger: &mut Ledger) -> Result<bool, AllocError> {
+    let is_same = add_room(ledger, 3)? && add_room(ledger, 2)?;
+    Ok(is_same && add_names(ledger) && give_back(ledger, 1) && has_names(ledger))
 }
 
 #[test]
 fn names_stand_by_position(rt: HostRuntime) -> Result<(), Fail> {
     let mut ledger = Ledger::new(rt.alloc());
-    room(&rt, &mut ledger, 3)?;
-    room(&rt, &mut ledger, 2)?;
-    name(&rt, &mut ledger, 5, Reason::Status(400));
-    name(&rt, &mut ledger, 9, Reason::NoSeries);
-    name(&rt, &mut ledger, 2, Reason::BadLabels(3));
-    name(&rt, &mut ledger, 7, Reason::Status(404));
-    assert_eq!(rt; ledger.left(), 1);
-    ledger.give_back(1);
-    assert_eq!(rt; ledger.left(), 0);
-    assert_eq!(rt; ledger.total(), 4);
-    let names = [
-        (2, Reason::BadLabels(3)),
-        (5, Reason::Status(400)),
-        (7, Reason::Status(404)),
-        (9, Reason::NoSeries),
-    ];
-    assert!(rt; ledger.iter().eq(names.iter()));
-    for (pos, reason) in names {
-        assert_eq!(rt; ledger.get(pos), Some(reason), "{pos}");
-        assert_eq!(rt; ledger.get(pos + 1), None, "{pos}");
-    }
+    assert!(rt; names_stand(&mut ledger)?);
     Ok(())
 }

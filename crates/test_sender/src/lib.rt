@@ -8,8 +8,6 @@ mod grouping;
 #[cfg(test)]
 mod ledgers;
 #[cfg(test)]
-mod metrics;
-#[cfg(test)]
 mod queues;
 #[cfg(test)]
 mod replies;
@@ -17,5 +15,9 @@ mod replies;
 mod reshards;
 #[cfg(test)]
 mod retries;
+#[cfg(test)]
+mod rows;
+#[cfg(test)]
+mod samples;
 #[cfg(test)]
 mod shards;

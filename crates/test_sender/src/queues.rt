@@ -1,10 +1,29 @@
 //! The queue within one thread. The call that takes memory is made again where it is refused, so each test can be run
 //! with each allocation refused in turn.
 
+use crate::rows::none_is_wrong;
 use rw_shard_queue::{Item, Kind, PlainQueue, PutFault};
 use std::alloc::{AllocError, Global};
-use std::process::Abort;
 use std::test::Fail;
+
+/// What is done with a queue, and what is then seen.
+#[derive(Clone, Copy)]
+enum Step {
+    /// An End is put, with the number of the fault, or 0 where it is not refused.
+    Put(Kind, u8),
+    /// A Flush is put.
+    PutFlush,
+    /// An End of this kind is taken, or nothing.
+    Take(Option<Kind>),
+    Close,
+    Kill,
+    /// So many items are there.
+    Len(usize),
+    /// Nothing can be put, for this reason.
+    Refusal(PutFault),
+    /// Flushes alone are there.
+    Flushes,
+}
 
 fn queue_of(alloc: Global, capacity: usize) -> Result<PlainQueue, AllocError> {
     match PlainQueue::new(alloc, capacity) {
@@ -13,68 +32,106 @@ fn queue_of(alloc: Global, capacity: usize) -> Result<PlainQueue, AllocError> {
     }
 }
 
-/// Puts an End, which comes back where it is refused, and answers the number of the fault or 0.
-fn put_end(rt: &impl Abort, queue: &mut PlainQueue, kind: Kind) -> u8 {
+fn is_end(item: &Item, kind: Kind) -> bool {
+    matches!(item, Item::End(of) if *of == kind)
+}
+
+/// Whether putting an End has a fault of this number, and gives it back, or none, where that is 0.
+fn puts(queue: &mut PlainQueue, kind: Kind, fault: u8) -> bool {
     match queue.put(Item::End(kind)) {
-        Ok(()) => 0,
-        Err((item, fault)) => {
-            assert!(rt;
-                matches!(&item, Item::End(back) if *back == kind),
-                "{fault:?}"
-            );
-            fault as u8
-        }
+        Ok(()) => fault == 0,
+        Err((item, found)) => found as u8 == fault && is_end(&item, kind),
     }
 }
 
-fn take_end(queue: &mut PlainQueue) -> Option<Kind> {
-    match queue.take() {
-        Some(Item::End(kind)) => Some(kind),
-        _ => None,
+/// Whether an End of this kind is taken, or nothing.
+fn takes(queue: &mut PlainQueue, kind: Option<Kind>) -> bool {
+    match (queue.take(), kind) {
+        (Some(item), Some(kind)) => is_end(&item, kind),
+        (None, None) => true,
+        _ => false,
     }
 }
+
+/// Whether a step goes as it says.
+fn does(queue: &mut PlainQueue, step: Step) -> bool {
+    match step {
+        Step::Put(kind, fault) => puts(queue, kind, fault),
+        Step::PutFlush => queue.put(Item::Flush).is_ok(),
+        Step::Take(kind) => takes(queue, kind),
+        Step::Close => {
+            queue.close();
+            true
+        }
+        Step::Kill => {
+            queue.kill();
+            true
+        }
+        Step::Len(len) => queue.len() == len && queue.is_empty() == (len == 0),
+        Step::Refusal(fault) => queue.refusal() == Some(fault),
+        Step::Flushes => queue.iter().all(|item| matches!(item, Item::Flush)),
+    }
+}
+
+/// The first of these steps with a queue of this capacity that goes otherwise.
+fn wrong_step(alloc: Global, capacity: usize, steps: &[Step]) -> Result<Option<usize>, AllocError> {
+    let mut queue = queue_of(alloc, capacity)?;
+    Ok(steps.iter().position(|step| !does(&mut queue, *step)))
+}
+
+static IN_ORDER: &[Step] = &[
+    Step::Len(0),
+    Step::Put(Kind::Orderly, 0),
+    Step::Put(Kind::Reshard, 0),
+    Step::Put(Kind::Hard, 1),
+    Step::Len(2),
+    Step::Take(Some(Kind::Orderly)),
+    Step::Put(Kind::Hard, 0),
+    Step::Take(Some(Kind::Reshard)),
+    Step::Take(Some(Kind::Hard)),
+    Step::Take(None),
+];
 
 #[test]
 fn items_come_in_order(rt: HostRuntime) -> Result<(), Fail> {
-    let mut queue = queue_of(rt.alloc(), 2)?;
-    assert!(rt; queue.is_empty());
-    assert_eq!(rt; put_end(&rt, &mut queue, Kind::Orderly), 0);
-    assert_eq!(rt; put_end(&rt, &mut queue, Kind::Reshard), 0);
-    assert_eq!(rt; put_end(&rt, &mut queue, Kind::Hard), 1);
-    assert_eq!(rt; queue.len(), 2);
-    assert_eq!(rt; take_end(&mut queue), Some(Kind::Orderly));
-    assert_eq!(rt; put_end(&rt, &mut queue, Kind::Hard), 0);
-    assert_eq!(rt; take_end(&mut queue), Some(Kind::Reshard));
-    assert_eq!(rt; take_end(&mut queue), Some(Kind::Hard));
-    assert!(rt; queue.take().is_none());
+    none_is_wrong(&rt, wrong_step(rt.alloc(), 2, IN_ORDER)?);
     Ok(())
 }
+
+static CLOSED: &[Step] = &[
+    Step::Put(Kind::Orderly, 0),
+    Step::Refusal(PutFault::Full),
+    Step::Close,
+    Step::Put(Kind::Hard, 2),
+    Step::Take(Some(Kind::Orderly)),
+    Step::Put(Kind::Hard, 2),
+];
+
+static KILLED_EMPTY: &[Step] = &[
+    Step::Refusal(PutFault::Full),
+    Step::Kill,
+    Step::Put(Kind::Hard, 2),
+    Step::Take(None),
+];
 
 #[test]
 fn closed_and_killed_queues(rt: HostRuntime) -> Result<(), Fail> {
-    let mut queue = queue_of(rt.alloc(), 1)?;
-    assert_eq!(rt; put_end(&rt, &mut queue, Kind::Orderly), 0);
-    assert_eq!(rt; queue.refusal(), Some(PutFault::Full));
-    queue.close();
-    assert_eq!(rt; put_end(&rt, &mut queue, Kind::Hard), 2);
-    assert_eq!(rt; take_end(&mut queue), Some(Kind::Orderly));
-    assert_eq!(rt; put_end(&rt, &mut queue, Kind::Hard), 2);
-    let mut queue = queue_of(rt.alloc(), 0)?;
-    assert_eq!(rt; queue.refusal(), Some(PutFault::Full));
-    queue.kill();
-    assert_eq!(rt; put_end(&rt, &mut queue, Kind::Hard), 2);
-    assert!(rt; queue.take().is_none());
+    none_is_wrong(&rt, wrong_step(rt.alloc(), 1, CLOSED)?);
+    none_is_wrong(&rt, wrong_step(rt.alloc(), 0, KILLED_EMPTY)?);
     Ok(())
 }
 
+static KILLED_WITH_A_FLUSH: &[Step] = &[
+    Step::PutFlush,
+    Step::Kill,
+    Step::Len(1),
+    Step::Flushes,
+    Step::Take(None),
+    Step::Put(Kind::Orderly, 2),
+];
+
 #[test]
 fn a_killed_queue_gives_nothing(rt: HostRuntime) -> Result<(), Fail> {
-    let mut queue = queue_of(rt.alloc(), 3)?;
-    assert!(rt; queue.put(Item::Flush).is_ok());
-    queue.kill();
-    assert_eq!(rt; queue.len(), 1);
-    assert!(rt; queue.iter().all(|item| matches!(item, Item::Flush)));
-    assert!(rt; queue.take().is_none());
-    assert_eq!(rt; put_end(&rt, &mut queue, Kind::Orderly), 2);
+    none_is_wrong(&rt, wrong_step(rt.alloc(), 3, KILLED_WITH_A_FLUSH)?);
     Ok(())
 }

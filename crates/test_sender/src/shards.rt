@@ -1,16 +1,16 @@
 //! A shard behind its queue: what it takes, sends and resolves. The calls that take memory are made again where it is refused, so
 //! each test can be run with each allocation refused in turn: the refused call changes nothing.
 
+use crate::rows::none_is_wrong;
+use crate::samples::sample;
 use http::StatusCode;
 use rw_batch::BatchId;
 use rw_ledger::{Ledger, Reason};
 use rw_retry::Judgement;
 use rw_sender::{Attempt, ShardCore, Target, request_bytes};
 use rw_shard_queue::{Item, Kind};
-use rw_types::{LabelFault, LabelSet, Place, RawLabels, Word};
+use rw_types::LabelFault;
 use std::alloc::{AllocError, Global};
-use std::process::Abort;
-use std::sync::Arc;
 use std::test::Fail;
 
 /// The message of the sample 1 at 1000 ms of the series `up`.
@@ -22,34 +22,14 @@ const UP: &[u8] = &[
 const UP_REQUEST: &[u8] =
     b"POST /api/v1/write HTTP/1.1\r\nHost: localhost:9090\r\nUser-Agent: rwship/1.0\r\nContent-Type: application/x-protobuf\r\nX-Prometheus-Remote-Write-Version: 0.1.0\r\nConnection: close\r\nContent-Length: 32\r\n\r\n";
 
-/// A label set of a metric's name alone.
-fn metric(alloc: Global, name: &[u8]) -> Result<LabelSet, LabelFault> {
-    let mut labels = RawLabels::new(alloc);
-    labels.push(b"__name__", name)?;
-    LabelSet::check(alloc, &labels)
-}
-
-/// The sample numbered `seq` of shard 1 of epoch 3, at the position 10 + `seq`: 1 at 1000 ms of the series `up`.
-fn sample(alloc: Global, seq: u64) -> Result<Item, LabelFault> {
-    let place = Place {
-        epoch: 3,
-        shard: 1,
+/// The sample numbered `seq`, at the position 10 + `seq`: 1 at 1000 ms of the series `up`.
+fn up(alloc: Global, seq: u64) -> Result<Item, LabelFault> {
+    sample(
+        alloc,
         seq,
-        pos: seq.saturating_add(10),
-        series: 0,
-    };
-    let labels = match metric(alloc, b"up") {
-        Err(LabelFault::OutOfMemory) => metric(alloc, b"up")?,
-        answer => answer?,
-    };
-    let labels = match Arc::new(alloc, labels) {
-        Ok(labels) => labels,
-        Err(refused) => match Arc::new(alloc, refused.value) {
-            Ok(labels) => labels,
-            Err(_) => return Err(LabelFault::OutOfMemory),
-        },
-    };
-    Ok(Item::Sample(place, 1000, Word(0x3ff0_0000_0000_0000), labels))
+        seq.saturating_add(10),
+        ("up", 0x3ff0_0000_0000_0000, 1000),
+    )
 }
 
 fn target(alloc: Global) -> Result<Target, AllocError> {
@@ -68,69 +48,13 @@ fn core_of(alloc: Global) -> Result<ShardCore, AllocError> {
     }
 }
 
-fn take(rt: &impl Abort, core: &mut ShardCore, item: Item) {
-    assert!(rt; core.can_take());
-    assert!(rt; core.may_take(&item));
-    core.take(item);
-}
-
-/// Freezes, and where memory is refused sees that nothing was changed, and freezes again.
-fn freeze(rt: &impl Abort, core: &mut ShardCore, ledger: &mut Ledger) -> Result<bool, AllocError> {
-    let (due, left, pending) = (core.due(), ledger.left(), core.pending_places().len());
-    match core.freeze(ledger) {
-        Ok(done) => Ok(done),
-        Err(_) => {
-            assert_eq!(rt; core.due(), due);
-            assert_eq!(rt; core.batch_id(), None);
-            assert_eq!(rt; core.pending_places().len(), pending);
-            assert_eq!(rt; ledger.left(), left);
-            core.freeze(ledger)
-        }
-    }
-}
-
-/// Attempts, and where memory is refused sees that nothing was changed, and attempts again. A refused clone of the request may be refused twice.
-fn attempt(rt: &impl Abort, core: &mut ShardCore) -> Result<Option<Attempt>, AllocError> {
-    let id = core.batch_id();
-    match core.attempt() {
-        Ok(attempt) => Ok(attempt),
-        Err(_) => {
-            assert!(rt; !core.is_waiting());
-            assert_eq!(rt; core.batch_id(), id);
-            core.attempt()
-        }
-    }
-}
-
-/// A reply of this status to the batch whose first sample has the number `seq`.
-fn reply(
-    rt: &impl Abort,
-    core: &mut ShardCore,
-    ledger: &mut Ledger,
-    seq: u64,
-    status: u16,
-) -> Option<Judgement> {
-    let id = BatchId {
-        epoch: 3,
-        shard: 1,
-        seq,
-    };
-    assert!(rt; core.has_room_in(ledger));
-    match StatusCode::from_u16(status) {
-        Ok(status) => core.reply(id, status, ledger),
-        Err(_) => None,
-    }
-}
-
 /// What is done, or seen.
-#[derive(Clone, Copy, Debug)]
+#[derive(Clone, Copy)]
 enum Step {
     /// The next sample is taken.
     Sample,
     Flush,
-    End,
-    CanTake(bool),
-    Due(bool),
+    End(Kind),
     /// The builder is frozen, or not.
     Freeze(bool),
     /// The batch whose first sample has this number is sent, with the bytes of the attempt before it, or of none.
@@ -139,8 +63,20 @@ enum Step {
     Reply(u64, u16, Option<Judgement>),
     Lost(bool),
     Kill,
+    CanTake(bool),
+    Due(bool),
     /// The room that is left in the ledger.
     Left(usize),
+    /// How many samples are not resolved.
+    Pending(usize),
+    IsEmpty(bool),
+    HasEnded(bool),
+    /// The open batch is the one that was sent last, with this head and this body.
+    IsSent(&'static [u8], &'static [u8]),
+    /// The sample of this number cannot be taken.
+    NotTaken(u64),
+    /// The positions that are named, each with its reason.
+    Names(&'static [(u64, Reason)]),
 }
 
 #[derive(Drop)]
@@ -153,64 +89,157 @@ struct Shard {
     last: Option<Attempt>,
 }
 
-/// Sends, and sees that a batch has the same bytes each time.
-fn send(rt: &impl Abort, shard: &mut Shard, seq: Option<u64>) -> Result<(), AllocError> {
-    match attempt(rt, &mut shard.core)? {
+/// Takes an item that may be taken.
+fn take(core: &mut ShardCore, item: Item) -> bool {
+    if !core.can_take() || !core.may_take(&item) {
+        return false;
+    }
+    core.take(item);
+    true
+}
+
+fn take_sample(alloc: Global, shard: &mut Shard) -> Result<bool, LabelFault> {
+    let item = up(alloc, shard.seq)?;
+    shard.seq = shard.seq.saturating_add(1);
+    Ok(take(&mut shard.core, item))
+}
+
+/// Whether freezing answers this. Where memory is refused nothing is changed, and it freezes again.
+fn freezes(core: &mut ShardCore, ledger: &mut Ledger, done: bool) -> Result<bool, AllocError> {
+    let (due, left, pending) = (core.due(), ledger.left(), core.pending_places().len());
+    if let Ok(answer) = core.freeze(ledger) {
+        return Ok(answer == done);
+    }
+    let is_same = core.due() == due
+        && core.batch_id().is_none()
+        && core.pending_places().len() == pending
+        && ledger.left() == left;
+    Ok(core.freeze(ledger)? == done && is_same)
+}
+
+/// Whether two attempts have the same bytes, if they are of one batch.
+fn is_again(last: &Option<Attempt>, attempt: &Attempt) -> bool {
+    match last {
+        Some(last) if last.id == attempt.id => {
+            last.request.as_slice() == attempt.request.as_slice()
+        }
+        _ => true,
+    }
+}
+
+/// Whether this is an attempt to send the batch whose first sample has this number, with the bytes of the attempt before it, or none.
+fn note_attempt(last: &mut Option<Attempt>, attempt: Option<Attempt>, seq: Option<u64>) -> bool {
+    match attempt {
         Some(attempt) => {
-            assert_eq!(rt; Some(attempt.id.seq), seq);
-            if let Some(last) = &shard.last {
-                if last.id == attempt.id {
-                    assert_eq!(rt; attempt.request.as_slice(), last.request.as_slice());
-                }
-            }
-            shard.last = Some(attempt);
+            let is_right = seq == Some(attempt.id.seq) && is_again(last, &attempt);
+            *last = Some(attempt);
+            is_right
         }
-        None => assert_eq!(rt; seq, None),
+        None => seq.is_none(),
     }
-    Ok(())
 }
 
-fn act(rt: &(impl Abort + AllocGlobal), shard: &mut Shard, step: Step) -> Result<(), Fail> {
+/// Attempts. Where memory is refused nothing is changed, and it attempts again.
+fn sends(shard: &mut Shard, seq: Option<u64>) -> Result<bool, AllocError> {
+    let id = shard.core.batch_id();
+    if let Ok(attempt) = shard.core.attempt() {
+        return Ok(note_attempt(&mut shard.last, attempt, seq));
+    }
+    let is_same = !shard.core.is_waiting() && shard.core.batch_id() == id;
+    let attempt = shard.core.attempt()?;
+    Ok(note_attempt(&mut shard.last, attempt, seq) && is_same)
+}
+
+/// Whether a reply of this status to the batch whose first sample has the number `seq` is judged so.
+fn judges(shard: &mut Shard, seq: u64, status: u16, wanted: Option<Judgement>) -> bool {
+    let id = BatchId {
+        epoch: 3,
+        shard: 1,
+        seq,
+    };
+    if !shard.core.has_room_in(&shard.ledger) {
+        return false;
+    }
+    match StatusCode::from_u16(status) {
+        Ok(status) => shard.core.reply(id, status, &mut shard.ledger) == wanted,
+        Err(_) => false,
+    }
+}
+
+/// Whether the open batch is the one that was sent last, with this head and this body.
+fn is_sent(shard: &Shard, head: &[u8], body: &[u8]) -> bool {
+    match &shard.last {
+        Some(last) => {
+            shard.core.batch_id() == Some(last.id)
+                && last.request.as_slice().strip_prefix(head) == Some(body)
+        }
+        None => false,
+    }
+}
+
+/// Whether what is seen is so.
+fn sees(shard: &Shard, step: Step) -> bool {
     match step {
-        Step::Sample => {
-            let item = sample(rt.alloc(), shard.seq)?;
-            take(rt, &mut shard.core, item);
-            shard.seq = shard.seq.saturating_add(1);
-        }
-        Step::Flush => take(rt, &mut shard.core, Item::Flush),
-        Step::End => take(rt, &mut shard.core, Item::End(Kind::Orderly)),
-        Step::CanTake(can) => assert_eq!(rt; shard.core.can_take(), can),
-        Step::Due(due) => assert_eq!(rt; shard.core.due(), due),
-        Step::Freeze(done) => {
-            assert_eq!(rt; freeze(rt, &mut shard.core, &mut shard.ledger)?, done);
-        }
-        Step::Send(seq) => send(rt, shard, seq)?,
-        Step::Reply(seq, status, answer) => {
-            let judgement = reply(rt, &mut shard.core, &mut shard.ledger, seq, status);
-            assert_eq!(rt; judgement, answer);
-        }
-        Step::Lost(lost) => assert_eq!(rt; shard.core.lost(), lost),
-        Step::Kill => shard.core.kill(),
-        Step::Left(left) => assert_eq!(rt; shard.ledger.left(), left),
+        Step::CanTake(can) => shard.core.can_take() == can,
+        Step::Due(due) => shard.core.due() == due,
+        Step::Left(left) => shard.ledger.left() == left,
+        Step::Pending(count) => shard.core.pending_places().len() == count,
+        Step::IsEmpty(is_empty) => shard.core.is_empty() == is_empty,
+        Step::HasEnded(has_ended) => shard.core.has_ended() == has_ended,
+        Step::IsSent(head, body) => is_sent(shard, head, body),
+        Step::Names(names) => shard.ledger.iter().eq(names.iter()),
+        _ => false,
     }
-    Ok(())
 }
 
-/// The names after these steps.
-fn names_after(rt: &(impl Abort + AllocGlobal), steps: &[Step]) -> Result<Ledger, Fail> {
-    let mut shard = Shard {
-        core: core_of(rt.alloc())?,
-        ledger: Ledger::new(rt.alloc()),
+/// Whether a step goes as it says.
+fn does(alloc: Global, shard: &mut Shard, step: Step) -> Result<bool, LabelFault> {
+    match step {
+        Step::Sample => take_sample(alloc, shard),
+        Step::Flush => Ok(take(&mut shard.core, Item::Flush)),
+        Step::End(kind) => Ok(take(&mut shard.core, Item::End(kind))),
+        Step::Freeze(done) => Ok(freezes(&mut shard.core, &mut shard.ledger, done)?),
+        Step::Send(seq) => Ok(sends(shard, seq)?),
+        Step::Reply(seq, status, answer) => Ok(judges(shard, seq, status, answer)),
+        Step::Lost(lost) => Ok(shard.core.lost() == lost),
+        Step::Kill => {
+            shard.core.kill();
+            Ok(true)
+        }
+        Step::NotTaken(seq) => {
+            let item = up(alloc, seq)?;
+            Ok(!shard.core.may_take(&item))
+        }
+        _ => Ok(sees(shard, step)),
+    }
+}
+
+fn shard_of(alloc: Global) -> Result<Shard, AllocError> {
+    Ok(Shard {
+        core: core_of(alloc)?,
+        ledger: Ledger::new(alloc),
         seq: 0,
         last: None,
-    };
-    for step in steps {
-        act(rt, &mut shard, *step)?;
-    }
-    Ok(shard.ledger)
+    })
 }
 
-const TRIED_TWICE: &[Step] = &[
+/// The first of these steps that goes otherwise.
+fn play(alloc: Global, shard: &mut Shard, steps: &[Step]) -> Result<Option<usize>, LabelFault> {
+    for (i, step) in steps.iter().enumerate() {
+        if !does(alloc, shard, *step)? {
+            return Ok(Some(i));
+        }
+    }
+    Ok(None)
+}
+
+/// The first of these steps with a new shard that goes otherwise.
+fn wrong_step(alloc: Global, steps: &[Step]) -> Result<Option<usize>, LabelFault> {
+    let mut shard = shard_of(alloc)?;
+    play(alloc, &mut shard, steps)
+}
+
+static TRIED_TWICE: &[Step] = &[
     Step::Sample,
     Step::CanTake(true),
     Step::Sample,
@@ -239,9 +268,10 @@ const TRIED_TWICE: &[Step] = &[
     Step::Left(0),
     Step::Reply(0, 204, None),
     Step::CanTake(true),
+    Step::Names(&[]),
 ];
 
-const REFUSED_TWICE: &[Step] = &[
+static REFUSED_TWICE: &[Step] = &[
     Step::Sample,
     Step::Flush,
     Step::Due(true),
@@ -250,26 +280,28 @@ const REFUSED_TWICE: &[Step] = &[
     Step::Reply(0, 400, Some(Judgement::Refused)),
     Step::Left(0),
     Step::Sample,
-    Step::End,
+    Step::End(Kind::Orderly),
     Step::Due(true),
     Step::Freeze(true),
     Step::Send(Some(1)),
     Step::Reply(0, 204, None),
     Step::Reply(1, 404, Some(Judgement::Refused)),
     Step::Left(0),
+    Step::Names(&[(10, Reason::Status(400)), (11, Reason::Status(404))]),
 ];
 
-const MARKED_EMPTY: &[Step] = &[
+static MARKED_EMPTY: &[Step] = &[
     Step::Flush,
     Step::Due(false),
     Step::CanTake(true),
     Step::Freeze(false),
     Step::Send(None),
-    Step::End,
+    Step::End(Kind::Orderly),
     Step::Due(false),
+    Step::Names(&[]),
 ];
 
-const KILLED: &[Step] = &[
+static KILLED: &[Step] = &[
     Step::Sample,
     Step::Sample,
     Step::Freeze(true),
@@ -280,52 +312,49 @@ const KILLED: &[Step] = &[
     Step::CanTake(false),
     Step::Freeze(false),
     Step::Left(2),
+    Step::Names(&[]),
 ];
 
 #[test]
 fn steps(rt: HostRuntime) -> Result<(), Fail> {
-    let rows: [(&[Step], &[(u64, Reason)]); 4] = [
-        (TRIED_TWICE, &[]),
-        (
-            REFUSED_TWICE,
-            &[(10, Reason::Status(400)), (11, Reason::Status(404))],
-        ),
-        (MARKED_EMPTY, &[]),
-        (KILLED, &[]),
-    ];
-    for (steps, names) in rows {
-        let ledger = names_after(&rt, steps)?;
-        assert!(rt; ledger.iter().eq(names.iter()), "{steps:?}");
+    for steps in [TRIED_TWICE, REFUSED_TWICE, MARKED_EMPTY, KILLED] {
+        none_is_wrong(&rt, wrong_step(rt.alloc(), steps)?);
     }
     Ok(())
 }
 
+static ONE_SAMPLE: &[Step] = &[
+    Step::Sample,
+    Step::Pending(1),
+    Step::Freeze(true),
+    Step::Send(Some(0)),
+    Step::IsSent(UP_REQUEST, UP),
+    Step::IsEmpty(false),
+    Step::Reply(0, 200, Some(Judgement::Done)),
+    Step::IsEmpty(true),
+    Step::HasEnded(false),
+    Step::End(Kind::Reshard),
+    Step::HasEnded(true),
+    Step::NotTaken(2),
+];
+
+fn request(alloc: Global) -> Result<Vec<u8>, AllocError> {
+    let target = target(alloc)?;
+    request_bytes(alloc, &target, UP)
+}
+
+/// Whether the request that carries the message has that head.
+fn is_requested(alloc: Global) -> Result<bool, AllocError> {
+    let request = match request(alloc) {
+        Ok(request) => request,
+        Err(_) => request(alloc)?,
+    };
+    Ok(request.strip_prefix(UP_REQUEST) == Some(UP))
+}
+
 #[test]
 fn one_sample(rt: HostRuntime) -> Result<(), Fail> {
-    let target = target(rt.alloc())?;
-    let request = match request_bytes(rt.alloc(), &target, UP) {
-        Ok(request) => request,
-        Err(_) => request_bytes(rt.alloc(), &target, UP)?,
-    };
-    assert_eq!(rt; request.strip_prefix(UP_REQUEST), Some(UP));
-    let mut core = core_of(rt.alloc())?;
-    let mut ledger = Ledger::new(rt.alloc());
-    take(&rt, &mut core, sample(rt.alloc(), 0)?);
-    assert_eq!(rt; core.pending_places().len(), 1);
-    assert!(rt; freeze(&rt, &mut core, &mut ledger)?);
-    let attempt = attempt(&rt, &mut core)?.ok_or("no attempt")?;
-    assert_eq!(rt; attempt.request.as_slice(), request.as_slice());
-    assert_eq!(rt; core.batch_id(), Some(attempt.id));
-    assert!(rt; !core.is_empty());
-    assert_eq!(rt;
-        reply(&rt, &mut core, &mut ledger, 0, 200),
-        Some(Judgement::Done)
-    );
-    assert!(rt; core.is_empty());
-    assert!(rt; !core.has_ended());
-    take(&rt, &mut core, Item::End(Kind::Reshard));
-    assert!(rt; core.has_ended());
-    let another = sample(rt.alloc(), 2)?;
-    assert!(rt; !core.may_take(&another));
+    assert!(rt; is_requested(rt.alloc())?);
+    none_is_wrong(&rt, wrong_step(rt.alloc(), ONE_SAMPLE)?);
     Ok(())
 }

@@ -1,10 +1,11 @@
 //! The command `body`. Segments and bodies are written out in hexadecimal; they were made by another program.
 
+use crate::rows::none_is_wrong;
 use rw_codes::TailFault;
 use rw_hex::read_digits;
 use rw_tool::{ToolFault, run_body};
 use rw_types::Room;
-use std::alloc::Global;
+use std::alloc::{AllocError, Global};
 use std::test::Fail;
 
 /// One series `up` with one sample at 1000 of the value 1.
@@ -34,70 +35,103 @@ const LEFT_OUT_SEGMENT: &str =
 
 const ONE_OF_A: &str = "0a130a0d0a085f5f6e616d655f5f12016112021001";
 
-/// What is written, and the fault, of an input.
-fn written(alloc: Global, input: &[u8], hex: bool) -> Result<(Vec<u8>, Option<ToolFault>), Fail> {
+/// Whether a run over an input ends so, and writes this.
+fn writes(
+    alloc: Global,
+    input: &[u8],
+    hex: bool,
+    outcome: Result<(), ToolFault>,
+    output: &[u8],
+) -> Result<bool, AllocError> {
     let mut reader = input;
     let mut writer = Room::new(alloc, 4096)?;
     let ended = run_body(alloc, &mut reader, &mut writer, hex);
-    Ok((writer.into_bytes(), ended.err()))
+    Ok(ended == outcome && writer.as_slice() == output)
+}
+
+/// Segments, and the body of the samples of each.
+static BODIES: [(&str, &str); 6] = [
+    (UP_SEGMENT, UP),
+    (A_AND_B_SEGMENT, A_AND_B),
+    (REDEFINED_SEGMENT, A_AND_B),
+    (LEFT_OUT_SEGMENT, ONE_OF_A),
+    ("010001b34623a602", ""),
+    ("", ""),
+];
+
+/// Whether the text of a segment gives the text of the body, and a newline.
+fn writes_text(alloc: Global, segment: &str, body: &str) -> Result<bool, AllocError> {
+    let line = format!(in alloc; "{body}\n")?;
+    writes(alloc, segment.as_bytes(), true, Ok(()), line.as_bytes())
+}
+
+/// Whether the bytes of a segment give the bytes of the body.
+fn writes_bytes(alloc: Global, segment: &str, body: &str) -> Result<bool, AllocError> {
+    let Some(segment) = read_digits(alloc, segment.as_bytes())? else {
+        return Ok(false);
+    };
+    match read_digits(alloc, body.as_bytes())? {
+        Some(body) => writes(alloc, &segment, false, Ok(()), &body),
+        None => Ok(false),
+    }
+}
+
+fn wrong_body(alloc: Global) -> Result<Option<usize>, AllocError> {
+    for (i, (segment, body)) in BODIES.iter().enumerate() {
+        if !writes_text(alloc, segment, body)? || !writes_bytes(alloc, segment, body)? {
+            return Ok(Some(i));
+        }
+    }
+    Ok(None)
 }
 
 #[test]
 fn bodies(rt: HostRuntime) -> Result<(), Fail> {
-    let alloc = rt.alloc();
-    let rows = [
-        (UP_SEGMENT, UP),
-        (A_AND_B_SEGMENT, A_AND_B),
-        (REDEFINED_SEGMENT, A_AND_B),
-        (LEFT_OUT_SEGMENT, ONE_OF_A),
-        ("010001b34623a602", ""),
-        ("", ""),
-    ];
-    for (segment, body) in rows {
-        let (mut text, fault) = written(alloc, segment.as_bytes(), true)?;
-        assert_eq!(rt; fault, None);
-        assert_eq!(rt; text.pop(), Some(b'\n'));
-        assert_eq!(rt; text.as_slice(), body.as_bytes());
-        let bytes = read_digits(alloc, segment.as_bytes())?.ok_or("no digits")?;
-        let (output, fault) = written(alloc, &bytes, false)?;
-        assert_eq!(rt; fault, None);
-        let wanted = read_digits(alloc, body.as_bytes())?.ok_or("no digits")?;
-        assert_eq!(rt; output.as_slice(), wanted.as_slice());
-    }
+    none_is_wrong(&rt, wrong_body(rt.alloc())?);
     Ok(())
 }
 
 #[test]
 fn white_space(rt: HostRuntime) -> Result<(), Fail> {
-    let alloc = rt.alloc();
-    let (text, fault) = written(alloc, b" 01\t0001\r\nb3 4623\n\na602\n", true)?;
-    assert_eq!(rt; fault, None);
-    assert_eq!(rt; text.as_slice(), b"\n".as_slice());
+    let text = b" 01\t0001\r\nb3 4623\n\na602\n";
+    assert!(rt; writes(rt.alloc(), text, true, Ok(()), b"\n")?);
     Ok(())
+}
+
+/// Texts, and the fault of each.
+static FAULTS: [(&str, ToolFault); 9] = [
+    (CHANGED_SEGMENT, ToolFault::Log(TailFault::BadCrc)),
+    ("ff", ToolFault::Log(TailFault::BadType)),
+    ("08", ToolFault::Log(TailFault::Compressed)),
+    ("0g", ToolFault::Line(1)),
+    ("0A", ToolFault::Line(1)),
+    ("ff\n\n0 x", ToolFault::Line(3)),
+    ("0\r0\n0\n", ToolFault::Line(2)),
+    ("0\n\n \n", ToolFault::Line(1)),
+    ("0\n\n,", ToolFault::Line(3)),
+];
+
+fn wrong_fault(alloc: Global) -> Result<Option<usize>, AllocError> {
+    for (i, (text, fault)) in FAULTS.iter().enumerate() {
+        if !writes(alloc, text.as_bytes(), true, Err(*fault), b"")? {
+            return Ok(Some(i));
+        }
+    }
+    Ok(None)
+}
+
+/// Whether the bytes of the changed segment have a fault, and nothing is written.
+fn refuses_bytes(alloc: Global) -> Result<bool, AllocError> {
+    let bad_crc = Err(ToolFault::Log(TailFault::BadCrc));
+    match read_digits(alloc, CHANGED_SEGMENT.as_bytes())? {
+        Some(segment) => writes(alloc, &segment, false, bad_crc, b""),
+        None => Ok(false),
+    }
 }
 
 #[test]
 fn faults(rt: HostRuntime) -> Result<(), Fail> {
-    let alloc = rt.alloc();
-    let rows = [
-        (CHANGED_SEGMENT, ToolFault::Log(TailFault::BadCrc)),
-        ("ff", ToolFault::Log(TailFault::BadType)),
-        ("08", ToolFault::Log(TailFault::Compressed)),
-        ("0g", ToolFault::Line(1)),
-        ("0A", ToolFault::Line(1)),
-        ("ff\n\n0 x", ToolFault::Line(3)),
-        ("0\r0\n0\n", ToolFault::Line(2)),
-        ("0\n\n \n", ToolFault::Line(1)),
-        ("0\n\n,", ToolFault::Line(3)),
-    ];
-    for (text, fault) in rows {
-        let (output, found) = written(alloc, text.as_bytes(), true)?;
-        assert_eq!(rt; found, Some(fault));
-        assert_eq!(rt; output.len(), 0);
-    }
-    let bytes = read_digits(alloc, CHANGED_SEGMENT.as_bytes())?.ok_or("no digits")?;
-    let (output, found) = written(alloc, &bytes, false)?;
-    assert_eq!(rt; found, Some(ToolFault::Log(TailFault::BadCrc)));
-    assert_eq!(rt; output.len(), 0);
+    none_is_wrong(&rt, wrong_fault(rt.alloc())?);
+    assert!(rt; refuses_bytes(rt.alloc())?);
     Ok(())
 }

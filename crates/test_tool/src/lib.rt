@@ -8,6 +8,8 @@ mod logs;
 #[cfg(test)]
 mod plans;
 #[cfg(test)]
+mod rows;
+#[cfg(test)]
 mod rule_making;
 #[cfg(test)]
 mod rules;

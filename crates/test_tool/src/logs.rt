@@ -1,21 +1,28 @@
 //! The command `log`. Records are written out in hexadecimal, field by field.
 
+use crate::rows::none_is_wrong;
 use rw_tool::{ToolFault, run_log, run_log_dir};
 use rw_types::{Failed, Room, Sink};
 use std::alloc::{AllocError, Global};
+use std::path::PathBuf;
 use std::test::Fail;
 use std::{env, fs, process};
 
-/// What is written, in hexadecimal, and the fault, of log text for one page.
-fn written(alloc: Global, text: &[u8]) -> Result<(Vec<u8>, Option<ToolFault>), Fail> {
+/// What a run over log text writes, and its fault.
+fn written(
+    alloc: Global,
+    text: &[u8],
+    hex: bool,
+    pages: usize,
+) -> Result<(Room, Option<ToolFault>), AllocError> {
     let mut reader = text;
     let mut writer = Room::new(alloc, 1 << 17)?;
-    let ended = run_log(alloc, &mut reader, &mut writer, true, 1);
-    Ok((writer.into_bytes(), ended.err()))
+    let ended = run_log(alloc, &mut reader, &mut writer, hex, pages.clamp(1, 4096));
+    Ok((writer, ended.err()))
 }
 
 /// Lines of log text, and the records that they stand for.
-const GOOD: [(&str, &str); 13] = [
+static GOOD: [(&str, &str); 13] = [
     (
         r#"series 1 {__name__="up"}"#,
         "01 0000000000000001 01 08 5f5f6e616d655f5f 02 7570",
@@ -67,18 +74,29 @@ fn is_fragment_of(output: &[u8], rec: &str) -> bool {
         && output[14..output.len() - 1].iter().copied().eq(digits)
 }
 
+/// Whether a line stands for this record.
+fn stands_for(alloc: Global, line: &str, rec: &str) -> Result<bool, AllocError> {
+    let (output, fault) = written(alloc, line.as_bytes(), true, 1)?;
+    Ok(fault == None && is_fragment_of(output.as_slice(), rec))
+}
+
+fn wrong_line(alloc: Global) -> Result<Option<usize>, AllocError> {
+    for (i, (line, rec)) in GOOD.iter().enumerate() {
+        if !stands_for(alloc, line, rec)? {
+            return Ok(Some(i));
+        }
+    }
+    Ok(None)
+}
+
 #[test]
 fn good_lines(rt: HostRuntime) -> Result<(), Fail> {
-    for (line, rec) in GOOD {
-        let (output, fault) = written(rt.alloc(), line.as_bytes())?;
-        assert_eq!(rt; fault, None, "{line}");
-        assert!(rt; is_fragment_of(&output, rec), "{line}");
-    }
+    none_is_wrong(&rt, wrong_line(rt.alloc())?);
     Ok(())
 }
 
 /// Lines that are no log text.
-const BAD: [&[u8]; 46] = [
+static BAD: [&[u8]; 46] = [
     b" sample 1 1 1",
     b"sample  1 1 1",
     b"sample 1  1 1",
@@ -127,17 +145,33 @@ const BAD: [&[u8]; 46] = [
     b"series 1 {a=\"\xff\"}",
 ];
 
+/// Log text whose fourth line is this one.
+fn with_line(alloc: Global, line: &[u8]) -> Result<Vec<u8>, AllocError> {
+    let mut text = b"\n\nraw 03\n".to_vec(alloc)?;
+    text.extend_from_slice(line)?;
+    text.extend_from_slice(b"\nraw\n")?;
+    Ok(text)
+}
+
+/// Whether a fault is found in the fourth line, which is this one, and nothing is written.
+fn is_refused(alloc: Global, line: &[u8]) -> Result<bool, AllocError> {
+    let text = with_line(alloc, line)?;
+    let (output, fault) = written(alloc, &text, true, 1)?;
+    Ok(fault == Some(ToolFault::Line(4)) && output.as_slice().is_empty())
+}
+
+fn accepted_line(alloc: Global) -> Result<Option<usize>, AllocError> {
+    for (i, line) in BAD.iter().enumerate() {
+        if !is_refused(alloc, line)? {
+            return Ok(Some(i));
+        }
+    }
+    Ok(None)
+}
+
 #[test]
 fn bad_lines(rt: HostRuntime) -> Result<(), Fail> {
-    for (i, line) in BAD.iter().enumerate() {
-        let mut text = Vec::new(rt.alloc());
-        text.extend_from_slice(b"\n\nraw 03\n")?;
-        text.extend_from_slice(line)?;
-        text.extend_from_slice(b"\nraw\n")?;
-        let (output, fault) = written(rt.alloc(), &text)?;
-        assert_eq!(rt; fault, Some(ToolFault::Line(4)), "row {i}");
-        assert_eq!(rt; output.len(), 0);
-    }
+    none_is_wrong(&rt, accepted_line(rt.alloc())?);
     Ok(())
 }
 
@@ -150,40 +184,55 @@ fn push_run(text: &mut Vec<u8>, len: usize) -> Result<(), AllocError> {
     text.extend_from_slice(b"\n")
 }
 
-/// The fault of `raw` lines of these lengths, and what follows them, for so many pages, and how many bytes are written.
-fn fault_of_runs(
-    alloc: Global,
-    lens: &[usize],
-    last: &str,
-    pages: usize,
-) -> Result<(Option<ToolFault>, usize), Fail> {
+/// `raw` lines of these lengths, and what follows them.
+fn runs(alloc: Global, lens: &[usize], last: &str) -> Result<Vec<u8>, AllocError> {
     let mut text = Vec::new(alloc);
     for len in lens {
         push_run(&mut text, *len)?;
     }
     text.extend_from_slice(last.as_bytes())?;
-    let mut reader = text.as_slice();
-    let mut writer = Room::new(alloc, 1 << 17)?;
-    let ended = run_log(alloc, &mut reader, &mut writer, false, pages.clamp(1, 4096));
-    Ok((ended.err(), writer.into_bytes().len()))
+    Ok(text)
+}
+
+const FULL: Option<ToolFault> = Some(ToolFault::SegmentFull);
+
+/// Lengths of `raw` lines, what follows them, the pages of a segment, the fault, and how many bytes are written.
+static SEGMENTS: [(&[usize], &str, usize, Option<ToolFault>, usize); 8] = [
+    (&[], "", 1, None, 0),
+    (&[], "\n\n", 1, None, 0),
+    (&[32_761], "", 1, None, 32_768),
+    (&[32_754], "raw 02", 2, None, 32_776),
+    (&[32_762], "", 1, FULL, 0),
+    (&[32_762], "raw 0\n", 1, Some(ToolFault::Line(2)), 0),
+    (&[65_522], "", 2, None, 65_536),
+    (&[65_523], "", 2, FULL, 0),
+];
+
+/// Whether a run over log text has this fault or none, and writes so many bytes.
+fn fills(
+    alloc: Global,
+    text: &[u8],
+    pages: usize,
+    fault: Option<ToolFault>,
+    len: usize,
+) -> Result<bool, AllocError> {
+    let (output, found) = written(alloc, text, false, pages)?;
+    Ok(found == fault && output.as_slice().len() == len)
+}
+
+fn wrong_segment(alloc: Global) -> Result<Option<usize>, AllocError> {
+    for (i, (lens, last, pages, fault, len)) in SEGMENTS.iter().enumerate() {
+        let text = runs(alloc, lens, last)?;
+        if !fills(alloc, &text, *pages, *fault, *len)? {
+            return Ok(Some(i));
+        }
+    }
+    Ok(None)
 }
 
 #[test]
 fn full_segments(rt: HostRuntime) -> Result<(), Fail> {
-    let full = Some(ToolFault::SegmentFull);
-    let rows: [(&[usize], &str, usize, Option<ToolFault>, usize); 8] = [
-        (&[], "", 1, None, 0),
-        (&[], "\n\n", 1, None, 0),
-        (&[32_761], "", 1, None, 32_768),
-        (&[32_754], "raw 02", 2, None, 32_776),
-        (&[32_762], "", 1, full, 0),
-        (&[32_762], "raw 0\n", 1, Some(ToolFault::Line(2)), 0),
-        (&[65_522], "", 2, None, 65_536),
-        (&[65_523], "", 2, full, 0),
-    ];
-    for (lens, last, pages, fault, len) in rows {
-        assert_eq!(rt; fault_of_runs(rt.alloc(), lens, last, pages)?, (fault, len));
-    }
+    none_is_wrong(&rt, wrong_segment(rt.alloc())?);
     Ok(())
 }
 
@@ -217,40 +266,40 @@ impl Sink for ByteByByte {
     }
 }
 
-#[test]
-fn fails_with_its_writer(rt: HostRuntime) -> Result<(), Fail> {
-    let alloc = rt.alloc();
-    let text = b"raw 02\nraw 02".as_slice();
-    let whole = b"010001b34623a602010001b34623a602\n".as_slice();
-    for left in 0..34 {
-        let mut writer = ByteByByte {
-            taken: Vec::new(alloc),
-            left,
-            failed: false,
-        };
-        let mut reader = text;
-        let ended = run_log(alloc, &mut reader, &mut writer, true, 1);
-        assert_eq!(rt;
-            ended.err(),
-            if left < 33 {
-                Some(ToolFault::Device)
-            } else {
-                None
-            }
-        );
-        assert!(rt; writer.taken.len() == left.min(33) && whole.starts_with(&writer.taken));
-    }
-    Ok(())
+/// Whether a writer that takes so many bytes has them, and the run fails where there are more.
+fn fails_after(alloc: Global, left: usize) -> bool {
+    let whole = b"010001b34623a602010001b34623a602\n";
+    let mut reader = b"raw 02\nraw 02".as_slice();
+    let mut writer = ByteByByte {
+        taken: Vec::new(alloc),
+        left,
+        failed: false,
+    };
+    let ended = run_log(alloc, &mut reader, &mut writer, true, 1);
+    let outcome = if left < 33 {
+        Err(ToolFault::Device)
+    } else {
+        Ok(())
+    };
+    ended == outcome
+        && writer.taken.len() == left.min(33)
+        && whole.as_slice().starts_with(&writer.taken)
 }
 
-/// The lengths of the first three files of a folder.
-fn file_lens(rt: &HostRuntime, dir: &str) -> Result<[Option<usize>; 3], Fail> {
-    let mut lens = [None; 3];
-    for (i, len) in lens.iter_mut().enumerate() {
-        let name = format!(in rt.alloc(); "{dir}/{i:08}")?;
-        *len = fs::read(rt, name.as_str()).ok().map(|bytes| bytes.len());
+#[test]
+fn fails_with_its_writer(rt: HostRuntime) {
+    for left in 0..34 {
+        assert!(rt; fails_after(rt.alloc(), left), "{left}");
     }
-    Ok(lens)
+}
+
+/// The length of the file of a folder with this number, if there is one.
+fn file_len(rt: &HostRuntime, dir: &str, number: u32) -> Result<Option<usize>, AllocError> {
+    let name = format!(in rt.alloc(); "{dir}/{number:08}")?;
+    match fs::read(rt, name.as_str()) {
+        Ok(bytes) => Ok(Some(bytes.len())),
+        Err(_) => Ok(None),
+    }
 }
 
 /// Logs `raw` lines of these lengths into a folder.
@@ -259,45 +308,66 @@ fn log_into(
     dir: &str,
     lens: &[usize],
     pages: usize,
-) -> Result<Option<ToolFault>, Fail> {
-    let mut text = Vec::new(rt.alloc());
-    for len in lens {
-        push_run(&mut text, *len)?;
-    }
+) -> Result<Option<ToolFault>, AllocError> {
+    let text = runs(rt.alloc(), lens, "")?;
     let mut reader = text.as_slice();
     let pages = pages.clamp(1, 4096);
     Ok(run_log_dir(rt, rt.alloc(), &mut reader, dir, pages).err())
 }
 
+/// Lengths of `raw` lines, the pages of a segment, the fault, and then the lengths of the first three files of the folder.
+static FOLDERS: [(&[usize], usize, Option<ToolFault>, [Option<usize>; 3]); 4] = [
+    (&[], 1, None, [Some(0), None, None]),
+    (
+        &[32_760, 32_754, 1],
+        1,
+        None,
+        [Some(32_768), Some(32_761), Some(8)],
+    ),
+    (&[1, 32_762], 1, FULL, [Some(32_768), Some(32_761), Some(8)]),
+    (
+        &[32_760, 32_754, 1],
+        3,
+        None,
+        [Some(65_544), Some(32_761), Some(8)],
+    ),
+];
+
+/// Whether the first three files of a folder have these lengths.
+fn has_files(rt: &HostRuntime, dir: &str, lens: [Option<usize>; 3]) -> Result<bool, AllocError> {
+    for (number, len) in (0..3).zip(lens) {
+        if file_len(rt, dir, number)? != len {
+            return Ok(false);
+        }
+    }
+    Ok(true)
+}
+
+/// The first row after which the folder has other files, or another fault.
+fn wrong_folder(rt: &HostRuntime, dir: &str) -> Result<Option<usize>, AllocError> {
+    for (i, (lens, pages, fault, files)) in FOLDERS.iter().enumerate() {
+        if log_into(rt, dir, lens, *pages)? != *fault || !has_files(rt, dir, *files)? {
+            return Ok(Some(i));
+        }
+    }
+    Ok(None)
+}
+
+/// A folder of this test alone, which is not there yet.
+fn new_folder(rt: &HostRuntime) -> Result<PathBuf, Fail> {
+    let temp = env::temp_dir(rt)?;
+    let name = format!(in rt.alloc(); "rwship-log-test-{}", process::id(rt.process()))?;
+    Ok(temp.join(rt.alloc(), name.as_str())?)
+}
+
 #[test]
 fn folders(rt: HostRuntime) -> Result<(), Fail> {
-    let temp = env::temp_dir(&rt)?;
-    let name = format!(in rt.alloc(); "rwship-log-test-{}", process::id(rt.process()))?;
-    let folder = temp.join(rt.alloc(), name.as_str())?;
+    let folder = new_folder(&rt)?;
     let dir = folder.as_str();
-    let missing = log_into(&rt, dir, &[1], 1)?;
+    assert!(rt; log_into(&rt, dir, &[1], 1)? == Some(ToolFault::Device));
     fs::create_dir(&rt, dir)?;
-    let none = (log_into(&rt, dir, &[], 1)?, file_lens(&rt, dir)?);
-    let two = (
-        log_into(&rt, dir, &[32_760, 32_754, 1], 1)?,
-        file_lens(&rt, dir)?,
-    );
-    let too_long = (log_into(&rt, dir, &[1, 32_762], 1)?, file_lens(&rt, dir)?);
-    let one = (
-        log_into(&rt, dir, &[32_760, 32_754, 1], 3)?,
-        file_lens(&rt, dir)?,
-    );
+    let wrong = wrong_folder(&rt, dir);
     fs::remove_dir_all(&rt, dir)?;
-    assert_eq!(rt; missing, Some(ToolFault::Device));
-    assert_eq!(rt; none, (None, [Some(0), None, None]));
-    assert_eq!(rt; two, (None, [Some(32_768), Some(32_761), Some(8)]));
-    assert_eq!(rt;
-        too_long,
-        (
-            Some(ToolFault::SegmentFull),
-            [Some(32_768), Some(32_761), Some(8)]
-        )
-    );
-    assert_eq!(rt; one, (None, [Some(65_544), Some(32_761), Some(8)]));
+    none_is_wrong(&rt, wrong?);
     Ok(())
 }

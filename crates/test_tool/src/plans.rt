@@ -1,15 +1,24 @@
 //! The plans of log segments.
 
+use crate::rule_making::raw_labels;
 use rw_codes::TailFault;
-use rw_settings::read_settings;
+use rw_settings::{SettingsFault, read_settings};
 use rw_tool::{ToolFault, run_plan};
-use rw_types::{RawLabels, Room, Word};
+use rw_types::{Room, Word};
 use rw_wal_write::{SegmentWriter, sample_record, series_record};
-use std::alloc::Global;
+use std::alloc::{AllocError, Global};
 use std::test::Fail;
 
 /// What is logged: a definition of a reference, or a sample of it.
-type Logged<'a> = (u64, Option<&'a [(&'a str, &'a str)]>);
+type Logged = (u64, Option<&'static [(&'static str, &'static str)]>);
+
+fn record_of(alloc: Global, entry: Logged) -> Result<Vec<u8>, AllocError> {
+    let (reference, definition) = entry;
+    match definition {
+        Some(labels) => series_record(alloc, reference, &raw_labels(alloc, labels)?),
+        None => sample_record(alloc, &[(reference, 1_000, Word(0))]),
+    }
+}
 
 /// Writes a record, where there is one.
 fn put(writer: &mut SegmentWriter<Room>, rec: &[u8]) {
@@ -18,54 +27,54 @@ fn put(writer: &mut SegmentWriter<Room>, rec: &[u8]) {
     }
 }
 
-fn put_entry(
+fn put_all(
     alloc: Global,
     writer: &mut SegmentWriter<Room>,
-    entry: Logged<'_>,
-) -> Result<(), Fail> {
-    let (reference, definition) = entry;
-    match definition {
-        Some(list) => {
-            let mut labels = RawLabels::new(alloc);
-            for (name, value) in list {
-                labels.push(name.as_bytes(), value.as_bytes())?;
-            }
-            put(writer, &series_record(alloc, reference, &labels)?);
-        }
-        None => put(
-            writer,
-            &sample_record(alloc, &[(reference, 1_000, Word(0))])?,
-        ),
+    entries: &[Logged],
+) -> Result<(), AllocError> {
+    for entry in entries {
+        put(writer, &record_of(alloc, *entry)?);
     }
     Ok(())
 }
 
-fn segment_of(alloc: Global, entries: &[Logged<'_>]) -> Result<Vec<u8>, Fail> {
+fn segment_of(alloc: Global, entries: &[Logged]) -> Result<Vec<u8>, AllocError> {
     let mut writer = SegmentWriter::new(Room::new(alloc, 4096)?, 1);
-    for entry in entries {
-        put_entry(alloc, &mut writer, *entry)?;
-    }
+    put_all(alloc, &mut writer, entries)?;
     Ok(writer.into_inner().into_bytes())
 }
 
-/// How the run ended, and what was written.
-fn plan(
+/// Whether a run under these settings ends so, and writes this.
+fn plans(
     alloc: Global,
     settings: &[u8],
     input: &[u8],
     hex: bool,
-) -> Result<(Result<(), ToolFault>, Vec<u8>), Fail> {
+    outcome: Result<(), ToolFault>,
+    plan: &[u8],
+) -> Result<bool, SettingsFault> {
+    let mut writer = Room::new(alloc, 4096)?;
     let settings = read_settings(alloc, settings)?;
-    let mut input = input;
-    let mut output = Room::new(alloc, 4096)?;
-    let outcome = run_plan(alloc, &mut input, &mut output, settings, hex);
-    Ok((outcome, output.into_bytes()))
+    let mut reader = input;
+    let ended = run_plan(alloc, &mut reader, &mut writer, settings, hex);
+    Ok(ended == outcome && writer.as_slice() == plan)
 }
 
 const RULES: &[u8] = b"[[rule]]\naction = 'keep'\nsource_labels = ['job']\nregex = 'a|ab'\n
 [[rule]]\naction = 'drop'\nsource_labels = ['env']\nregex = 'test'\n";
 
-const FIVE: &str = "1 kept 0 {env=\"prod\",job=\"ab\"}
+static FIVE: [Logged; 8] = [
+    (1, Some(&[("env", "prod"), ("job", "ab")])),
+    (2, Some(&[("env", "prod"), ("job", "abc")])),
+    (3, Some(&[("job", "a")])),
+    (4, Some(&[("env", "test"), ("job", "a")])),
+    (5, Some(&[("__name__", "9")])),
+    (1, None),
+    (2, None),
+    (3, None),
+];
+
+const PLAN_OF_FIVE: &str = "1 kept 0 {env=\"prod\",job=\"ab\"}
 2 filtered {env=\"prod\",job=\"abc\"}
 3 kept 1 {job=\"a\"}
 4 filtered {env=\"test\",job=\"a\"}
@@ -73,34 +82,46 @@ const FIVE: &str = "1 kept 0 {env=\"prod\",job=\"ab\"}
 samples kept 2 filtered 1 bad 0 noseries 0
 ";
 
+/// Whether the entries have this plan.
+fn is_planned(alloc: Global, entries: &[Logged], plan: &str) -> Result<bool, SettingsFault> {
+    let segment = segment_of(alloc, entries)?;
+    plans(alloc, RULES, &segment, false, Ok(()), plan.as_bytes())
+}
+
+/// Whether nothing is written where the last record of the entries is damaged.
+fn is_damaged(alloc: Global, entries: &[Logged]) -> Result<bool, SettingsFault> {
+    let mut segment = segment_of(alloc, entries)?;
+    if let Some(last) = segment.last_mut() {
+        *last = 1;
+    }
+    let bad_crc = Err(ToolFault::Log(TailFault::BadCrc));
+    plans(alloc, RULES, &segment, false, bad_crc, b"")
+}
+
 #[test]
 fn five_definitions(rt: HostRuntime) -> Result<(), Fail> {
-    let alloc = rt.alloc();
-    let entries: [Logged<'_>; 8] = [
-        (1, Some(&[("env", "prod"), ("job", "ab")])),
-        (2, Some(&[("env", "prod"), ("job", "abc")])),
-        (3, Some(&[("job", "a")])),
-        (4, Some(&[("env", "test"), ("job", "a")])),
-        (5, Some(&[("__name__", "9")])),
-        (1, None),
-        (2, None),
-        (3, None),
-    ];
-    let mut segment = segment_of(alloc, &entries)?;
-    let (outcome, text) = plan(alloc, RULES, &segment, false)?;
-    assert_eq!(rt; outcome, Ok(()));
-    assert_eq!(rt; text.as_slice(), FIVE.as_bytes());
-
-    // nothing is written where the last record is damaged
-    let _ = segment.pop();
-    segment.push(1)?;
-    let (outcome, text) = plan(alloc, RULES, &segment, false)?;
-    assert_eq!(rt; outcome, Err(ToolFault::Log(TailFault::BadCrc)));
-    assert_eq!(rt; text.len(), 0);
+    assert!(rt; is_planned(rt.alloc(), &FIVE, PLAN_OF_FIVE)?);
+    assert!(rt; is_damaged(rt.alloc(), &FIVE)?);
     Ok(())
 }
 
-const REDEFINED: &str = "1 kept 0 {job=\"a\"}
+static REDEFINED: [Logged; 13] = [
+    (1, None),
+    (1, Some(&[("job", "a")])),
+    (1, None),
+    (2, Some(&[("job", "b")])),
+    (2, None),
+    (2, Some(&[("job", "a")])),
+    (2, None),
+    (1, Some(&[("job", "")])),
+    (1, None),
+    (1, None),
+    (3, None),
+    (1, Some(&[("job", "ab")])),
+    (1, None),
+];
+
+const PLAN_OF_REDEFINED: &str = "1 kept 0 {job=\"a\"}
 2 filtered {job=\"b\"}
 2 kept 0 {job=\"a\"}
 1 bad 4
@@ -110,40 +131,24 @@ samples kept 3 filtered 1 bad 2 noseries 2
 
 #[test]
 fn redefinitions(rt: HostRuntime) -> Result<(), Fail> {
-    let alloc = rt.alloc();
-    let entries: [Logged<'_>; 13] = [
-        (1, None),
-        (1, Some(&[("job", "a")])),
-        (1, None),
-        (2, Some(&[("job", "b")])),
-        (2, None),
-        (2, Some(&[("job", "a")])),
-        (2, None),
-        (1, Some(&[("job", "")])),
-        (1, None),
-        (1, None),
-        (3, None),
-        (1, Some(&[("job", "ab")])),
-        (1, None),
-    ];
-    let segment = segment_of(alloc, &entries)?;
-    let (outcome, text) = plan(alloc, RULES, &segment, false)?;
-    assert_eq!(rt; outcome, Ok(()));
-    assert_eq!(rt; text.as_slice(), REDEFINED.as_bytes());
+    assert!(rt; is_planned(rt.alloc(), &REDEFINED, PLAN_OF_REDEFINED)?);
     Ok(())
 }
 
+/// Texts of hexadecimal digits, how the run over each ends, and what it writes.
+static HEXADECIMAL: [(&[u8], Result<(), ToolFault>, &[u8]); 2] = [
+    (
+        b"0100 01b3\n4623a6 02\n",
+        Ok(()),
+        b"samples kept 0 filtered 0 bad 0 noseries 0\n",
+    ),
+    (b"01\n0g", Err(ToolFault::Line(2)), b""),
+];
+
 #[test]
 fn hexadecimal_input(rt: HostRuntime) -> Result<(), Fail> {
-    let alloc = rt.alloc();
-    let (outcome, text) = plan(alloc, b"", b"0100 01b3\n4623a6 02\n", true)?;
-    assert_eq!(rt; outcome, Ok(()));
-    assert_eq!(rt;
-        text.as_slice(),
-        b"samples kept 0 filtered 0 bad 0 noseries 0\n".as_slice()
-    );
-    let (outcome, text) = plan(alloc, b"", b"01\n0g", true)?;
-    assert_eq!(rt; outcome, Err(ToolFault::Line(2)));
-    assert_eq!(rt; text.len(), 0);
+    for (text, outcome, plan) in HEXADECIMAL {
+        assert!(rt; plans(rt.alloc(), b"", text, true, outcome, plan)?);
+    }
     Ok(())
 }

@@ -1,7 +1,7 @@
 //! Rules and labels from texts.
 
 use rw_relabel::{Action, Rule, RuleFault, Rules};
-use rw_types::RawLabels;
+use rw_types::{LabelFault, LabelSet, RawLabels};
 use std::alloc::{AllocError, Global};
 
 /// Source labels, separator and pattern.
@@ -36,4 +36,8 @@ pub(crate) fn raw_labels(alloc: Global, labels: &[(&str, &str)]) -> Result<RawLa
         raw.push(name.as_bytes(), value.as_bytes())?;
     }
     Ok(raw)
+}
+
+pub(crate) fn label_set(alloc: Global, labels: &[(&str, &str)]) -> Result<LabelSet, LabelFault> {
+    LabelSet::check(alloc, &raw_labels(alloc, labels)?)
 }

@@ -1,14 +1,10 @@
 //! Which rules there can be, and which label sets they keep.
 
-use crate::rule_making::{Config, raw_labels, rule, rules};
+use crate::rows::none_is_wrong;
+use crate::rule_making::{Config, label_set, rule, rules};
 use rw_relabel::{Action, DEFAULT_PATTERN, DEFAULT_SEPARATOR, RuleFault};
-use rw_types::LabelSet;
 use std::alloc::Global;
 use std::test::Fail;
-
-fn label_set(alloc: Global, labels: &[(&str, &str)]) -> Result<LabelSet, Fail> {
-    Ok(LabelSet::check(alloc, &raw_labels(alloc, labels)?)?)
-}
 
 /// The fault of a rule. Want of memory is none of them and ends the test.
 fn fault(alloc: Global, config: Config<'_>) -> Result<Option<RuleFault>, Fail> {
@@ -20,7 +16,7 @@ fn fault(alloc: Global, config: Config<'_>) -> Result<Option<RuleFault>, Fail> {
 }
 
 /// Rules and their faults.
-const REFUSALS: [(Config<'static>, Option<RuleFault>); 9] = [
+static REFUSALS: [(Config<'static>, Option<RuleFault>); 9] = [
     ((&["job"], DEFAULT_SEPARATOR, DEFAULT_PATTERN), None),
     ((&["job"], "", ""), None),
     // readable only with something around it, or only without
@@ -45,7 +41,7 @@ fn wrong_refusal(alloc: Global) -> Result<Option<usize>, Fail> {
 
 #[test]
 fn refusals(rt: HostRuntime) -> Result<(), Fail> {
-    assert_eq!(rt; wrong_refusal(rt.alloc())?, None);
+    none_is_wrong(&rt, wrong_refusal(rt.alloc())?);
     assert!(rt; RuleFault::OutOfMemory as u8 == 0);
     assert!(rt; RuleFault::BadPattern as u8 == 1);
     assert!(rt; RuleFault::NoSource as u8 == 2);
@@ -53,7 +49,7 @@ fn refusals(rt: HostRuntime) -> Result<(), Fail> {
 }
 
 /// Rules, labels, and whether the rule matches them.
-const MATCHES: [(Config<'static>, &[(&str, &str)], bool); 14] = [
+static MATCHES: [(Config<'static>, &[(&str, &str)], bool); 14] = [
     // a missing label counts as empty, and its separator stays
     ((&["job", "env"], ";", "a;"), &[("job", "a")], true),
     ((&["job", "env"], ";", "a"), &[("job", "a")], false),
@@ -94,11 +90,21 @@ fn keeps(
     Ok(rules.keeps(&labels)?)
 }
 
+/// Whether a rule matches labels, or not: one that keeps what it matches keeps them, or one that drops it does.
+fn is_match(
+    alloc: Global,
+    config: Config<'_>,
+    labels: &[(&str, &str)],
+    matches: bool,
+) -> Result<bool, Fail> {
+    let is_kept = keeps(alloc, &[(Action::Keep, config)], labels)?;
+    let is_not_dropped = keeps(alloc, &[(Action::Drop, config)], labels)?;
+    Ok(is_kept == matches && is_not_dropped != matches)
+}
+
 fn wrong_match(alloc: Global) -> Result<Option<usize>, Fail> {
     for (i, (config, labels, matches)) in MATCHES.iter().enumerate() {
-        let is_kept = keeps(alloc, &[(Action::Keep, *config)], labels)?;
-        let is_not_dropped = keeps(alloc, &[(Action::Drop, *config)], labels)?;
-        if is_kept != *matches || is_not_dropped == *matches {
+        if !is_match(alloc, *config, labels, *matches)? {
             return Ok(Some(i));
         }
     }
@@ -107,7 +113,7 @@ fn wrong_match(alloc: Global) -> Result<Option<usize>, Fail> {
 
 #[test]
 fn one_rule(rt: HostRuntime) -> Result<(), Fail> {
-    assert_eq!(rt; wrong_match(rt.alloc())?, None);
+    none_is_wrong(&rt, wrong_match(rt.alloc())?);
     Ok(())
 }
 
@@ -116,18 +122,23 @@ const JOB: Config<'static> = (&["job"], ";", "a|b");
 const ENV: Config<'static> = (&["env"], ";", "x");
 
 /// Labels, whether they are kept where both match, and where the first matches and the second does not.
-const SEVERAL: [(&[(&str, &str)], bool, bool); 4] = [
+static SEVERAL: [(&[(&str, &str)], bool, bool); 4] = [
     (&[("env", "x"), ("job", "a")], true, false),
     (&[("env", "y"), ("job", "b")], false, true),
     (&[("env", "x"), ("job", "c")], false, false),
     (&[], false, false),
 ];
 
+static BOTH: &[(Action, Config<'static>)] = &[(Action::Keep, JOB), (Action::Keep, ENV)];
+
+static WITHOUT: &[(Action, Config<'static>)] = &[(Action::Keep, JOB), (Action::Drop, ENV)];
+
 fn wrong_of_several(alloc: Global) -> Result<Option<usize>, Fail> {
     for (i, (labels, by_both, by_without)) in SEVERAL.iter().enumerate() {
-        let both = keeps(alloc, &[(Action::Keep, JOB), (Action::Keep, ENV)], labels)?;
-        let without = keeps(alloc, &[(Action::Keep, JOB), (Action::Drop, ENV)], labels)?;
-        if both != *by_both || without != *by_without || !keeps(alloc, &[], labels)? {
+        if keeps(alloc, BOTH, labels)? != *by_both
+            || keeps(alloc, WITHOUT, labels)? != *by_without
+            || !keeps(alloc, &[], labels)?
+        {
             return Ok(Some(i));
         }
     }
@@ -136,6 +147,6 @@ fn wrong_of_several(alloc: Global) -> Result<Option<usize>, Fail> {
 
 #[test]
 fn several_rules(rt: HostRuntime) -> Result<(), Fail> {
-    assert_eq!(rt; wrong_of_several(rt.alloc())?, None);
+    none_is_wrong(&rt, wrong_of_several(rt.alloc())?);
     Ok(())
 }

@@ -1,6 +1,7 @@
 //! What a cache knows of references. The calls that take memory are made again where it is refused, so the test can be run
 //! with each allocation refused in turn: the refused call changes no answer.
 
+use crate::rows::none_is_wrong;
 use crate::rule_making::{Config, raw_labels, rules};
 use rw_relabel::{Action, RuleFault, Rules};
 use rw_series_cache::{Cache, Known};
@@ -90,7 +91,7 @@ fn define(
 }
 
 /// Definitions, one after the other, and what is then known of the reference.
-const DEFINITIONS: [(u64, Labels<'static>, Shape); 9] = [
+static DEFINITIONS: [(u64, Labels<'static>, Shape); 9] = [
     (1, &[("job", "a")], Shape::Kept(0)),
     (2, &[("job", "b")], Shape::Kept(1)),
     // a series is its label set
@@ -111,7 +112,7 @@ const DEFINITIONS: [(u64, Labels<'static>, Shape); 9] = [
 ];
 
 /// What is known after them.
-const KNOWN: [Shape; 6] = [
+static KNOWN: [Shape; 6] = [
     Shape::Unknown,
     Shape::Kept(2),
     Shape::Bad(LabelFault::NotSorted),
@@ -128,16 +129,6 @@ fn cache_of_rules(alloc: Global) -> Result<Cache, RuleFault> {
     Ok(Cache::new(alloc, rules_again(alloc, &configs)?))
 }
 
-/// Makes the definitions, and answers the first after which something else is known than should be.
-fn wrong_definition(alloc: Global, cache: &mut Cache) -> Result<Option<usize>, AllocError> {
-    for (i, (reference, labels, wanted)) in DEFINITIONS.iter().enumerate() {
-        if !define(alloc, cache, *reference, labels)? || shape_of(cache, *reference) != *wanted {
-            return Ok(Some(i));
-        }
-    }
-    Ok(None)
-}
-
 /// Whether the cache knows what it should after the definitions.
 fn is_as_defined(cache: &Cache) -> bool {
     shapes(cache) == KNOWN
@@ -147,45 +138,90 @@ fn is_as_defined(cache: &Cache) -> bool {
         && cache.series_count() == 3
 }
 
+/// Makes the definitions, and answers the first after which something else is known than should be, or the number of them where that shows at the end.
+fn wrong_in(alloc: Global, cache: &mut Cache) -> Result<Option<usize>, AllocError> {
+    for (i, (reference, labels, wanted)) in DEFINITIONS.iter().enumerate() {
+        if !define(alloc, cache, *reference, labels)? || shape_of(cache, *reference) != *wanted {
+            return Ok(Some(i));
+        }
+    }
+    if is_as_defined(cache) {
+        Ok(None)
+    } else {
+        Ok(Some(DEFINITIONS.len()))
+    }
+}
+
+fn wrong_definition(alloc: Global) -> Result<Option<usize>, RuleFault> {
+    let mut cache = cache_of_rules(alloc)?;
+    Ok(wrong_in(alloc, &mut cache)?)
+}
+
 #[test]
 fn last_definitions(rt: HostRuntime) -> Result<(), Fail> {
-    let mut cache = cache_of_rules(rt.alloc())?;
-    assert_eq!(rt; wrong_definition(rt.alloc(), &mut cache)?, None);
-    assert!(rt; is_as_defined(&cache));
+    none_is_wrong(&rt, wrong_definition(rt.alloc())?);
     Ok(())
+}
+
+/// A cache that keeps each label set.
+fn cache_of_no_rules(alloc: Global) -> Cache {
+    Cache::new(alloc, Rules::new(Vec::new(alloc)))
+}
+
+/// A label set with this number as its only value.
+fn numbered(alloc: Global, number: u64) -> Result<RawLabels, AllocError> {
+    let value = format!(in alloc; "{number}")?;
+    raw_labels(alloc, &[("job", value.as_str())])
 }
 
 /// Defines so many references, each with a label set of its own.
 fn define_many(alloc: Global, cache: &mut Cache, count: u64) -> Result<(), AllocError> {
     for reference in 0..count {
-        let value = format!(in alloc; "{reference}")?;
-        cache.define(reference, raw_labels(alloc, &[("job", value.as_str())])?)?;
+        cache.define(reference, numbered(alloc, reference)?)?;
     }
     Ok(())
 }
 
+/// Whether 70,000 series are there, and have their numbers.
+fn are_numbered(cache: &Cache) -> bool {
+    for number in [0, 65_535, 65_536, 69_999] {
+        if shape_of(cache, number) != Shape::Kept(number) {
+            return false;
+        }
+    }
+    cache.series_count() == 70_000
+}
+
+fn numbers_many(alloc: Global) -> Result<bool, AllocError> {
+    let mut cache = cache_of_no_rules(alloc);
+    define_many(alloc, &mut cache, 70_000)?;
+    Ok(are_numbered(&cache))
+}
+
 #[test]
 fn many_series_are_numbered(rt: HostRuntime) -> Result<(), Fail> {
-    let alloc = rt.alloc();
-    let mut cache = Cache::new(alloc, Rules::new(Vec::new(alloc)));
-    define_many(alloc, &mut cache, 70_000)?;
-    assert_eq!(rt; cache.series_count(), 70_000);
-    for number in [0, 65_535, 65_536, 69_999] {
-        assert!(rt; shape_of(&cache, number) == Shape::Kept(number));
-    }
+    assert!(rt; numbers_many(rt.alloc())?);
     Ok(())
+}
+
+fn sixty_five_labels(alloc: Global) -> Result<RawLabels, AllocError> {
+    let mut labels = RawLabels::new(alloc);
+    for i in 10..75u32 {
+        labels.push(format!(in alloc; "l{i}")?.as_bytes(), b"1")?;
+    }
+    Ok(labels)
+}
+
+fn shape_of_too_many(alloc: Global) -> Result<Shape, AllocError> {
+    let labels = sixty_five_labels(alloc)?;
+    let mut cache = cache_of_no_rules(alloc);
+    cache.define(1, labels)?;
+    Ok(shape_of(&cache, 1))
 }
 
 /// Labels of which there are too many are no want of memory.
 #[test]
 fn sixty_five_labels_are_too_many(rt: HostRuntime) -> Result<(), Fail> {
-    let alloc = rt.alloc();
-    let mut cache = Cache::new(alloc, Rules::new(Vec::new(alloc)));
-    let mut labels = RawLabels::new(alloc);
-    for i in 10..75u32 {
-        labels.push(format!(in alloc; "l{i}")?.as_bytes(), b"1")?;
-    }
-    cache.define(1, labels)?;
-    assert!(rt; shape_of(&cache, 1) == Shape::Bad(LabelFault::TooMany));
+    assert!(rt; shape_of_too_many(rt.alloc())? == Shape::Bad(LabelFault::TooMany));
     Ok(())
 }

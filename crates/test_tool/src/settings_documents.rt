@@ -1,7 +1,8 @@
 //! Whole texts: what they set, and what is wrong with them.
 
+use crate::rows::none_is_wrong;
+use crate::rule_making::label_set;
 use rw_settings::{Settings, SettingsFault, read_settings};
-use rw_types::{LabelSet, RawLabels};
 use std::alloc::Global;
 use std::test::Fail;
 
@@ -15,7 +16,7 @@ pub(crate) fn fault(alloc: Global, text: &[u8]) -> Result<u8, Fail> {
 }
 
 /// Texts with one of the faults 1 to 3, and the number of it, or 9.
-const PLAIN_FAULTS: [(&str, u8); 30] = [
+static PLAIN_FAULTS: [(&str, u8); 30] = [
     ("", 9),
     ("# nothing\n\n", 9),
     ("rule = []\n[send]\n[receive]\n", 9),
@@ -72,13 +73,13 @@ fn wrong_fault(alloc: Global, rows: &[(&str, u8)]) -> Result<Option<usize>, Fail
 
 #[test]
 fn single_faults(rt: HostRuntime) -> Result<(), Fail> {
-    assert_eq!(rt; wrong_fault(rt.alloc(), &PLAIN_FAULTS)?, None);
+    none_is_wrong(&rt, wrong_fault(rt.alloc(), &PLAIN_FAULTS)?);
     assert!(rt; fault(rt.alloc(), b"# \xff")? == 1);
     Ok(())
 }
 
 /// Texts with the faults 4 and 5 or with two at once, and the number that is answered, or 9.
-const LATER_FAULTS: [(&str, u8); 30] = [
+static LATER_FAULTS: [(&str, u8); 30] = [
     // numbers that are not between their bounds, with the defaults filled in
     ("[send]\nmin_shards = 5\nmax_shards = 4", 4),
     ("[send]\nmin_shards = 5", 4),
@@ -128,7 +129,7 @@ const LATER_FAULTS: [(&str, u8); 30] = [
 
 #[test]
 fn later_faults(rt: HostRuntime) -> Result<(), Fail> {
-    assert_eq!(rt; wrong_fault(rt.alloc(), &LATER_FAULTS)?, None);
+    none_is_wrong(&rt, wrong_fault(rt.alloc(), &LATER_FAULTS)?);
     Ok(())
 }
 
@@ -225,16 +226,8 @@ separator = \"/\"
 regex = \"test/.*\"
 ";
 
-fn label_set(alloc: Global, labels: &[(&str, &str)]) -> Result<LabelSet, Fail> {
-    let mut raw = RawLabels::new(alloc);
-    for (name, value) in labels {
-        raw.push(name.as_bytes(), value.as_bytes())?;
-    }
-    Ok(LabelSet::check(alloc, &raw)?)
-}
-
 /// Labels, and whether the example's rules keep them.
-const KEPT: [(&[(&str, &str)], bool); 5] = [
+static KEPT: [(&[(&str, &str)], bool); 5] = [
     (&[("job", "node")], true),
     (&[("job", "nodes")], false),
     (&[("env", "prod")], false),
@@ -250,14 +243,19 @@ fn is_kept(alloc: Global, s: &Settings, labels: &[(&str, &str)]) -> Result<bool,
     Ok(s.config.fields().rules.keeps(&set)?)
 }
 
-fn wrongly_kept(alloc: Global) -> Result<Option<usize>, Fail> {
-    let s = read_settings(alloc, EXAMPLE)?;
+/// The first of these labels that the rules keep and should not, or the other way round.
+fn wrongly_kept_by(alloc: Global, s: &Settings) -> Result<Option<usize>, Fail> {
     for (i, (labels, want)) in KEPT.iter().enumerate() {
-        if is_kept(alloc, &s, labels)? != *want {
+        if is_kept(alloc, s, labels)? != *want {
             return Ok(Some(i));
         }
     }
     Ok(None)
+}
+
+fn wrongly_kept(alloc: Global) -> Result<Option<usize>, Fail> {
+    let s = read_settings(alloc, EXAMPLE)?;
+    wrongly_kept_by(alloc, &s)
 }
 
 #[test]
@@ -268,6 +266,6 @@ fn example(rt: HostRuntime) -> Result<(), Fail> {
         ["metrics.example:9090", "/api/v1/write", "/api/v1/write"],
     );
     assert!(rt; reads_as(rt.alloc(), EXAMPLE, want)?);
-    assert_eq!(rt; wrongly_kept(rt.alloc())?, None);
+    none_is_wrong(&rt, wrongly_kept(rt.alloc())?);
     Ok(())
 }

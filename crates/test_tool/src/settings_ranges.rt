@@ -1,5 +1,6 @@
 //! The borders of every range.
 
+use crate::rows::none_is_wrong;
 use crate::settings_documents::fault;
 use std::alloc::{AllocError, Global};
 use std::test::Fail;
@@ -7,7 +8,7 @@ use std::test::Fail;
 /// A key with its table, its least and its most number, and other lines of the table.
 type Range = (&'static str, &'static str, i64, i64, &'static str);
 
-const RANGES: [Range; 12] = [
+static RANGES: [Range; 12] = [
     ("send", "shards", 1, 1_000, "max_shards = 1000"),
     (
         "send",
@@ -74,7 +75,7 @@ fn wrong_range(alloc: Global) -> Result<Option<usize>, Fail> {
 
 #[test]
 fn numbers(rt: HostRuntime) -> Result<(), Fail> {
-    assert_eq!(rt; wrong_range(rt.alloc())?, None);
+    none_is_wrong(&rt, wrong_range(rt.alloc())?);
     Ok(())
 }
 
@@ -93,7 +94,7 @@ fn text_fault(alloc: Global, key: &str, value: &str) -> Result<u8, Fail> {
 }
 
 /// Keys with texts, and the number of the fault, or 9.
-const TEXTS: [(&str, &str, u8); 17] = [
+static TEXTS: [(&str, &str, u8); 17] = [
     ("send.host", "", 4),
     ("send.host", "!", 9),
     ("send.host", "~", 9),
@@ -130,7 +131,7 @@ fn fault_of_letters(alloc: Global, key: &str, front: &str, letters: usize) -> Re
 
 #[test]
 fn texts(rt: HostRuntime) -> Result<(), Fail> {
-    assert_eq!(rt; wrong_text(rt.alloc())?, None);
+    none_is_wrong(&rt, wrong_text(rt.alloc())?);
     for (key, front) in [
         ("send.host", "a"),
         ("send.path", "/"),

@@ -1,15 +1,17 @@
 //! Values and labels as text.
 
+use crate::rows::none_is_wrong;
+use crate::rule_making::label_set;
 use rw_text::{
     TextFault, push_integer, push_labels, push_number, push_value, read_integer, read_labels,
     read_number, read_value,
 };
-use rw_types::{LabelSet, RawLabels, Word};
-use std::alloc::Global;
+use rw_types::{LabelFault, LabelSet, RawLabels, Word};
+use std::alloc::{AllocError, Global};
 use std::test::Fail;
 
 /// Words and the texts that they print.
-const VALUES: [(u64, &str); 9] = [
+static VALUES: [(u64, &str); 9] = [
     (0, "0"),
     (0x3ff0_0000_0000_0000, "1"),
     (0xc000_0000_0000_0000, "-2"),
@@ -21,48 +23,71 @@ const VALUES: [(u64, &str); 9] = [
     (0x3fe0_0000_0000_0000, "0x3fe0000000000000"),
 ];
 
+/// Whether a word is printed as this text, and read from it.
+fn is_value(alloc: Global, bits: u64, text: &str) -> Result<bool, AllocError> {
+    let mut out = Vec::new(alloc);
+    push_value(&mut out, Word(bits))?;
+    Ok(out.as_slice() == text.as_bytes() && read_value(text.as_bytes()) == Some(Word(bits)))
+}
+
+fn wrong_value(alloc: Global) -> Result<Option<usize>, AllocError> {
+    for (i, (bits, text)) in VALUES.iter().enumerate() {
+        if !is_value(alloc, *bits, text)? {
+            return Ok(Some(i));
+        }
+    }
+    Ok(None)
+}
+
 #[test]
 fn values_there_and_back(rt: HostRuntime) -> Result<(), Fail> {
-    for (bits, text) in VALUES {
-        let mut out = Vec::new(rt.alloc());
-        push_value(&mut out, Word(bits))?;
-        assert_eq!(rt; out.as_slice(), text.as_bytes());
-        assert_eq!(rt; read_value(text.as_bytes()).map(|word| word.0), Some(bits));
-    }
+    none_is_wrong(&rt, wrong_value(rt.alloc())?);
     Ok(())
+}
+
+/// Texts, and the number and the integer that each stands for, if so.
+static NUMBERS: [(&str, Option<u64>, Option<i64>); 11] = [
+    ("0", Some(0), Some(0)),
+    ("007", Some(7), Some(7)),
+    ("-0", None, Some(0)),
+    ("-12", None, Some(-12)),
+    ("9223372036854775808", Some(1 << 63), None),
+    ("-9223372036854775808", None, Some(i64::MIN)),
+    ("18446744073709551615", Some(u64::MAX), None),
+    ("18446744073709551616", None, None),
+    ("+1", None, None),
+    ("", None, None),
+    ("--1", None, None),
+];
+
+fn wrong_number() -> Option<usize> {
+    for (i, (text, number, integer)) in NUMBERS.iter().enumerate() {
+        if read_number(text.as_bytes()) != *number || read_integer(text.as_bytes()) != *integer {
+            return Some(i);
+        }
+    }
+    None
+}
+
+/// Whether the largest number and the least integer are printed one behind the other.
+fn prints_numbers(alloc: Global) -> Result<bool, AllocError> {
+    let mut out = Vec::new(alloc);
+    push_number(&mut out, u64::MAX)?;
+    push_integer(&mut out, i64::MIN)?;
+    Ok(out.as_slice() == b"18446744073709551615-9223372036854775808".as_slice())
 }
 
 #[test]
 fn numbers(rt: HostRuntime) -> Result<(), Fail> {
-    let rows: [(&str, Option<u64>, Option<i64>); 11] = [
-        ("0", Some(0), Some(0)),
-        ("007", Some(7), Some(7)),
-        ("-0", None, Some(0)),
-        ("-12", None, Some(-12)),
-        ("9223372036854775808", Some(1 << 63), None),
-        ("-9223372036854775808", None, Some(i64::MIN)),
-        ("18446744073709551615", Some(u64::MAX), None),
-        ("18446744073709551616", None, None),
-        ("+1", None, None),
-        ("", None, None),
-        ("--1", None, None),
-    ];
-    for (text, number, integer) in rows {
-        assert_eq!(rt; read_number(text.as_bytes()), number, "{text}");
-        assert_eq!(rt; read_integer(text.as_bytes()), integer, "{text}");
-    }
-    let mut out = Vec::new(rt.alloc());
-    push_number(&mut out, u64::MAX)?;
-    push_integer(&mut out, i64::MIN)?;
-    assert_eq!(rt;
-        out.as_slice(),
-        b"18446744073709551615-9223372036854775808".as_slice()
-    );
+    none_is_wrong(&rt, wrong_number());
+    assert!(rt; prints_numbers(rt.alloc())?);
     Ok(())
 }
 
 /// Labels and their text.
-const LABELS: [(&[(&str, &str)], &str); 5] = [
+type Labelled = (&'static [(&'static str, &'static str)], &'static str);
+
+static LABELS: [Labelled; 5] = [
     (&[], "{}"),
     (&[("__name__", "up")], r#"{__name__="up"}"#),
     (&[("a", "1"), ("b", "2")], r#"{a="1",b="2"}"#),
@@ -74,7 +99,7 @@ const LABELS: [(&[(&str, &str)], &str); 5] = [
 ];
 
 /// Names that no label set has.
-const OTHER_LABELS: [(&[(&str, &str)], &str); 3] = [
+static OTHER_LABELS: [Labelled; 3] = [
     (&[("", "")], r#"{""=""}"#),
     (&[("a:b", "1"), ("a-b", "2")], r#"{a:b="1","a-b"="2"}"#),
     (
@@ -83,56 +108,81 @@ const OTHER_LABELS: [(&[(&str, &str)], &str); 3] = [
     ),
 ];
 
-fn raw(alloc: Global, labels: &[(&str, &str)]) -> Result<RawLabels, Fail> {
-    let mut raw = RawLabels::new(alloc);
-    for (name, value) in labels {
-        raw.push(name.as_bytes(), value.as_bytes())?;
-    }
-    Ok(raw)
+fn are_labels(read: &RawLabels, labels: &[(&str, &str)]) -> bool {
+    read.len() == labels.len()
+        && read.as_slice().iter().zip(labels).all(|(l, m)| l.0.as_slice() == m.0.as_bytes()
+            && l.1.as_slice() == m.1.as_bytes())
 }
 
 /// Whether the text reads as these labels.
-fn reads_as(alloc: Global, text: &str, labels: &[(&str, &str)]) -> Result<bool, Fail> {
+fn reads_as(alloc: Global, text: &str, labels: &[(&str, &str)]) -> Result<bool, TextFault> {
     let read = read_labels(alloc, text.as_bytes())?;
-    Ok(
-        read.len() == labels.len()
-            && read.as_slice().iter().zip(labels).all(|(l, m)| l.0.as_slice() == m.0.as_bytes()
-                && l.1.as_slice() == m.1.as_bytes()),
-    )
+    Ok(are_labels(&read, labels))
+}
+
+/// Whether the text is printed of these labels.
+fn is_printed(alloc: Global, labels: &[(&str, &str)], text: &str) -> Result<bool, LabelFault> {
+    let set = label_set(alloc, labels)?;
+    let mut out = Vec::new(alloc);
+    push_labels(&mut out, &set)?;
+    Ok(out.as_slice() == text.as_bytes())
+}
+
+fn wrong_print(alloc: Global) -> Result<Option<usize>, LabelFault> {
+    for (i, (labels, text)) in LABELS.iter().enumerate() {
+        if !is_printed(alloc, labels, text)? {
+            return Ok(Some(i));
+        }
+    }
+    Ok(None)
+}
+
+/// The first of these texts that reads otherwise.
+fn wrong_reading(alloc: Global, rows: &[Labelled]) -> Result<Option<usize>, TextFault> {
+    for (i, (labels, text)) in rows.iter().enumerate() {
+        if !reads_as(alloc, text, labels)? {
+            return Ok(Some(i));
+        }
+    }
+    Ok(None)
 }
 
 #[test]
 fn labels_there_and_back(rt: HostRuntime) -> Result<(), Fail> {
-    let alloc = rt.alloc();
-    for (labels, text) in LABELS {
-        let mut out = Vec::new(alloc);
-        if let Ok(set) = LabelSet::check(alloc, &raw(alloc, labels)?) {
-            push_labels(&mut out, &set)?;
-        }
-        assert_eq!(rt; out.as_slice(), text.as_bytes());
-        assert!(rt; reads_as(alloc, text, labels)?, "{text}");
-    }
-    for (labels, text) in OTHER_LABELS {
-        assert!(rt; reads_as(alloc, text, labels)?, "{text}");
-    }
+    none_is_wrong(&rt, wrong_print(rt.alloc())?);
+    none_is_wrong(&rt, wrong_reading(rt.alloc(), &LABELS)?);
+    none_is_wrong(&rt, wrong_reading(rt.alloc(), &OTHER_LABELS)?);
     Ok(())
+}
+
+/// Whether labels are printed whole, or leave the text as it was where memory is refused.
+fn prints_all_or_nothing(out: &mut Vec<u8>, set: &LabelSet) -> bool {
+    let len = out.len();
+    match push_labels(out, set) {
+        Ok(()) => out.len() == len.saturating_add(26),
+        Err(_) => out.len() == len,
+    }
+}
+
+/// The same, four times over.
+fn prints_four(alloc: Global, set: &LabelSet) -> bool {
+    let mut out = Vec::new(alloc);
+    for _ in 0..4 {
+        if !prints_all_or_nothing(&mut out, set) {
+            return false;
+        }
+    }
+    true
 }
 
 /// An `Err` of a printer leaves the text as it was. It shows when each allocation fails in turn.
 #[test]
-fn refused_memory_prints_nothing(rt: HostRuntime) -> Result<(), Fail> {
-    let alloc = rt.alloc();
-    let set = LabelSet::check(alloc, &raw(alloc, &[("__name__", "up"), ("job", "a\nb")])?);
-    if let Ok(set) = set {
-        let mut out = Vec::new(alloc);
-        for _ in 0..4 {
-            let len = out.len();
-            match push_labels(&mut out, &set) {
-                Ok(()) => assert!(rt; out.len() == len + 26),
-                Err(_) => assert!(rt; out.len() == len),
-            }
-        }
+fn refused_memory_prints_nothing(rt: HostRuntime) {
+    if let Ok(set) = label_set(rt.alloc(), &[("__name__", "up"), ("job", "a\nb")]) {
+        assert!(rt; prints_four(rt.alloc(), &set));
     }
-    assert_eq!(rt; read_labels(alloc, b"{").err(), Some(TextFault::NotOfForm));
-    Ok(())
+    assert_eq!(rt;
+        read_labels(rt.alloc(), b"{").err(),
+        Some(TextFault::NotOfForm)
+    );
 }
