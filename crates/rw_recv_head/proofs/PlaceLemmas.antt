@@ -17,13 +17,16 @@ use Rattle.std.proofs.lemmas.List.Folds.{list_any-append}
 use Rattle.rw_types.specs.Labels.{Labels}
 use Rattle.rw_types.specs.LabelOrder.{labels_cmp, labels_eq, labels_cmp-total}
 use Rattle.rw_types.proofs.OrderLemmas.{same_if_equal, equal_if_same}
-use Rattle.rw_write_request.specs.Message.{Sample}
+use Rattle.rw_write_request.specs.Message.{Sample, TimeSeries}
 use Rattle.rw_recv_head.specs.Order.{Point, point_of, points, is_later, holds, accept_one, accept}
 use Rattle.rw_recv_head.specs.Store.{Store, list_of, with_list, total, label_sets, HasNoEmptyList}
 use Rattle.rw_recv_head.specs.declared.verdict.Verdict.{Verdict}
-use Rattle.rw_recv_head.specs.Verdicts.{accepted}
+use Rattle.rw_recv_head.specs.declared.verdict.Verdict.TheVariants.{NoMemory}
+use Rattle.std.specs.Prelude.{OnOk, IfErr}
+use Rattle.rw_recv_head.specs.Verdicts.{LabelLimits, refusal, accepted, taken_unless, taken}
+use Rattle.rw_recv_head.specs.Growth.{HoldsNoneOver}
 use Rattle.rw_recv_head.specs.Lists.{Lists, no_lists, ListGives, StoreGives, IsSound, IsFresh, IsAdded, AllFilled, has_samples, with_samples, AreWithin, listed, store_of_lists, kept_store, staged_store, HasPlaces, Settled}
-use Rattle.rw_recv_head.specs.Names.{below}
+use Rattle.rw_recv_head.specs.Names.{below, HasNoneOver}
 use Rattle.rw_recv_head.proofs.OrderLemmas.{accept-none}
 use Rattle.rw_recv_head.proofs.StoreLemmas.{list_of-empty, list_of-with_list, HasNoEmptyList-empty, HasNoEmptyList-with_list, same_store, with_list-same, total-with_list, total-empty, list_of-few, and_left, is_less, find_below}
 
@@ -152,6 +155,10 @@ staged-added lists index new l x h u =
     (λ q. list_of-store f new.entries (lists ++ x ∷ []) q ∙ ap (at f (lists ++ x ∷ [])) (u.0 q)
     ∙ added_at f x lists index q (get labels_cmp index q) (labels_eq l q) (labels_eq q l) h (turned_eq l q _ _ refl refl) refl
     ∙ ap (cond (labels_eq q l) x.staged) (sym (list_of-store f index.entries lists q)) ∙ sym (list_of-with_list l x.staged s q))
+
+-- where no label set that has samples is larger than the limits, none is that has a place
+pub none_over : (limits : LabelLimits) (index : Index) (lists : List Lists) → HasPlaces index lists → AllFilled lists → HoldsNoneOver limits (staged_store index.entries lists) → HasNoneOver limits index
+none_over limits index lists places filled h l n e = h l (ap has_samples (staged_at index lists l n e) ∙ filled n (places.within l n e))
 
 -- a label set without a place has no samples
 pub staged_nowhere : (index : Index) (lists : List Lists) (l : Labels) → get labels_cmp index l ≡ None → list_of (staged_store index.entries lists) l ≡ []
@@ -402,6 +409,18 @@ no_samples l s (x ∷ xs) e same = absurd (omega (arith, eqb-true (length (x ∷
 pub StoreGives-list : (r : Result (Unit {0}) Verdict) (l : Labels) (s t : Store) (given : Option (List Point)) (xs : List Point) → ListGives r given xs → t ≡ with_list l xs s → StoreGives r (accepted l s given) t
 StoreGives-list (Ok u) l s t given xs h e = ap (accepted l s) h ∙ ap Ok (sym e)
 StoreGives-list (Err v) l s t given xs h e = λ other. ap (accepted l s) (h other).1 ∙ ap Err (sym (h other).0)
+
+-- and of a series whose labels are taken
+pub taken_by : (r : Result (Unit {0}) Verdict) (limits : LabelLimits) (s t : Store) (x y : TimeSeries) → x ≡ y → refusal limits x.labels ≡ None
+    → StoreGives r (accepted x.labels s (accept (Some (list_of s x.labels)) (points x.samples))) t → StoreGives r (taken limits s y) t
+taken_by r limits s t x y same none h = subst (λ z. StoreGives r (taken limits s z) t) same (subst (λ o. StoreGives r (taken_unless o s x) t) (sym none) h)
+
+-- a series without samples is judged by its labels alone
+pub judged_alone : (r : Result (Unit {0}) Verdict) (limits : LabelLimits) (s : Store) (x y : TimeSeries) (kept : Labels) → x ≡ y → true ≡ nat_eq (length x.samples) 0
+    → with_list x.labels (list_of s x.labels) s ≡ s → OnOk r ((kept ≡ x.labels) × (refusal limits x.labels ≡ None)) → IfErr r (λ v. v ≢ NoMemory → refusal limits x.labels ≡ Some v)
+    → StoreGives r (taken limits s y) s
+judged_alone (Ok u) limits s x y kept same e unchanged ok err = taken_by (Ok u) limits s s x y same ok.1 (no_samples x.labels s x.samples e unchanged)
+judged_alone (Err v) limits s x y kept same e unchanged ok err = λ other. ap (taken limits s) (sym same) ∙ ap (λ o. taken_unless o s x) (err other)
 
 kept_after : (lists : List Lists) (n m : ℕ) (x : Lists) → n < length lists → x.kept ≡ (get_or lists n no_lists).kept → (get_or (set lists n x) m no_lists).kept ≡ (get_or lists m no_lists).kept
 kept_after lists n m x lt kept = by_test (nat_eq m n) refl

@@ -1,75 +1,25 @@
 //! The receiving head.
 
-ghost use Rattle.std.specs.Prelude.{◌≡◌, ◌≢◌, ◌+◌, ◌^◌, ◌<◌, ◌≤◌, ◌++◌, length, None, Some, Ok, OnOk, IfOk, IfErr, map};
+ghost use Rattle.std.specs.Prelude.{◌≡◌, ◌≢◌, ◌+◌, ◌^◌, ◌<◌, ◌≤◌, ◌++◌, length, Ok, OnOk, IfOk, map};
 ghost use Rattle.std.specs.FinMap.{empty};
-ghost use Rattle.rw_types.specs.Labels.{text_label, label_fault};
 ghost use Rattle.rw_recv_head.specs.declared.verdict.Verdict.TheVariants.{NoMemory};
 ghost use Rattle.rw_recv_head.specs.Store.{list_of, total, label_sets, HasNoEmptyList};
-ghost use Rattle.rw_recv_head.specs.Verdicts.{refusal, taken, taken_all, apply};
+ghost use Rattle.rw_recv_head.specs.Verdicts.{taken_all, apply};
 ghost use Rattle.rw_recv_head.specs.Head.{status_of, answer, IsStatus};
 ghost use Rattle.rw_recv_head.specs.Lists.{StoreGives};
 ghost use Rattle.rw_recv_head.specs.Blocks.{joined, sealed_of, AreFull, KeepsBlocks};
-ghost use Rattle.rw_recv_head.specs.Growth.{sample_count, EachRises, HasTaken};
+ghost use Rattle.rw_recv_head.specs.Growth.{sample_count, EachRises, HasTaken, HoldsNoneOver};
 
 use crate::block::Block;
+use crate::label_bounds::LabelBounds;
 use crate::label_sets::LabelSets;
 use crate::limits::Limits;
 use crate::table::Table;
 use crate::verdict::Verdict;
-use rw_types::{LabelFault, LabelSet, Word};
+use rw_types::{LabelSet, Word};
 use rw_write_request::{Message, Series, WireFault, decode, reads_spellings};
 use std::alloc::{AllocError, Global};
 use std::marker::Model;
-
-/// How large label sets may be.
-#[derive(Debug, Drop)]
-struct LabelBounds {
-    max_labels: usize,
-    max_label_bytes: usize,
-}
-
-impl Model for LabelBounds {
-    ghost use Rattle.rw_recv_head.specs.Verdicts.{LabelLimits};
-
-    ghost Value = { LabelLimits };
-
-    ghost view = { λ b. record { max_labels = b.max_labels; max_label_bytes = b.max_label_bytes } };
-}
-
-/// Writes the labels of a series down, where the head takes them.
-fn take_labels(
-    labels: &mut LabelSet,
-    texts: &[(String, String)],
-    bounds: &LabelBounds,
-) -> Result<(), Verdict>
-    ensures ok { OnOk result ((labels.new ≡ map text_label texts.now) × (refusal bounds.now (map text_label texts.now) ≡ None)) }
-    ensures err { IfErr result (λ v. v ≢ NoMemory → refusal bounds.now (map text_label texts.now) ≡ Some v) }
-    ensures memory { IfErr result (λ v. v ≡ NoMemory → label_fault (map text_label texts.now) ≡ None) }
-{
-    match labels.assign(texts) {
-        Ok(()) => {}
-        Err(LabelFault::OutOfMemory) => return Err(Verdict::NoMemory),
-        Err(_) => return Err(Verdict::BadLabels),
-    }
-    if labels.is_over(bounds.max_labels, bounds.max_label_bytes) {
-        return Err(Verdict::OverLimit);
-    }
-    Ok(())
-}
-
-/// Stages a series.
-fn stage_series(
-    table: &mut Table,
-    labels: &mut LabelSet,
-    bounds: &LabelBounds,
-    series: &Series,
-) -> Result<(), Verdict>
-    ensures kept { table.new.kept ≡ table.old.kept }
-    ensures staged { StoreGives result (taken bounds.now table.old.staged series.now) table.new.staged }
-{
-    take_labels(labels, &series.labels, bounds)?;
-    table.stage(labels, &series.samples)
-}
 
 /// Stages series, one after the other, up to the first that is refused.
 fn stage_all(
@@ -78,11 +28,13 @@ fn stage_all(
     bounds: &LabelBounds,
     message: &[Series],
 ) -> Result<(), Verdict>
+    requires { HoldsNoneOver bounds.now table.old.staged }
     ensures kept { table.new.kept ≡ table.old.kept }
     ensures staged { StoreGives result (taken_all bounds.now (Ok table.old.staged) message.now) table.new.staged }
+    ensures within { OnOk result (HoldsNoneOver bounds.now table.new.staged) }
 {
     for series in message {
-        stage_series(table, labels, bounds, series)?;
+        table.stage(labels, bounds, series)?;
     }
     Ok(())
 }
@@ -109,9 +61,9 @@ impl Model for Head {
 
     ghost view = { λ h. record { store = h.table.kept; limits = h.bounds; busy = h.busy } };
 
-    ghost use Rattle.rw_recv_head.specs.Growth.{IsReady};
+    ghost use Rattle.rw_recv_head.specs.Growth.{IsReady, HoldsNoneOver};
 
-    ghost invariant = { λ h. IsReady h.table };
+    ghost invariant = { λ h. IsReady h.table × HoldsNoneOver h.bounds h.table.kept };
 }
 
 /// The status that tells a verdict.

@@ -4,6 +4,7 @@
 mod block;
 mod blocks;
 mod head;
+mod label_bounds;
 mod label_sets;
 mod laws;
 mod limits;

@@ -24,15 +24,22 @@ impl Model for Name {
 }
 
 impl Name {
+    /// The name that is this label set.
+    pub(crate) fn of(alloc: Global, labels: LabelSet) -> Result<Name, AllocError>
+        ensures { IfOk result (λ n. n ≡ labels) }
+    {
+        Ok(Name {
+            labels: Arc::new(alloc, labels)?,
+        })
+    }
+
     /// The name that is a copy of a label set.
     pub(crate) fn copy_of(alloc: Global, labels: &LabelSet) -> Result<Name, AllocError>
         ensures { IfOk result (λ n. n ≡ labels.now) }
     {
         let mut copy = LabelSet::empty(alloc);
         match copy.assign(labels.as_slice()) {
-            Ok(()) => Ok(Name {
-                labels: Arc::new(alloc, copy)?,
-            }),
+            Ok(()) => Name::of(alloc, copy),
             Err(_) => Err(AllocError),
         }
     }

@@ -1,17 +1,22 @@
 //! The places of label sets.
 
-ghost use Rattle.std.specs.Prelude.{◌≡◌, ◌+◌, min, ◌<◌, ◌≤◌, length, [], ◌^◌, ◌++◌, ◌∷◌, None, Some, IfOk, IfSome, OnOk, OnErr, vec_len, vec_capacity};
+ghost use Rattle.std.specs.Prelude.{◌≡◌, ◌≢◌, ◌+◌, min, map, ◌<◌, ◌≤◌, length, [], ◌^◌, ◌++◌, ◌∷◌, None, Some, IfOk, IfErr, IfSome, OnOk, OnErr, vec_len, vec_capacity};
 ghost use Rattle.std.specs.List.{All};
 ghost use Rattle.std.specs.BTreeMap.{get, Updates, IsOrdered};
-ghost use Rattle.rw_types.specs.Labels.{Labels};
+ghost use Rattle.rw_types.specs.Labels.{Labels, IsLabelSet, text_label};
 ghost use Rattle.rw_types.specs.LabelOrder.{labels_cmp};
-ghost use Rattle.rw_recv_head.specs.Names.{below, AreNamed};
+ghost use Rattle.rw_recv_head.specs.declared.verdict.Verdict.TheVariants.{NoMemory};
+ghost use Rattle.rw_recv_head.specs.Verdicts.{refusal};
+ghost use Rattle.rw_recv_head.specs.Names.{below, AreNamed, HasNoneOver};
 ghost use Rattle.rw_recv_head.specs.Finds.{Finds};
 
+use crate::label_bounds::LabelBounds;
 use crate::name::Name;
+use crate::verdict::Verdict;
 use rw_types::LabelSet;
 use std::alloc::{AllocError, Global};
 use std::collections::{BTreeMap, btree_map};
+use std::mem;
 
 /// The places of label sets: each has its own, in the order in which they came. It is noted which one came after which the last time.
 #[derive(Debug, Drop)]
@@ -65,12 +70,13 @@ impl Places {
         self.tree.len()
     }
 
-    /// The place that is expected next, if the label set stands there.
-    fn expected(&self, labels: &LabelSet) -> Option<usize>
-        ensures { IfSome result (λ n. get labels_cmp self.now.tree labels.now ≡ Some n) }
+    /// The place that is expected next, if the label set of these labels stands there.
+    fn expected(&self, texts: &[(String, String)]) -> Option<usize>
+        ensures place { IfSome result (λ n. get labels_cmp self.now.tree (map text_label texts.now) ≡ Some n) }
+        ensures label_set { IfSome result (λ _. IsLabelSet (map text_label texts.now)) }
     {
         let place = *self.after.get(self.last)?;
-        if place < self.names.len() && self.names[place].labels() == labels {
+        if place < self.names.len() && self.names[place].labels().as_slice() == texts {
             Some(place)
         } else {
             None
@@ -88,18 +94,28 @@ impl Places {
         self.last = place;
     }
 
-    /// The place of a label set, or a name for it where it has none. First it is looked for at the place that came after the last one
-    /// the time before; where it stands there, this takes no memory.
-    pub(crate) fn find(&mut self, alloc: Global, labels: &LabelSet) -> Result<Found, AllocError>
+    /// The place of the label set of these labels, or a name for it where it has none. First it is looked for at the place that came after the
+    /// last one the time before; where it stands there, it was judged when it came, and this takes no memory.
+    pub(crate) fn find(
+        &mut self,
+        alloc: Global,
+        labels: &mut LabelSet,
+        bounds: &LabelBounds,
+        texts: &[(String, String)],
+    ) -> Result<Found, Verdict>
+        requires { HasNoneOver bounds.now self.old.tree }
         ensures tree { self.new.tree ≡ self.old.tree }
         ensures names { self.new.names.items ≡ self.old.names.items }
-        ensures found { IfOk result (λ f. Finds f labels.now (get labels_cmp self.old.tree labels.now)) }
+        ensures found { IfOk result (λ f. Finds f (map text_label texts.now) (get labels_cmp self.old.tree (map text_label texts.now))) }
+        ensures taken { OnOk result (refusal bounds.now (map text_label texts.now) ≡ None) }
+        ensures err { IfErr result (λ v. v ≢ NoMemory → refusal bounds.now (map text_label texts.now) ≡ Some v) }
     {
-        if let Some(place) = self.expected(labels) {
+        if let Some(place) = self.expected(texts) {
             self.last = place;
             return Ok(Found::At(place));
         }
-        let name = Name::copy_of(alloc, labels)?;
+        bounds.take(labels, texts)?;
+        let name = Name::of(alloc, mem::replace(labels, LabelSet::empty(alloc)))?;
         match self.tree.get(&name) {
             Some(place) => {
                 let place = *place;

@@ -7,17 +7,20 @@ ghost use Rattle.rw_types.specs.LabelOrder.{labels_cmp};
 ghost use Rattle.rw_recv_head.specs.declared.verdict.Verdict.TheVariants.{OutOfOrder, NoMemory};
 ghost use Rattle.rw_recv_head.specs.Order.{points, accept};
 ghost use Rattle.rw_recv_head.specs.Store.{list_of, total, label_sets, HasNoEmptyList};
-ghost use Rattle.rw_recv_head.specs.Verdicts.{accepted};
+ghost use Rattle.rw_recv_head.specs.Verdicts.{taken};
+ghost use Rattle.rw_recv_head.specs.Growth.{HoldsNoneOver};
 ghost use Rattle.rw_recv_head.specs.Blocks.{sealed_of, open_of};
 ghost use Rattle.rw_recv_head.specs.Lists.{no_lists, Settled, IsAdded, ListGives, StoreGives};
 
 use crate::block::Block;
+use crate::label_bounds::LabelBounds;
 use crate::label_sets::LabelSets;
 use crate::name::Name;
 use crate::places::{Found, Places, put};
 use crate::sample_list::SampleList;
 use crate::verdict::Verdict;
 use rw_types::{LabelSet, Word};
+use rw_write_request::Series;
 use std::alloc::{AllocError, Global};
 use std::marker::Model;
 
@@ -174,23 +177,27 @@ impl Table {
         self.count
     }
 
-    /// Stages the samples of a series, one after the other, up to the first that is refused.
+    /// Stages a series: its labels are judged, and then its samples, one after the other, up to the first that is refused.
     pub(crate) fn stage(
         &mut self,
-        labels: &LabelSet,
-        samples: &[(Word, i64)],
+        labels: &mut LabelSet,
+        bounds: &LabelBounds,
+        series: &Series,
     ) -> Result<(), Verdict>
+        requires { HoldsNoneOver bounds.now self.old.staged }
         ensures kept { self.new.kept ≡ self.old.kept }
-        ensures staged { StoreGives result (accepted labels.now self.old.staged (accept (Some (list_of self.old.staged labels.now)) (points samples.now))) self.new.staged }
+        ensures staged { StoreGives result (taken bounds.now self.old.staged series.now) self.new.staged }
     {
+        let alloc = *self.lists.allocator();
+        let samples = series.samples.as_slice();
+        if samples.is_empty() {
+            return bounds.take(labels, &series.labels);
+        }
+        let found = self.places.find(alloc, labels, bounds, &series.labels)?;
         if !has_room(self.count + self.staged_count, samples.len()) {
             return Err(Verdict::NoMemory);
         }
-        if samples.is_empty() {
-            return Ok(());
-        }
-        let alloc = *self.lists.allocator();
-        match self.places.find(alloc, labels)? {
+        match found {
             Found::At(place) => {
                 note(&mut self.touched, place)?;
                 let before = self.lists[place].staged_len();

@@ -1,11 +1,11 @@
 use Rattle.std.proofs.Common.{subst, sym, ◌∙◌}
-use Rattle.rw_recv_head.specs.Growth.{sample_count}
+use Rattle.rw_recv_head.specs.Growth.{sample_count, HoldsNoneOver}
 use Rattle.rw_recv_head.proofs.GrowthLemmas.{Grown, kept_grown, ready_again, blocks_kept}
 use Rattle.rw_recv_head.proofs.head.Head.apply.Goals as goal
 
 grown_inside : (c : goal.After-commit) → Grown c.self.inside.table.kept c.commit.new.self.kept (sample_count c.deref.result.now)
 grown_inside c =
-    kept_grown c.self.inside.bounds c.deref.result.now c.self.inside.table c.stage_all-staged.new.table.staged c.commit.new.self.kept c.self.invariant c.in-Ok.ensures.staged c.commit.ensures.kept
+    kept_grown c.self.inside.bounds c.deref.result.now c.self.inside.table c.stage_all-staged.new.table.staged c.commit.new.self.kept c.self.invariant.0 c.in-Ok.ensures.staged c.commit.ensures.kept
 
 grown : (c : goal.After-commit) → Grown c.args.self.now.store c.commit.new.self.kept (sample_count c.args.message.now)
 grown c =
@@ -13,8 +13,10 @@ grown c =
     rw (← c.self.view_is, ← c.message.view_is) (subst (λ m. Grown c.self.inside.table.kept c.commit.new.self.kept (sample_count m)) same (grown_inside c))
 
 pub invariant_of-self : goal.invariant_of-self
-invariant_of-self c =
-    ready_again c.self.inside.table.kept (sample_count c.deref.result.now) c.commit.new.self (grown_inside c) (c.commit.ensures.staged ∙ sym c.commit.ensures.kept) c.commit.ensures.noted
+invariant_of-self c = (
+  ready_again c.self.inside.table.kept (sample_count c.deref.result.now) c.commit.new.self (grown_inside c) (c.commit.ensures.staged ∙ sym c.commit.ensures.kept) c.commit.ensures.noted,
+  subst (HoldsNoneOver c.self.inside.bounds) (sym c.commit.ensures.kept) c.in-Ok.ensures.within,
+)
 
 pub returns-in-Ok-clause-more : goal.returns-in-Ok-clause-more
 returns-in-Ok-clause-more c = let g = grown c in g.more
