@@ -3,5 +3,5 @@ use Rattle.std.proofs.Common.{◌≡◌, ◌∙◌, ◌<◌, ◌+◌, ◌++◌, 
 use Rattle.std.proofs.lemmas.List.{take_more}
 
 -- one more segment is copied
-pub copied_more : (xs old new : List (List ℕ)) (i : ℕ) (x : List ℕ) → new ≡ old ++ x ∷ [] → old ≡ take i xs → i < length xs → get_or xs i x ≡ x → new ≡ take (i + 1) xs
-copied_more xs old new i x e f lt at = e ∙ ap (λ ys. ys ++ x ∷ []) f ∙ ap (λ y. take i xs ++ y ∷ []) (sym at) ∙ sym (take_more xs i x lt)
+pub copied_more : {A : Type 0} (xs old new : List A) (i : ℕ) (x : A) → new ≡ old ++ x ∷ [] → old ≡ take i xs → i < length xs → get_or xs i x ≡ x → new ≡ take (i + 1) xs
+copied_more {A} xs old new i x e f lt at = e ∙ ap (λ ys. ys ++ x ∷ []) f ∙ ap (λ y. take i xs ++ y ∷ []) (sym at) ∙ sym (take_more xs i x lt)

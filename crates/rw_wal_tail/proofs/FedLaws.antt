@@ -12,8 +12,11 @@ use Rattle.rw_codes.proofs.Tailing.{read_on, read_on-start}
 use Rattle.rw_wal_tail.specs.declared.reader.Reader.{Reader}
 use Rattle.rw_wal_tail.specs.Held.{Held, waiting}
 use Rattle.rw_wal_tail.specs.Still.{after, still, from_here, open_data}
-use Rattle.rw_wal_tail.specs.Steps.{still_read, waiting_of, IsOfLog, IsReader, IsUnfed, Same, Ends}
-use Rattle.rw_wal_tail.specs.Fed.{Fed, Follows, CutsDoNotMatter, next_of, answered, end_of}
+use Rattle.rw_wal_tail.specs.Steps.{still_read, still_place, waiting_of, IsOfLog, IsReader, IsUnfed, Same, Takes, Ends}
+use Rattle.rw_wal_tail.specs.Places.{stop_after, place_of, fault_place}
+use Rattle.rw_wal_tail.specs.Placed.{ends_with, ends_after, front_of, place_from}
+use Rattle.rw_wal_tail.proofs.PlaceLaws.{place_start}
+use Rattle.rw_wal_tail.specs.Fed.{Fed, Follows, CutsDoNotMatter, IsStuck, next_of, answered, end_of}
 use Rattle.rw_wal_tail.proofs.StepLaws.{known_as}
 use Rattle.rw_wal_tail.proofs.StillLaws.{NoFault, still_waits}
 use Rattle.rw_wal_tail.proofs.WaitingLaws.{none_waiting}
@@ -30,7 +33,12 @@ unfolding reading
 follows_start r i u =
     let rest : r.input.rest ≡ [] = ap (λ (h : Held). h.rest) u.input in
     let w : waiting_of r ≡ [] = ap (λ (h : Held). waiting h.later h.ended) u.input in
-    record { reader = i; reads = λ later. rw (u.left, u.is_open, u.ready, u.passed, u.fault, rest, w) (read_on-start page_size [] later ∙ still_start r.begun.items later) }
+    record {
+      reader = i;
+      reads = λ later. rw (u.left, u.is_open, u.ready, u.passed, u.fault, rest, w) (read_on-start page_size [] later ∙ still_start r.begun.items later);
+      counts = λ s. ap (λ (h : Held). h.ends) u.input;
+      stops = λ later. rw (u.left, u.is_open, u.fault, u.input) (place_start 0 [] later);
+    }
 
 give_one : (given es : List Entry) (e : Entry) (n : ℕ) (f : Option TailFault) (left : ℕ) (o : Bool) (d rest : List ℕ) (w later : List Piece)
     → after given 0 (still (e ∷ es) n f left o d rest w later) ≡ after (given ++ e ∷ []) 0 (still es n f left o d rest w later)
@@ -39,9 +47,30 @@ give_one given es e n f left o d rest w later =
     let x = from_here f left (open_data o d) rest (w ++ later) in
     ap (λ (l : List Entry). record { entries = l; skipped = 0 + (n + x.skipped); stop = x.stop }) (sym (append_assoc given (e ∷ []) (es ++ x.entries)))
 
+ends_more : (n : ℕ) (ps : List Piece) (p : Piece) → ends_after n (ps ++ p ∷ []) ≡ ends_with (ends_after n ps) p
+ends_more n [] p = refl
+ends_more n (q ∷ ps) p = ends_more (ends_with n q) ps p
+
 module _ (ps : List Piece) (given : List Entry) (old new : Reader) (f : Follows ps given old) where
   pub follows_same : Same old new → Follows ps given new
-  follows_same s = record { reader = s.reader; reads = λ later. f.reads later ∙ ap (after given 0) (s.still_same later) }
+  follows_same s = record {
+    reader = s.reader;
+    reads = λ later. f.reads later ∙ ap (after given 0) (s.still_same later);
+    counts = λ b. s.place.counts ∙ f.counts (omega (arith, b, s.place.counts));
+    stops = λ later. f.stops later ∙ s.place.still_there (ends_after 0 ps) f.counts later;
+  }
+
+  pub follows_taken : (p : Piece) → Takes p old new → Follows (ps ++ p ∷ []) given new
+  follows_taken p t =
+      let e : ends_after 0 (ps ++ p ∷ []) ≡ ends_with (ends_after 0 ps) p = ends_more 0 ps p in
+      record {
+        reader = t.reader;
+        reads = λ later. ap (reading page_size) (append_assoc ps (p ∷ []) later) ∙ f.reads (p ∷ later) ∙ ap (after given 0) (t.still_more later);
+        counts = λ b. t.place.counts (ends_after 0 ps) f.counts b ∙ sym e;
+        stops = λ later.
+            ap (stop_after page_size 0 []) (append_assoc ps (p ∷ []) later) ∙ f.stops (p ∷ later) ∙ t.place.still_there (ends_after 0 ps) f.counts later
+            ∙ ap (λ (n : ℕ). still_place new n later) (sym e);
+      }
 
   pub follows_given : (e : Entry) → old.ready.items ≡ e ∷ new.ready.items → new ≡ record old { ready = new.ready } → Follows ps (given ++ e ∷ []) new
   follows_given e r q =
@@ -60,6 +89,8 @@ module _ (ps : List Piece) (given : List Entry) (old new : Reader) (f : Follows 
             let w : waiting_of new ≡ waiting_of old = ap (λ (h : Held). waiting h.later h.ended) i in
             let a = f.reads later in
             cc;
+        counts = λ b. ap (λ (h : Held). h.ends) i ∙ f.counts (omega (arith, b, ap (λ (h : Held). h.ends) i));
+        stops = λ later. rw (t, l, o, d, i) (f.stops later);
       }
 
 -- ---- the answers
@@ -141,6 +172,17 @@ module _ (ps : List Piece) (given : List Entry) (r : Reader) (f : Follows ps giv
   pub passes_fault : (x : TailFault) → r.fault ≡ Some x → r.ready.items ≡ [] → skipped ps ≡ r.passed
   passes_fault x e n = end_skipped ps given r.passed (at_fault x) (fails_at x e n)
 
+  pub has_fault : (x : TailFault) → r.fault ≡ Some x → r.ready.items ≡ [] → fault ps ≡ Some x
+  has_fault x e n = ap (λ (y : Reading). fault_at y.stop) (fails_at x e n)
+
+  -- the place of the fault is that of what stands at the reader's front
+  pub places_fault : (x : TailFault) → r.fault ≡ Some x → r.ready.items ≡ [] → fault_place ps ≡ Some (front_of r.input)
+  unfolding fault_place
+  places_fault x e n =
+      let s : stop_after page_size 0 [] ps ≡ front_of r.input =
+      ap (stop_after page_size 0 []) (sym (append-nil ps)) ∙ f.stops [] ∙ ap (λ (o : Option TailFault). place_from o r.left (open_data r.is_open r.begun.items) r.input (ends_after 0 ps) []) e in
+      ap (λ (o : Option TailFault). place_of o ps) (has_fault x e n) ∙ ap Some s
+
 -- what a reader is after a fault
 answered_fault : (t : Fed) (f : TailFault) → IsOfLog (Some f) → answered t (Err f) ≡ record t { skipped = skipped t.pieces; fault = Some f }
 unfolding answered
@@ -170,6 +212,11 @@ module _ (ps : List Piece) (t : Fed) (count : ℕ) (told : Option TailFault) whe
   counted_fault n m f l v s = ap (λ (x : Fed). record x { fault = Some f }) (counted_as n m v s) ∙ sym (answered_fault t f l)
 
 -- ---- more pieces
+
+-- what is told stays so
+pub still_stuck : (old new : Reader) (told : Option TailFault) → new.fault ≡ old.fault → new.ready ≡ old.ready → IsStuck old told → IsStuck new told
+still_stuck old new None f r s = tt
+still_stuck old new (Some x) f r s = (f ∙ s.0, ap (λ q. q.items) r ∙ s.1)
 
 pub goes_on : (ps all more : List Piece) → all ≡ ps ++ more → Extends (reading page_size ps) (reading page_size all)
 goes_on ps all more e = subst (λ (l : List Piece). Extends (reading page_size ps) (reading page_size l)) (sym e) (reading-append page_size ps more (omega arith))

@@ -1,5 +1,5 @@
 -- What is held, after more was fed.
-use Rattle.std.proofs.Common.{◌≡◌, ℕ, zero, suc, ◌-◌, ◌<◌, List, [], ◌∷◌, ◌++◌, length, map, get_or, Result, Ok, Err, Bool, true, false, refl, ap, ◌∙◌, arith, ◌==◌}
+use Rattle.std.proofs.Common.{◌≡◌, ℕ, zero, suc, ◌-◌, ◌<◌, List, [], ◌∷◌, ◌++◌, length, map, get_or, Result, Ok, Err, Bool, true, false, refl, sym, ap, ◌∙◌, arith, ◌==◌}
 use Rattle.std.proofs.Math.ListN.{set}
 use Rattle.std.proofs.Math.Dec.{eqb-suc-zero}
 use Rattle.std.specs.Prelude.{OnOk, OnErr, is_ok, if◌then◌else◌}
@@ -15,39 +15,41 @@ pub extended_err : {T E : Type 0} (r : Result T E) (old new b : List ℕ) → ne
 extended_err (Ok x) old new b e = tt
 extended_err (Err x) old new b e = e
 
-only_here : (b rest : List ℕ) (later : List (List ℕ)) → length later ≡ 0 → record { rest = rest ++ b; later = later; ended = false } ≡ fed_with b rest later false
-only_here b rest [] n = refl
-only_here b rest (s ∷ ss) n = absurd (omega arith)
+only_here : (b rest : List ℕ) (h : Held) (later : List (ℕ × List ℕ)) → length later ≡ 0 → rest ≡ h.rest ++ b → record h { rest = rest; later = later; ended = false } ≡ fed_with b h later false
+only_here b rest h [] n q = rw q refl
+only_here b rest h (s ∷ ss) n q = absurd (omega arith)
 
-module _ {A : Type 0} (f : A → List ℕ) where
+module _ {A : Type 0} (f : A → ℕ × List ℕ) where
   -- the last segment, extended
-  pub last_extended : (b : List ℕ) (xs : List A) (n : ℕ) (x y : A) → n ≡ length xs - 1 → 0 < length xs → x ≡ get_or xs n x → f y ≡ f x ++ b → map f (set xs n y) ≡ extend_last b (map f xs)
+  pub last_extended : (b : List ℕ) (xs : List A) (n : ℕ) (x y : A) → n ≡ length xs - 1 → 0 < length xs → x ≡ get_or xs n x → f y ≡ ((f x).0, (f x).1 ++ b) → map f (set xs n y) ≡ extend_last b (map f xs)
   last_extended b [] n x y e h g q = absurd (omega arith)
-  last_extended b (z ∷ []) zero x y e h g q = ap (λ (l : List ℕ). l ∷ []) (q ∙ ap (λ (w : A). f w ++ b) g)
+  last_extended b (z ∷ []) zero x y e h g q = ap (λ (l : ℕ × List ℕ). l ∷ []) (q ∙ ap (λ (w : A). ((f w).0, (f w).1 ++ b)) g)
   last_extended b (z ∷ []) (suc n) x y e h g q = absurd (omega arith)
   last_extended b (z ∷ w ∷ xs) zero x y e h g q = absurd (omega arith)
-  last_extended b (z ∷ w ∷ xs) (suc n) x y e h g q = ap (λ (l : List (List ℕ)). f z ∷ l) (last_extended b (w ∷ xs) n x y (omega arith) (omega arith) g q)
+  last_extended b (z ∷ w ∷ xs) (suc n) x y e h g q = ap (λ (l : List (ℕ × List ℕ)). f z ∷ l) (last_extended b (w ∷ xs) n x y (omega arith) (omega arith) g q)
 
   pub last_same : (xs : List A) (n : ℕ) (x y : A) → x ≡ get_or xs n x → f y ≡ f x → map f (set xs n y) ≡ map f xs
   last_same [] n x y g q = refl
-  last_same (z ∷ xs) zero x y g q = ap (λ (l : List ℕ). l ∷ map f xs) (q ∙ ap f g)
-  last_same (z ∷ xs) (suc n) x y g q = ap (λ (l : List (List ℕ)). f z ∷ l) (last_same xs n x y g q)
+  last_same (z ∷ xs) zero x y g q = ap (λ (l : ℕ × List ℕ). l ∷ map f xs) (q ∙ ap f g)
+  last_same (z ∷ xs) (suc n) x y g q = ap (λ (l : List (ℕ × List ℕ)). f z ∷ l) (last_same xs n x y g q)
 
   -- the three ways of feeding
-  pub fed_ended : (b rest : List ℕ) (old new : List A) (ended : Bool) (x : A) → ended ≡ true → new ≡ old ++ x ∷ [] → f x ≡ b
-      → record { rest = rest; later = map f new; ended = false } ≡ fed b (record { rest = rest; later = map f old; ended = ended })
+  pub fed_ended : (b : List ℕ) (h : Held) (old new : List A) (x : A) → h.ended ≡ true → h.later ≡ map f old → new ≡ old ++ x ∷ [] → f x ≡ (h.ends, b)
+      → record h { later = map f new; ended = false } ≡ fed b h
   unfolding fed
-  fed_ended b rest old new ended x e n q = rw e (ap (λ (l : List (List ℕ)). record { rest = rest; later = l; ended = false }) (ap (map f) n ∙ map-append f old (x ∷ []) ∙ ap (λ (y : List ℕ). map f old ++ y ∷ []) q))
+  fed_ended b h old new x e l n q =
+      rw e (ap (λ (m : List (ℕ × List ℕ)). record h { later = m; ended = false })
+      (ap (map f) n ∙ map-append f old (x ∷ []) ∙ ap (λ (y : ℕ × List ℕ). map f old ++ y ∷ []) q ∙ ap (λ (m : List (ℕ × List ℕ)). m ++ (h.ends, b) ∷ []) (sym l)))
 
-  pub fed_last : (b rest : List ℕ) (old new : List A) (ended : Bool) → ended ≡ false → 0 < length old → map f new ≡ extend_last b (map f old)
-      → record { rest = rest; later = map f new; ended = ended } ≡ fed b (record { rest = rest; later = map f old; ended = ended })
+  pub fed_last : (b : List ℕ) (h : Held) (old new : List A) → h.ended ≡ false → h.later ≡ map f old → 0 < length old → map f new ≡ extend_last b (map f old)
+      → record h { later = map f new } ≡ fed b h
   unfolding fed
-  fed_last b rest [] new ended e n q = absurd (omega arith)
-  fed_last b rest (x ∷ xs) new ended e n q = rw (e, q) refl
+  fed_last b h [] new e l n q = absurd (omega arith)
+  fed_last b h (x ∷ xs) new e l n q = rw (l, e, q) refl
 
-pub fed_here : (b rest : List ℕ) (h : Held) → h.ended ≡ false → length h.later ≡ 0 → rest ≡ h.rest ++ b → record { rest = rest; later = h.later; ended = h.ended } ≡ fed b h
+pub fed_here : (b rest : List ℕ) (h : Held) → h.ended ≡ false → length h.later ≡ 0 → rest ≡ h.rest ++ b → record h { rest = rest } ≡ fed b h
 unfolding fed
-fed_here b rest h e n q = rw (e, q) (only_here b h.rest h.later n)
+fed_here b rest h e n q = rw e (only_here b rest h h.later n q)
 
 -- a test for 0
 pub not_zero : (n : ℕ) (b : Bool) → b ≡ (n == 0) → b ≡ false → 0 < n

@@ -11,10 +11,13 @@ use Rattle.rw_codes.specs.Pieces.{Piece, next_segment, bytes, page_size}
 use Rattle.rw_codes.proofs.Growing.{left_after_pos}
 use Rattle.rw_wal_tail.specs.declared.reader.Reader.{Reader}
 use Rattle.rw_wal_tail.specs.Found.{KnownZeros}
-use Rattle.rw_wal_tail.specs.Held.{Held, waiting, has_ended, begun_with, fed_with, fed}
-use Rattle.rw_wal_tail.specs.Still.{still, skip_of}
-use Rattle.rw_wal_tail.specs.Steps.{IsRead, waiting_of, IsOfLog, IsReader, Same, Takes, CanStep, FoundAt, FoundFragment, PausesAt}
+use Rattle.rw_wal_tail.specs.Held.{Held, waiting, has_ended, begun_with, fed_with, fed, passed, marked, can_count}
+use Rattle.rw_wal_tail.specs.Still.{still, skip_of, open_data}
+use Rattle.rw_wal_tail.specs.Steps.{IsRead, waiting_of, IsOfLog, IsReader, Same, SamePlace, Takes, CanStep, FoundAt, FoundFragment, PausesAt}
 use Rattle.rw_wal_tail.proofs.StillLaws.{IsInner, IsBegin, still_first, still_middle, still_full, still_last, still_bad_full, still_bad_last, still_closed, still_open, still_zeros, still_wrong}
+use Rattle.rw_wal_tail.specs.Places.{closes, opens}
+use Rattle.rw_wal_tail.proofs.PlaceLaws.{held_bad, held_wrong}
+use Rattle.rw_wal_tail.proofs.PlaceSteps.{place_advanced, place_zeros, place_failed, place_begun, place_torn, place_same, place_fed, place_marked}
 use Rattle.rw_wal_tail.proofs.WaitingLaws.{still_begun, still_torn_here, still_fed, still_marked, still_faulted}
 
 -- ---- the zeros that are known
@@ -25,10 +28,10 @@ known_none left n bs e = rw e (omega arith, omega arith, refl)
 pub known_as : (old new : Reader) → new.left ≡ old.left → new.zeros ≡ old.zeros → new.input.rest ≡ old.input.rest → KnownZeros old.left old.zeros old.input.rest → KnownZeros new.left new.zeros new.input.rest
 known_as old new l z r k = rw (l, z, r) k
 
-rest_fed : (b rest : List ℕ) (later : List (List ℕ)) (ended : Bool) → ((fed_with b rest later ended).rest ≡ rest) ⊎ ((fed_with b rest later ended).rest ≡ rest ++ b)
-rest_fed b rest later true = inl refl
-rest_fed b rest [] false = inr refl
-rest_fed b rest (s ∷ ss) false = inl refl
+rest_fed : (b : List ℕ) (h : Held) (later : List (ℕ × List ℕ)) (ended : Bool) → ((fed_with b h later ended).rest ≡ h.rest) ⊎ ((fed_with b h later ended).rest ≡ h.rest ++ b)
+rest_fed b h later true = inl refl
+rest_fed b h [] false = inr refl
+rest_fed b h (s ∷ ss) false = inl refl
 
 known_more : (left n : ℕ) (bs more : List ℕ) → KnownZeros left n bs → KnownZeros left n (bs ++ more)
 known_more left n bs more k =
@@ -38,14 +41,14 @@ known_more left n bs more k =
 
 known_fed : (old new : Reader) (b : List ℕ) → new.left ≡ old.left → new.zeros ≡ old.zeros → new.input.rest ≡ (fed b old.input).rest → KnownZeros old.left old.zeros old.input.rest → KnownZeros new.left new.zeros new.input.rest
 unfolding fed
-known_fed old new b l z r k = rw (l, z, r) (elim (rest_fed b old.input.rest old.input.later old.input.ended) [
+known_fed old new b l z r k = rw (l, z, r) (elim (rest_fed b old.input old.input.later old.input.ended) [
   | inl e ↦ subst (KnownZeros old.left old.zeros) (sym e) k
   | inr e ↦ subst (KnownZeros old.left old.zeros) (sym e) (known_more old.left old.zeros old.input.rest b k)
 ])
 
 -- new is old after a fragment of n bytes
 pub record Advanced (old new : Reader) (n : ℕ) : Type 0 where
-  pub input : new.input ≡ record old.input { rest = drop (7 + n) old.input.rest }
+  pub input : new.input ≡ passed (7 + n) old.input
   pub left : new.left ≡ left_after page_size old.left (7 + n)
   pub zeros : new.zeros ≡ 0
   pub fault : new.fault ≡ old.fault
@@ -73,6 +76,7 @@ module _ (old new : Reader) (n : ℕ) (a : Advanced old new n) (ready : new.read
       let w : waiting_of new ≡ waiting_of old = waiting_advanced old new n a in
       record {
         reader = reader_advanced old new n a (omega (arith, passed, f.can_step.reader.count)) f.can_step.no_fault;
+        place = place_advanced old new f.can_step n first (take n (drop 7 old.input.rest)) a.input a.left a.fault len f.found (rw (f.in_order, opened, d) refl);
         still_same = λ later.
             let s = still_first old.left f.can_step.reader.page old.input.rest old.ready.items old.passed (waiting_of old) later old.begun.items (take n (drop 7 old.input.rest)) f.found in
             let o : old.is_open ≡ false = f.in_order in
@@ -87,6 +91,7 @@ module _ (old new : Reader) (n : ℕ) (a : Advanced old new n) (ready : new.read
       let w : waiting_of new ≡ waiting_of old = waiting_advanced old new n a in
       record {
         reader = reader_advanced old new n a (omega (arith, passed, f.can_step.reader.count)) f.can_step.no_fault;
+        place = place_advanced old new f.can_step n middle (take n (drop 7 old.input.rest)) a.input a.left a.fault len f.found (rw (f.in_order, opened, d) refl);
         still_same = λ later.
             let s = still_middle old.left f.can_step.reader.page old.input.rest old.ready.items old.passed (waiting_of old) later old.begun.items (take n (drop 7 old.input.rest)) f.found in
             let o : old.is_open ≡ true = f.in_order in
@@ -100,6 +105,7 @@ pub same_closed : (old new : Reader) → IsReader old → old.is_open ≡ false 
 unfolding still
 same_closed old new r o o' i l z e p f = record {
   reader = record { page = omega (arith, l, r.page); count = omega (arith, p, r.count); fault = subst IsOfLog (sym f) r.fault; zeros = known_as old new l z (ap (λ (h : Held). h.rest) i) r.zeros };
+  place = place_same old new o o' i l f;
   still_same = λ later. rw (o, o', i, l, e, p, f) refl;
 }
 
@@ -119,6 +125,7 @@ module _ (old new : Reader) (n : ℕ) (a : Advanced old new n) (count : new.pass
       let none : old.ready.items ≡ [] = f.can_step.none_ready in
       record {
         reader = reader_advanced old new n a count f.can_step.no_fault;
+        place = place_advanced old new f.can_step n full (take n (drop 7 old.input.rest)) a.input a.left a.fault len f.found (rw (f.in_order, closed) (ap closes d.0));
         still_same = λ later.
             let s = still_full old.left f.can_step.reader.page old.input.rest old.passed (waiting_of old) later old.begun.items new.begun.items (take n (drop 7 old.input.rest)) new.ready.items f.found d.0 in
             let o : old.is_open ≡ false = f.in_order in
@@ -135,6 +142,7 @@ module _ (old new : Reader) (n : ℕ) (a : Advanced old new n) (count : new.pass
       let none : old.ready.items ≡ [] = f.can_step.none_ready in
       record {
         reader = reader_advanced old new n a count f.can_step.no_fault;
+        place = place_advanced old new f.can_step n last (take n (drop 7 old.input.rest)) a.input a.left a.fault len f.found (rw (f.in_order, closed) (ap closes d.0));
         still_same = λ later.
             let s = still_last old.left f.can_step.reader.page old.input.rest old.passed (waiting_of old) later old.begun.items new.begun.items (take n (drop 7 old.input.rest)) new.ready.items f.found d.0 in
             let o : old.is_open ≡ true = f.in_order in
@@ -154,12 +162,13 @@ pub record Failing (old new : Reader) (f : TailFault) : Type 0 where
   pub of_log : IsOfLog (Some f)
 
 module _ (old new : Reader) (fault : TailFault) (can : CanStep old) (a : Failing old new fault) where
-  pub same_failed : ((later : List Piece) → still [] old.passed None old.left old.is_open old.begun.items old.input.rest (waiting_of old) later ≡ still [] old.passed (Some fault) old.left old.is_open old.begun.items old.input.rest (waiting_of old) later) → Same old new
+  pub same_failed : SamePlace old new → ((later : List Piece) → still [] old.passed None old.left old.is_open old.begun.items old.input.rest (waiting_of old) later ≡ still [] old.passed (Some fault) old.left old.is_open old.begun.items old.input.rest (waiting_of old) later) → Same old new
   unfolding still
-  same_failed h =
+  same_failed x h =
       let none : old.ready.items ≡ [] = can.none_ready in
       record {
         reader = record { page = omega (arith, a.left, can.reader.page); count = omega (arith, a.passed, can.reader.count); fault = subst IsOfLog (sym a.fault) a.of_log; zeros = known_as old new a.left a.zeros (ap (λ (h : Held). h.rest) a.input) can.reader.zeros };
+        place = x;
         still_same = λ later. rw (none, can.no_fault, a.ready, a.fault, a.passed) (h later);
       }
 
@@ -169,53 +178,77 @@ read_as d d' p r p' b b' e q h = subst (λ (x : List ℕ). IsRead x p r p' b') e
 
 pub bad_full : (old new : Reader) (n : ℕ) → FoundAt full n old → Failing old new BadRecord → record_entries (take n (drop 7 old.input.rest)) ≡ None → Same old new
 bad_full old new n f a e =
-    same_failed old new BadRecord f.can_step a (λ later. rw f.in_order (still_bad_full old.left f.can_step.reader.page old.input.rest old.passed (waiting_of old) later old.begun.items (take n (drop 7 old.input.rest)) f.found e))
+    same_failed old new BadRecord f.can_step a
+    (place_failed old new f.can_step BadRecord a.input a.fault (λ ends later. held_bad old.left old.input.rest f.can_step.reader.page old.input.segment old.input.offset old.input.later old.input.ended ends later (open_data old.is_open old.begun.items) full (take n (drop 7 old.input.rest)) (rw f.in_order (ap closes e)) f.found))
+    (λ later. rw f.in_order (still_bad_full old.left f.can_step.reader.page old.input.rest old.passed (waiting_of old) later old.begun.items (take n (drop 7 old.input.rest)) f.found e))
 
 pub bad_last : (old new : Reader) (n : ℕ) → FoundAt last n old → Failing old new BadRecord → record_entries (old.begun.items ++ take n (drop 7 old.input.rest)) ≡ None → Same old new
 bad_last old new n f a e =
-    same_failed old new BadRecord f.can_step a (λ later. rw f.in_order (still_bad_last old.left f.can_step.reader.page old.input.rest old.passed (waiting_of old) later old.begun.items (take n (drop 7 old.input.rest)) f.found e))
+    same_failed old new BadRecord f.can_step a
+    (place_failed old new f.can_step BadRecord a.input a.fault (λ ends later. held_bad old.left old.input.rest f.can_step.reader.page old.input.segment old.input.offset old.input.later old.input.ended ends later (open_data old.is_open old.begun.items) last (take n (drop 7 old.input.rest)) (rw f.in_order (ap closes e)) f.found))
+    (λ later. rw f.in_order (still_bad_last old.left f.can_step.reader.page old.input.rest old.passed (waiting_of old) later old.begun.items (take n (drop 7 old.input.rest)) f.found e))
+
+inner_stops : (kind : grammar.Kind) (d : List ℕ) → IsInner kind → opens None kind d ≡ None
+inner_stops middle d i = refl
+inner_stops last d i = refl
+inner_stops full d i = absurd i
+inner_stops first d i = absurd i
+
+begin_stops : (kind : grammar.Kind) (o d : List ℕ) → IsBegin kind → opens (Some o) kind d ≡ None
+begin_stops full o d i = refl
+begin_stops first o d i = refl
+begin_stops middle o d i = absurd i
+begin_stops last o d i = absurd i
 
 pub bad_closed : (old new : Reader) (n : ℕ) (kind : grammar.Kind) → FoundFragment kind n old → IsInner kind → old.is_open ≡ false → Failing old new Sequence → Same old new
 bad_closed old new n kind f i o a =
-    same_failed old new Sequence f.can_step a (λ later. rw o (still_closed old.left f.can_step.reader.page old.input.rest [] old.passed old.begun.items (take n (drop 7 old.input.rest)) kind (waiting_of old) later i f.found))
+    same_failed old new Sequence f.can_step a
+    (place_failed old new f.can_step Sequence a.input a.fault (λ ends later. held_bad old.left old.input.rest f.can_step.reader.page old.input.segment old.input.offset old.input.later old.input.ended ends later (open_data old.is_open old.begun.items) kind (take n (drop 7 old.input.rest)) (rw o (inner_stops kind (take n (drop 7 old.input.rest)) i)) f.found))
+    (λ later. rw o (still_closed old.left f.can_step.reader.page old.input.rest [] old.passed old.begun.items (take n (drop 7 old.input.rest)) kind (waiting_of old) later i f.found))
 
 pub bad_open : (old new : Reader) (n : ℕ) (kind : grammar.Kind) → FoundFragment kind n old → IsBegin kind → old.is_open ≡ true → Failing old new Sequence → Same old new
 bad_open old new n kind f i o a =
-    same_failed old new Sequence f.can_step a (λ later. rw o (still_open old.left f.can_step.reader.page old.input.rest [] old.passed old.begun.items (take n (drop 7 old.input.rest)) kind (waiting_of old) later i f.found))
+    same_failed old new Sequence f.can_step a
+    (place_failed old new f.can_step Sequence a.input a.fault (λ ends later. held_bad old.left old.input.rest f.can_step.reader.page old.input.segment old.input.offset old.input.later old.input.ended ends later (open_data old.is_open old.begun.items) kind (take n (drop 7 old.input.rest)) (rw o (begin_stops kind old.begun.items (take n (drop 7 old.input.rest)) i)) f.found))
+    (λ later. rw o (still_open old.left f.can_step.reader.page old.input.rest [] old.passed old.begun.items (take n (drop 7 old.input.rest)) kind (waiting_of old) later i f.found))
 
 pub bad_item : (old new : Reader) (fault : TailFault) → CanStep old → item_at old.left old.input.rest ≡ grammar.wrong fault → Failing old new fault → Same old new
 bad_item old new fault can e a =
-    same_failed old new fault can a (λ later. still_wrong old.left can.reader.page old.input.rest [] old.passed (waiting_of old) later old.is_open old.begun.items fault e)
+    same_failed old new fault can a
+    (place_failed old new can fault a.input a.fault (λ ends later. held_wrong old.left old.input.rest can.reader.page old.input.segment old.input.offset old.input.later old.input.ended ends later (open_data old.is_open old.begun.items) fault e))
+    (λ later. still_wrong old.left can.reader.page old.input.rest [] old.passed (waiting_of old) later old.is_open old.begun.items fault e)
 
 -- what was found, of the bytes as the grammar has them
 pub found_item : (left : ℕ) (xs ys : List ℕ) (x : grammar.Item) → xs ≡ ys → item_at left xs ≡ x → item_at left ys ≡ x
 found_item left xs ys x e h = sym (ap (item_at left) e) ∙ h
 
 pub same_zeros : (old new : Reader) → CanStep old → item_at old.left old.input.rest ≡ grammar.zeros
-    → new.input ≡ record old.input { rest = drop old.left old.input.rest } → new.left ≡ page_size → new.zeros ≡ 0 → new.ready.items ≡ old.ready.items → new.begun.items ≡ old.begun.items
+    → new.input ≡ passed old.left old.input → new.left ≡ page_size → new.zeros ≡ 0 → new.ready.items ≡ old.ready.items → new.begun.items ≡ old.begun.items
     → new.passed ≡ old.passed → new.fault ≡ old.fault → new.is_open ≡ old.is_open → Same old new
 same_zeros old new can z i left k e d p f o =
     let r : new.input.rest ≡ drop old.left old.input.rest = ap (λ (h : Held). h.rest) i in
     let w : waiting_of new ≡ waiting_of old = ap (λ (h : Held). waiting h.later h.ended) i in
     record {
       reader = record { page = omega (arith, left); count = omega (arith, p, can.reader.count); fault = subst IsOfLog (sym f) can.reader.fault; zeros = known_none new.left new.zeros new.input.rest k };
+      place = place_zeros old new can z i left f o d;
       still_same = λ later.
           let s = still_zeros old.left can.reader.page old.input.rest old.ready.items old.passed (waiting_of old) later old.is_open old.begun.items z in
           let q : old.fault ≡ None = can.no_fault in
           cc;
     }
 
-pub same_begun : (old new : Reader) → PausesAt false old → has_ended old.input.later old.input.ended ≡ true → new.input ≡ begun_with old.input.later old.input.ended
+pub same_begun : (old new : Reader) → PausesAt false old → has_ended old.input.later old.input.ended ≡ true → new.input ≡ begun_with old.input.later old.input.ended old.input.ends
     → new.left ≡ page_size → new.zeros ≡ 0 → new.ready.items ≡ old.ready.items → new.begun.items ≡ old.begun.items → new.passed ≡ old.passed → new.fault ≡ old.fault → new.is_open ≡ old.is_open → Same old new
 same_begun old new pa h i l k e d p f o =
     let can = pa.can_step in
-    let r : new.input.rest ≡ (begun_with old.input.later old.input.ended).rest = ap (λ (h : Held). h.rest) i in
-    let w : waiting_of new ≡ waiting (begun_with old.input.later old.input.ended).later (begun_with old.input.later old.input.ended).ended = ap (λ (h : Held). waiting h.later h.ended) i in
+    let r : new.input.rest ≡ (begun_with old.input.later old.input.ended old.input.ends).rest = ap (λ (h : Held). h.rest) i in
+    let w : waiting_of new ≡ waiting (begun_with old.input.later old.input.ended old.input.ends).later (begun_with old.input.later old.input.ended old.input.ends).ended = ap (λ (h : Held). waiting h.later h.ended) i in
     let n : (item_at old.left old.input.rest ≡ grammar.nothing) × (false ≡ old.is_open) = elim pa.ends [ inl x ↦ absurd (let z : false ≡ true = x.1 in cc) | inr x ↦ x ] in
     record {
       reader = record { page = omega (arith, l); count = omega (arith, p, can.reader.count); fault = subst IsOfLog (sym f) can.reader.fault; zeros = known_none new.left new.zeros new.input.rest k };
+      place = place_begun old new can n.0 (sym n.1) h i l f o;
       still_same = λ later.
-          let s = still_begun old.left can.reader.page old.input.rest old.ready.items old.passed old.begun.items old.input.later old.input.ended later h n.0 in
+          let s = still_begun old.left can.reader.page old.input.rest old.ready.items old.passed old.begun.items old.input.later old.input.ended old.input.ends later h n.0 in
           let q : old.fault ≡ None = can.no_fault in
           let i : false ≡ old.is_open = n.1 in
           cc;
@@ -224,30 +257,33 @@ same_begun old new pa h i l k e d p f o =
 pub same_torn : (old new : Reader) → PausesAt true old → has_ended old.input.later old.input.ended ≡ true → Failing old new TornSegment → Same old new
 same_torn old new pa h a =
     let t : (item_at old.left old.input.rest ≡ grammar.begun) ⊎ ((old.is_open ≡ true) × (item_at old.left old.input.rest ≡ grammar.nothing)) = elim pa.ends [ inl x ↦ inl x.0 | inr x ↦ inr (sym x.1, x.0) ] in
-    same_failed old new TornSegment pa.can_step a (λ later. still_torn_here old.left pa.can_step.reader.page old.input.rest [] old.passed old.is_open old.begun.items old.input.later old.input.ended later h t)
+    same_failed old new TornSegment pa.can_step a (place_torn old new pa.can_step TornSegment t h a.input a.fault) (λ later. still_torn_here old.left pa.can_step.reader.page old.input.rest [] old.passed old.is_open old.begun.items old.input.later old.input.ended later h t)
 
-pub takes_bytes : (old new : Reader) (b : List ℕ) → IsReader old → new.input ≡ fed b old.input → new.left ≡ old.left → new.zeros ≡ old.zeros → new.ready.items ≡ old.ready.items → new.begun.items ≡ old.begun.items
+pub takes_bytes : (old new : Reader) (b : List ℕ) → IsReader old → can_count old.input ≡ true → new.input ≡ fed b old.input → new.left ≡ old.left → new.zeros ≡ old.zeros → new.ready.items ≡ old.ready.items → new.begun.items ≡ old.begun.items
     → new.passed ≡ old.passed → new.fault ≡ old.fault → new.is_open ≡ old.is_open → Takes (bytes b) old new
-takes_bytes old new b r i l k e d p f o =
+takes_bytes old new b r can i l k e d p f o =
     let q : new.input.rest ≡ (fed b old.input).rest = ap (λ (h : Held). h.rest) i in
     let w : waiting_of new ≡ waiting (fed b old.input).later (fed b old.input).ended = ap (λ (h : Held). waiting h.later h.ended) i in
     record {
       reader = record { page = omega (arith, l, r.page); count = omega (arith, p, r.count); fault = subst IsOfLog (sym f) r.fault; zeros = known_fed old new b l k q r.zeros };
+      place = place_fed old new b can i l f o d;
       still_more = λ later. let s = still_fed old.ready.items old.passed old.fault old.left old.is_open old.begun.items old.input b later in cc;
     }
 
-pub takes_mark : (old new : Reader) → IsReader old → new.input ≡ record old.input { ended = true } → new.left ≡ old.left → new.zeros ≡ old.zeros → new.ready.items ≡ old.ready.items → new.begun.items ≡ old.begun.items
+pub takes_mark : (old new : Reader) → IsReader old → new.input ≡ marked old.input → new.left ≡ old.left → new.zeros ≡ old.zeros → new.ready.items ≡ old.ready.items → new.begun.items ≡ old.begun.items
     → new.passed ≡ old.passed → new.fault ≡ old.fault → new.is_open ≡ old.is_open → Takes next_segment old new
 takes_mark old new r i l k e d p f o =
     let q : new.input.rest ≡ old.input.rest = ap (λ (h : Held). h.rest) i in
     let w : waiting_of new ≡ waiting old.input.later true = ap (λ (h : Held). waiting h.later h.ended) i in
     record {
       reader = record { page = omega (arith, l, r.page); count = omega (arith, p, r.count); fault = subst IsOfLog (sym f) r.fault; zeros = known_as old new l k (ap (λ (h : Held). h.rest) i) r.zeros };
+      place = place_marked old new i l f o d;
       still_more = λ later. let s = still_marked old.ready.items old.passed old.fault old.left old.is_open old.begun.items old.input.rest old.input.later old.input.ended later in cc;
     }
 
-pub takes_nothing : (r : Reader) (x : Piece) (f : TailFault) → IsReader r → r.fault ≡ Some f → Takes x r r
-takes_nothing r x f i e = record {
+pub takes_nothing : (r : Reader) (b : List ℕ) (f : TailFault) → IsReader r → r.fault ≡ Some f → Takes (bytes b) r r
+takes_nothing r b f i e = record {
   reader = i;
-  still_more = λ later. rw e (still_faulted r.ready.items r.passed f r.left r.is_open r.begun.items r.input.rest (waiting_of r) x later);
+  place = record { counts = λ ends c. c; still_there = λ ends c later. rw e refl };
+  still_more = λ later. rw e (still_faulted r.ready.items r.passed f r.left r.is_open r.begun.items r.input.rest (waiting_of r) (bytes b) later);
 }

@@ -36,7 +36,7 @@ fault_on left o rest f h (bytes b ∷ later) = fault_on left o (rest ++ b) f (λ
 fault_on left o rest f h (next_segment ∷ later) =
     ap (λ (r : Reading). then_next r (reading_after page_size [] later)) (ap (read_from page_size left o) (sym (append-nil rest)) ∙ h [])
 
-wrong_stays_at : (left : ℕ) (rest more : List ℕ) (f : TailFault) → item_at left rest ≡ wrong f → item_at left (rest ++ more) ≡ wrong f
+pub wrong_stays_at : (left : ℕ) (rest more : List ℕ) (f : TailFault) → item_at left rest ≡ wrong f → item_at left (rest ++ more) ≡ wrong f
 unfolding Stays
 wrong_stays_at left rest more f e =
     subst (λ (x : Item). Stays left (length rest) x (item_at left (rest ++ more))) e (item_stays left rest more)

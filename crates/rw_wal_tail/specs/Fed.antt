@@ -11,7 +11,9 @@ use Rattle.rw_wal_tail.specs.declared.piece.Told.{Told}
 use Rattle.rw_wal_tail.specs.declared.piece.Told.TheVariants as told
 use Rattle.rw_wal_tail.specs.declared.reader.Reader.{Reader}
 use Rattle.rw_wal_tail.specs.Still.{after}
-use Rattle.rw_wal_tail.specs.Steps.{IsReader, still_read}
+use Rattle.rw_wal_tail.specs.Places.{stop_after}
+use Rattle.rw_wal_tail.specs.Placed.{ends_after}
+use Rattle.rw_wal_tail.specs.Steps.{IsReader, still_read, still_place, Counts}
 
 -- the pieces that were fed, the number of entries that were given, and the number of records that were passed over
 pub record Fed : Type 0 where
@@ -56,6 +58,8 @@ told_of told.NextSegment = pieces.next_segment
 pub record Follows (ps : List pieces.Piece) (given : List Entry) (r : Reader) : Type 0 where
   pub reader : IsReader r
   pub reads : (later : List pieces.Piece) → reading page_size (ps ++ later) ≡ after given 0 (still_read r later)
+  pub counts : Counts (ends_after 0 ps) r
+  pub stops : (later : List pieces.Piece) → stop_after page_size 0 [] (ps ++ later) ≡ still_place r (ends_after 0 ps) later
 
 -- nothing is ready, and this is the reader's fault, where there is one
 abbrev pub IsStuck : Reader → Option TailFault → Type 0

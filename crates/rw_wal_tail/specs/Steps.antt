@@ -11,8 +11,10 @@ use Rattle.rw_wal_tail.specs.declared.reader.Reader.{Reader}
 use Rattle.rw_wal_tail.specs.declared.reader.Step.{Step}
 use Rattle.rw_wal_tail.specs.declared.reader.Step.TheVariants.{More, Waits, Failed}
 use Rattle.rw_wal_tail.specs.Found.{KnownZeros}
-use Rattle.rw_wal_tail.specs.Held.{waiting, held_weight, has_ended}
-use Rattle.rw_wal_tail.specs.Still.{still, skip_of}
+use Rattle.rw_wal_tail.specs.declared.place.FaultPlace.{FaultPlace}
+use Rattle.rw_wal_tail.specs.Held.{waiting, held_weight, has_ended, can_count, unfed}
+use Rattle.rw_wal_tail.specs.Placed.{place_from, ends_with}
+use Rattle.rw_wal_tail.specs.Still.{still, skip_of, open_data}
 
 abbrev pub waiting_of : Reader → List Piece
 waiting_of r = waiting r.input.later r.input.ended
@@ -20,6 +22,14 @@ waiting_of r = waiting r.input.later r.input.ended
 -- what the reader still reads
 abbrev pub still_read : Reader → List Piece → Reading
 still_read r later = still r.ready.items r.passed r.fault r.left r.is_open r.begun.items r.input.rest (waiting_of r) later
+
+-- where the reading stops of what it still reads, where so many segments have ended
+abbrev pub still_place : Reader → ℕ → List Piece → FaultPlace
+still_place r ends later = place_from r.fault r.left (open_data r.is_open r.begun.items) r.input ends later
+
+-- this is the number of segments that have ended, unless there are too many
+abbrev pub Counts : ℕ → Reader → Type 0
+Counts ends r = r.input.ends < 2 ^ 60 → r.input.ends ≡ ends
 
 -- a fault of the log, if any
 abbrev pub IsOfLog : Option TailFault → Type 0
@@ -32,19 +42,32 @@ pub record IsReader (r : Reader) : Type 0 where
   pub fault : IsOfLog r.fault
   pub zeros : KnownZeros r.left r.zeros r.input.rest
 
+-- the place where the reading stops does not change
+pub record SamePlace (old new : Reader) : Type 0 where
+  pub counts : new.input.ends ≡ old.input.ends
+  pub still_there : (ends : ℕ) → Counts ends old → (later : List Piece) → still_place old ends later ≡ still_place new ends later
+
 -- nothing that is still read changes
 pub record Same (old new : Reader) : Type 0 where
   pub reader : IsReader new
+  pub place : SamePlace old new
   pub still_same : (later : List Piece) → still_read old later ≡ still_read new later
+
+-- the place with one more piece
+pub record TakesPlace (piece : Piece) (old new : Reader) : Type 0 where
+  pub counts : (ends : ℕ) → Counts ends old → Counts (ends_with ends piece) new
+  pub still_there : (ends : ℕ) → Counts ends old → (later : List Piece) → still_place old ends (piece ∷ later) ≡ still_place new (ends_with ends piece) later
 
 -- one more piece is still read
 pub record Takes (piece : Piece) (old new : Reader) : Type 0 where
   pub reader : IsReader new
+  pub place : TakesPlace piece old new
   pub still_more : (later : List Piece) → still_read old (piece ∷ later) ≡ still_read new later
 
 -- a reader with nothing ready and no fault
 pub record CanStep (r : Reader) : Type 0 where
   pub reader : IsReader r
+  pub counted : can_count r.input ≡ true
   pub none_ready : r.ready.items ≡ []
   pub no_fault : r.fault ≡ None
 
@@ -98,7 +121,7 @@ is_failed_by f r = record r { fault = Some f }
 
 -- a reader that nothing was fed to
 pub record IsUnfed (r : Reader) : Type 0 where
-  pub input : r.input ≡ record { rest = []; later = []; ended = false }
+  pub input : r.input ≡ unfed
   pub left : r.left ≡ page_size
   pub is_open : r.is_open ≡ false
   pub ready : r.ready.items ≡ []

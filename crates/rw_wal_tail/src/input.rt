@@ -1,29 +1,53 @@
 //! The bytes that are not read yet.
 
-ghost use Rattle.std.specs.Prelude.{◌≡◌, ◌≤◌, ◌<◌, ◌+◌, ◌*◌, [], true, false, length, drop, take, map, IfOk, OnOk, OnErr};
-ghost use Rattle.rw_wal_tail.specs.Held.{has_ended, begun_with, extend_last, fed};
+ghost use Rattle.std.specs.Prelude.{◌≡◌, ◌≤◌, ◌<◌, ◌+◌, ◌*◌, [], true, length, drop, take, map, IfOk, OnOk, OnErr};
+ghost use Rattle.rw_wal_tail.specs.Held.{has_ended, begun_with, extend_last, fed, unfed, passed, marked, can_count, waits_as};
 
 use std::alloc::{AllocError, Global};
 use std::collections::VecDeque;
 use std::marker::Model;
 
+/// No count reaches this. Where it would, memory is said to have run out.
+pub(crate) const COUNT_END: u64 = 1 << 60;
+
+/// A segment that waits.
+#[derive(Drop)]
+struct Segment {
+    /// How many segments stand before it.
+    number: u64,
+    bytes: Vec<u8>,
+}
+
 /// The rest of the segment at hand, and what has come of the segments after it.
 #[derive(Drop)]
 pub(crate) struct Input {
+    /// How many segments stand before the one at hand.
+    segment: u64,
+    /// How many of its bytes were passed.
+    offset: u64,
     buffer: Vec<u8>,
     /// Where the rest begins in the buffer.
     at: usize,
-    later: VecDeque<Vec<u8>>,
+    later: VecDeque<Segment>,
     ended: bool,
+    /// How many segments have ended, up to `COUNT_END`.
+    ends: u64,
 }
 
 impl Model for Input {
     ghost use Rattle.std.specs.Prelude.{◌≤◌, drop, length, map};
-    ghost use Rattle.rw_wal_tail.specs.Held.{Held};
+    ghost use Rattle.rw_wal_tail.specs.Held.{Held, waits_as};
 
     ghost Value = { Held };
 
-    ghost view = { λ i. record { rest = drop i.at i.buffer.items; later = map (λ v. v.items) i.later.items; ended = i.ended } };
+    ghost view = { λ i. record {
+      segment = i.segment;
+      offset = i.offset;
+      rest = drop i.at i.buffer.items;
+      later = map waits_as i.later.items;
+      ended = i.ended;
+      ends = i.ends;
+    } };
 
     ghost invariant = { λ i. i.at ≤ length i.buffer.items };
 }
@@ -51,13 +75,13 @@ fn compact(buffer: &mut Vec<u8>, at: &mut usize)
 }
 
 /// Adds to the last segment.
-fn extend_last_segment(later: &mut VecDeque<Vec<u8>>, piece: &[u8]) -> Result<(), AllocError>
+fn extend_last_segment(later: &mut VecDeque<Segment>, piece: &[u8]) -> Result<(), AllocError>
     requires { 0 < length later.old.items }
-    ensures ok { OnOk result (map (λ v. v.items) later.new.items ≡ extend_last piece.now (map (λ v. v.items) later.old.items)) }
-    ensures err { OnErr result (map (λ v. v.items) later.new.items ≡ map (λ v. v.items) later.old.items) }
+    ensures ok { OnOk result (map waits_as later.new.items ≡ extend_last piece.now (map waits_as later.old.items)) }
+    ensures err { OnErr result (map waits_as later.new.items ≡ map waits_as later.old.items) }
 {
     let last = later.len() - 1;
-    later[last].extend_from_slice(piece)
+    later[last].bytes.extend_from_slice(piece)
 }
 
 /// The same bytes once more.
@@ -68,26 +92,54 @@ pub(crate) fn copy_of(alloc: Global, bytes: &[u8]) -> Result<Vec<u8>, AllocError
 }
 
 /// The same segments once more.
-fn copy_all(alloc: Global, segments: &VecDeque<Vec<u8>>) -> Result<VecDeque<Vec<u8>>, AllocError>
-    ensures { IfOk result (λ d. map (λ v. v.items) d.items ≡ map (λ v. v.items) segments.now.items) }
+fn copy_all(alloc: Global, segments: &VecDeque<Segment>) -> Result<VecDeque<Segment>, AllocError>
+    ensures { IfOk result (λ d. map waits_as d.items ≡ map waits_as segments.now.items) }
 {
     let mut copy = VecDeque::new(alloc);
     for i in 0..segments.len() {
-        copy.push_back(copy_of(alloc, &segments[i])?)?;
+        let segment = &segments[i];
+        copy.push_back(Segment {
+            number: segment.number,
+            bytes: copy_of(alloc, &segment.bytes)?,
+        })?;
     }
     Ok(copy)
 }
 
 impl Input {
     pub(crate) fn new(alloc: Global) -> Input
-        ensures { result ≡ record { rest = []; later = []; ended = false } }
+        ensures { result ≡ unfed }
     {
         Input {
+            segment: 0,
+            offset: 0,
             buffer: Vec::new(alloc),
             at: 0,
             later: VecDeque::new(alloc),
             ended: false,
+            ends: 0,
         }
+    }
+
+    /// How many segments stand before the one at hand.
+    pub(crate) fn segment(&self) -> u64
+        ensures { result ≡ self.now.segment }
+    {
+        self.segment
+    }
+
+    /// How many bytes of the segment at hand were passed.
+    pub(crate) fn offset(&self) -> u64
+        ensures { result ≡ self.now.offset }
+    {
+        self.offset
+    }
+
+    /// Whether bytes and segments can still be counted.
+    pub(crate) fn can_count(&self) -> bool
+        ensures { result ≡ can_count self.now }
+    {
+        self.offset < COUNT_END && self.ends < COUNT_END
     }
 
     /// What is left of the segment at hand.
@@ -99,10 +151,12 @@ impl Input {
 
     /// Leaves so many bytes behind.
     pub(crate) fn pass(&mut self, count: usize)
-        requires { count ≤ length self.old.rest }
-        ensures { self.new ≡ record self.old { rest = drop count self.old.rest } }
+        requires rest { count ≤ length self.old.rest }
+        requires counted { can_count self.old ≡ true }
+        ensures { self.new ≡ passed count self.old }
     {
         self.at += count;
+        self.offset += count as u64;
     }
 
     /// Whether the segment at hand has ended.
@@ -115,12 +169,17 @@ impl Input {
     /// Begins the next segment.
     pub(crate) fn begin_segment(&mut self)
         requires { has_ended self.old.later self.old.ended ≡ true }
-        ensures { self.new ≡ begun_with self.old.later self.old.ended }
+        ensures { self.new ≡ begun_with self.old.later self.old.ended self.old.ends }
     {
         self.at = 0;
+        self.offset = 0;
         match self.later.pop_front() {
-            Some(segment) => self.buffer = segment,
+            Some(segment) => {
+                self.segment = segment.number;
+                self.buffer = segment.bytes;
+            }
             None => {
+                self.segment = self.ends;
                 self.buffer.clear();
                 self.ended = false;
             }
@@ -129,9 +188,12 @@ impl Input {
 
     /// The last segment has ended. Where it had ended before, the one between them is empty, and no two ends need to be told apart.
     pub(crate) fn end_segment(&mut self)
-        ensures { self.new ≡ record self.old { ended = true } }
+        ensures { self.new ≡ marked self.old }
     {
         self.ended = true;
+        if self.ends < COUNT_END {
+            self.ends += 1;
+        }
     }
 
     /// More bytes of the last segment.
@@ -141,7 +203,10 @@ impl Input {
     {
         if self.ended {
             let alloc = *self.buffer.allocator();
-            self.later.push_back(piece.to_vec(alloc)?)?;
+            self.later.push_back(Segment {
+                number: self.ends,
+                bytes: piece.to_vec(alloc)?,
+            })?;
             self.ended = false;
             Ok(())
         } else if self.later.is_empty() {
@@ -158,10 +223,13 @@ impl Input {
     {
         let later = copy_all(alloc, &self.later)?;
         Ok(Input {
+            segment: self.segment,
+            offset: self.offset,
             buffer: copy_of(alloc, self.rest())?,
             at: 0,
             later,
             ended: self.ended,
+            ends: self.ends,
         })
     }
 }

@@ -8,11 +8,13 @@
 mod input;
 mod item;
 mod piece;
+mod place;
 mod read;
 mod reader;
 mod record;
 mod tail;
 
 pub use piece::Piece;
+pub use place::FaultPlace;
 pub use rw_codes::TailFault;
 pub use tail::Tail;

@@ -1,15 +1,18 @@
 //! The steps of a reader.
 
-ghost use Rattle.std.specs.Prelude.{◌≡◌, ◌+◌, ◌<◌, ◌≤◌, ◌^◌, [], ◌∷◌, length, drop, take, MatchResult, IfOk, OnOk, OnErr};
+ghost use Rattle.std.specs.Prelude.{◌≡◌, ◌+◌, ◌<◌, ◌≤◌, ◌^◌, [], ◌∷◌, true, length, drop, take, MatchResult, IfOk, OnOk, OnErr};
 ghost use Rattle.rw_codes.specs.Records as grammar;
 ghost use Rattle.rw_codes.specs.Segments.{left_after, full, first, middle, last};
 ghost use Rattle.rw_codes.specs.Pieces.{page_size, bytes, next_segment};
 ghost use Rattle.rw_wal_tail.specs.declared.reader.Step.TheVariants.{Failed};
 ghost use Rattle.rw_wal_tail.specs.Found.{kind_of};
+ghost use Rattle.rw_wal_tail.specs.Held.{passed, can_count};
+ghost use Rattle.rw_wal_tail.specs.Placed.{front_of};
 ghost use Rattle.rw_wal_tail.specs.Steps.{Same, Takes, Stepped, PausesAt, FoundAt, FoundFragment, IsReader, IsUnfed, IsRead, Ran, is_failed_by};
 
-use crate::input::{Input, copy_of};
+use crate::input::{COUNT_END, Input, copy_of};
 use crate::item::{Found, Kind, item};
+use crate::place::FaultPlace;
 use crate::record::{Unread, read_record};
 use rw_codes::TailFault;
 use rw_types::Entry;
@@ -18,9 +21,6 @@ use std::collections::VecDeque;
 
 /// The bytes of a page (wal.md).
 const PAGE: usize = 32768;
-
-/// No count reaches this. Where it would, memory is said to have run out.
-pub(crate) const COUNT_END: u64 = 1 << 60;
 
 /// Bytes that are not read yet, the record that is open, and entries that are not given yet.
 #[derive(Drop)]
@@ -138,6 +138,9 @@ impl Reader {
         if let Some(_) = self.fault {
             return Ok(());
         }
+        if !self.input.can_count() {
+            return Err(AllocError);
+        }
         self.input.feed(piece)
     }
 
@@ -155,7 +158,8 @@ impl Reader {
     fn advance(&mut self, len: usize)
         requires whole { 7 + len ≤ length self.old.input.rest }
         requires in_page { 7 + len ≤ self.old.left }
-        ensures { self.new ≡ record self.old { input = record self.old.input { rest = drop (7 + len) self.old.input.rest }; left = left_after page_size self.old.left (7 + len); zeros = 0 } }
+        requires counted { can_count self.old.input ≡ true }
+        ensures { self.new ≡ record self.old { input = passed (7 + len) self.old.input; left = left_after page_size self.old.left (7 + len); zeros = 0 } }
     {
         let left = self.left;
         let size = 7 + len;
@@ -290,6 +294,9 @@ impl Reader {
         if let Some(fault) = self.fault {
             return Ok(Step::Failed(fault));
         }
+        if !self.input.can_count() {
+            return Err(AllocError);
+        }
         match item(self.left, self.zeros, self.input.rest()) {
             Found::Nothing => {
                 self.zeros = self.input.rest().len();
@@ -329,6 +336,16 @@ impl Reader {
         ensures rest { self.new ≡ record self.old { ready = self.new.ready } }
     {
         self.ready.pop_front().unwrap()
+    }
+
+    /// The segment at hand, and the offset in it of what stands at the front.
+    pub(crate) fn place(&self) -> FaultPlace
+        ensures { result ≡ front_of self.now.input }
+    {
+        FaultPlace {
+            segment: self.input.segment(),
+            offset: self.input.offset(),
+        }
     }
 
     /// The same reader once more.

@@ -2,13 +2,16 @@
 
 ghost use Rattle.std.specs.Prelude.{◌≡◌, ◌⊎◌, ◌≤◌, ◌<◌, ◌^◌, [], ◌∷◌, ◌++◌, length, Err, Some, None, IfOk, OnOk, OnErr};
 ghost use Rattle.rw_codes.specs.Laws.{Extends};
-ghost use Rattle.rw_codes.specs.Pieces.{bytes, next_segment, entries, page_size, reading};
+ghost use Rattle.rw_codes.specs.Pieces.{bytes, next_segment, entries, fault, page_size, reading};
 ghost use Rattle.rw_codes.specs.declared.tail_fault.TailFault.{TailFault};
 ghost use Rattle.rw_codes.specs.declared.tail_fault.TailFault.TheVariants.{OutOfMemory};
 ghost use Rattle.rw_wal_tail.specs.Fed.{next_of, answered, CutsDoNotMatter};
+ghost use Rattle.rw_wal_tail.specs.Places.{told_place};
 
+use crate::input::COUNT_END;
 use crate::piece::Told;
-use crate::reader::{COUNT_END, Reader, Step};
+use crate::place::FaultPlace;
+use crate::reader::{Reader, Step};
 use rw_codes::TailFault;
 use rw_history::History;
 use rw_types::Entry;
@@ -133,6 +136,17 @@ impl Tail {
         ensures { result ≡ self.now.skipped }
     {
         self.skipped
+    }
+
+    /// The place of the fault that `next_entry` has answered; none before a fault was answered. This takes no memory.
+    pub fn fault_place(&self) -> Option<FaultPlace>
+        ensures place { result ≡ told_place self.now.fault self.now.pieces }
+        ensures is_fault { (f : TailFault) → self.now.fault ≡ Some f → fault self.now.pieces ≡ Some f }
+    {
+        match self.told {
+            Some(_) => Some(self.reader.place()),
+            None => None,
+        }
     }
 
     /// A second reader at the same place, for one who may have to go back.

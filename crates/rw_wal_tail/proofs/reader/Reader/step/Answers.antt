@@ -1,4 +1,4 @@
-use Rattle.std.proofs.Common.{◌≡◌, ◌∙◌, ap, refl, inr}
+use Rattle.std.proofs.Common.{◌≡◌, ◌∙◌, ap, sym, refl, inr}
 use Rattle.rw_codes.specs.Segments.{nothing, zeros, wrong, item_at}
 use Rattle.rw_wal_tail.specs.declared.reader.Reader.{Reader}
 use Rattle.rw_wal_tail.specs.Steps.{CanStep}
@@ -8,14 +8,14 @@ use Rattle.rw_wal_tail.proofs.reader.Reader.step.Goals as goal
 
 pub returns-in-Zeros-clause-same : goal.returns-in-Zeros-clause-same
 returns-in-Zeros-clause-same c =
-    let can : CanStep c.args.self.now = record { reader = c.requires.reader; none_ready = c.requires.none_ready; no_fault = c.in_default.is } in
+    let can : CanStep c.args.self.now = record { reader = c.requires.reader; counted = sym c.can_count.ensures ∙ c.if-not-can_count.false; none_ready = c.requires.none_ready; no_fault = c.in_default.is } in
     let z : item_at c.args.self.now.left c.args.self.now.input.rest ≡ zeros = found_item c.args.self.now.left c.rest.result.now c.args.self.now.input.rest zeros c.rest.ensures c.in-Zeros.ensures.item in
     same_zeros c.args.self.now _ can z c.pass.ensures refl refl refl refl refl refl refl
 
 pub returns-in-Wrong-clause-same : goal.returns-in-Wrong-clause-same
 returns-in-Wrong-clause-same c =
     let e = c.fail.ensures.new in
-    let can : CanStep c.args.self.now = record { reader = c.requires.reader; none_ready = c.requires.none_ready; no_fault = c.in_default.is } in
+    let can : CanStep c.args.self.now = record { reader = c.requires.reader; counted = sym c.can_count.ensures ∙ c.if-not-can_count.false; none_ready = c.requires.none_ready; no_fault = c.in_default.is } in
     let z : item_at c.args.self.now.left c.args.self.now.input.rest ≡ wrong c.in-Wrong.fault = found_item c.args.self.now.left c.rest.result.now c.args.self.now.input.rest (wrong c.in-Wrong.fault) c.rest.ensures c.in-Wrong.ensures.item in
     let a : Failing c.args.self.now c.fail.new.self c.in-Wrong.fault = record { input = ap (λ (r : Reader). r.input) e; left = ap (λ (r : Reader). r.left) e; zeros = ap (λ (r : Reader). r.zeros) e; ready = ap (λ (r : Reader). r.ready.items) e ∙ c.requires.none_ready; passed = ap (λ (r : Reader). r.passed) e; fault = ap (λ (r : Reader). r.fault) e; of_log = wrong_of_log c.args.self.now.left c.args.self.now.input.rest c.in-Wrong.fault z } in
     bad_item c.args.self.now c.fail.new.self c.in-Wrong.fault can z a
@@ -26,6 +26,7 @@ pause-requires c =
     rw c.rest-in-Nothing.ensures (record {
       can_step = record {
         reader = record { page = c.requires.reader.page; count = c.requires.reader.count; fault = c.requires.reader.fault; zeros = nothing_known c.args.self.now.left c.args.self.now.input.rest n };
+        counted = sym c.can_count.ensures ∙ c.if-not-can_count.false;
         none_ready = c.requires.none_ready;
         no_fault = c.in_default.is;
       };
