@@ -1,5 +1,5 @@
 -- The steps of a reader leave the place where its reading stops as it is.
-use Rattle.std.proofs.Common.{◌≡◌, ℕ, ◌+◌, ◌<◌, ◌≤◌, ◌^◌, List, [], ◌∷◌, length, take, drop, Option, Some, None, Bool, true, false, refl, sym, ap, ◌∙◌, arith, subst, ltb, lt-ltb, le-ltb, nat_lt, inl, inr, ◌⊎◌}
+use Rattle.std.proofs.Common.{◌≡◌, ℕ, ◌+◌, ◌<◌, ◌^◌, List, [], ◌∷◌, length, Option, Some, None, Bool, true, false, refl, sym, ap, ◌∙◌, arith, subst, ltb, lt-ltb, le-ltb, nat_lt, inl, inr, ◌⊎◌}
 use Rattle.std.proofs.lemmas.Bool.{cases_lt}
 use Rattle.std.specs.Prelude.{◌&&◌}
 use borrow.Author.Tests.{ltb-true}
@@ -12,7 +12,7 @@ use Rattle.rw_wal_tail.specs.Held.{Held, has_ended, begun_with, fed_with, fed, p
 use Rattle.rw_wal_tail.specs.Still.{open_data}
 use Rattle.rw_wal_tail.specs.Places.{opens}
 use Rattle.rw_wal_tail.specs.Placed.{stop_at, place_held, front_of, place_from}
-use Rattle.rw_wal_tail.specs.Steps.{still_place, Counts, SamePlace, TakesPlace, CanStep}
+use Rattle.rw_wal_tail.specs.Steps.{still_place, SamePlace, TakesPlace, CanStep}
 use Rattle.rw_wal_tail.proofs.PlaceLaws.{held_zeros, held_fragment, held_torn, held_begun, held_marked, held_fed, at_nothing, at_begun}
 
 both_true : (a b : Bool) → (a && b) ≡ true → (a ≡ true) × (b ≡ true)

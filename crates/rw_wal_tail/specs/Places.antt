@@ -1,11 +1,11 @@
 -- Where the first fault of a log is (wal.md, "Segment encoding"): the segment, and the offset in it of the fragment at which it is found.
 -- A segment is read an item at a time: a fragment, or the zeros to its page's end. The place is the first byte of the item at which reading stops:
--- the one that is no item, that is out of sequence, that ends a record not of its form, or that is not whole at its segment's end, which for a
--- record that lacks its last fragments is that end.
+-- the one that is no item, that is out of sequence, or that ends a record not of its form. Where a segment ends inside a record, it is that of the
+-- item that is not whole there, or the end of the segment where each is whole.
 use Rattle.std.specs.Prelude.{ℕ, zero, suc, ◌+◌, List, [], ◌∷◌, ◌++◌, length, drop, Option, Some, None}
 use Rattle.rw_types.specs.declared.entry.Entry.{Entry}
 use Rattle.rw_codes.specs.Records.{record_entries}
-use Rattle.rw_codes.specs.Segments.{Kind, full, first, middle, last, Item, nothing, begun, zeros, fragment, wrong, item_at, Stop, between, inside, at_fault, left_after, segment}
+use Rattle.rw_codes.specs.Segments.{Kind, full, first, middle, last, Item, nothing, begun, zeros, fragment, wrong, item_at, Stop, between, left_after, segment}
 use Rattle.rw_codes.specs.Pieces.{Piece, bytes, next_segment, page_size, fault}
 use Rattle.rw_codes.specs.declared.tail_fault.TailFault.{TailFault}
 use Rattle.rw_wal_tail.specs.declared.place.FaultPlace.{FaultPlace}

@@ -66,7 +66,7 @@ impl Tail {
         }
     }
 
-    /// More bytes of the segment at hand. They may be cut anywhere.
+    /// More bytes of the segment at hand. They may be cut anywhere. Memory is also said to have run out where a count would reach 2^60.
     pub fn feed(&mut self, piece: &[u8]) -> Result<(), AllocError>
         ensures ok { OnOk result (self.new ≡ record self.old { pieces = self.old.pieces ++ bytes piece.now ∷ [] }) }
         ensures err { OnErr result (self.new ≡ self.old) }

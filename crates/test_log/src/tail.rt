@@ -2,7 +2,7 @@
 
 use rw_codes::crc32c;
 use rw_types::{Entry, RawLabels, Room, Word};
-use rw_wal_tail::{Tail, TailFault};
+use rw_wal_tail::{FaultPlace, Tail, TailFault};
 use rw_wal_write::{SegmentWriter, sample_record, series_record};
 use std::alloc::{AllocError, Global};
 use std::test::Fail;
@@ -435,5 +435,78 @@ fn what_was_written_is_read(rt: HostRuntime) -> Result<(), Fail> {
         end: None,
     };
     assert!(rt; read_text(rt.alloc(), &text)? == (all, 3, 1));
+    Ok(())
+}
+
+/// Where a reader of pieces, of which None is the next segment, finds a fault: the segment and the offset.
+fn fault_place(alloc: Global, pieces: &[Option<&[u8]>]) -> Result<Option<(u64, u64)>, AllocError> {
+    let mut tail = Tail::new(alloc);
+    let mut seen = NOTHING;
+    for piece in pieces {
+        match piece {
+            Some(bytes) => seen = read_on(&mut tail, seen, bytes)?,
+            None => tail.next_segment(),
+        }
+    }
+    seen.read(&mut tail);
+    match tail.fault_place() {
+        Some(FaultPlace { segment, offset }) => Ok(Some((segment, offset))),
+        None => Ok(None),
+    }
+}
+
+#[test]
+fn places_of_faults(rt: HostRuntime) -> Result<(), Fail> {
+    let up: &[u8] = &UP;
+    let (definition, sample) = up.split_at(29);
+    // A whole fragment of a record that lacks the others, and a fragment of a record that is not of its form.
+    let opening: &[u8] = &[2, 0, 0, 0, 0, 0, 0];
+    let (bad_record, _) = FAULTS[7];
+    let rows: [(&[Option<&[u8]>], Option<(u64, u64)>); 7] = [
+        (&[Some(up), Some(opening)], None),
+        (&[Some(up), Some(&[5])], Some((0, 63))),
+        (&[Some(up), Some(&[0, 0, 1])], Some((0, 63))),
+        (
+            &[
+                Some(up),
+                None,
+                None,
+                Some(definition),
+                Some(bad_record),
+                Some(up),
+            ],
+            Some((2, 29)),
+        ),
+        (&[Some(definition), Some(sample), None, Some(&[4])], None),
+        (&[Some(definition), Some(&sample[..5]), None], Some((0, 29))),
+        (&[Some(up), Some(opening), None, Some(up)], Some((0, 70))),
+    ];
+    for (pieces, place) in rows {
+        assert!(rt; fault_place(rt.alloc(), pieces)? == place);
+    }
+    Ok(())
+}
+
+/// Where the fault is of a segment whose first page is a fragment of this kind, and whose second page begins so.
+fn place_past_page(alloc: Global, kind: u8, next: &[u8]) -> Result<Option<(u64, u64)>, AllocError> {
+    let data = vec![in alloc; 3u8; 32_761]?;
+    let mut text = Vec::new(alloc);
+    put_fragment(&mut text, kind, &data)?;
+    text.extend_from_slice(next)?;
+    fault_place(alloc, &[Some(&text)])
+}
+
+#[test]
+fn places_of_faults_past_a_page(rt: HostRuntime) -> Result<(), Fail> {
+    let mut damaged = UP;
+    damaged[62] = 1;
+    // The second record of the page has another CRC, and so has the end of the record that began on the first page.
+    let rows: [(u8, &[u8], u64); 2] = [
+        (1, &damaged, 32_797),
+        (2, &[4, 0, 1, 0, 0, 0, 0, 2], 32_768),
+    ];
+    for (kind, next, offset) in rows {
+        assert!(rt; place_past_page(rt.alloc(), kind, next)? == Some((0, offset)));
+    }
     Ok(())
 }
