@@ -1,10 +1,6 @@
 -- What the entries of a log give, with one entry more.
-use Rattle.std.proofs.Common.{◌≡◌, ℕ, ℤ, List, [], ◌∷◌, ◌++◌, sym, ap, ◌∙◌, append_assoc, append-nil}
-use Rattle.std.proofs.lemmas.List.Elements.{filter-append}
-use Rattle.rw_types.specs.Labels.{Labels}
+use Rattle.std.proofs.Common.{◌≡◌, List, [], ◌∷◌, ◌++◌, sym, ap, ◌∙◌, append_assoc, append-nil}
 use Rattle.rw_types.specs.declared.entry.Entry.{Entry}
-use Rattle.rw_types.specs.declared.entry.Entry.TheVariants.{Def, Sample}
-use Rattle.rw_series_cache.specs.Known.{is_definition, definitions_of}
 use Rattle.rw_feeder.specs.Logs.{gather_from, gather}
 
 module _ {A : Type 0} (f : List Entry → Entry → List A) where
@@ -17,9 +13,3 @@ module _ {A : Type 0} (f : List Entry → Entry → List A) where
 
   pub gather_push : (es : List Entry) (e : Entry) → gather f (es ++ e ∷ []) ≡ gather f es ++ f es e
   gather_push es e = from_push [] es e
-
-pub definitions_push : (es : List Entry) (reference : ℕ) (l : Labels) → definitions_of (es ++ Def reference l ∷ []) ≡ definitions_of es ++ Def reference l ∷ []
-definitions_push es reference l = filter-append is_definition es (Def reference l ∷ [])
-
-pub definitions_same : (es : List Entry) (reference : ℕ) (t : ℤ) (word : ℕ) → definitions_of (es ++ Sample reference t word ∷ []) ≡ definitions_of es
-definitions_same es reference t word = filter-append is_definition es (Sample reference t word ∷ []) ∙ append-nil (definitions_of es)

@@ -6,8 +6,8 @@ use Rattle.rw_types.specs.declared.entry.Entry.{Entry}
 use Rattle.rw_codes.specs.Pieces.{entries, fault}
 use Rattle.rw_codes.specs.declared.tail_fault.TailFault.{TailFault}
 use Rattle.rw_codes.specs.declared.tail_fault.TailFault.TheVariants.{OutOfMemory}
-use Rattle.rw_wal_tail.specs.Fed.{Fed, next_of, end_of, answered}
-use Rattle.rw_feeder.specs.Feeders.{HasTaken, HasRead, is_refusal}
+use Rattle.rw_wal_tail.specs.Fed.{Fed, next_of, end_of, answered, is_out_of_memory}
+use Rattle.rw_feeder.specs.Feeders.{HasTaken, HasRead}
 
 -- what a reader may answer
 abbrev pub Said : Type 0
@@ -99,10 +99,10 @@ took_fault t after said f is n =
     (ap (λ (x : Fed). x.pieces) m ∙ k.0, ap (λ (x : Fed). x.given) m ∙ k.1)
 
 -- the log has that fault
-pub read_fault : (t : Fed) (taken : List Entry) (said : Said) (f : TailFault) → HasTaken t taken → said ≡ Err f → is_refusal f ≡ false → (said ≡ Err OutOfMemory) ⊎ (said ≡ next_of t.pieces t.given) → HasRead t.pieces taken (Some f)
+pub read_fault : (t : Fed) (taken : List Entry) (said : Said) (f : TailFault) → HasTaken t taken → said ≡ Err f → is_out_of_memory f ≡ false → (said ≡ Err OutOfMemory) ⊎ (said ≡ next_of t.pieces t.given) → HasRead t.pieces taken (Some f)
 unfolding next_of
 read_fault t taken said f d is plain a = ⊎_elim
-    (λ (r : said ≡ Err OutOfMemory). let same : f ≡ OutOfMemory = cc in let it_is : is_refusal f ≡ true = ap is_refusal same in absurd (cc))
+    (λ (r : said ≡ Err OutOfMemory). let same : f ≡ OutOfMemory = cc in let it_is : is_out_of_memory f ≡ true = ap is_out_of_memory same in absurd (cc))
     (λ (r : said ≡ next_of t.pieces t.given).
     let e = fault_is (nat_lt t.given (length (entries t.pieces))) (slice_get (entries t.pieces) t.given) (fault t.pieces) f (sym is ∙ r) in
     record { all = all_taken t taken d e.0; fault_is = e.1 })

@@ -1,8 +1,6 @@
-//! What becomes of the entries of a log: which samples are sent, of which series, and which are dropped.
+//! The entries of a log, read piece by piece and routed.
 #![tactic(auto)]
 
 mod feeder;
-mod logged;
 
 pub use feeder::{Feeder, Next};
-pub use logged::Logged;

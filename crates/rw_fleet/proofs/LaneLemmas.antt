@@ -6,7 +6,7 @@ use Rattle.std.proofs.lemmas.List.{set-get_or}
 use Rattle.rw_sender.specs.declared.config.ConfigFields.{ConfigFields}
 use Rattle.rw_shard_queue.specs.Items.{samples_in}
 use Rattle.rw_shard_queue.specs.declared.item.Item.TheVariants as item
-use Rattle.rw_feeder.specs.declared.logged.Logged.{Logged}
+use Rattle.rw_router.specs.declared.sample.RoutedSample.{RoutedSample}
 use Rattle.rw_fleet.specs.Lanes.{Lane, IsSetUp, AreSetUp, AreSame, AreFresh, IsPut, put_as, marks_in, marked, marks}
 use Rattle.rw_fleet.proofs.PutLemmas.{samples_mark}
 use Rattle.rw_fleet.proofs.ListLemmas.{get_snoc, get_at}
@@ -69,7 +69,7 @@ pub marks_kept : (n : ℕ) (ls now after : List Lane) (l m : Lane) → now ≡ m
 marks_kept n ls now after l m is at same set_is = marks_same n ls after (set_is ∙ ap (λ y. set now n y) (same ∙ at) ∙ set-get_or now n l ∙ is)
 
 -- one shard was put a sample
-pub put_at : (k : ℕ) (s : Logged) (old new : List Lane) (was now : Lane) → k < length old → was ≡ get_or old k was → new ≡ set old k now → now.setup ≡ was.setup → samples_in now.put ≡ samples_in was.put ++ put_as was s ∷ [] → marks_in now.put ≡ marks_in was.put → IsPut k s old new
+pub put_at : (k : ℕ) (s : RoutedSample) (old new : List Lane) (was now : Lane) → k < length old → was ≡ get_or old k was → new ≡ set old k now → now.setup ≡ was.setup → samples_in now.put ≡ samples_in was.put ++ put_as was s ∷ [] → marks_in now.put ≡ marks_in was.put → IsPut k s old new
 put_at k s old new was now below at is setup put marks = record { was = was; now = now; at = get_at old was k below at; setup = setup; put = put; marks = marks; is = is }
 
 pub put_back : (k : ℕ) (old new : List Lane) (was now : Lane) → was ≡ get_or old k was → new ≡ set old k now → now ≡ was → new ≡ old

@@ -6,7 +6,7 @@ use Rattle.rw_shard_queue.specs.Items.{Placed, samples_in, places_in}
 use Rattle.rw_shard_queue.specs.declared.item.Item.{Item}
 use Rattle.rw_shard_queue.specs.declared.item.Item.TheVariants as item
 use Rattle.rw_worker.specs.Setups.{Setup}
-use Rattle.rw_feeder.specs.declared.logged.Logged.{Logged}
+use Rattle.rw_router.specs.declared.sample.RoutedSample.{RoutedSample}
 
 -- what a shard's worker is set up with, its queue among it, and what was put into the queue
 pub record Lane : Type 0 where
@@ -27,7 +27,7 @@ AreSetUp config [] = ⊤
 AreSetUp config (l ∷ ls) = IsSetUp config l.setup × AreSetUp config ls
 
 -- a sample of the log as the next one of a shard
-abbrev pub put_as : Lane → Logged → Placed
+abbrev pub put_as : Lane → RoutedSample → Placed
 put_as lane s = record {
   place = record { epoch = lane.setup.queue.epoch; shard = lane.setup.queue.shard; seq = length (places_in lane.put); pos = s.pos; series = s.series };
   t = s.t;
@@ -47,7 +47,7 @@ abbrev pub marks_of : Lane → List Item
 marks_of lane = marks_in lane.put
 
 -- the shard numbered k was put one sample more, the others nothing
-pub record IsPut (k : ℕ) (s : Logged) (old new : List Lane) : Type 0 where
+pub record IsPut (k : ℕ) (s : RoutedSample) (old new : List Lane) : Type 0 where
   pub was : Lane
   pub now : Lane
   pub at : slice_get old k ≡ Some was

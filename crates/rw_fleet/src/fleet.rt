@@ -16,7 +16,7 @@ use crate::lists::{
 };
 use crate::load::Load;
 use crate::running::{Ending, Fault, Running};
-use rw_feeder::Logged;
+use rw_router::RoutedSample;
 use rw_ruled_queue::Kind;
 use rw_sender::Config;
 use rw_worker::StopFlag;
@@ -146,15 +146,15 @@ impl<C: Connect + Drop> Fleet<C> {
     }
 
     /// Puts a sample into the queue of a shard. It may wait for room.
-    pub fn put<R: Wait>(&mut self, rt: &R, shard: usize, logged: Logged) -> Result<(), Fault>
+    pub fn put<R: Wait>(&mut self, rt: &R, shard: usize, sample: RoutedSample) -> Result<(), Fault>
         requires within { shard < length self.old.current }
-        requires later { (lane : Lane) (k : ℕ) (o : Place) → slice_get self.old.current shard ≡ Some lane → slice_get (places_in lane.put) k ≡ Some o → o.pos < logged.pos }
+        requires later { (lane : Lane) (k : ℕ) (o : Place) → slice_get self.old.current shard ≡ Some lane → slice_get (places_in lane.put) k ≡ Some o → o.pos < sample.pos }
         ensures rest { self.new ≡ record self.old { current = self.new.current } }
-        ensures ok { OnOk result (IsPut shard logged self.old.current self.new.current) }
+        ensures ok { OnOk result (IsPut shard sample self.old.current self.new.current) }
         ensures err { OnErr result (self.new ≡ self.old) }
         ensures memory { result ≡ Err Fault.OutOfMemory → IsUsedUp shard self.old.current }
     {
-        if let Err(fault) = self.running[shard].put(rt, logged) {
+        if let Err(fault) = self.running[shard].put(rt, sample) {
             return Err(fault);
         }
         Ok(())

@@ -57,7 +57,8 @@ pub(crate) fn mark_all<T: Transport + Send + Drop + 'static, R: Wait>(
     running: &mut Vec<Running<T>>,
 ) -> Result<(), Fault>
     ensures same { AreSame running.old.items running.new.items }
-    ensures len { (vec_len running.new ≡ vec_len running.old) × (vec_capacity running.new ≡ vec_capacity running.old) }
+    ensures len { vec_len running.new ≡ vec_len running.old }
+    ensures capacity { vec_capacity running.new ≡ vec_capacity running.old }
     ensures all { OnOk result (running.new.items ≡ map marked running.old.items) }
     ensures memory { result ≡ Err Fault.OutOfMemory → ⊥ }
 {
@@ -73,7 +74,8 @@ pub(crate) fn hand_over_all<T: Transport + Send + Drop + 'static, R: Wait>(
     running: &mut Vec<Running<T>>,
 )
     ensures items { running.new.items ≡ running.old.items }
-    ensures len { (vec_len running.new ≡ vec_len running.old) × (vec_capacity running.new ≡ vec_capacity running.old) }
+    ensures len { vec_len running.new ≡ vec_len running.old }
+    ensures capacity { vec_capacity running.new ≡ vec_capacity running.old }
 {
     for k in 0..running.len() {
         running[k].hand_over(rt);

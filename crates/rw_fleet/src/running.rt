@@ -10,7 +10,7 @@ ghost use Rattle.rw_fleet.specs.Work.{lane_of, IsEndedBy, IsWorked};
 use crate::ends::{Fed, end_of, meet};
 use crate::joined::{Finished, Joined};
 use crate::window::Window;
-use rw_feeder::Logged;
+use rw_router::RoutedSample;
 use rw_ruled_queue::{Feed, Item, Kind, Open, open};
 use rw_sender::Config;
 use rw_types::Place;
@@ -149,20 +149,20 @@ impl<T: Transport + Send + Drop + 'static> Running<T> {
     }
 
     /// Puts a sample. It may wait for room.
-    pub(crate) fn put<R: Wait>(&mut self, rt: &R, logged: Logged) -> Result<(), Fault>
-        requires later { (k : ℕ) (o : Place) → slice_get (places_in self.old.put) k ≡ Some o → o.pos < logged.pos }
+    pub(crate) fn put<R: Wait>(&mut self, rt: &R, sample: RoutedSample) -> Result<(), Fault>
+        requires later { (k : ℕ) (o : Place) → slice_get (places_in self.old.put) k ≡ Some o → o.pos < sample.pos }
         ensures setup { self.new.setup ≡ self.old.setup }
-        ensures put { MatchResult result (λ _. samples_in self.new.put ≡ samples_in self.old.put ++ put_as self.old logged ∷ []) (λ _. self.new ≡ self.old) }
+        ensures put { MatchResult result (λ _. samples_in self.new.put ≡ samples_in self.old.put ++ put_as self.old sample ∷ []) (λ _. self.new ≡ self.old) }
         ensures marks { marks_in self.new.put ≡ marks_in self.old.put }
         ensures memory { result ≡ Err Fault.OutOfMemory → 2 ^ 60 ≤ length (places_in self.old.put) }
     {
-        let Logged {
+        let RoutedSample {
             pos,
             series,
             t,
             word,
             labels,
-        } = logged;
+        } = sample;
         let seq = self.window.len();
         if seq >= 1 << 60 {
             return Err(Fault::OutOfMemory);

@@ -12,7 +12,7 @@ use Rattle.rw_types.specs.declared.entry.Entry.TheVariants.{Def, Sample}
 use Rattle.rw_types.specs.declared.label_fault.LabelFault.{LabelFault}
 use Rattle.rw_relabel.specs.Rules.{RuleConfig, keeps}
 use Rattle.rw_series_cache.specs.Cached.{Taken}
-use Rattle.rw_series_cache.specs.Found.{Answers, standing_in, IsNumbered}
+use Rattle.rw_series_cache.specs.Found.{Answers, standing_in, IsOfSeries}
 use Rattle.rw_series_cache.specs.Known.{Standing, Unknown, Bad, Filtered, Kept, standing_of, standing_by, standing_of_set, known, is_definition, definitions_of}
 use Rattle.rw_series_cache.specs.Numbers.{series_of, number_of}
 use Rattle.rw_series_cache.specs.declared.known.Known.{Known}
@@ -61,7 +61,7 @@ counts_of-push ss (Bad f) = rw (count_by-push is_kept ss (Bad f), count_by-push 
 counts_of-push ss Unknown = rw (count_by-push is_kept ss Unknown, count_by-push is_filtered ss Unknown, count_by-push is_bad ss Unknown, count_by-push is_unknown ss Unknown) refl
 
 -- the line of a label set that was looked up
-line_as : (series : List Labels) (reference : ℕ) (l : Labels) (answer : Known) (b : Bool) → standing_in answer ≡ standing_of_set b l → IsNumbered series answer
+line_as : (series : List Labels) (reference : ℕ) (l : Labels) (answer : Known) (b : Bool) → standing_in answer ≡ standing_of_set b l → IsOfSeries series answer
     → found_text reference l answer ≡ definition_text series reference l (standing_of_set b l)
 line_as series reference l found.Unknown true h n = absurd cc
 line_as series reference l found.Unknown false h n = absurd cc

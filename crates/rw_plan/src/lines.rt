@@ -2,29 +2,12 @@
 
 ghost use Rattle.std.specs.Prelude.{◌≡◌, ◌++◌, OnOk};
 ghost use Rattle.rw_plan.specs.Plan.{bad_text, filtered_text, kept_text};
-ghost use Rattle.rw_series_cache.specs.Known.{label_fault_number};
 ghost use Rattle.rw_plan.specs.Planned.{found_text};
 
-use rw_series_cache::Known;
+use rw_series_cache::{Known, label_fault_number};
 use rw_text::{push_labels, push_number};
 use rw_types::{LabelFault, LabelSet};
 use std::alloc::AllocError;
-
-/// The number of a fault, from 1 to 7.
-fn label_fault_number(fault: LabelFault) -> u64
-    ensures { result ≡ label_fault_number fault }
-{
-    match fault {
-        LabelFault::OutOfMemory => 0,
-        LabelFault::NotUtf8 => 1,
-        LabelFault::EmptyName => 2,
-        LabelFault::BadName => 3,
-        LabelFault::EmptyValue => 4,
-        LabelFault::NotSorted => 5,
-        LabelFault::TooMany => 6,
-        LabelFault::TooLong => 7,
-    }
-}
 
 /// Adds the line of a definition whose labels have this fault.
 pub(crate) fn push_bad(
@@ -36,7 +19,7 @@ pub(crate) fn push_bad(
 {
     push_number(out, reference)?;
     out.extend_from_slice(b" bad ")?;
-    push_number(out, label_fault_number(fault))?;
+    push_number(out, u64::from(label_fault_number(fault)))?;
     out.extend_from_slice(b"\n")
 }
 

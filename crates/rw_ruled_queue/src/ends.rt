@@ -4,7 +4,7 @@ ghost use Rattle.std.specs.Prelude.{◌≡◌, ◌<◌, ℕ, [], ◌∷◌, ◌+
 ghost use Rattle.crossbeam_channel.specs.Claims.{IsSeatAt};
 ghost use Rattle.crossbeam_channel.specs.Ends.{sends_on, receives_on, ruled_capacity};
 ghost use Rattle.rw_ruled_queue.specs.Ends.{log_of, queue_of};
-ghost use Rattle.rw_ruled_queue.specs.Rule.{feeder, drainer, IsRoomy};
+ghost use Rattle.rw_ruled_queue.specs.Rule.{feeder, drainer, name_of, IsNamed, IsRoomy, HandsOver};
 ghost use Rattle.rw_shard_queue.specs.History.{MayFollow, IsHistory, IsOpen};
 ghost use Rattle.rw_ruled_queue.specs.Taken.{TakesFront};
 
@@ -37,15 +37,26 @@ impl<S: Stage> Model for Feed<S> {
     ghost use Rattle.std.specs.Prelude.{◌≡◌, ◌<◌, ◌++◌, length};
     ghost use Rattle.crossbeam_channel.specs.Claims.{IsSeatAt};
     ghost use Rattle.crossbeam_channel.specs.Ends.{sends_on, ruled_capacity};
-    ghost use Rattle.rw_shard_queue.specs.History.{IsHistory};
     ghost use Rattle.rw_ruled_queue.specs.Ends.{Feeding, queue_of, log_of};
-    ghost use Rattle.rw_ruled_queue.specs.Rule.{feeder, IsRoomy};
+    ghost use Rattle.rw_ruled_queue.specs.Rule.{feeder, IsNamed, IsRoomy};
 
     ghost Value = { Feeding };
 
-    ghost view = { λ f. record { queue = queue_of f.pass; capacity = (log_of f.pass).name.capacity; put = (log_of f.pass).put ++ f.block.items } };
+    ghost view = { λ f. record {
+      queue = queue_of f.pass;
+      capacity = (log_of f.pass).name.capacity;
+      put = (log_of f.pass).put ++ f.block.items;
+    } };
 
-    ghost invariant = { λ f. IsSeatAt (sends_on f.sender) f.pass × (log_of f.pass ≡ feeder (log_of f.pass).name (log_of f.pass).put) × IsHistory (log_of f.pass).name.epoch (log_of f.pass).name.shard ((log_of f.pass).put ++ f.block.items) × S.stands ((log_of f.pass).put ++ f.block.items) × ((log_of f.pass).name.slots ≡ ruled_capacity (sends_on f.sender)) × IsRoomy (log_of f.pass).name × (f.block.most ≡ (log_of f.pass).name.most) × (length f.block.items < (log_of f.pass).name.most) × S.held f.block.items };
+    ghost invariant = { λ f. IsSeatAt (sends_on f.sender) f.pass
+        × (log_of f.pass ≡ feeder (log_of f.pass).name (log_of f.pass).put)
+        × IsNamed (log_of f.pass).name ((log_of f.pass).put ++ f.block.items)
+        × S.stands ((log_of f.pass).put ++ f.block.items)
+        × ((log_of f.pass).name.slots ≡ ruled_capacity (sends_on f.sender))
+        × IsRoomy (log_of f.pass).name
+        × (f.block.most ≡ (log_of f.pass).name.most)
+        × (length f.block.items < (log_of f.pass).name.most)
+        × S.held f.block.items };
 }
 
 /// The end that takes. Contracts see its queue and what was taken.
@@ -63,15 +74,20 @@ impl<S: Stage> Model for Drain<S> {
     ghost use Rattle.std.specs.Prelude.{◌≡◌, ◌<◌, ◌++◌, length, [], MatchOption};
     ghost use Rattle.crossbeam_channel.specs.Claims.{IsSeatAt};
     ghost use Rattle.crossbeam_channel.specs.Ends.{receives_on};
-    ghost use Rattle.rw_shard_queue.specs.History.{IsHistory};
     ghost use Rattle.rw_ruled_queue.specs.Ends.{Draining, queue_of, log_of};
-    ghost use Rattle.rw_ruled_queue.specs.Rule.{drainer};
+    ghost use Rattle.rw_ruled_queue.specs.Rule.{drainer, IsNamed};
 
     ghost Value = { Draining };
 
     ghost view = { λ d. record { queue = queue_of d.pass; taken = d.taken } };
 
-    ghost invariant = { λ d. MatchOption d.receiver S.let_go (λ r. IsSeatAt (receives_on r) d.pass) × (d.pass.me.1 ≡ []) × (log_of d.pass ≡ drainer (log_of d.pass).name (log_of d.pass).taken) × IsHistory (log_of d.pass).name.epoch (log_of d.pass).name.shard (log_of d.pass).taken × ((log_of d.pass).taken ≡ d.taken ++ d.block.items) × S.stands d.taken × (length d.block.items < (log_of d.pass).name.most) };
+    ghost invariant = { λ d. MatchOption d.receiver S.let_go (λ r. IsSeatAt (receives_on r) d.pass)
+        × (d.pass.me.1 ≡ [])
+        × (log_of d.pass ≡ drainer (log_of d.pass).name (log_of d.pass).taken)
+        × IsNamed (log_of d.pass).name (log_of d.pass).taken
+        × ((log_of d.pass).taken ≡ d.taken ++ d.block.items)
+        × S.stands d.taken
+        × (length d.block.items < (log_of d.pass).name.most) };
 }
 
 /// What a take gives, with the end as it then is.
@@ -106,13 +122,13 @@ fn send<R: Wait>(
 ) -> Result<(), Gone>
     requires seat { IsSeatAt (sends_on sender.now) pass.old }
     requires log { log_of pass.old ≡ feeder (log_of pass.old).name (log_of pass.old).put }
-    requires history { IsHistory (log_of pass.old).name.epoch (log_of pass.old).name.shard ((log_of pass.old).put ++ block.old.items) }
+    requires history { IsNamed (log_of pass.old).name ((log_of pass.old).put ++ block.old.items) }
     requires slots { (log_of pass.old).name.slots ≡ ruled_capacity (sends_on sender.now) }
     requires some { 0 < length block.old.items }
     requires most { length block.old.items ≤ (log_of pass.old).name.most }
     ensures seat { IsSeatAt (sends_on sender.now) pass.new × (pass.new.id ≡ pass.old.id) }
     ensures room { block.new.most ≡ block.old.most }
-    ensures ok { OnOk result ((log_of pass.new ≡ feeder (log_of pass.old).name ((log_of pass.old).put ++ block.old.items)) × (block.new.items ≡ [])) }
+    ensures ok { OnOk result (HandsOver (log_of pass.old) (log_of pass.new) block.old.items block.new.items) }
     ensures err { OnErr result ((log_of pass.new ≡ log_of pass.old) × (block.new ≡ block.old)) }
 {
     let fresh = fresh_block(rt, block);
@@ -199,7 +215,7 @@ fn given(
 ) -> Taken
     requires seat { IsSeatAt (receives_on receiver) pass }
     requires log { log_of pass ≡ drainer (log_of pass).name (log_of pass).taken }
-    requires history { IsHistory (log_of pass).name.epoch (log_of pass).name.shard (log_of pass).taken }
+    requires history { IsNamed (log_of pass).name (log_of pass).taken }
     requires front { (log_of pass).taken ≡ taken ++ item ∷ block.items }
     requires open { IsOpen taken }
     requires most { length block.items < (log_of pass).name.most }
@@ -294,10 +310,11 @@ fn open_named<Q: Naming>(
     slots: usize,
     most: usize,
 ) -> Result<(Feed<Open>, Drain<Open>), AllocError>
-    requires name { Q.name ≡ record { epoch = epoch; shard = shard; capacity = capacity; slots = slots; most = most } }
+    requires name { Q.name ≡ name_of epoch shard capacity slots most }
     requires roomy { IsRoomy Q.name }
     ensures same { IfOk result (λ r. r.0.queue ≡ r.1.queue) }
-    ensures queue { IfOk result (λ r. (r.0.queue.epoch ≡ Q.name.epoch) × (r.0.queue.shard ≡ Q.name.shard) × (r.0.capacity ≡ Q.name.capacity)) }
+    ensures queue { IfOk result (λ r. (r.0.queue.epoch ≡ Q.name.epoch) × (r.0.queue.shard ≡ Q.name.shard)) }
+    ensures capacity { IfOk result (λ r. r.0.capacity ≡ Q.name.capacity) }
     ensures most { IfOk result (λ r. r.0.queue.capacity ≡ Q.name.capacity) }
     ensures empty { IfOk result (λ r. (r.0.put ≡ []) × (r.1.taken ≡ [])) }
 {

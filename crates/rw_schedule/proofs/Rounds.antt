@@ -27,7 +27,8 @@ use Rattle.rw_recv_head.specs.declared.verdict.Verdict.TheVariants.{BadLabels, O
 use Rattle.rw_batch.specs.Grouping.{message}
 use Rattle.rw_types.specs.Labels.{label_fault}
 use Rattle.rw_write_request.specs.Message.{TimeSeries, WriteRequest}
-use Rattle.rw_schedule.specs.Settling.{can_place, can_place_entry, can_place_known, newest_from, room_at}
+use Rattle.rw_router.specs.Fates.{kept_fate}
+use Rattle.rw_schedule.specs.Settling.{can_place, can_place_as, can_place_entry, can_place_known, newest_from, room_at}
 use Rattle.rw_schedule.specs.Shards.{EndMark, FlushMark, One, Queued, Shard, has_room, samples_in, shard_end, shard_flush, shard_freeze, shard_put, shard_send, shard_take, take_front, with_core}
 use Rattle.rw_schedule.specs.Steps.{act, answered, arrive, change, changed, endpoint_answer, flush_shard, happens, mark, next_sample, place, place_entry, place_kept, place_sample, put_if_room, reply_to, run, send_batch, settled, shard_of, take_reply, unless_over}
 use Rattle.rw_schedule.specs.Worlds.{Reply, Request, Setup, World, is_finished, is_over, log}
@@ -106,7 +107,7 @@ place_round c w can = subst (Round w) (sym (cond_false (is_some w.draining) w (p
       same = record { killed = refl; pieces = refl; closed = refl };
     })
 
-    by_rising : (x : Entry) → slice_get (log w) w.placed ≡ Some x → (l : Labels) (t : ℤ) (word : ℕ) (b : Bool) → (not b || room_at c (slice_get w.shards (shard_of w l))) ≡ true → Round w (place_kept c w l t word b)
+    by_rising : (x : Entry) → slice_get (log w) w.placed ≡ Some x → (l : Labels) (t : ℤ) (word : ℕ) (b : Bool) → can_place_as c w (kept_fate b l) ≡ true → Round w (place_kept c w l t word b)
     by_rising x e l t word true h = by_shard x e l t word (shard_of w l) (slice_get w.shards (shard_of w l)) refl h
     by_rising x e l t word false h = record { lower = left x e; same = record { killed = refl; pieces = refl; closed = refl } }
 

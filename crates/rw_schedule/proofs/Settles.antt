@@ -18,7 +18,8 @@ use Rattle.rw_schedule.proofs.Rounds.{Round, acts, single, place_round, send_rou
 use Rattle.rw_schedule.specs.declared.event.Event.TheVariants as event
 use Rattle.rw_codes.specs.Pieces.{entries, fault}
 use Rattle.rw_schedule.specs.Promises.{CanWork, HasOneClassEach, HoldsAll, HoldsNothingElse, IsSettled, SettleEnds}
-use Rattle.rw_schedule.specs.Settling.{at_first, can_place, can_place_entry, can_place_known, exchange_at, first_of_these, made_at, next_events, room_at, settle, settle_events, settle_from, settle_if}
+use Rattle.rw_router.specs.Fates.{kept_fate}
+use Rattle.rw_schedule.specs.Settling.{at_first, can_place, can_place_as, can_place_entry, can_place_known, exchange_at, first_of_these, made_at, next_events, room_at, settle, settle_events, settle_from, settle_if}
 use Rattle.rw_schedule.specs.Shards.{Shard, has_room, is_drained, pending, samples_in, shard_freeze, shard_take}
 use Rattle.rw_schedule.specs.Steps.{close, flush_shard, happens, restart_as, run, shard_of, unless_over}
 use Rattle.rw_schedule.specs.Worlds.{Abandoned, Ending, Setup, World, all_drained, ended_as, is_at, is_finished, is_over, is_pending, log, new_shards, report, start, up_to}
@@ -118,17 +119,21 @@ module _ (c : Setup) (w : World) (can : CanWork c) (at : Live c w) (end : ℕ) (
   ending : (is_finished w || is_some w.draining) ≡ true
   ending = by_bool ((is_finished w || is_some w.draining) ≡ true) (is_finished w || is_some w.draining) (λ h. h) (λ h. absurd (stuck (or_false_left (is_finished w) (is_some w.draining) h) (or_false_right (is_finished w) (is_some w.draining) h)))
     where
-      space : (l : Labels) (t : ℤ) → can_place_known c w t (Kept l) ≡ true
-      space l t = by_some (get_some w.shards (shard_of w l) (mod-lt (number_of w.series l) (let le : 1 ≤ length w.shards = at.wide in omega arith)))
+      space : (l : Labels) → room_at c (slice_get w.shards (shard_of w l)) ≡ true
+      space l = by_some (get_some w.shards (shard_of w l) (mod-lt (number_of w.series l) (let le : 1 ≤ length w.shards = at.wide in omega arith)))
         where
-          by_some : (s : Shard) × (slice_get w.shards (shard_of w l) ≡ Some s) → can_place_known c w t (Kept l) ≡ true
-          by_some h = or_right (not (rises c.rules (take w.placed (log w)) l t)) (room_at c (slice_get w.shards (shard_of w l))) (ap (room_at c) h.1 ∙ has_space (shard_of w l) h.0 h.1)
+          by_some : (s : Shard) × (slice_get w.shards (shard_of w l) ≡ Some s) → room_at c (slice_get w.shards (shard_of w l)) ≡ true
+          by_some h = ap (room_at c) h.1 ∙ has_space (shard_of w l) h.0 h.1
+
+      by_rising : (l : Labels) (b : Bool) → can_place_as c w (kept_fate b l) ≡ true
+      by_rising l true = space l
+      by_rising l false = refl
 
       by_known : (t : ℤ) (k : Standing) → can_place_known c w t k ≡ true
       by_known t Unknown = refl
       by_known t (Bad f) = refl
       by_known t Filtered = refl
-      by_known t (Kept l) = space l t
+      by_known t (Kept l) = by_rising l (rises c.rules (take w.placed (log w)) l t)
 
       by_entry : (e : Entry) → can_place_entry c w (Some e) ≡ true
       by_entry (Def r l) = refl

@@ -3,8 +3,8 @@ use Rattle.std.specs.Prelude.{ℕ, zero, suc, Bool, true, false, not, ◌&&◌, 
 use Rattle.std.specs.List.{position}
 use Rattle.rw_types.specs.declared.entry.Entry.{Entry}
 use Rattle.rw_types.specs.declared.entry.Entry.TheVariants.{Def, Sample}
-use Rattle.rw_series_cache.specs.Known.{Standing, Unknown, Bad, Filtered, Kept, known}
-use Rattle.rw_series_cache.specs.Rising.{rises}
+use Rattle.rw_series_cache.specs.Known.{Standing, known}
+use Rattle.rw_router.specs.Fates.{Fate, Drops, Filters, Sends, fate_by}
 use Rattle.rw_batch.specs.declared.batch.BatchId.{BatchId}
 use Rattle.rw_sender.specs.Shard.{is_empty, batch_id, same_id, is_due, can_take}
 use Rattle.rw_schedule.specs.Shards.{Shard, has_room}
@@ -42,12 +42,14 @@ abbrev pub room_at : Setup → Option Shard → Bool
 room_at c None = false
 room_at c (Some s) = has_room c.capacity s
 
--- a sample that does not rise needs no room
+-- only a sample that is sent needs room
+abbrev pub can_place_as : Setup → World → Fate → Bool
+can_place_as c w (Sends l) = room_at c (slice_get w.shards (shard_of w l))
+can_place_as c w (Drops reason) = true
+can_place_as c w Filters = true
+
 abbrev pub can_place_known : Setup → World → ℤ → Standing → Bool
-can_place_known c w t (Kept l) = not (rises c.rules (take w.placed (log w)) l t) || room_at c (slice_get w.shards (shard_of w l))
-can_place_known c w t Unknown = true
-can_place_known c w t (Bad f) = true
-can_place_known c w t Filtered = true
+can_place_known c w t standing = can_place_as c w (fate_by c.rules (take w.placed (log w)) t standing)
 
 abbrev pub can_place_entry : Setup → World → Option Entry → Bool
 can_place_entry c w None = false

@@ -5,19 +5,18 @@ use Rattle.std.specs.FinMap.{FinMap, insert}
 use Rattle.rw_types.specs.Labels.{Labels}
 use Rattle.rw_types.specs.declared.entry.Entry.{Entry}
 use Rattle.rw_types.specs.declared.entry.Entry.TheVariants.{Def, Sample}
-use Rattle.rw_series_cache.specs.Known.{Standing, Unknown, Bad, Filtered, Kept, standing_of, known, label_fault_number}
+use Rattle.rw_series_cache.specs.Known.{Standing, standing_of, known}
 use Rattle.rw_series_cache.specs.Numbers.{with_series, number_of}
-use Rattle.rw_series_cache.specs.Rising.{rises}
+use Rattle.rw_router.specs.Fates.{Fate, Drops, Filters, Sends, kept_fate, fate_by}
 use Rattle.rw_wal_tail.specs.declared.piece.Piece.{Piece}
 use Rattle.rw_wal_tail.specs.Fed.{piece_of}
 use Rattle.rw_ledger.specs.declared.ledger.Reason.{Reason}
-use Rattle.rw_ledger.specs.declared.ledger.Reason.TheVariants.{BadLabels, NoSeries, NotRising}
 use Rattle.rw_retry.specs.Judgements.{judgement_of}
 use Rattle.rw_shard_queue.specs.Items.{Placed}
 use Rattle.rw_shard_queue.specs.declared.item.Kind.TheVariants as kind
 use Rattle.rw_batch.specs.Grouping.{message}
 use Rattle.rw_batch.specs.declared.batch.BatchId.{BatchId}
-use Rattle.rw_sender.specs.Shard.{Core, labelled, body_of, batch_id, is_answer, settle, settle_names}
+use Rattle.rw_sender.specs.Shard.{labelled, body_of, batch_id, is_answer, settle, settle_names}
 use Rattle.rw_sender.specs.Shard as core
 use Rattle.rw_recv_head.specs.Head.{State, Answer, answer_to}
 use Rattle.rw_schedule.specs.Shards.{Shard, has_room, shard_put, shard_flush, shard_end, with_core, shard_take, shard_freeze, shard_send, shard_lost}
@@ -59,16 +58,17 @@ put_if_room c w i l t word (Some s) =
     if has_room c.capacity s then record w { shards = change i (shard_put (next_sample w i l t word s)) w.shards; placed = suc w.placed }
     else w
 
--- a sample of a kept series is put where it rises, and named where it does not
+-- a sample that is dropped is named, one whose series the rules drop is counted, and one that is sent is put into the queue of its series' shard
+abbrev pub place_as : Setup → World → ℤ → ℕ → Fate → World
+place_as c w t word (Drops reason) = record w { names = insert w.names w.placed reason; placed = suc w.placed }
+place_as c w t word Filters = record w { filtered = suc w.filtered; placed = suc w.placed }
+place_as c w t word (Sends l) = put_if_room c w (shard_of w l) l t word (slice_get w.shards (shard_of w l))
+
 abbrev pub place_kept : Setup → World → Labels → ℤ → ℕ → Bool → World
-place_kept c w l t word true = put_if_room c w (shard_of w l) l t word (slice_get w.shards (shard_of w l))
-place_kept c w l t word false = record w { names = insert w.names w.placed NotRising; placed = suc w.placed }
+place_kept c w l t word is_rising = place_as c w t word (kept_fate is_rising l)
 
 abbrev pub place_sample : Setup → World → ℤ → ℕ → Standing → World
-place_sample c w t word Unknown = record w { names = insert w.names w.placed NoSeries; placed = suc w.placed }
-place_sample c w t word (Bad f) = record w { names = insert w.names w.placed (BadLabels (label_fault_number f)); placed = suc w.placed }
-place_sample c w t word Filtered = record w { filtered = suc w.filtered; placed = suc w.placed }
-place_sample c w t word (Kept l) = place_kept c w l t word (rises c.rules (take w.placed (log w)) l t)
+place_sample c w t word standing = place_as c w t word (fate_by c.rules (take w.placed (log w)) t standing)
 
 abbrev pub place_entry : Setup → World → Option Entry → World
 place_entry c w None = w

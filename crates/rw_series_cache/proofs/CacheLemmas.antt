@@ -7,7 +7,7 @@ use Rattle.rw_types.specs.declared.entry.Entry.{Entry}
 use Rattle.rw_types.specs.declared.entry.Entry.TheVariants.{Def}
 use Rattle.rw_relabel.specs.Rules.{RuleConfig}
 use Rattle.rw_series_cache.specs.Cached.{Judged, Judges, StandsFor, IsCache}
-use Rattle.rw_series_cache.specs.Found.{Answers, IsNumbered}
+use Rattle.rw_series_cache.specs.Found.{Answers, IsOfSeries}
 use Rattle.rw_series_cache.specs.Known.{Standing, Unknown, Bad, Filtered, Kept, known, standing_of, definitions_of}
 use Rattle.rw_series_cache.specs.Numbers.{series_of, with_series}
 use Rattle.rw_series_cache.specs.declared.known.Known.{Known}
@@ -67,5 +67,5 @@ one_defined old new definitions now verdict_of verdict_now reference l v cache j
 pub answers_after : (rules : List RuleConfig) (definitions entries : List Entry) (r : ℕ) (answer : Known) → definitions_of entries ≡ definitions → Answers rules definitions r answer → Answers rules entries r answer
 answers_after rules definitions entries r answer e a = record {
   standing = a.standing ∙ ap (λ es. known rules es r) (sym e) ∙ known-definitions_of rules entries r;
-  number = subst (λ sets. IsNumbered sets answer) (ap (series_of rules) (sym e) ∙ series_of-definitions_of rules entries) a.number;
+  number = subst (λ sets. IsOfSeries sets answer) (ap (series_of rules) (sym e) ∙ series_of-definitions_of rules entries) a.number;
 }

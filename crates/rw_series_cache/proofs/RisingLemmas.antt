@@ -15,7 +15,7 @@ use Rattle.rw_relabel.specs.Rules.{RuleConfig, keeps}
 use Rattle.rw_series_cache.specs.Known.{Standing, Unknown, Bad, Filtered, Kept, known, standing_of}
 use Rattle.rw_series_cache.specs.Numbers.{series_of, with_series, number_of, HasNumber}
 use Rattle.rw_series_cache.specs.Points.{is_kept, kept_points}
-use Rattle.rw_series_cache.specs.Rising.{is_later, rises, is_after, IsNoted}
+use Rattle.rw_series_cache.specs.Rising.{is_after_all, rises, is_after, IsNoted}
 use Rattle.rw_series_cache.proofs.KnownLemmas.{kept_labels, series_of-none, series_of-push}
 use Rattle.rw_series_cache.proofs.NumberLemmas.{has_number, number_stays, any_at}
 use Rattle.rw_series_cache.proofs.PointLemmas.{definition_gives_none, sample_is_kept, sample_is_other, has_labels-only, both_kept}
@@ -67,39 +67,39 @@ true_after true = refl
 true_after false = refl
 
 -- one more sample
-pub is_later-push : (t : ℤ) (ps : List Point) (p : Point) → is_later t (ps ++ p ∷ []) ≡ (is_later t ps && int_lt p.1 t)
-is_later-push t ps p = list_all-append (λ (q : Point). int_lt q.1 t) ps (p ∷ []) ∙ ap (λ b. is_later t ps && b) (true_after (int_lt p.1 t))
+pub is_after_all-push : (t : ℤ) (ps : List Point) (p : Point) → is_after_all t (ps ++ p ∷ []) ≡ (is_after_all t ps && int_lt p.1 t)
+is_after_all-push t ps p = list_all-append (λ (q : Point). int_lt q.1 t) ps (p ∷ []) ∙ ap (λ b. is_after_all t ps && b) (true_after (int_lt p.1 t))
 
 -- what is later than all samples is later than one that is not
-past_falling : (ps : List Point) (t s : ℤ) → is_later t ps ≡ false → is_later s ps ≡ true → int_lt t s ≡ true
+past_falling : (ps : List Point) (t s : ℤ) → is_after_all t ps ≡ false → is_after_all s ps ≡ true → int_lt t s ≡ true
 past_falling [] t s f g = off f
-past_falling (p ∷ ps) t s f g = by_test (int_lt p.1 t) refl f (λ h. past_falling ps t s h (and_true (int_lt p.1 s) (is_later s ps) g).1)
+past_falling (p ∷ ps) t s f g = by_test (int_lt p.1 t) refl f (λ h. past_falling ps t s h (and_true (int_lt p.1 s) (is_after_all s ps) g).1)
   where
-    by_test : (b : Bool) → int_lt p.1 t ≡ b → (b && is_later t ps) ≡ false → (is_later t ps ≡ false → int_lt t s ≡ true) → int_lt t s ≡ true
+    by_test : (b : Bool) → int_lt p.1 t ≡ b → (b && is_after_all t ps) ≡ false → (is_after_all t ps ≡ false → int_lt t s ≡ true) → int_lt t s ≡ true
     by_test true e h rest = rest h
-    by_test false e h rest = after_later p.1 t s e (and_true (int_lt p.1 s) (is_later s ps) g).0
+    by_test false e h rest = after_later p.1 t s e (and_true (int_lt p.1 s) (is_after_all s ps) g).0
 
 -- what is later than a sample that is later than all is later than all
-past_rising : (ps : List Point) (t s : ℤ) → is_later t ps ≡ true → int_lt t s ≡ true → is_later s ps ≡ true
+past_rising : (ps : List Point) (t s : ℤ) → is_after_all t ps ≡ true → int_lt t s ≡ true → is_after_all s ps ≡ true
 past_rising [] t s f g = refl
 past_rising (p ∷ ps) t s f g =
-    let both = and_true (int_lt p.1 t) (is_later t ps) f in
-    ap (λ b. b && is_later s ps) (later_still p.1 t s both.0 g) ∙ past_rising ps t s both.1 g
+    let both = and_true (int_lt p.1 t) (is_after_all t ps) f in
+    ap (λ b. b && is_after_all s ps) (later_still p.1 t s both.0 g) ∙ past_rising ps t s both.1 g
 
 -- so a sample that falls decides nothing, and one that rises decides all
-falling_adds_none : (ps : List Point) (t s : ℤ) → is_later t ps ≡ false → (is_later s ps && int_lt t s) ≡ is_later s ps
-falling_adds_none ps t s f = by_test (is_later s ps) refl
+falling_adds_none : (ps : List Point) (t s : ℤ) → is_after_all t ps ≡ false → (is_after_all s ps && int_lt t s) ≡ is_after_all s ps
+falling_adds_none ps t s f = by_test (is_after_all s ps) refl
   where
-    by_test : (b : Bool) → is_later s ps ≡ b → (b && int_lt t s) ≡ b
+    by_test : (b : Bool) → is_after_all s ps ≡ b → (b && int_lt t s) ≡ b
     by_test true e = past_falling ps t s f e
     by_test false e = refl
 
-rising_decides : (ps : List Point) (t s : ℤ) → is_later t ps ≡ true → (is_later s ps && int_lt t s) ≡ int_lt t s
+rising_decides : (ps : List Point) (t s : ℤ) → is_after_all t ps ≡ true → (is_after_all s ps && int_lt t s) ≡ int_lt t s
 rising_decides ps t s f = by_test (int_lt t s) refl
   where
-    by_test : (b : Bool) → int_lt t s ≡ b → (is_later s ps && b) ≡ b
+    by_test : (b : Bool) → int_lt t s ≡ b → (is_after_all s ps && b) ≡ b
     by_test true e = ap (λ b. b && true) (past_rising ps t s f e)
-    by_test false e = never (is_later s ps)
+    by_test false e = never (is_after_all s ps)
       where
         never : (b : Bool) → (b && false) ≡ false
         never true = refl
@@ -135,12 +135,12 @@ unmet_has_none rules es l none = by_test (is_kept rules l) refl
 -- what rises after one more entry
 rises_by : (rules : List RuleConfig) (es fs : List Entry) (l : Labels) (t : ℤ) → kept_points rules fs l ≡ kept_points rules es l → rises rules fs l t ≡ rises rules es l t
 unfolding rises
-rises_by rules es fs l t e = ap (is_later t) e
+rises_by rules es fs l t e = ap (is_after_all t) e
 
 rises_more : (rules : List RuleConfig) (es : List Entry) (l : Labels) (r : ℕ) (t : ℤ) (w : ℕ) (s : ℤ) → known rules es r ≡ Kept l
     → rises rules (es ++ Sample r t w ∷ []) l s ≡ (rises rules es l s && int_lt t s)
 unfolding rises
-rises_more rules es l r t w s is = ap (is_later s) (sample_is_kept rules es l r t w is) ∙ is_later-push s (kept_points rules es l) (length es, t, w)
+rises_more rules es l r t w s is = ap (is_after_all s) (sample_is_kept rules es l r t w is) ∙ is_after_all-push s (kept_points rules es l) (length es, t, w)
 
 falls_alike : (rules : List RuleConfig) (es : List Entry) (l : Labels) (t s : ℤ) → rises rules es l t ≡ false → (rises rules es l s && int_lt t s) ≡ rises rules es l s
 unfolding rises
@@ -152,7 +152,7 @@ rise_decides rules es l t s f = rising_decides (kept_points rules es l) t s f
 
 first_rises : (rules : List RuleConfig) (es : List Entry) (l : Labels) (t : ℤ) → list_any (labels_eq l) (series_of rules es) ≡ false → rises rules es l t ≡ true
 unfolding rises
-first_rises rules es l t none = ap (is_later t) (unmet_has_none rules es l none)
+first_rises rules es l t none = ap (is_after_all t) (unmet_has_none rules es l none)
 
 -- before the first entry nothing is noted
 pub noted_at_first : (rules : List RuleConfig) → IsNoted rules [] empty

@@ -17,13 +17,13 @@ standing_in found.Filtered = Filtered
 standing_in (found.Kept number labels) = Kept (arc_value labels.now)
 
 -- a number is that of the series
-abbrev pub IsNumbered : List Labels → Known → Type 0
-IsNumbered series found.Unknown = Unit {0}
-IsNumbered series (found.Bad fault) = Unit {0}
-IsNumbered series found.Filtered = Unit {0}
-IsNumbered series (found.Kept number labels) = HasNumber series (arc_value labels.now) number
+abbrev pub IsOfSeries : List Labels → Known → Type 0
+IsOfSeries series found.Unknown = Unit {0}
+IsOfSeries series (found.Bad fault) = Unit {0}
+IsOfSeries series found.Filtered = Unit {0}
+IsOfSeries series (found.Kept number labels) = HasNumber series (arc_value labels.now) number
 
 -- The answer says what is known of the reference after these entries.
 pub record Answers (rules : List RuleConfig) (entries : List Entry) (reference : ℕ) (answer : Known) : Type 0 where
   pub standing : standing_in answer ≡ known rules entries reference
-  pub number : IsNumbered (series_of rules entries) answer
+  pub number : IsOfSeries (series_of rules entries) answer

@@ -9,13 +9,13 @@ use Rattle.rw_relabel.specs.Rules.{RuleConfig}
 use Rattle.rw_series_cache.specs.Numbers.{series_of, HasNumber}
 use Rattle.rw_series_cache.specs.Points.{kept_points}
 
--- a timestamp is later than that of each of these samples (position, timestamp, word)
-abbrev pub is_later : ℤ → List (ℕ × ℤ × ℕ) → Bool
-is_later t ps = list_all (λ (p : ℕ × ℤ × ℕ). int_lt p.1 t) ps
+-- a timestamp is after that of each of these samples (position, timestamp, word)
+abbrev pub is_after_all : ℤ → List (ℕ × ℤ × ℕ) → Bool
+is_after_all t ps = list_all (λ (p : ℕ × ℤ × ℕ). int_lt p.1 t) ps
 
 -- a sample that comes after these entries rises: it is later than all samples of its series among them
 unfoldable pub rises : List RuleConfig → List Entry → Labels → ℤ → Bool
-rises rules before l t = is_later t (kept_points rules before l)
+rises rules before l t = is_after_all t (kept_points rules before l)
 
 -- later than what is noted, if something is
 abbrev pub is_after : Option ℤ → ℤ → Bool

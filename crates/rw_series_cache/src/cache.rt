@@ -42,7 +42,8 @@ impl Model for Cache {
 
     ghost view = { λ c. record { rules = c.sets.rules; definitions = c.taken; noted = c.latest.times } };
 
-    ghost invariant = { λ c. IsCache c.sets.rules c.taken (get nat_eq c.verdicts) c.sets.series × (length c.sets.series ≤ c.latest.places) };
+    ghost invariant = { λ c. IsCache c.sets.rules c.taken (get nat_eq c.verdicts) c.sets.series
+        × (length c.sets.series ≤ c.latest.places) };
 }
 
 impl Cache {

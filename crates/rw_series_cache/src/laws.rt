@@ -59,15 +59,21 @@ pub fn points_below_a_position()
 /// What is noted decides which samples rise, entry by entry: a sample that rises is noted, and nothing else.
 pub fn notes_entry_by_entry()
     ensures first { (rules : List RuleConfig) → IsNoted rules [] empty }
-    ensures definition { (rules : List RuleConfig) (entries : List Entry) (reference : ℕ) (labels : Labels) (noted : FinMap nat_cmp ℤ)
+    ensures definition { (rules : List RuleConfig) (entries : List Entry) (reference : ℕ) (labels : Labels)
+        (noted : FinMap nat_cmp ℤ)
         → IsNoted rules entries noted → IsNoted rules (entries ++ Def reference labels ∷ []) noted }
-    ensures other { (rules : List RuleConfig) (entries : List Entry) (reference : ℕ) (t : ℤ) (word : ℕ) (noted : FinMap nat_cmp ℤ)
+    ensures other { (rules : List RuleConfig) (entries : List Entry) (reference : ℕ) (t : ℤ) (word : ℕ)
+        (noted : FinMap nat_cmp ℤ)
         → ((labels : Labels) → known rules entries reference ≢ Kept labels) → IsNoted rules entries noted
         → IsNoted rules (entries ++ Sample reference t word ∷ []) noted }
-    ensures falling { (rules : List RuleConfig) (entries : List Entry) (reference : ℕ) (t : ℤ) (word : ℕ) (labels : Labels) (noted : FinMap nat_cmp ℤ)
-        → known rules entries reference ≡ Kept labels → rises rules entries labels t ≡ false → IsNoted rules entries noted
+    ensures falling { (rules : List RuleConfig) (entries : List Entry) (reference : ℕ) (t : ℤ) (word : ℕ)
+        (labels : Labels) (noted : FinMap nat_cmp ℤ)
+        → known rules entries reference ≡ Kept labels → rises rules entries labels t ≡ false
+        → IsNoted rules entries noted
         → IsNoted rules (entries ++ Sample reference t word ∷ []) noted }
-    ensures rising { (rules : List RuleConfig) (entries : List Entry) (reference : ℕ) (t : ℤ) (word : ℕ) (labels : Labels) (number : ℕ) (noted : FinMap nat_cmp ℤ)
-        → known rules entries reference ≡ Kept labels → HasNumber (series_of rules entries) labels number → rises rules entries labels t ≡ true
-        → IsNoted rules entries noted → IsNoted rules (entries ++ Sample reference t word ∷ []) (insert noted number t) }
+    ensures rising { (rules : List RuleConfig) (entries : List Entry) (reference : ℕ) (t : ℤ) (word : ℕ)
+        (labels : Labels) (number : ℕ) (noted : FinMap nat_cmp ℤ)
+        → known rules entries reference ≡ Kept labels → HasNumber (series_of rules entries) labels number
+        → rises rules entries labels t ≡ true → IsNoted rules entries noted
+        → IsNoted rules (entries ++ Sample reference t word ∷ []) (insert noted number t) }
 {}

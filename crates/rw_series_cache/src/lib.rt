@@ -12,7 +12,7 @@ mod timestamps;
 mod verdict;
 
 pub use cache::Cache;
-pub use known::Known;
+pub use known::{Known, label_fault_number};
 pub use laws::{
     known_at_a_position, notes_entry_by_entry, numbers_stay, points_below_a_position,
     points_entry_by_entry, samples_define_nothing,

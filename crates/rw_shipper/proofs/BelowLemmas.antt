@@ -5,13 +5,12 @@ use Rattle.rw_types.specs.declared.entry.Entry.{Entry}
 use Rattle.rw_types.specs.declared.entry.Entry.TheVariants as entry
 use Rattle.rw_types.specs.declared.place.Place.{Place}
 use Rattle.rw_relabel.specs.Rules.{RuleConfig}
-use Rattle.rw_series_cache.specs.Known.{Standing, Unknown, Bad, Filtered, Kept, known}
-use Rattle.rw_series_cache.specs.Rising.{rises}
 use Rattle.rw_shard_queue.specs.Items.{samples_in, places_in}
 use Rattle.rw_shard_queue.specs.declared.item.Item.{Item}
 use Rattle.rw_shard_queue.specs.declared.item.Item.TheVariants as item
 use Rattle.rw_fleet.specs.Lanes.{Lane}
-use Rattle.rw_feeder.specs.Logs.{Sent, gather_from, kept_sample, sent_where, sent_as, sent_of, sent}
+use Rattle.rw_router.specs.Fates.{Fate, Drops, Filters, Sends, fate}
+use Rattle.rw_feeder.specs.Logs.{Sent, gather_from, sent_by_fate, sent_of, sent}
 use Rattle.rw_shipper.specs.Placement.{as_sent, shard_of, IsPlacing}
 
 -- below a position
@@ -39,19 +38,14 @@ below_filter : (n : ℕ) (p : Sent → Bool) (xs : List Sent) → AllBelow n xs 
 below_filter n p [] h = tt
 below_filter n p (x ∷ xs) h = below_cond n x (filter p xs) (p x) h.0 (below_filter n p xs h.1)
 
-below_where : (n : ℕ) (b : Bool) (x : Sent) → x.pos < n → AllBelow n (sent_where b x)
-below_where n true x lt = (lt, tt)
-below_where n false x lt = tt
-
-below_as : (rules : List RuleConfig) (before : List Entry) (t : ℤ) (word : ℕ) (k : Standing) → AllBelow (length before + 1) (sent_as rules before t word k)
-below_as rules before t word (Kept l) = below_where (length before + 1) (rises rules before l t) (kept_sample rules before t word l) (omega arith)
-below_as rules before t word Unknown = tt
-below_as rules before t word (Bad f) = tt
-below_as rules before t word Filtered = tt
+below_fate : (rules : List RuleConfig) (before : List Entry) (t : ℤ) (word : ℕ) (f : Fate) → AllBelow (length before + 1) (sent_by_fate rules before t word f)
+below_fate rules before t word (Sends l) = (omega arith, tt)
+below_fate rules before t word (Drops reason) = tt
+below_fate rules before t word Filters = tt
 
 below_of : (rules : List RuleConfig) (before : List Entry) (e : Entry) → AllBelow (length before + 1) (sent_of rules before e)
 below_of rules before (entry.Def reference labels) = tt
-below_of rules before (entry.Sample reference t word) = below_as rules before t word (known rules before reference)
+below_of rules before (entry.Sample reference t word) = below_fate rules before t word (fate rules before reference t)
 
 below_from : (rules : List RuleConfig) (before es : List Entry) → AllBelow (length before + length es) (gather_from (sent_of rules) before es)
 below_from rules before [] = tt

@@ -12,7 +12,7 @@ use Rattle.rw_worker.specs.Report.{is_hard}
 use Rattle.rw_fleet.specs.Work.{lane_of, finished_of, is_compared, is_resolved, AreResolved, AreWorked, HasCut}
 use Rattle.rw_fleet.specs.Fleets.{Shards, AreAll, EndBy, HasClosed}
 use Rattle.rw_fleet.specs.declared.joined.Joined.{Joined}
-use Rattle.rw_feeder.specs.declared.logged.Logged.{Logged}
+use Rattle.rw_router.specs.declared.sample.RoutedSample.{RoutedSample}
 use Rattle.rw_fleet.specs.Loads.{window_of}
 use Rattle.rw_shipper.specs.Reports.{part_of, abandoned_in, HasListed, HasRoom, IsGrown, ListsAfter, IsRoomFor}
 use Rattle.rw_shipper.specs.declared.lists.Lists.{Lists}
@@ -166,7 +166,7 @@ module _ {T : Type 0} where
       }
 
   -- one shard was put a sample, or none was
-  pub room_put : (was now : Shards T) (a : Lists T) (p n k : ℕ) (l : Logged) → IsRoomFor was a p n → now ≡ record was { current = now.current } → IsPut k l was.current now.current → IsRoomFor now a p n
+  pub room_put : (was now : Shards T) (a : Lists T) (p n k : ℕ) (l : RoutedSample) → IsRoomFor was a p n → now ≡ record was { current = now.current } → IsPut k l was.current now.current → IsRoomFor now a p n
   room_put was now a p n k l h is put = room_grown was now a a p n h is (ap length put.is ∙ set_length was.current k put.now) (grown_none a)
 
   pub room_kept : (was now : Shards T) (a : Lists T) (p n : ℕ) → IsRoomFor was a p n → now ≡ was → IsRoomFor now a p n

@@ -6,7 +6,7 @@ use Rattle.std.proofs.lemmas.Bool.{eq-eqb, eqb-true}
 use Rattle.rw_worker.specs.Setups.{Setup}
 use Rattle.rw_shard_queue.specs.Items.{Placed, samples_in}
 use Rattle.rw_fleet.specs.Lanes.{Lane, AreSame, AreFresh, IsPut, put_as}
-use Rattle.rw_feeder.specs.declared.logged.Logged.{Logged}
+use Rattle.rw_router.specs.declared.sample.RoutedSample.{RoutedSample}
 use Rattle.rw_feeder.specs.Feeders.{sent_by}
 use Rattle.rw_feeder.specs.Logs.{Sent}
 use Rattle.rw_shipper.specs.Placement.{as_sent, put_in, shard_of, of_shard, IsDealt, Places, joined, IsPlacing, ArePlaced}
@@ -146,7 +146,7 @@ map_push [] x = refl
 map_push (y ∷ ys) x = ap (λ l. as_sent y ∷ l) (map_push ys x)
 
 -- one sample more, which was put into the queue of its series' shard
-pub placing_put : (e k : ℕ) (ended qs after : List Lane) (s : List Sent) (x : Logged) (sample : Sent) → IsPlacing e ended qs s → IsPut k x qs after → sample ≡ sent_by x
+pub placing_put : (e k : ℕ) (ended qs after : List Lane) (s : List Sent) (x : RoutedSample) (sample : Sent) → IsPlacing e ended qs s → IsPut k x qs after → sample ≡ sent_by x
     → k ≡ shard_of (length qs) x.series → IsPlacing e ended after (s ++ sample ∷ [])
 placing_put e k ended qs after s x sample h put is here =
     let x' : Sent = sent_by x in

@@ -7,8 +7,6 @@ use Rattle.rw_types.specs.declared.entry.Entry.{Entry}
 use Rattle.rw_types.specs.declared.entry.Entry.TheVariants as entry
 use Rattle.rw_types.specs.declared.place.Place.{Place}
 use Rattle.rw_relabel.specs.Rules.{RuleConfig}
-use Rattle.rw_series_cache.specs.Known.{Standing, Unknown, Bad, Filtered, Kept, known}
-use Rattle.rw_series_cache.specs.Rising.{rises}
 use Rattle.rw_shard_queue.specs.Items.{places_in}
 use Rattle.rw_shard_queue.specs.declared.item.Kind.TheVariants.{Reshard}
 use Rattle.rw_fleet.specs.Lanes.{Lane, AreFresh, AreSame, IsPut, marks_of}
@@ -17,9 +15,10 @@ use Rattle.rw_fleet.specs.declared.running.Fault.{Fault}
 use Rattle.rw_fleet.specs.Fleets.{Shards, AreAll, EndBy, HasClosed}
 use Rattle.rw_fleet.specs.declared.joined.Finished.{Finished}
 use Rattle.rw_fleet.specs.declared.joined.Joined.{Joined}
-use Rattle.rw_feeder.specs.declared.logged.Logged.{Logged}
+use Rattle.rw_router.specs.declared.sample.RoutedSample.{RoutedSample}
 use Rattle.rw_feeder.specs.Feeders.{Sorting, HasPlaced, HasRead, sent_by}
-use Rattle.rw_feeder.specs.Logs.{Sent, gather_from, kept_sample, sent_where, sent_as, sent_of, sent}
+use Rattle.rw_router.specs.Fates.{Fate, Drops, Filters, Sends, fate}
+use Rattle.rw_feeder.specs.Logs.{Sent, gather_from, kept_sample, sent_by_fate, sent_of, sent}
 use Rattle.rw_shipper.specs.Placement.{shard_of, IsPlacing, ArePlaced}
 use Rattle.rw_codes.specs.Pieces.{Piece, reading}
 use Rattle.rw_codes.specs.Segments.{segment}
@@ -55,7 +54,7 @@ module _ {T : Type 0} where
       subst (λ s. IsPlacing fleet.epoch (map lane_of fleet.ended) fleet.current s) (sym (placed_samples old new e [] placed hand is ∙ append-nil (sent old.rules old.placed))) h
 
   -- a sample was put
-  pub places_sent : (old held new : Sorting) (was now : Shards T) (e : Entry) (l : Logged) (k m : ℕ) → held ≡ old → HasPlaced held new → old.hand ≡ e ∷ [] → sent_of old.rules old.placed e ≡ sent_by l ∷ [] → now ≡ record was { current = now.current }
+  pub places_sent : (old held new : Sorting) (was now : Shards T) (e : Entry) (l : RoutedSample) (k m : ℕ) → held ≡ old → HasPlaced held new → old.hand ≡ e ∷ [] → sent_of old.rules old.placed e ≡ sent_by l ∷ [] → now ≡ record was { current = now.current }
       → IsPut k l was.current now.current → k ≡ l.series % m → m ≡ length was.current → PlacesAll old was → PlacesAll new now
   places_sent old held new was now e l k m same placed hand is rest put here len h =
       let after : HasPlaced old new = placed ∙ ap (λ (s : Sorting). record s { placed = s.placed ++ s.hand; hand = [] }) same in
@@ -118,37 +117,32 @@ marks_set (q ∷ qs) zero was now at same = ap (λ ms. ms ∷ map marks_of qs) (
     some_is a b e = cc
 marks_set (q ∷ qs) (suc k) was now at same = ap (λ ms. marks_of q ∷ ms) (marks_set qs k was now at same)
 
-put_length : (k : ℕ) (l : Logged) (old new : List Lane) → IsPut k l old new → length new ≡ length old
+put_length : (k : ℕ) (l : RoutedSample) (old new : List Lane) → IsPut k l old new → length new ≡ length old
 put_length k l old new put = ap length put.is ∙ set_length old k put.now
 
 module _ {T : Type 0} where
-  pub put_len : (k : ℕ) (l : Logged) (was now : Shards T) → IsPut k l was.current now.current → length now.current ≡ length was.current
+  pub put_len : (k : ℕ) (l : RoutedSample) (was now : Shards T) → IsPut k l was.current now.current → length now.current ≡ length was.current
   put_len k l was now put = put_length k l was.current now.current put
 
   -- a sample more leaves the marks
-  pub put_marks : (k : ℕ) (l : Logged) (was now : Shards T) → IsPut k l was.current now.current → map marks_of now.current ≡ map marks_of was.current
+  pub put_marks : (k : ℕ) (l : RoutedSample) (was now : Shards T) → IsPut k l was.current now.current → map marks_of now.current ≡ map marks_of was.current
   put_marks k l was now put = ap (map marks_of) put.is ∙ marks_set was.current k put.was put.now put.at put.marks
 
-sent_where_pos : (b : Bool) (s x : Sent) → sent_where b s ≡ x ∷ [] → s.pos ≡ x.pos
-sent_where_pos true s x is = ap (λ (y : Sent). y.pos) (first s x is)
+sent_fate_pos : (rules : List RuleConfig) (before : List Entry) (t : ℤ) (word : ℕ) (f : Fate) (x : Sent) → sent_by_fate rules before t word f ≡ x ∷ [] → length before ≡ x.pos
+sent_fate_pos rules before t word (Sends l) x is = ap (λ (y : Sent). y.pos) (first (kept_sample rules before t word l) x is)
   where
     first : (a b : Sent) → a ∷ [] ≡ b ∷ [] → a ≡ b
     first a b e = cc
-sent_where_pos false s x is = absurd (cc)
-
-sent_as_pos : (rules : List RuleConfig) (before : List Entry) (t : ℤ) (word : ℕ) (k : Standing) (x : Sent) → sent_as rules before t word k ≡ x ∷ [] → length before ≡ x.pos
-sent_as_pos rules before t word (Kept l) x is = sent_where_pos (rises rules before l t) (kept_sample rules before t word l) x is
-sent_as_pos rules before t word Unknown x is = absurd (cc)
-sent_as_pos rules before t word (Bad f) x is = absurd (cc)
-sent_as_pos rules before t word Filtered x is = absurd (cc)
+sent_fate_pos rules before t word (Drops reason) x is = absurd (cc)
+sent_fate_pos rules before t word Filters x is = absurd (cc)
 
 sent_pos : (rules : List RuleConfig) (before : List Entry) (e : Entry) (x : Sent) → sent_of rules before e ≡ x ∷ [] → length before ≡ x.pos
 sent_pos rules before (entry.Def reference labels) x is = absurd (cc)
-sent_pos rules before (entry.Sample reference t word) x is = sent_as_pos rules before t word (known rules before reference) x is
+sent_pos rules before (entry.Sample reference t word) x is = sent_fate_pos rules before t word (fate rules before reference t) x is
 
 module _ {T : Type 0} where
   -- a sample stands behind all that were put before it
-  pub stands_behind : (old : Sorting) (was : Shards T) (e : Entry) (l : Logged) (j : ℕ) → PlacesAll old was → sent_of old.rules old.placed e ≡ sent_by l ∷ []
+  pub stands_behind : (old : Sorting) (was : Shards T) (e : Entry) (l : RoutedSample) (j : ℕ) → PlacesAll old was → sent_of old.rules old.placed e ≡ sent_by l ∷ []
       → (lane : Lane) (k : ℕ) (o : Place) → slice_get was.current j ≡ Some lane → slice_get (places_in lane.put) k ≡ Some o → o.pos < l.pos
   stands_behind old was e l j h is lane k o at there =
       subst (λ n. o.pos < n) (sent_pos old.rules old.placed e (sent_by l) is) (placing_below was.epoch (length old.placed) j (map lane_of was.ended) was.current old.rules old.placed lane h refl at k o there)

@@ -5,10 +5,9 @@ use Rattle.std.proofs.lemmas.Bool.{eq-eqb, eqb-true}
 use Rattle.rw_types.specs.declared.entry.Entry.{Entry}
 use Rattle.rw_types.specs.declared.entry.Entry.TheVariants as entry
 use Rattle.rw_relabel.specs.Rules.{RuleConfig}
-use Rattle.rw_series_cache.specs.Known.{Standing, Unknown, Bad, Filtered, Kept, known}
-use Rattle.rw_series_cache.specs.Rising.{rises}
 use Rattle.rw_fleet.specs.Lanes.{Lane}
-use Rattle.rw_feeder.specs.Logs.{Sent, gather_from, kept_sample, sent_where, sent_as, sent_of, sent}
+use Rattle.rw_router.specs.Fates.{Fate, Drops, Filters, Sends, fate}
+use Rattle.rw_feeder.specs.Logs.{Sent, gather_from, sent_by_fate, sent_of, sent}
 use Rattle.rw_shipper.specs.Placement.{put_in, shard_of, IsDealt, Places, joined, ArePlaced}
 use Rattle.rw_shipper.specs.Spread.{IsOneOf, AllAbove, Rise, IsShard, IsSpread}
 
@@ -213,19 +212,14 @@ at_rise n m [] ys at up h r = (r, from_less n m ys (omega arith) h)
 at_rise n m (x ∷ []) ys at up h r = ((from_above x.pos m ys (omega arith) h, r), (omega arith, from_less n m ys (omega arith) h))
 at_rise n m (x ∷ y ∷ xs) ys at up h r = absurd at
 
-at_where : (b : Bool) (x : Sent) → IsAt x.pos (sent_where b x)
-at_where true x = refl
-at_where false x = tt
-
-at_as : (rules : List RuleConfig) (before : List Entry) (t : ℤ) (word : ℕ) (k : Standing) → IsAt (length before) (sent_as rules before t word k)
-at_as rules before t word (Kept l) = at_where (rises rules before l t) (kept_sample rules before t word l)
-at_as rules before t word Unknown = tt
-at_as rules before t word (Bad f) = tt
-at_as rules before t word Filtered = tt
+at_fate : (rules : List RuleConfig) (before : List Entry) (t : ℤ) (word : ℕ) (f : Fate) → IsAt (length before) (sent_by_fate rules before t word f)
+at_fate rules before t word (Sends l) = refl
+at_fate rules before t word (Drops reason) = tt
+at_fate rules before t word Filters = tt
 
 at_of : (rules : List RuleConfig) (before : List Entry) (e : Entry) → IsAt (length before) (sent_of rules before e)
 at_of rules before (entry.Def reference labels) = tt
-at_of rules before (entry.Sample reference t word) = at_as rules before t word (known rules before reference)
+at_of rules before (entry.Sample reference t word) = at_fate rules before t word (fate rules before reference t)
 
 from_rise : (rules : List RuleConfig) (before es : List Entry) → Rise (gather_from (sent_of rules) before es) × AllFrom (length before) (gather_from (sent_of rules) before es)
 from_rise rules before [] = (tt, tt)

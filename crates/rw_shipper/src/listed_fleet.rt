@@ -10,9 +10,9 @@ ghost use Rattle.rw_fleet.specs.Loads.{IsLoad};
 ghost use Rattle.rw_shipper.specs.Reports.{HasListed};
 
 use crate::lists::{Lists, list_all};
-use rw_feeder::Logged;
 use rw_fleet::{Connect, Fault, Fleet, Load};
 use rw_ledger::Ledger;
+use rw_router::RoutedSample;
 use rw_ruled_queue::Kind;
 use rw_sender::Config;
 use std::alloc::{AllocError, Global};
@@ -118,15 +118,20 @@ impl<C: Connect + Drop> ListedFleet<C> {
     }
 
     /// Puts a sample into the queue of a shard. It may wait for room.
-    pub(crate) fn put<R: Wait>(&mut self, rt: &R, shard: usize, logged: Logged) -> Result<(), Fault>
+    pub(crate) fn put<R: Wait>(
+        &mut self,
+        rt: &R,
+        shard: usize,
+        sample: RoutedSample,
+    ) -> Result<(), Fault>
         requires within { shard < length self.old.current }
-        requires later { (lane : Lane) (k : ℕ) (o : Place) → slice_get self.old.current shard ≡ Some lane → slice_get (places_in lane.put) k ≡ Some o → o.pos < logged.pos }
+        requires later { (lane : Lane) (k : ℕ) (o : Place) → slice_get self.old.current shard ≡ Some lane → slice_get (places_in lane.put) k ≡ Some o → o.pos < sample.pos }
         ensures rest { self.new ≡ record self.old { current = self.new.current } }
-        ensures ok { OnOk result (IsPut shard logged self.old.current self.new.current) }
+        ensures ok { OnOk result (IsPut shard sample self.old.current self.new.current) }
         ensures err { OnErr result (self.new ≡ self.old) }
         ensures memory { result ≡ Err Fault.OutOfMemory → IsUsedUp shard self.old.current }
     {
-        if let Err(fault) = self.fleet.put(rt, shard, logged) {
+        if let Err(fault) = self.fleet.put(rt, shard, sample) {
             return Err(fault);
         }
         Ok(())

@@ -1,5 +1,5 @@
 -- What was fed to a reader, and what it answers.
-use Rattle.std.specs.Prelude.{◌≡◌, ℕ, ◌+◌, ◌<◌, ◌^◌, List, [], ◌∷◌, ◌++◌, length, Option, Some, None, Result, Ok, Err, slice_get, nat_lt, if◌then◌else◌}
+use Rattle.std.specs.Prelude.{◌≡◌, ℕ, ◌+◌, ◌<◌, ◌^◌, List, [], ◌∷◌, ◌++◌, length, Option, Some, None, Result, Ok, Err, slice_get, nat_lt, Bool, true, false, if◌then◌else◌}
 use Rattle.rw_types.specs.declared.entry.Entry.{Entry}
 use Rattle.rw_codes.specs.Pieces as pieces
 use Rattle.rw_codes.specs.Pieces.{page_size, reading, entries, skipped, fault}
@@ -39,6 +39,11 @@ answered t (Ok (Some e)) = record t { given = t.given + 1 }
 answered t (Ok None) = record t { skipped = skipped t.pieces }
 answered t (Err OutOfMemory) = t
 answered t (Err f) = record t { skipped = skipped t.pieces; fault = Some f }
+
+-- memory ran out, and the log has no fault
+abbrev pub is_out_of_memory : TailFault → Bool
+is_out_of_memory OutOfMemory = true
+is_out_of_memory _ = false
 
 -- it does not matter how bytes are cut: two pieces of bytes are read as one
 abbrev pub CutsDoNotMatter : List pieces.Piece → List pieces.Piece → List ℕ → Type 0

@@ -17,4 +17,4 @@ mod tail;
 pub use piece::Piece;
 pub use place::FaultPlace;
 pub use rw_codes::TailFault;
-pub use tail::Tail;
+pub use tail::{Tail, is_out_of_memory};

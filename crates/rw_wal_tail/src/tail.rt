@@ -5,11 +5,11 @@ ghost use Rattle.rw_codes.specs.Laws.{Extends};
 ghost use Rattle.rw_codes.specs.Pieces.{bytes, next_segment, entries, fault, page_size, reading};
 ghost use Rattle.rw_codes.specs.declared.tail_fault.TailFault.{TailFault};
 ghost use Rattle.rw_codes.specs.declared.tail_fault.TailFault.TheVariants.{OutOfMemory};
-ghost use Rattle.rw_wal_tail.specs.Fed.{next_of, answered, CutsDoNotMatter};
+ghost use Rattle.rw_wal_tail.specs.Fed.{next_of, answered, piece_of, is_out_of_memory, CutsDoNotMatter};
 ghost use Rattle.rw_wal_tail.specs.Places.{told_place};
 
 use crate::input::COUNT_END;
-use crate::piece::Told;
+use crate::piece::{Piece, Told};
 use crate::place::FaultPlace;
 use crate::reader::{Reader, Step};
 use rw_codes::TailFault;
@@ -17,6 +17,16 @@ use rw_history::History;
 use rw_types::Entry;
 use std::alloc::{AllocError, Global};
 use std::marker::Model;
+
+/// Whether memory ran out, and the log has no fault.
+pub fn is_out_of_memory(fault: TailFault) -> bool
+    ensures { result ≡ is_out_of_memory fault }
+{
+    match fault {
+        TailFault::OutOfMemory => true,
+        _ => false,
+    }
+}
 
 /// Follows a Prometheus write-ahead log (wal.md) that comes in pieces, and gives its entries.
 ///
@@ -85,6 +95,21 @@ impl Tail {
     {
         self.reader.next_segment();
         self.pieces.push(&Told::NextSegment);
+    }
+
+    /// The next piece of the log.
+    pub fn feed_piece(&mut self, piece: &Piece) -> Result<(), AllocError>
+        ensures ok { OnOk result (self.new ≡ record self.old { pieces = self.old.pieces ++ piece_of piece.now ∷ [] }) }
+        ensures err { OnErr result (self.new ≡ self.old) }
+        ensures goes_on { OnOk result (Extends (reading page_size self.old.pieces) (reading page_size self.new.pieces)) }
+    {
+        match piece {
+            Piece::Bytes(bytes) => self.feed(bytes),
+            Piece::NextSegment => {
+                self.next_segment();
+                Ok(())
+            }
+        }
     }
 
     /// The next entry; none where what was fed ends before another one. A fault is answered after all entries before it, and then again by each later call.

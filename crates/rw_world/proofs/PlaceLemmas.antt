@@ -1,13 +1,20 @@
 -- A sample is put into the queue of its series' shard.
-use Rattle.std.proofs.Common.{◌≡◌, ℕ, ℤ, suc, ◌+◌, Bool, true, false, cond, Option, None, Some, refl, sym, ap, ◌∙◌, add-one}
+use Rattle.std.proofs.Common.{◌≡◌, ℕ, ℤ, suc, ◌+◌, Bool, true, false, cond, is_some, Option, None, Some, refl, sym, ap, ◌∙◌, add-one}
 use Rattle.rw_types.specs.Labels.{Labels}
+use Rattle.rw_types.specs.declared.entry.Entry.{Entry}
 use Rattle.rw_series_cache.specs.Numbers.{number_of}
 use Rattle.rw_schedule.specs.Shards.{Shard, has_room, shard_put}
 use Rattle.rw_schedule.specs.Worlds.{Setup, World}
-use Rattle.rw_schedule.specs.Steps.{change, next_sample, put_if_room}
+use Rattle.rw_schedule.specs.Steps.{change, next_sample, place, place_entry, put_if_room}
 use Rattle.rw_shard_queue.specs.Items.{Placed}
 use Rattle.rw_world.specs.Sending.{Sending, room_at, sample_at, put_to}
-use Rattle.rw_world.specs.Machine.{Machine}
+use Rattle.rw_world.specs.Machine.{Machine, next_entry}
+
+-- the next entry is placed, while no shards are drained
+pub place_is : (m : Machine) (e : Entry) → is_some m.world.draining ≡ false → next_entry m ≡ Some e → record m { world = place m.setup m.world } ≡ record m { world = place_entry m.setup m.world (Some e) }
+place_is m e draining at =
+    ap (λ b. record m { world = cond b m.world (place_entry m.setup m.world (next_entry m)) }) draining
+    ∙ ap (λ o. record m { world = place_entry m.setup m.world o }) at
 
 if_no : {X : Type 0} (b : Bool) (x y : X) → b ≡ false → cond b x y ≡ y
 if_no true x y e = absurd (cc)

@@ -9,8 +9,8 @@ use Rattle.rw_codes.specs.Segments.{segment}
 use Rattle.rw_codes.specs.Pieces.{entries, fault, reading}
 use Rattle.rw_codes.specs.declared.tail_fault.TailFault.{TailFault}
 use Rattle.rw_codes.specs.declared.tail_fault.TailFault.TheVariants.{OutOfMemory}
-use Rattle.rw_wal_tail.specs.Fed.{Fed, next_of, end_of, answered}
-use Rattle.rw_world.specs.Reading.{Drains, HasRead, is_refusal}
+use Rattle.rw_wal_tail.specs.Fed.{Fed, next_of, end_of, answered, is_out_of_memory}
+use Rattle.rw_world.specs.Reading.{Drains, HasRead}
 
 pub nothing_read : HasRead (record { pieces = []; given = 0; skipped = 0; fault = None }) [] None
 unfolding reading segment
@@ -106,11 +106,11 @@ pub error_pieces : (t t' : Fed) (said : Said) (f : TailFault) → said ≡ Err f
 error_pieces t t' said f is n = ap (λ (x : Fed). x.pieces) (n ∙ ap (answered t) is) ∙ (answered_same t f).0
 
 -- a fault follows
-pub drained_fault : (t t' : Fed) (taken : List Entry) (said : Said) (f : TailFault) → Drains t taken → said ≡ Err f → is_refusal f ≡ false → (said ≡ Err OutOfMemory) ⊎ (said ≡ next_of t.pieces t.given) →
+pub drained_fault : (t t' : Fed) (taken : List Entry) (said : Said) (f : TailFault) → Drains t taken → said ≡ Err f → is_out_of_memory f ≡ false → (said ≡ Err OutOfMemory) ⊎ (said ≡ next_of t.pieces t.given) →
     t' ≡ answered t said → HasRead t' taken (Some f) × (t'.pieces ≡ t.pieces)
 unfolding next_of
 drained_fault t t' taken said f d is plain a n = ⊎_elim
-    (λ (r : said ≡ Err OutOfMemory). let same : f ≡ OutOfMemory = cc in let yes_it_is : is_refusal f ≡ true = ap is_refusal same in absurd (cc))
+    (λ (r : said ≡ Err OutOfMemory). let same : f ≡ OutOfMemory = cc in let yes_it_is : is_out_of_memory f ≡ true = ap is_out_of_memory same in absurd (cc))
     (λ (r : said ≡ next_of t.pieces t.given).
     let e = fault_is (nat_lt t.given (length (entries t.pieces))) (slice_get (entries t.pieces) t.given) (fault t.pieces) f (sym is ∙ r) in
     let m : t' ≡ answered t (Err f) = n ∙ ap (answered t) is in

@@ -5,9 +5,9 @@ use Rattle.std.proofs.lemmas.List.{take_more, map-append}
 use Rattle.std.specs.Prelude.{slice_get, nat_lt}
 use Rattle.std.specs.List.{position, position_or_len}
 use Rattle.rw_batch.specs.declared.batch.BatchId.{BatchId}
-use Rattle.rw_series_cache.specs.Known.{Standing, Kept, known}
+use Rattle.rw_series_cache.specs.Known.{known}
 use Rattle.rw_series_cache.specs.Numbers.{number_of}
-use Rattle.rw_series_cache.specs.Rising.{rises}
+use Rattle.rw_router.specs.Fates.{Fate, Drops, Filters, Sends}
 use Rattle.rw_types.specs.Labels.{Labels}
 use Rattle.rw_types.specs.declared.entry.Entry.{Entry}
 use Rattle.rw_types.specs.declared.entry.Entry.TheVariants.{Def, Sample}
@@ -15,7 +15,7 @@ use Rattle.rw_sender.specs.Shard.{is_empty, batch_id, same_id}
 use Rattle.rw_schedule.specs.Shards.{Shard}
 use Rattle.rw_schedule.specs.Steps.{shard_of}
 use Rattle.rw_schedule.specs.Worlds.{Setup, Request, World, log, is_finished}
-use Rattle.rw_schedule.specs.Settling.{newest_from, exchange_at, first_of_these, made_at, at_first, can_place, can_place_entry, can_place_known, next_events}
+use Rattle.rw_schedule.specs.Settling.{newest_from, exchange_at, first_of_these, made_at, at_first, can_place, can_place_as, can_place_entry, can_place_known, next_events}
 use Rattle.rw_schedule.specs.Settling as settling
 use Rattle.rw_schedule.specs.declared.event.How.TheVariants.{Plain}
 use Rattle.rw_schedule.specs.declared.event.Event.{Event}
@@ -110,28 +110,18 @@ room_same : (c : Setup) (o : Option Shard) → room_at c.capacity o ≡ settling
 room_same c None = refl
 room_same c (Some s) = refl
 
--- a kept sample may be placed where its shard has room
-not_or : (a b : Bool) → a ≡ false → true ≡ (not a || b)
-not_or true b e = absurd (cc)
-not_or false b e = refl
+-- a sample that is not sent needs no room
+pub unsent_placed : (c : Setup) (w : World) (f : Fate) → ((l : Labels) → f ≡ Sends l → ⊥) → true ≡ can_place_as c w f
+unsent_placed c w (Drops reason) none = refl
+unsent_placed c w Filters none = refl
+unsent_placed c w (Sends l) none = absurd (none l refl)
 
-or_room : (a b : Bool) → a ≡ true → b ≡ (not a || b)
-or_room true b e = refl
-or_room false b e = absurd (cc)
-
--- a sample that does not rise needs no room
-pub falls_placed : (c : Setup) (w : World) (t : ℤ) (l : Labels) (st : Standing) → Kept l ≡ st → rises c.rules (take w.placed (log w)) l t ≡ false → true ≡ can_place_known c w t st
-falls_placed c w t l st known falls =
-    not_or (rises c.rules (take w.placed (log w)) l t) (settling.room_at c (slice_get w.shards (shard_of w l))) falls ∙ ap (can_place_known c w t) known
-
--- one that rises needs room in the queue of its series' shard
-pub rising_placed : (c : Setup) (w : World) (t : ℤ) (l : Labels) (st : Standing) (number n : ℕ) (b : Bool) → Kept l ≡ st → number ≡ number_of w.series l → n ≡ length w.shards →
-    rises c.rules (take w.placed (log w)) l t ≡ true → b ≡ room_at c.capacity (slice_get w.shards (number % n)) → b ≡ can_place_known c w t st
-rising_placed c w t l st number n b known is len rising room =
+-- one that is sent needs room in the queue of its series' shard
+pub sent_placed : (c : Setup) (w : World) (f : Fate) (l : Labels) (number n : ℕ) (b : Bool) → f ≡ Sends l → number ≡ number_of w.series l → n ≡ length w.shards →
+    b ≡ room_at c.capacity (slice_get w.shards (number % n)) → b ≡ can_place_as c w f
+sent_placed c w f l number n b sends is len room =
     let here : number % n ≡ shard_of w l = ap (λ k. k % n) is ∙ ap (λ k. number_of w.series l % k) len in
-    room ∙ ap (λ k. room_at c.capacity (slice_get w.shards k)) here ∙ room_same c (slice_get w.shards (shard_of w l))
-    ∙ or_room (rises c.rules (take w.placed (log w)) l t) (settling.room_at c (slice_get w.shards (shard_of w l))) rising
-    ∙ ap (can_place_known c w t) known
+    room ∙ ap (λ k. room_at c.capacity (slice_get w.shards k)) here ∙ room_same c (slice_get w.shards (shard_of w l)) ∙ ap (can_place_as c w) (sym sends)
 
 entry_none : (c : Setup) (w : World) (o : Option Entry) → ahead_of o ≡ ahead.Nothing → can_place_entry c w o ≡ false
 entry_none c w None e = refl

@@ -1,33 +1,31 @@
 -- What the parts of a world keep, as entries are placed.
-use Rattle.std.proofs.Common.{◌≡◌, ℕ, ℤ, zero, suc, ◌+◌, ◌<◌, ◌≤◌, Bool, true, false, not, ◌&&◌, cond, List, [], ◌∷◌, ◌++◌, length, map, take, Option, None, Some, refl, sym, ap, subst, ◌∙◌, add-one, arith, length-append}
+use Rattle.std.proofs.Common.{◌≡◌, ℕ, zero, suc, ◌+◌, ◌≤◌, Bool, true, false, not, ◌&&◌, cond, List, [], ◌∷◌, ◌++◌, length, map, take, Option, None, Some, refl, sym, ap, subst, ◌∙◌, add-one, arith, length-append}
 use Rattle.std.proofs.lemmas.List.{take-append-le}
 use Rattle.std.proofs.lemmas.Option.{slice_get_within}
 use Rattle.std.specs.Prelude.{slice_get, fold}
 use Rattle.rw_types.specs.Labels.{Labels}
 use Rattle.rw_types.specs.declared.entry.Entry.{Entry}
-use Rattle.rw_types.specs.declared.entry.Entry.TheVariants.{Def, Sample}
+use Rattle.rw_types.specs.declared.entry.Entry.TheVariants.{Def}
 use Rattle.rw_codes.specs.Laws.{Extends}
 use Rattle.rw_codes.specs.Pieces.{Piece, entries, reading, page_size}
 use Rattle.rw_relabel.specs.Rules.{RuleConfig}
-use Rattle.rw_series_cache.specs.Known.{Standing, Unknown, Bad, Filtered, Kept, known, standing_of, definitions_of}
-use Rattle.rw_series_cache.specs.Numbers.{with_series, with_entry, series_of, HasNumber}
-use Rattle.rw_series_cache.specs.Rising.{rises, is_after, IsNoted}
-use Rattle.rw_series_cache.proofs.KnownLemmas.{series_of-definitions_of}
-use Rattle.rw_series_cache.proofs.RisingLemmas.{noted_at_first, noted_definition, noted_other, noted_falling, noted_rising}
+use Rattle.rw_series_cache.specs.Known.{standing_of}
+use Rattle.rw_series_cache.specs.Numbers.{with_series, with_entry, series_of}
 use Rattle.rw_series_cache.specs.Cached.{Taken}
+use Rattle.rw_series_cache.proofs.KnownLemmas.{series_of-definitions_of}
+use Rattle.rw_router.specs.Routing.{Routing, Knows}
 use Rattle.rw_sender.specs.Shard.{can_send, new_core}
 use Rattle.rw_sender.specs.declared.config.Target.{Target}
 use Rattle.rw_schedule.specs.Shards.{Shard, new_shard, shard_send}
 use Rattle.rw_schedule.specs.Worlds.{Setup, Reply, World, new_shards, start, is_finished, all_drained}
 use Rattle.rw_schedule.specs.Steps.{change, send_batch, restart}
-use Rattle.std.specs.Ordering.{nat_cmp}
-use Rattle.std.specs.FinMap.{FinMap, empty, get, insert}
+use Rattle.std.specs.FinMap.{empty}
 use Rattle.rw_recv_head.specs.Head.{State}
 use Rattle.rw_recv_head.specs.declared.limits.Limits.{Limits}
 use Rattle.rw_sender.specs.declared.config.ConfigFields.{ConfigFields}
 use Rattle.rw_world.specs.Held.{Held, SentBatch}
 use Rattle.rw_world.specs.Sending.{Sending, new_held, sent_at}
-use Rattle.rw_world.specs.Machine.{Machine, IsWorld, IsPassed, IsRising, label_limits, setup_of, requests_seen}
+use Rattle.rw_world.specs.Machine.{Machine, IsWorld, label_limits, setup_of, requests_seen}
 use Rattle.rw_world.proofs.ReadingLemmas.{taken_more}
 
 fold_snoc : {A B : Type 0} (f : A → B → A) (z : A) (xs : List B) (x : B) → fold f z (xs ++ x ∷ []) ≡ f (fold f z xs) x
@@ -43,137 +41,43 @@ pub no_series : (rules : List RuleConfig) → series_of rules [] ≡ []
 unfolding series_of
 no_series rules = refl
 
-definitions_more : (es : List Entry) (e : Entry) → definitions_of (es ++ e ∷ []) ≡ definitions_of es ++ definitions_of (e ∷ [])
-definitions_more [] e = refl
-definitions_more (Def r l ∷ es) e = ap (λ ds. Def r l ∷ ds) (definitions_more es e)
-definitions_more (Sample r t w ∷ es) e = definitions_more es e
+-- the series of the definitions
+pub same_series : (before : List Entry) (cache : Taken) → Knows before cache → series_of cache.rules before ≡ series_of cache.rules cache.definitions
+same_series before cache k = sym (series_of-definitions_of cache.rules before) ∙ ap (series_of cache.rules) k.defined
 
-pub world_defined : (next placed filtered : ℕ) (pieces : List Piece) (cache cache' : Taken) (draining : Option ℕ) (r : ℕ) (l : Labels) → IsWorld next placed filtered pieces cache draining →
-    slice_get (entries pieces) placed ≡ Some (Def r l) → cache' ≡ record cache { definitions = cache.definitions ++ Def r l ∷ [] } → IsWorld next (placed + 1) filtered pieces cache' draining
-world_defined next placed filtered pieces cache cache' draining r l w at e =
-    let lt = slice_get_within (entries pieces) placed (Def r l) at in
-    record {
-      next_within = omega (arith, w.next_within);
-      placed_within = omega arith;
-      filtered_within = omega (arith, w.filtered_within);
-      defined = ap definitions_of (taken_more (entries pieces) placed (Def r l) at) ∙ definitions_more (take placed (entries pieces)) (Def r l) ∙ ap (λ ds. ds ++ Def r l ∷ []) w.defined ∙ sym (ap (λ (c : Taken). c.definitions) e);
-      noted =
-          subst (λ (c : Taken). IsNoted c.rules (take (placed + 1) (entries pieces)) c.noted) (sym e)
-          (subst (λ es. IsNoted cache.rules es cache.noted) (sym (taken_more (entries pieces) placed (Def r l) at)) (noted_definition cache.rules (take placed (entries pieces)) r l cache.noted w.noted));
-      shards = w.shards;
-    }
-
-append_none : (es : List Entry) → es ++ [] ≡ es
-append_none [] = refl
-append_none (e ∷ es) = ap (λ xs. e ∷ xs) (append_none es)
-
--- a sample of a series that is not kept, or one that does not rise, leaves what is noted
-noted_passed : (rules : List RuleConfig) (es : List Entry) (r : ℕ) (t : ℤ) (x : ℕ) (noted : FinMap nat_cmp ℤ) → IsPassed rules es (Some (Sample r t x)) → IsNoted rules es noted → IsNoted rules (es ++ Sample r t x ∷ []) noted
-noted_passed rules es r t x noted passed at = by_standing (known rules es r) refl
-  where
-    by_standing : (k : Standing) → known rules es r ≡ k → IsNoted rules (es ++ Sample r t x ∷ []) noted
-    by_standing Unknown e = noted_other rules es r t x noted (λ l h. let no : Unknown ≡ Kept l → ⊥ = λ z. cc in no (sym e ∙ h)) at
-    by_standing (Bad f) e = noted_other rules es r t x noted (λ l h. let no : Bad f ≡ Kept l → ⊥ = λ z. cc in no (sym e ∙ h)) at
-    by_standing Filtered e = noted_other rules es r t x noted (λ l h. let no : Filtered ≡ Kept l → ⊥ = λ z. cc in no (sym e ∙ h)) at
-    by_standing (Kept l) e = noted_falling rules es r t x l noted e (passed l e) at
-
--- one more sample, and what is noted then
-sampled : (next placed filtered next' filtered' : ℕ) (pieces : List Piece) (cache : Taken) (noted : FinMap nat_cmp ℤ) (draining : Option ℕ) (r : ℕ) (t : ℤ) (x : ℕ) → IsWorld next placed filtered pieces cache draining →
-    slice_get (entries pieces) placed ≡ Some (Sample r t x) → IsNoted cache.rules (take placed (entries pieces) ++ Sample r t x ∷ []) noted → next' ≤ placed + 1 → filtered' ≤ placed + 1 →
-    IsWorld next' (placed + 1) filtered' pieces (record cache { noted = noted }) draining
-sampled next placed filtered next' filtered' pieces cache noted draining r t x w at is n f =
-    let lt = slice_get_within (entries pieces) placed (Sample r t x) at in
+-- one entry more was placed
+pub world_more : (next next' placed : ℕ) (pieces : List Piece) (router after : Routing) (draining : Option ℕ) (e : Entry) → IsWorld next placed pieces router draining →
+    slice_get (entries pieces) placed ≡ Some e → Knows (take placed (entries pieces) ++ e ∷ []) after.cache → after.filtered ≤ placed + 1 → next' ≤ placed + 1 → IsWorld next' (placed + 1) pieces after draining
+world_more next next' placed pieces router after draining e w at knows f n =
+    let lt = slice_get_within (entries pieces) placed e at in
     record {
       next_within = n;
       placed_within = omega arith;
       filtered_within = f;
-      defined = ap definitions_of (taken_more (entries pieces) placed (Sample r t x) at) ∙ definitions_more (take placed (entries pieces)) (Sample r t x) ∙ append_none (definitions_of (take placed (entries pieces))) ∙ w.defined;
-      noted = subst (λ es. IsNoted cache.rules es noted) (sym (taken_more (entries pieces) placed (Sample r t x) at)) is;
+      knows = subst (λ es. Knows es after.cache) (sym (taken_more (entries pieces) placed e at)) knows;
       shards = w.shards;
     }
 
-pub world_passed : (next placed filtered next' filtered' : ℕ) (pieces : List Piece) (cache : Taken) (draining : Option ℕ) → IsWorld next placed filtered pieces cache draining →
-    IsPassed cache.rules (take placed (entries pieces)) (slice_get (entries pieces) placed) → next' ≤ placed + 1 → filtered' ≤ placed + 1 → IsWorld next' (placed + 1) filtered' pieces cache draining
-world_passed next placed filtered next' filtered' pieces cache draining w passed n f = by_entry (slice_get (entries pieces) placed) refl passed
-  where
-    by_entry : (o : Option Entry) → slice_get (entries pieces) placed ≡ o → IsPassed cache.rules (take placed (entries pieces)) o → IsWorld next' (placed + 1) filtered' pieces cache draining
-    by_entry None at s = absurd s
-    by_entry (Some (Def r l)) at s = absurd s
-    by_entry (Some (Sample r t x)) at s =
-        sampled next placed filtered next' filtered' pieces cache cache.noted draining r t x w at (noted_passed cache.rules (take placed (entries pieces)) r t x cache.noted s w.noted) n f
-
--- a sample that rises is noted
-pub world_risen : (next placed filtered next' : ℕ) (pieces : List Piece) (cache cache' : Taken) (draining : Option ℕ) (number : ℕ) (t : ℤ) (l : Labels) → IsWorld next placed filtered pieces cache draining →
-    IsRising cache.rules (take placed (entries pieces)) number t l (slice_get (entries pieces) placed) → cache' ≡ record cache { noted = insert cache.noted number t } → next' ≤ placed + 1 →
-    IsWorld next' (placed + 1) filtered pieces cache' draining
-world_risen next placed filtered next' pieces cache cache' draining number t l w rising e n =
-    subst (λ (k : Taken). IsWorld next' (placed + 1) filtered pieces k draining) (sym e) (by_entry (slice_get (entries pieces) placed) refl rising)
-  where
-    by_entry : (o : Option Entry) → slice_get (entries pieces) placed ≡ o → IsRising cache.rules (take placed (entries pieces)) number t l o → IsWorld next' (placed + 1) filtered pieces (record cache { noted = insert cache.noted number t }) draining
-    by_entry None at s = absurd s
-    by_entry (Some (Def r m)) at s = absurd s
-    by_entry (Some (Sample r u x)) at s =
-        let es = take placed (entries pieces) in
-        let up : rises cache.rules es l u ≡ true = ap (rises cache.rules es l) s.0 ∙ s.3 in
-        let noted = noted_rising cache.rules es r u x l number cache.noted s.1 s.2 up w.noted in
-        sampled next placed filtered next' filtered pieces cache (insert cache.noted number t) draining r u x w at
-        (subst (λ v. IsNoted cache.rules (es ++ Sample r u x ∷ []) (insert cache.noted number v)) s.0 noted) n (omega (arith, w.filtered_within))
-
--- the number of a series is below their count
-pub number_within : (series : List Labels) (number : ℕ) (l : Labels) → HasNumber series l number → number < length series
-number_within series number l h = slice_get_within series number l h.stands
-
--- a sample that rises may be noted
-pub risen_within : (rules : List RuleConfig) (before definitions : List Entry) (number : ℕ) (t : ℤ) (l : Labels) (o : Option Entry) → definitions_of before ≡ definitions → IsRising rules before number t l o →
-    number < length (series_of rules definitions)
-risen_within rules before definitions number t l None e s = absurd s
-risen_within rules before definitions number t l (Some (Def r m)) e s = absurd s
-risen_within rules before definitions number t l (Some (Sample r u x)) e s =
-    let same : series_of rules before ≡ series_of rules definitions = sym (series_of-definitions_of rules before) ∙ ap (series_of rules) e in
-    subst (λ (z : List Labels). number < length z) same (number_within (series_of rules before) number l s.2)
-
-pub risen_after : (rules : List RuleConfig) (before : List Entry) (noted : FinMap nat_cmp ℤ) (number : ℕ) (t : ℤ) (l : Labels) (o : Option Entry) → IsNoted rules before noted → IsRising rules before number t l o →
-    is_after (get noted number) t ≡ true
-risen_after rules before noted number t l None w s = absurd s
-risen_after rules before noted number t l (Some (Def r m)) w s = absurd s
-risen_after rules before noted number t l (Some (Sample r u x)) w s = w.decides l number t s.2 ∙ s.3
-
--- what is noted of its series says whether the next sample rises
-pub next_passed : (rules : List RuleConfig) (before : List Entry) (noted : FinMap nat_cmp ℤ) (r : ℕ) (t : ℤ) (x number : ℕ) (l : Labels) (o : Option Entry) → IsNoted rules before noted → known rules before r ≡ Kept l →
-    HasNumber (series_of rules before) l number → is_after (get noted number) t ≡ false → o ≡ Some (Sample r t x) → IsPassed rules before o
-next_passed rules before noted r t x number l o w is h falls e = subst (IsPassed rules before) (sym e) passed
-  where
-    passed : IsPassed rules before (Some (Sample r t x))
-    passed m other =
-        let same : l ≡ m = let twice : Kept l ≡ Kept m = sym is ∙ other in cc in
-        ap (λ k. rises rules before k t) (sym same) ∙ sym (w.decides l number t h) ∙ falls
-
-pub next_rising : (rules : List RuleConfig) (before : List Entry) (noted : FinMap nat_cmp ℤ) (r : ℕ) (t : ℤ) (x number : ℕ) (l : Labels) (o : Option Entry) → IsNoted rules before noted → known rules before r ≡ Kept l →
-    HasNumber (series_of rules before) l number → is_after (get noted number) t ≡ true → o ≡ Some (Sample r t x) → IsRising rules before number t l o
-next_rising rules before noted r t x number l o w is h up e = subst (IsRising rules before number t l) (sym e) (refl, is, h, sym (w.decides l number t h) ∙ up)
-
 -- before the first entry
-pub world_begun : (next : ℕ) (pieces : List Piece) (rules : List RuleConfig) (cache : Taken) → next ≡ 0 → cache ≡ record { rules = rules; definitions = []; noted = empty } → IsWorld next 0 0 pieces cache None
-world_begun next pieces rules cache n c = record {
+pub world_begun : (next : ℕ) (pieces : List Piece) (router : Routing) → next ≡ 0 → Knows [] router.cache → router.filtered ≡ 0 → IsWorld next 0 pieces router None
+world_begun next pieces router n knows none = record {
   next_within = omega (arith, n);
   placed_within = omega arith;
-  filtered_within = omega arith;
-  defined = sym (ap (λ (k : Taken). k.definitions) c);
-  noted = subst (λ (k : Taken). IsNoted k.rules [] k.noted) (sym c) (noted_at_first rules);
+  filtered_within = omega (arith, none);
+  knows = knows;
   shards = tt;
 }
 
 -- more of the log
-pub world_fed : (next placed filtered : ℕ) (pieces pieces' : List Piece) (cache : Taken) (draining : Option ℕ) → IsWorld next placed filtered pieces cache draining →
-    Extends (reading page_size pieces) (reading page_size pieces') → IsWorld next placed filtered pieces' cache draining
-world_fed next placed filtered pieces pieces' cache draining w x =
+pub world_fed : (next placed : ℕ) (pieces pieces' : List Piece) (router : Routing) (draining : Option ℕ) → IsWorld next placed pieces router draining →
+    Extends (reading page_size pieces) (reading page_size pieces') → IsWorld next placed pieces' router draining
+world_fed next placed pieces pieces' router draining w x =
     let len : length (entries pieces') ≡ length (entries pieces) + length x.more = ap length x.entries ∙ length-append (entries pieces) x.more in
     record {
       next_within = w.next_within;
       placed_within = omega (arith, w.placed_within, len);
       filtered_within = w.filtered_within;
-      defined = ap (λ es. definitions_of (take placed es)) x.entries ∙ ap definitions_of (take-append-le placed (entries pieces) x.more w.placed_within) ∙ w.defined;
-      noted = subst (λ es. IsNoted cache.rules es cache.noted) (sym (ap (take placed) x.entries ∙ take-append-le placed (entries pieces) x.more w.placed_within)) w.noted;
+      knows = subst (λ es. Knows es router.cache) (sym (ap (take placed) x.entries ∙ take-append-le placed (entries pieces) x.more w.placed_within)) w.knows;
       shards = w.shards;
     }
 
@@ -201,7 +105,7 @@ send_none w i None e = refl
 send_none w i (Some s) e = send_if (can_send s.core) _ _ w e
 
 -- before the first event
-pub started : (cfg : ConfigFields) (l : Limits) (v : Sending) (pieces : List Piece) (cache : Taken) (requests : List SentBatch) (replies : List Reply) (head : State) →
+pub started : (cfg : ConfigFields) (l : Limits) (v : Sending) (pieces : List Piece) (router : Routing) (requests : List SentBatch) (replies : List Reply) (head : State) →
     v ≡ record {
       target = cfg.target;
       capacity = cfg.capacity;
@@ -210,7 +114,7 @@ pub started : (cfg : ConfigFields) (l : Limits) (v : Sending) (pieces : List Pie
       shards = map (λ (h : Held). h.shard) (new_held cfg.target cfg.capacity cfg.batch 0 0 cfg.shards);
       next = 0;
       names = empty;
-    } → pieces ≡ [] → cache ≡ record { rules = cfg.rules; definitions = []; noted = empty } → requests ≡ [] → replies ≡ [] →
+    } → pieces ≡ [] → router.cache ≡ record { rules = cfg.rules; definitions = []; noted = empty } → router.filtered ≡ 0 → requests ≡ [] → replies ≡ [] →
     head ≡ record { store = empty; limits = label_limits l; busy = l.busy_first } →
     ◌≡◌ {A = Machine}
     (record {
@@ -219,7 +123,7 @@ pub started : (cfg : ConfigFields) (l : Limits) (v : Sending) (pieces : List Pie
         shards = cfg.shards;
         capacity = v.capacity;
         batch = v.batch;
-        rules = cache.rules;
+        rules = router.cache.rules;
         limits = label_limits l;
         max_body = l.max_body_bytes;
         busy = l.busy_first;
@@ -227,23 +131,23 @@ pub started : (cfg : ConfigFields) (l : Limits) (v : Sending) (pieces : List Pie
       world = record {
         pieces = pieces;
         placed = 0;
-        series = series_of cache.rules cache.definitions;
+        series = series_of router.cache.rules router.cache.definitions;
         epoch = v.epoch;
         shards = v.shards;
         requests = requests_seen requests;
         replies = replies;
         head = head;
         names = v.names;
-        filtered = 0;
+        filtered = router.filtered;
         draining = None;
         closed = None;
         killed = false;
       };
     })
     (record { setup = setup_of cfg l; world = start (setup_of cfg l) })
-started cfg l v pieces cache requests replies head a b d e f g =
+started cfg l v pieces router requests replies head a b d z e f g =
     let seen = new_seen (setup_of cfg l) cfg.target cfg.capacity cfg.batch 0 0 cfg.shards refl refl in
-    rw (a, b, d, e, f, g) (rw (seen, no_series cfg.rules) refl)
+    rw (a, b, d, z, e, f, g) (rw (seen, no_series cfg.rules) refl)
 
 pub parts : (f a : Bool) → (not f && a) ≡ true → (f ≡ false) × (a ≡ true)
 parts true a e = absurd (cc)

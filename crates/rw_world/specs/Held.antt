@@ -67,8 +67,8 @@ abbrev pub AreNamed : Core → List Placed → Type 0
 AreNamed c xs = All (λ (x : Placed). (x.place.epoch ≡ c.epoch) × (x.place.shard ≡ c.shard)) xs
 
 -- the last of so many samples has the number before theirs
-abbrev pub IsNumbered : List Placed → Type 0
-IsNumbered xs = IfSome (last_of xs) (λ (y : Placed). y.place.seq + 1 ≡ length xs)
+abbrev pub IsCounted : List Placed → Type 0
+IsCounted xs = IfSome (last_of xs) (λ (y : Placed). y.place.seq + 1 ≡ length xs)
 
 -- The core has taken what was taken out of the queue, and what was put is one row of this shard's samples.
 pub record IsShard (q : Queue) (c : Core) (count taken : ℕ) : Type 0 where
@@ -81,4 +81,4 @@ pub record IsShard (q : Queue) (c : Core) (count taken : ℕ) : Type 0 where
   pub few : count ≤ 2 ^ 60
   pub named : AreNamed c (samples_in (put_in q))
   pub in_row : AreInRow (samples_in (put_in q))
-  pub numbered : IsNumbered (samples_in (put_in q))
+  pub numbered : IsCounted (samples_in (put_in q))

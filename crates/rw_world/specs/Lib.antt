@@ -2,7 +2,6 @@ pub mod Held
 pub mod Sending
 pub mod Reading
 pub mod Machine
-pub mod Places
 pub mod Arriving
 pub mod Reached
 pub mod Endings

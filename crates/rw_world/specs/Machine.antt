@@ -1,20 +1,21 @@
 -- The machine that a world is, and what its parts keep.
+use Rattle.std.specs.Arc.{arc_value}
 use Rattle.std.specs.Prelude.{◌≡◌, ℕ, ℤ, ◌≤◌, List, map, length, take, Bool, true, false, Option, Some, None, if◌then◌else◌, is_some, slice_get}
-use Rattle.rw_types.specs.Labels.{Labels}
 use Rattle.rw_types.specs.declared.entry.Entry.{Entry}
-use Rattle.rw_types.specs.declared.entry.Entry.TheVariants.{Def, Sample}
+use Rattle.rw_types.specs.declared.entry.Entry.TheVariants.{Sample}
 use Rattle.rw_codes.specs.Pieces.{Piece, entries}
-use Rattle.rw_relabel.specs.Rules.{RuleConfig}
-use Rattle.rw_series_cache.specs.Known.{Kept, known, definitions_of}
 use Rattle.rw_series_cache.specs.Numbers.{series_of, HasNumber}
-use Rattle.rw_series_cache.specs.Rising.{rises, IsNoted}
-use Rattle.rw_series_cache.specs.Cached.{Taken}
+use Rattle.rw_ledger.specs.declared.ledger.Reason.{Reason}
+use Rattle.rw_router.specs.Fates.{Drops, Sends, fate}
+use Rattle.rw_router.specs.Routing.{Routing, Knows}
+use Rattle.rw_router.specs.declared.sample.RoutedSample.{RoutedSample}
 use Rattle.rw_shard_queue.specs.declared.item.Kind.{Kind}
 use Rattle.rw_shard_queue.specs.declared.item.Kind.TheVariants as kind
 use Rattle.rw_sender.specs.declared.config.ConfigFields.{ConfigFields}
 use Rattle.rw_recv_head.specs.declared.limits.Limits.{Limits}
 use Rattle.rw_recv_head.specs.Verdicts.{LabelLimits}
 use Rattle.rw_schedule.specs.Worlds.{Setup, Request, World, is_finished}
+use Rattle.rw_schedule.specs.Steps.{place_as, place_entry}
 use Rattle.rw_schedule.specs.declared.event.Event.{Event}
 use Rattle.rw_schedule.specs.declared.event.Event.TheVariants as event
 use Rattle.rw_world.specs.Held.{SentBatch}
@@ -55,13 +56,12 @@ abbrev pub IsShardCount : Option ℕ → Type 0
 IsShardCount None = Unit {0}
 IsShardCount (Some n) = (1 ≤ n) × (n ≤ 1000)
 
--- What the parts of a world keep: what was placed is what the cache and the senders know, and what is noted of each series goes by it.
-pub record IsWorld (next placed filtered : ℕ) (pieces : List Piece) (cache : Taken) (draining : Option ℕ) : Type 0 where
+-- What the parts of a world keep: what was placed is what the router and the senders know.
+pub record IsWorld (next placed : ℕ) (pieces : List Piece) (router : Routing) (draining : Option ℕ) : Type 0 where
   pub next_within : next ≤ placed
   pub placed_within : placed ≤ length (entries pieces)
-  pub filtered_within : filtered ≤ placed
-  pub defined : definitions_of (take placed (entries pieces)) ≡ cache.definitions
-  pub noted : IsNoted cache.rules (take placed (entries pieces)) cache.noted
+  pub filtered_within : router.filtered ≤ placed
+  pub knows : Knows (take placed (entries pieces)) router.cache
   pub shards : IsShardCount draining
 
 abbrev pub is_arrive : Event → Bool
@@ -78,24 +78,33 @@ takes_memory (event.Arrive k how) = true
 takes_memory event.Restart = true
 takes_memory e = false
 
--- a sample that comes after these entries: its series is not kept, or it does not rise there
-abbrev pub IsPassed : List RuleConfig → List Entry → Option Entry → Type 0
-IsPassed rules before None = ⊥
-IsPassed rules before (Some (Def r l)) = ⊥
-IsPassed rules before (Some (Sample r t word)) = (l : Labels) → known rules before r ≡ Kept l → rises rules before l t ≡ false
+-- the entries that were placed, and the next one
+abbrev pub placed_entries : Machine → List Entry
+placed_entries m = take m.world.placed (entries m.world.pieces)
 
--- the next entry to be placed is such a sample
-abbrev pub IsPassedNext : Machine → Type 0
-IsPassedNext m = IsPassed m.setup.rules (take m.world.placed (entries m.world.pieces)) (slice_get (entries m.world.pieces) m.world.placed)
+abbrev pub next_entry : Machine → Option Entry
+next_entry m = slice_get (entries m.world.pieces) m.world.placed
 
--- a sample that comes after these entries: it is of this kept series, and rises there
-abbrev pub IsRising : List RuleConfig → List Entry → ℕ → ℤ → Labels → Option Entry → Type 0
-IsRising rules before number t l None = ⊥
-IsRising rules before number t l (Some (Def r m)) = ⊥
-IsRising rules before number t l (Some (Sample r u word)) =
-    (u ≡ t) × (known rules before r ≡ Kept l) × HasNumber (series_of rules before) l number × (rises rules before l t ≡ true)
+-- the next entry is a sample that is dropped for this reason
+pub record IsDroppedNext (m : Machine) (reason : Reason) : Type 0 where
+  pub reference : ℕ
+  pub t : ℤ
+  pub word : ℕ
+  pub at : next_entry m ≡ Some (Sample reference t word)
+  pub fate_is : fate m.setup.rules (placed_entries m) reference t ≡ Drops reason
 
--- the next entry to be placed is such a sample
-abbrev pub IsRisingNext : Machine → ℕ → ℤ → Labels → Type 0
-IsRisingNext m number t l =
-    IsRising m.setup.rules (take m.world.placed (entries m.world.pieces)) number t l (slice_get (entries m.world.pieces) m.world.placed)
+-- the next entry is this sample, which is sent
+pub record IsSampleNext (m : Machine) (s : RoutedSample) : Type 0 where
+  pub reference : ℕ
+  pub at : next_entry m ≡ Some (Sample reference s.t s.word)
+  pub fate_is : fate m.setup.rules (placed_entries m) reference s.t ≡ Sends (arc_value s.labels)
+  pub numbered : HasNumber (series_of m.setup.rules (placed_entries m)) (arc_value s.labels) s.series
+  pub pos_is : s.pos ≡ m.world.placed
+
+-- it is put, where there is room
+abbrev pub with_sample : Machine → RoutedSample → Machine
+with_sample m s = record m { world = place_as m.setup m.world s.t s.word (Sends (arc_value s.labels)) }
+
+-- and what the next entry makes of the machine, whatever it is
+abbrev pub with_next : Machine → Machine
+with_next m = record m { world = place_entry m.setup m.world (next_entry m) }

@@ -1,9 +1,8 @@
 -- The entries of a log that were taken from its reader.
-use Rattle.std.specs.Prelude.{◌≡◌, List, length, take, Bool, true, false, Option}
+use Rattle.std.specs.Prelude.{◌≡◌, List, length, take, Option}
 use Rattle.rw_types.specs.declared.entry.Entry.{Entry}
 use Rattle.rw_codes.specs.Pieces.{entries, fault}
 use Rattle.rw_codes.specs.declared.tail_fault.TailFault.{TailFault}
-use Rattle.rw_codes.specs.declared.tail_fault.TailFault.TheVariants.{OutOfMemory}
 use Rattle.rw_wal_tail.specs.Fed.{Fed}
 
 -- what the reader gave is what was taken
@@ -16,8 +15,3 @@ pub record HasRead (t : Fed) (taken : List Entry) (found : Option TailFault) : T
   pub count : t.given ≡ length taken
   pub taken_is : taken ≡ entries t.pieces
   pub fault_is : found ≡ fault t.pieces
-
--- memory ran out, and the log has no fault
-abbrev pub is_refusal : TailFault → Bool
-is_refusal OutOfMemory = true
-is_refusal f = false

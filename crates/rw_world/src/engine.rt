@@ -12,8 +12,8 @@ use crate::sending::Senders;
 use crate::sent::{Answer, Sent};
 use rw_ledger::Ledger;
 use rw_recv_head::{Head, LabelSets, Limits};
+use rw_router::Router;
 use rw_sender::{Config, ConfigFields};
-use rw_series_cache::Cache;
 use rw_types::{Bounded, HostName, LabelSet, Word};
 use std::alloc::{AllocError, Global};
 use std::marker::Model;
@@ -30,12 +30,11 @@ pub(crate) struct Engine {
     pub(crate) limits: Limits,
     pub(crate) log: Log,
     pub(crate) placed: u64,
-    pub(crate) cache: Cache,
+    pub(crate) router: Router,
     pub(crate) senders: Senders,
     pub(crate) requests: Vec<Sent>,
     pub(crate) replies: Vec<Answer>,
     pub(crate) head: Head,
-    pub(crate) filtered: u64,
     pub(crate) draining: Option<u64>,
     pub(crate) closed: Option<u64>,
     pub(crate) killed: bool,
@@ -58,7 +57,7 @@ impl Model for Engine {
         shards = w.shards;
         capacity = w.senders.capacity;
         batch = w.senders.batch;
-        rules = w.cache.rules;
+        rules = w.router.cache.rules;
         limits = label_limits w.limits;
         max_body = w.limits.max_body_bytes;
         busy = w.limits.busy_first;
@@ -66,21 +65,22 @@ impl Model for Engine {
       world = record {
         pieces = w.log;
         placed = w.placed;
-        series = series_of w.cache.rules w.cache.definitions;
+        series = series_of w.router.cache.rules w.router.cache.definitions;
         epoch = w.senders.epoch;
         shards = w.senders.shards;
         requests = requests_seen w.requests.items;
         replies = w.replies.items;
         head = w.head;
         names = w.senders.names;
-        filtered = w.filtered;
+        filtered = w.router.filtered;
         draining = w.draining;
         closed = w.closed;
         killed = w.killed;
       };
     } };
 
-    ghost invariant = { λ w. IsWorld w.senders.next w.placed w.filtered w.log w.cache w.draining × IsServed w.senders.target w.host w.limits.path w.requests.items };
+    ghost invariant = { λ w. IsWorld w.senders.next w.placed w.log w.router w.draining
+        × IsServed w.senders.target w.host w.limits.path w.requests.items };
 }
 
 impl Engine {
@@ -116,13 +116,12 @@ impl Engine {
             host,
             log: Log::new(alloc),
             placed: 0,
-            cache: Cache::new(alloc, rules),
+            router: Router::new(alloc, rules),
             senders,
             requests: Vec::new(alloc),
             replies: Vec::new(alloc),
             head: Head::new(alloc, &limits),
             limits,
-            filtered: 0,
             draining: None,
             closed: None,
             killed: false,
@@ -171,7 +170,7 @@ impl Engine {
     pub(crate) fn filtered(&self) -> u64
         ensures { result ≡ self.now.world.filtered }
     {
-        self.filtered
+        self.router.filtered()
     }
 
     /// The dropped samples.

@@ -4,12 +4,12 @@ ghost use Rattle.std.specs.Prelude.{◌≡◌, ◌<◌, ◌+◌, ◌^◌, ◌++�
 ghost use Rattle.rw_codes.specs.Laws.{Extends};
 ghost use Rattle.rw_codes.specs.Pieces.{entries, fault, reading, page_size};
 ghost use Rattle.rw_wal_tail.specs.Fed.{piece_of};
-ghost use Rattle.rw_world.specs.Reading.{Drains, HasRead, is_refusal};
+ghost use Rattle.rw_world.specs.Reading.{Drains, HasRead};
 ghost use Rattle.rw_world.specs.Rounds.{ahead_of};
 
 use rw_codes::TailFault;
 use rw_types::Entry;
-use rw_wal_tail::{Piece, Tail};
+use rw_wal_tail::{Piece, Tail, is_out_of_memory};
 use std::alloc::{AllocError, Global};
 use std::marker::Model;
 
@@ -53,30 +53,6 @@ fn ahead_of(entry: &Entry) -> Ahead
     }
 }
 
-/// Whether memory ran out, and the log has no fault.
-fn is_refusal(fault: TailFault) -> bool
-    ensures { result ≡ is_refusal fault }
-{
-    match fault {
-        TailFault::OutOfMemory => true,
-        _ => false,
-    }
-}
-
-/// Feeds the next piece.
-fn feed_piece(tail: &mut Tail, piece: &Piece) -> Result<(), AllocError>
-    ensures fed { OnOk result (tail.new ≡ record tail.old { pieces = tail.old.pieces ++ piece_of piece.now ∷ [] }) }
-    ensures goes_on { OnOk result (Extends (reading page_size tail.old.pieces) (reading page_size tail.new.pieces)) }
-{
-    match piece {
-        Piece::Bytes(bytes) => tail.feed(bytes),
-        Piece::NextSegment => {
-            tail.next_segment();
-            Ok(())
-        }
-    }
-}
-
 /// Takes all entries that there are, behind those that were taken, and answers the fault after them.
 fn drain(tail: &mut Tail, entries: &mut Vec<Entry>) -> Result<Option<TailFault>, AllocError>
     requires { Drains tail.old entries.old.items }
@@ -90,7 +66,7 @@ fn drain(tail: &mut Tail, entries: &mut Vec<Entry>) -> Result<Option<TailFault>,
             Ok(Some(entry)) => entries.push_reserved(entry),
             Ok(None) => return Ok(None),
             Err(fault) => {
-                if is_refusal(fault) {
+                if is_out_of_memory(fault) {
                     return Err(AllocError);
                 }
                 return Ok(Some(fault));
@@ -119,7 +95,7 @@ impl Log {
         ensures goes_on { OnOk result (Extends (reading page_size self.old) (reading page_size self.new)) }
     {
         let mut tail = self.tail.copy()?;
-        feed_piece(&mut tail, piece)?;
+        tail.feed_piece(piece)?;
         let before = self.entries.len();
         match drain(&mut tail, &mut self.entries) {
             Ok(fault) => {

@@ -1,8 +1,7 @@
 //! The rounds of an orderly shutdown.
 
-ghost use Rattle.std.specs.Prelude.{◌≡◌, ◌||◌, [], ◌∷◌, true, None, Some, is_some, take, slice_get, if◌then◌else◌, OnOk, OnErr};
+ghost use Rattle.std.specs.Prelude.{◌≡◌, ◌||◌, [], ◌∷◌, true, None, Some, is_some, slice_get, if◌then◌else◌, OnOk, OnErr};
 ghost use Rattle.std.specs.List.{position};
-ghost use Rattle.rw_codes.specs.Pieces.{entries};
 ghost use Rattle.rw_series_cache.specs.Known.{known};
 ghost use Rattle.rw_schedule.specs.Settling.{at_first, first_of_these, can_place, can_place_known, exchange_at, newest_from, next_events};
 ghost use Rattle.rw_schedule.specs.Steps.{happens, run};
@@ -10,7 +9,7 @@ ghost use Rattle.rw_schedule.specs.Worlds.{is_finished, is_over};
 ghost use Rattle.rw_schedule.specs.declared.event.Event.TheVariants as event;
 ghost use Rattle.rw_sender.specs.Shard.{same_id};
 ghost use Rattle.rw_world.specs.Guards.{is_open, is_ready, may_take, may_flush, IsOpen};
-ghost use Rattle.rw_world.specs.Machine.{requests_seen};
+ghost use Rattle.rw_world.specs.Machine.{placed_entries, requests_seen};
 ghost use Rattle.rw_world.specs.Rounds.{events_of, HasSettled};
 
 use crate::engine::Engine;
@@ -18,7 +17,6 @@ use crate::log::Ahead;
 use crate::sent::Sent;
 use rw_batch::BatchId;
 use rw_schedule::{Event, How};
-use rw_series_cache::Known;
 use std::alloc::AllocError;
 
 /// What comes next.
@@ -56,18 +54,16 @@ fn newest(requests: &[Sent], id: BatchId) -> u64
 }
 
 impl Engine {
-    /// Whether a sample of this reference and timestamp may be placed: one that does not rise needs no room.
+    /// Whether a sample of this reference and timestamp may be placed: only one that is sent needs room.
     fn can_place_known(&self, reference: u64, t: i64) -> bool
-        ensures { result ≡ can_place_known self.now.setup self.now.world t (known self.now.setup.rules (take self.now.world.placed (entries self.now.world.pieces)) reference) }
+        ensures { result ≡ can_place_known self.now.setup self.now.world t (known self.now.setup.rules (placed_entries self.now) reference) }
     {
-        match self.cache.look(reference) {
-            Known::Unknown => true,
-            Known::Bad(_) => true,
-            Known::Filtered => true,
-            Known::Kept(number, _) => {
-                let i = (number % self.senders.len() as u64) as usize;
-                !self.cache.rises(number, t) || self.senders.has_room(i)
+        match self.router.would_send(reference, t) {
+            Some(series) => {
+                let i = (series % self.senders.len() as u64) as usize;
+                self.senders.has_room(i)
             }
+            None => true,
         }
     }
 

@@ -1,27 +1,27 @@
 use Rattle.std.proofs.Common.{refl, subst}
 use Rattle.std.specs.Prelude.{Option}
-use Rattle.rw_feeder.specs.declared.logged.Logged.{Logged}
+use Rattle.rw_router.specs.declared.sample.RoutedSample.{RoutedSample}
 use Rattle.rw_feeder.specs.Feeders.{Judges}
 use Rattle.rw_shipper.proofs.ShippingLemmas.{goes_placed, put_len, put_marks, places_none, places_sent, stands_behind}
 use Rattle.rw_shipper.proofs.place.place_entry.Goals as goal
 
 pub returns-in_default-found-clause-places : goal.returns-in_default-found-clause-places
 returns-in_default-found-clause-places g c =
-    let j = subst (λ (o : Option Logged). Judges c.args.feeder.now c.place.new.self c.args.entry o) c.in_default-found.is c.in-Ok.ensures.ok in
+    let j = subst (λ (o : Option RoutedSample). Judges c.args.feeder.now c.place.new.self c.args.entry o) c.in_default-found.is c.in-Ok.ensures.ok in
     places_none c.args.feeder.now c.place.new.self c.args.fleet.now c.args.entry j.0 c.requires.hand j.1 c.requires.places
 
 pub put-requires-clause-later : goal.put-requires-clause-later
 put-requires-clause-later g c κs within =
-    let j = subst (λ (o : Option Logged). Judges c.args.feeder.now c.place.new.self c.args.entry o) c.in-Some.is c.in-Ok.ensures.ok in
+    let j = subst (λ (o : Option RoutedSample). Judges c.args.feeder.now c.place.new.self c.args.entry o) c.in-Some.is c.in-Ok.ensures.ok in
     stands_behind c.args.feeder.now c.args.fleet.now c.args.entry c.in-Some.sample _ c.requires.places j.1
 
 pub returns-clause-places : goal.returns-clause-places
 returns-clause-places g c =
-    let j = subst (λ (o : Option Logged). Judges c.args.feeder.now c.place.new.self c.args.entry o) c.in-Some.is c.in-Ok.ensures.ok in
+    let j = subst (λ (o : Option RoutedSample). Judges c.args.feeder.now c.place.new.self c.args.entry o) c.in-Some.is c.in-Ok.ensures.ok in
     places_sent c.args.feeder.now c.place.new.self c.sent.new.self c.args.fleet.now c.put.new.self c.args.entry c.in-Some.sample _ _ j.0 c.sent.ensures c.requires.hand j.1 c.put.ensures.rest c.in_default-put.ensures.ok refl c.len.ensures.len c.requires.places
 
 pub returns-clause-goes : goal.returns-clause-goes
 returns-clause-goes g c =
-    let j = subst (λ (o : Option Logged). Judges c.args.feeder.now c.place.new.self c.args.entry o) c.in-Some.is c.in-Ok.ensures.ok in
+    let j = subst (λ (o : Option RoutedSample). Judges c.args.feeder.now c.place.new.self c.args.entry o) c.in-Some.is c.in-Ok.ensures.ok in
     let put = c.in_default-put.ensures.ok in
     goes_placed c.args.feeder.now c.place.new.self c.sent.new.self c.args.fleet.now c.put.new.self j.0 c.sent.ensures c.put.ensures.rest (put_len _ _ c.args.fleet.now c.put.new.self put) (put_marks _ _ c.args.fleet.now c.put.new.self put)

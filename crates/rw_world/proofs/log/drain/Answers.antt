@@ -14,14 +14,14 @@ returns-in-Ok-None-clause-pieces c =
     (drained_none c.entries.tail c.next_entry.new.self c.reserve.new.self.items c.next_entry.result d (c.in-Ok-None.is ∙ ap Ok c.in-Ok-None.field-0-is) c.next_entry.ensures.answer c.next_entry.ensures.after).1
     ∙ c.entries.invariant.1
 
-pub returns-then-is_refusal-clause-pieces : goal.returns-then-is_refusal-clause-pieces
-returns-then-is_refusal-clause-pieces c =
+pub returns-then-is_out_of_memory-clause-pieces : goal.returns-then-is_out_of_memory-clause-pieces
+returns-then-is_out_of_memory-clause-pieces c =
     error_pieces c.entries.tail c.next_entry.new.self c.next_entry.result c.in-Err.fault c.in-Err.is c.next_entry.ensures.after ∙ c.entries.invariant.1
 
 pub returns-in-Err-clause-ok : goal.returns-in-Err-clause-ok
 returns-in-Err-clause-ok c =
     let d = subst (Drains c.entries.tail) (sym c.in_ok-reserve.ensures.items) c.entries.invariant.0 in
-    (drained_fault c.entries.tail c.next_entry.new.self c.reserve.new.self.items c.next_entry.result c.in-Err.fault d c.in-Err.is (sym c.is_refusal.ensures ∙ c.if-is_refusal.false) c.next_entry.ensures.answer c.next_entry.ensures.after).0
+    (drained_fault c.entries.tail c.next_entry.new.self c.reserve.new.self.items c.next_entry.result c.in-Err.fault d c.in-Err.is (sym c.is_out_of_memory.ensures ∙ c.if-is_out_of_memory.false) c.next_entry.ensures.answer c.next_entry.ensures.after).0
 
 pub returns-in-Err-clause-pieces : goal.returns-in-Err-clause-pieces
 returns-in-Err-clause-pieces c =

@@ -5,7 +5,7 @@ use Rattle.rw_fleet.proofs.fleet.Fleet.mark.Goals as goal
 pub invariant_of-self : goal.invariant_of-self
 invariant_of-self g c =
     let i = c.self.invariant in
-    let n = c.mark_all.ensures.len.0 in
+    let n = c.mark_all.ensures.len in
     let a = i.3 in
     let b = i.4 in
     let d = i.6 in

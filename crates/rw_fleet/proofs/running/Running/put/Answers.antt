@@ -26,13 +26,13 @@ put-requires g c =
 pub returns-clause-put : goal.returns-clause-put
 returns-clause-put g c =
     let i = c.self.invariant in
-    let fits : SFits w64 c.args.logged.t = search rules in
+    let fits : SFits w64 c.args.sample.t = search rules in
     let len : c.len-seq.result ≡ length (places_in c.self.inside.feed.put) = c.len-seq.ensures ∙ positions_length c.self.inside.feed.put _ i.0 in
     let queue = sym i.3 in
     let lane : Lane = record { setup = c.self.inside.worker.value; put = c.self.inside.feed.put } in
     samples_more _ _ _ c.in_default.ensures.put
-    ∙ ap (λ (p : Placed). samples_in c.self.inside.feed.put ++ p ∷ []) (as_put lane c.args.logged _ _ _ _ (i.1 ∙ ap (λ (q : QueueId). q.epoch) queue) (i.2 ∙ ap (λ (q : QueueId). q.shard) queue) len (to_z-of_z w64 c.args.logged.t fits))
-    ∙ ap (λ (l : Lane). samples_in l.put ++ put_as l c.args.logged ∷ []) c.self.view_is
+    ∙ ap (λ (p : Placed). samples_in c.self.inside.feed.put ++ p ∷ []) (as_put lane c.args.sample _ _ _ _ (i.1 ∙ ap (λ (q : QueueId). q.epoch) queue) (i.2 ∙ ap (λ (q : QueueId). q.shard) queue) len (to_z-of_z w64 c.args.sample.t fits))
+    ∙ ap (λ (l : Lane). samples_in l.put ++ put_as l c.args.sample ∷ []) c.self.view_is
 
 pub returns-clause-marks : goal.returns-clause-marks
 returns-clause-marks g c = marks_same_but _ _ _ c.in_default.ensures.put refl ∙ ap (λ (l : Lane). marks_in l.put) c.self.view_is

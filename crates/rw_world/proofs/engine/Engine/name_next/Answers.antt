@@ -1,9 +1,12 @@
-use Rattle.std.proofs.Common.{◌≡◌, ◌∙◌, ◌+◌, suc, add-one, ap, sym, subst, arith}
+use Rattle.std.proofs.Common.{◌≡◌, ◌∙◌, ◌+◌, suc, add-one, ap, sym, subst, take, arith}
 use Rattle.std.specs.FinMap.{insert}
+use Rattle.rw_types.specs.declared.entry.Entry.TheVariants.{Sample}
+use Rattle.rw_codes.specs.Pieces.{entries}
+use Rattle.rw_router.proofs.KnowsLemmas.{knows_dropped}
 use Rattle.rw_world.specs.Sending.{Sending}
-use Rattle.rw_world.specs.Machine.{Machine, IsPassedNext}
+use Rattle.rw_world.specs.Machine.{Machine, IsDroppedNext}
 use Rattle.rw_world.specs.contracts.engine.Engine.{the_view}
-use Rattle.rw_world.proofs.WorldLemmas.{world_passed}
+use Rattle.rw_world.proofs.WorldLemmas.{world_more}
 use Rattle.rw_world.proofs.ArriveLemmas.{same_target}
 use Rattle.rw_world.proofs.engine.Engine.name_next.Goals as goal
 
@@ -11,10 +14,11 @@ pub invariant_of-self-2 : goal.invariant_of-self-2
 invariant_of-self-2 c =
     let s = c.self.inside in
     let i = c.self.invariant.0 in
-    let next = subst IsPassedNext (sym c.self.view_is) c.requires.next in
+    let next = subst (λ (m : Machine). IsDroppedNext m c.args.reason) (sym c.self.view_is) c.requires.next in
     let n : c.name.new.self.next ≡ s.placed + 1 = ap (λ (v : Sending). v.next) c.in_ok-name.ensures.ok in
+    let knows = knows_dropped (take s.placed (entries s.log)) s.router.cache next.reference next.t next.word c.args.reason next.fate_is i.knows in
     let served = same_target s.senders.target c.name.new.self.target s.host s.limits.path s.requests.items (ap (λ (v : Sending). v.target) c.in_ok-name.ensures.ok) c.self.invariant.1 in
-    (world_passed s.senders.next s.placed s.filtered c.name.new.self.next s.filtered s.log s.cache s.draining i next (omega (arith, n)) (omega (arith, i.filtered_within)), served)
+    (world_more s.senders.next c.name.new.self.next s.placed s.log s.router s.router s.draining (Sample next.reference next.t next.word) i next.at knows (omega (arith, i.filtered_within)) (omega (arith, n)), served)
 
 pub returns-clause-ok : goal.returns-clause-ok
 returns-clause-ok c =

@@ -1,73 +1,86 @@
-use Rattle.std.proofs.Common.{◌≡◌, ◌∙◌, ◌+◌, ◌%◌, ℕ, ℤ, true, false, refl, ap, sym, subst, take, arith}
-use Rattle.std.specs.Prelude.{slice_get}
-use Rattle.std.specs.FinMap.{insert, get}
+use Rattle.std.proofs.Common.{rules, ◌≡◌, ◌∙◌, ◌+◌, ◌%◌, ℕ, ℤ, true, false, refl, ap, sym, subst, take, arith}
+use Rattle.std.proofs.lemmas.Int.{to_z-of_z}
+use Rattle.std.specs.Int.{w64}
+use Rattle.std.specs.Prelude.{FitsSigned, slice_get}
+use Rattle.std.specs.Arc.{arc_value}
+use Rattle.rw_types.specs.declared.entry.Entry.TheVariants.{Sample}
 use Rattle.rw_codes.specs.Pieces.{entries}
-use Rattle.rw_series_cache.specs.Cached.{Taken}
 use Rattle.rw_series_cache.specs.Numbers.{number_of}
-use Rattle.rw_series_cache.specs.Rising.{is_after}
-use Rattle.rw_schedule.specs.Steps.{shard_of, put_if_room, place_kept}
-use Rattle.std.proofs.Math.Facts.{to_z-of_z}
+use Rattle.rw_router.specs.Routing.{Routing, IsSentNext}
+use Rattle.rw_schedule.specs.Steps.{shard_of, put_if_room}
 use Rattle.rw_world.specs.Sending.{Sending, room_at, put_to}
-use Rattle.rw_world.specs.Machine.{Machine, IsRisingNext}
+use Rattle.rw_world.specs.Machine.{Machine, IsSampleNext, with_sample}
 use Rattle.rw_world.specs.contracts.engine.Engine.{the_view}
-use Rattle.rw_world.proofs.WorldLemmas.{world_risen, risen_within, risen_after}
+use Rattle.rw_world.proofs.WorldLemmas.{world_more, same_series}
 use Rattle.rw_world.proofs.PlaceLemmas.{no_room, put_next_is, put_target, put_seen}
 use Rattle.rw_world.proofs.ArriveLemmas.{same_target}
 use Rattle.rw_world.proofs.engine.Engine.put_next.Goals as goal
+
+pub sent-requires : goal.sent-requires
+sent-requires c =
+    let s = c.self.inside in
+    let x = c.args.sample in
+    let before = take s.placed (entries s.log) in
+    let next = subst (λ (m : Machine). IsSampleNext m x) (sym c.self.view_is) c.requires.next in
+    let fits : FitsSigned w64 x.t = search rules in
+    let entry = Sample next.reference x.t x.word in
+    record {
+      before = before;
+      entry = entry;
+      knows = c.self.invariant.0.knows;
+      next = subst (IsSentNext s.router.cache.rules before entry x.series) (sym (to_z-of_z w64 x.t fits)) (refl, (arc_value x.labels, next.fate_is, next.numbered));
+    }
 
 pub invariant_of-self-2 : goal.invariant_of-self-2
 invariant_of-self-2 c =
     let s = c.self.inside in
     let i = c.self.invariant.0 in
-    let at : ℕ = c.args.number % c.len.result in
-    let next = subst (λ (m : Machine). IsRisingNext m c.args.number c.args.t c.args.labels.value) (sym c.self.view_is) c.requires.next in
+    let x = c.args.sample in
+    let l = arc_value x.labels in
+    let at : ℕ = x.series % c.len.result in
+    let before = take s.placed (entries s.log) in
+    let next = subst (λ (m : Machine). IsSampleNext m x) (sym c.self.view_is) c.requires.next in
+    let fits : FitsSigned w64 x.t = search rules in
+    let entry = Sample next.reference x.t x.word in
     let room : room_at s.senders.capacity (slice_get s.senders.shards at) ≡ true = sym c.has_room.ensures ∙ c.if-not-has_room.false in
-    let put = c.in_ok-put.ensures.ok ∙ ap (λ (z : ℤ). put_to s.senders at s.placed c.args.number z c.args.word c.args.labels.value (slice_get s.senders.shards at)) (to_z-of_z c.ranges.t) in
-    let n : c.put.new.self.next ≡ s.placed + 1 =
-    ap (λ (v : Sending). v.next) put ∙ put_next_is s.senders at s.placed c.args.number c.args.t c.args.word c.args.labels.value (slice_get s.senders.shards at) room in
-    let target = ap (λ (v : Sending). v.target) put ∙ put_target s.senders at s.placed c.args.number c.args.t c.args.word c.args.labels.value (slice_get s.senders.shards at) in
-    let noted = c.note.ensures ∙ ap (λ (z : ℤ). record s.cache { noted = insert s.cache.noted c.args.number z }) (to_z-of_z c.ranges.t) in
+    let put = c.in_ok-put.ensures.ok ∙ ap (λ (z : ℤ). put_to s.senders at x.pos x.series z x.word l (slice_get s.senders.shards at)) (to_z-of_z w64 x.t fits) in
+    let n : c.put.new.self.next ≡ x.pos + 1 = ap (λ (v : Sending). v.next) put ∙ put_next_is s.senders at x.pos x.series x.t x.word l (slice_get s.senders.shards at) room in
+    let target = ap (λ (v : Sending). v.target) put ∙ put_target s.senders at x.pos x.series x.t x.word l (slice_get s.senders.shards at) in
     let served = same_target s.senders.target c.put.new.self.target s.host s.limits.path s.requests.items target c.self.invariant.1 in
-    (world_risen s.senders.next s.placed s.filtered c.put.new.self.next s.log s.cache c.note.new.self s.draining c.args.number c.args.t c.args.labels.value i next noted (omega (arith, n)), served)
+    let sent = subst (IsSentNext s.router.cache.rules before entry x.series) (sym (to_z-of_z w64 x.t fits)) (refl, (l, next.fate_is, next.numbered)) in
+    let same = ap (λ (r : Routing). r.filtered) c.sent.ensures.noted in
+    (world_more s.senders.next c.put.new.self.next s.placed s.log s.router c.sent.new.self s.draining entry i next.at (c.sent.ensures.knows before entry i.knows sent) (omega (arith, same, i.filtered_within)) (omega (arith, n, next.pos_is)), served)
 
 pub returns-then-not-has_room-clause-ok : goal.returns-then-not-has_room-clause-ok
 returns-then-not-has_room-clause-ok c =
     let s = c.self.inside in
     let u : Machine = the_view s in
-    let l = c.args.labels.value in
-    let at : ℕ = c.args.number % c.len.result in
-    let number : c.args.number ≡ number_of u.world.series l = c.requires.number ∙ ap (λ (m : Machine). number_of m.world.series l) (sym c.self.view_is) in
+    let x = c.args.sample in
+    let l = arc_value x.labels in
+    let at : ℕ = x.series % c.len.result in
+    let next = subst (λ (m : Machine). IsSampleNext m x) (sym c.self.view_is) c.requires.next in
+    let number : x.series ≡ number_of u.world.series l = next.numbered.numbered ∙ ap (λ xs. number_of xs l) (same_series (take s.placed (entries s.log)) s.router.cache c.self.invariant.0.knows) in
     let here : at ≡ shard_of u.world l = ap (λ k. k % c.len.result) number ∙ ap (λ k. number_of u.world.series l % k) c.len.ensures.len in
     let none : room_at u.setup.capacity (slice_get u.world.shards at) ≡ false = sym c.has_room.ensures ∙ c.if-not-has_room.true in
     sym c.self.view_is
-    ∙ ap (λ w. record u { world = w }) (sym (no_room u.setup u.world at l c.args.t c.args.word (slice_get u.world.shards at) none))
-    ∙ ap (λ k. record u { world = put_if_room u.setup u.world k l c.args.t c.args.word (slice_get u.world.shards k) }) here
-    ∙ ap (λ (m : Machine). record m { world = place_kept m.setup m.world l c.args.t c.args.word true }) c.self.view_is
+    ∙ ap (λ w. record u { world = w }) (sym (no_room u.setup u.world at l x.t x.word (slice_get u.world.shards at) none))
+    ∙ ap (λ k. record u { world = put_if_room u.setup u.world k l x.t x.word (slice_get u.world.shards k) }) here
+    ∙ ap (λ (m : Machine). with_sample m x) c.self.view_is
 
 pub returns-clause-ok : goal.returns-clause-ok
 returns-clause-ok c =
     let s = c.self.inside in
     let u : Machine = the_view s in
-    let l = c.args.labels.value in
-    let at : ℕ = c.args.number % c.len.result in
-    let number : c.args.number ≡ number_of u.world.series l = c.requires.number ∙ ap (λ (m : Machine). number_of m.world.series l) (sym c.self.view_is) in
+    let x = c.args.sample in
+    let l = arc_value x.labels in
+    let at : ℕ = x.series % c.len.result in
+    let next = subst (λ (m : Machine). IsSampleNext m x) (sym c.self.view_is) c.requires.next in
+    let fits : FitsSigned w64 x.t = search rules in
+    let number : x.series ≡ number_of u.world.series l = next.numbered.numbered ∙ ap (λ xs. number_of xs l) (same_series (take s.placed (entries s.log)) s.router.cache c.self.invariant.0.knows) in
     let here : at ≡ shard_of u.world l = ap (λ k. k % c.len.result) number ∙ ap (λ k. number_of u.world.series l % k) c.len.ensures.len in
     let room : room_at s.senders.capacity (slice_get s.senders.shards at) ≡ true = sym c.has_room.ensures ∙ c.if-not-has_room.false in
-    let put = c.in_ok-put.ensures.ok ∙ ap (λ (z : ℤ). put_to s.senders at s.placed c.args.number z c.args.word l (slice_get s.senders.shards at)) (to_z-of_z c.ranges.t) in
-    ap (λ (k : Taken). the_view (record s { placed = s.placed + 1; cache = k; senders = c.put.new.self })) c.note.ensures
-    ∙ put_seen u s.senders c.put.new.self at c.args.number c.args.t c.args.word l (slice_get s.senders.shards at) room put number refl refl refl refl refl refl
-    ∙ ap (λ k. record u { world = put_if_room u.setup u.world k l c.args.t c.args.word (slice_get u.world.shards k) }) here
-    ∙ ap (λ (m : Machine). record m { world = place_kept m.setup m.world l c.args.t c.args.word true }) c.self.view_is
-
-pub note-requires-clause-within : goal.note-requires-clause-within
-note-requires-clause-within c =
-    let s = c.self.inside in
-    let next = subst (λ (m : Machine). IsRisingNext m c.args.number c.args.t c.args.labels.value) (sym c.self.view_is) c.requires.next in
-    risen_within s.cache.rules (take s.placed (entries s.log)) s.cache.definitions c.args.number c.args.t c.args.labels.value (slice_get (entries s.log) s.placed) c.self.invariant.0.defined next
-
-pub note-requires-clause-rising : goal.note-requires-clause-rising
-note-requires-clause-rising c =
-    let s = c.self.inside in
-    let next = subst (λ (m : Machine). IsRisingNext m c.args.number c.args.t c.args.labels.value) (sym c.self.view_is) c.requires.next in
-    ap (is_after (get s.cache.noted c.args.number)) (to_z-of_z c.ranges.t)
-    ∙ risen_after s.cache.rules (take s.placed (entries s.log)) s.cache.noted c.args.number c.args.t c.args.labels.value (slice_get (entries s.log) s.placed) c.self.invariant.0.noted next
+    let put = c.in_ok-put.ensures.ok ∙ ap (λ (z : ℤ). put_to s.senders at x.pos x.series z x.word l (slice_get s.senders.shards at)) (to_z-of_z w64 x.t fits) ∙ ap (λ p. put_to s.senders at p x.series x.t x.word l (slice_get s.senders.shards at)) next.pos_is in
+    ap (λ (k : Routing). the_view (record s { placed = s.placed + 1; router = k; senders = c.put.new.self })) c.sent.ensures.noted
+    ∙ put_seen u s.senders c.put.new.self at x.series x.t x.word l (slice_get s.senders.shards at) room put number refl refl refl refl refl refl
+    ∙ ap (λ k. record u { world = put_if_room u.setup u.world k l x.t x.word (slice_get u.world.shards k) }) here
+    ∙ ap (λ (m : Machine). with_sample m x) c.self.view_is

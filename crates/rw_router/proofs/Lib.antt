@@ -1,0 +1,2 @@
+pub mod KnowsLemmas
+pub mod RouteLemmas

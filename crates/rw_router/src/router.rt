@@ -1,0 +1,151 @@
+//! The entries of a log, one after the other.
+
+ghost use Rattle.std.specs.Prelude.{◌≡◌, ◌<◌, ◌^◌, [], ◌∷◌, ◌++◌, List, IfOk, IfSome, IfNone, OnErr};
+ghost use Rattle.std.specs.FinMap as map;
+ghost use Rattle.rw_types.specs.declared.entry.Entry.{Entry};
+ghost use Rattle.rw_router.specs.Routing.{Knows, Routes, KnowsMore, IsRising, IsSentNext, WouldSend, WouldKeep};
+
+use crate::sample::RoutedSample;
+use rw_ledger::Reason;
+use rw_relabel::Rules;
+use rw_series_cache::{Cache, Known, label_fault_number};
+use rw_types::{Entry, Word};
+use std::alloc::{AllocError, Global};
+use std::marker::Model;
+use std::sync::Arc;
+
+/// What becomes of an entry.
+#[derive(Drop)]
+pub enum Routed {
+    /// It was placed: it is a definition, or a sample whose series the rules drop.
+    Placed,
+    /// It is a sample that is dropped, for this reason.
+    Dropped(Reason),
+    /// It is a sample that is sent.
+    Sample(RoutedSample),
+}
+
+/// Decides what becomes of each entry of a log, in order: a sample without a series, of a series whose labels are no label set, or one that does
+/// not rise in its series is dropped, one whose series the rules drop is counted, and each other one is sent.
+///
+/// It keeps no sample. Contracts see what it knows of the series, and how many samples were placed whose series the rules drop.
+#[derive(Drop)]
+pub struct Router {
+    cache: Cache,
+    filtered: u64,
+}
+
+impl Model for Router {
+    ghost use Rattle.std.specs.Coded.{codes};
+    ghost use Rattle.std.specs.FinMap as map;
+    ghost use Rattle.rw_router.specs.Routing.{Routing};
+
+    ghost Value = { Routing };
+
+    ghost coded = { Prim.hlevel (codes, map.code) };
+
+    ghost view = { λ r. record { cache = r.cache; filtered = r.filtered } };
+}
+
+impl Router {
+    /// Before the first entry. This takes no memory.
+    pub fn new(alloc: Global, rules: Rules) -> Router
+        ensures cache { result.cache ≡ record { rules = rules; definitions = []; noted = map.empty } }
+        ensures filtered { result.filtered ≡ 0 }
+        ensures knows { Knows [] result.cache }
+    {
+        Router {
+            cache: Cache::new(alloc, rules),
+            filtered: 0,
+        }
+    }
+
+    /// Places the next entry of the log, which stands at this position, or tells what is to be done with its sample: a dropped one is to be
+    /// named, and one that is sent is to be told by `sent` once it was put.
+    pub fn place(&mut self, pos: u64, entry: Entry) -> Result<Routed, AllocError>
+        requires few { self.old.filtered < 2 ^ 60 }
+        ensures ok { (before : List Entry) → Knows before self.old.cache
+            → IfOk result (λ r. Routes self.old before pos entry self.new r) }
+        ensures knows { (before : List Entry) → Knows before self.old.cache
+            → IfOk result (λ r. KnowsMore before entry self.new.cache r) }
+        ensures err { OnErr result (self.new ≡ self.old) }
+    {
+        match entry {
+            Entry::Def { reference, labels } => {
+                self.cache.define(reference, labels)?;
+                Ok(Routed::Placed)
+            }
+            Entry::Sample { reference, t, word } => self.place_sample(pos, reference, t, word),
+        }
+    }
+
+    fn place_sample(
+        &mut self,
+        pos: u64,
+        reference: u64,
+        t: i64,
+        word: Word,
+    ) -> Result<Routed, AllocError>
+        requires few { self.old.filtered < 2 ^ 60 }
+        ensures ok { (before : List Entry) → Knows before self.old.cache
+            → IfOk result (λ r. Routes self.old before pos (Entry.Sample reference t word) self.new r) }
+        ensures knows { (before : List Entry) → Knows before self.old.cache
+            → IfOk result (λ r. KnowsMore before (Entry.Sample reference t word) self.new.cache r) }
+        ensures err { OnErr result (self.new ≡ self.old) }
+    {
+        match self.cache.look(reference) {
+            Known::Unknown => Ok(Routed::Dropped(Reason::NoSeries)),
+            Known::Bad(fault) => {
+                let number = label_fault_number(fault);
+                Ok(Routed::Dropped(Reason::BadLabels(number)))
+            }
+            Known::Filtered => {
+                self.filtered += 1;
+                Ok(Routed::Placed)
+            }
+            Known::Kept(series, labels) => {
+                if !self.cache.rises(series, t) {
+                    return Ok(Routed::Dropped(Reason::NotRising));
+                }
+                Ok(Routed::Sample(RoutedSample {
+                    pos,
+                    series,
+                    t,
+                    word,
+                    labels: Arc::try_clone(labels)?,
+                }))
+            }
+        }
+    }
+
+    /// The sample that `place` told was put: of the series of this number, at this time, in milliseconds since the Unix epoch. This takes no
+    /// memory.
+    pub fn sent(&mut self, series: u64, t: i64)
+        requires { IsRising self.old.cache series t }
+        ensures noted { self.new ≡ record self.old { cache = record self.old.cache { noted = map.insert self.old.cache.noted series t } } }
+        ensures knows { (before : List Entry) (entry : Entry) → Knows before self.old.cache
+            → IsSentNext self.old.cache.rules before entry series t → Knows (before ++ entry ∷ []) self.new.cache }
+    {
+        self.cache.note(series, t);
+    }
+
+    /// The number of the series of a sample that would be sent, if it would: one of this reference, at this time. This takes no memory.
+    pub fn would_send(&self, reference: u64, t: i64) -> Option<u64>
+        ensures some { (before : List Entry) → Knows before self.now.cache
+            → IfSome result (WouldSend self.now.cache.rules before reference t) }
+        ensures none { (before : List Entry) → Knows before self.now.cache
+            → IfNone result (WouldKeep self.now.cache.rules before reference t) }
+    {
+        match self.cache.look(reference) {
+            Known::Kept(series, _) if self.cache.rises(series, t) => Some(series),
+            _ => None,
+        }
+    }
+
+    /// How many samples were placed whose series the rules drop.
+    pub fn filtered(&self) -> u64
+        ensures { result ≡ self.now.filtered }
+    {
+        self.filtered
+    }
+}
