@@ -1,5 +1,5 @@
 -- What a document without a fault sets, and what it does not.
-use Rattle.std.proofs.Common.{◌≡◌, ◌⊎◌, inl, inr, List, [], ◌∷◌, Any, Bool, true, false, cond, nat_lt, fold, Option, Some, None, codes, refl}
+use Rattle.std.proofs.Common.{◌≡◌, ◌⊎◌, inl, inr, List, [], ◌∷◌, Any, Bool, true, false, cond, nat_lt, fold, Option, Some, None, IfOk, codes, refl}
 use Rattle.std.specs.List.{AllByRecursion}
 use Rattle.toml.specs.Data.{Members, no_members, no_items, get_member}
 use Rattle.rw_relabel.specs.Rules.{RuleConfig}
@@ -7,7 +7,7 @@ use Rattle.rw_sender.specs.Configs.{is_ordered}
 use Rattle.rw_settings.specs.Faults.{fault_number, lesser, least}
 use Rattle.rw_settings.specs.RuleTables.{rules_of}
 use Rattle.rw_settings.specs.Sending.{send_fields, order_fault, send_fault}
-use Rattle.rw_settings.specs.Settings.{document_fault, settings_of, settings_if, IsRefusedRule, IsFaultOf}
+use Rattle.rw_settings.specs.Settings.{document_fault, settings_of, settings_if, unless_faulty, IsRefusedRule, IsFaultOf}
 use Rattle.rw_settings.specs.Values.{section, list_at, part_fault, part_or}
 use Rattle.rw_settings.specs.declared.fault.SettingsFault.{SettingsFault}
 use Rattle.rw_settings.specs.declared.fault.SettingsFault.TheVariants.{OutOfMemory, OutOfRange, BadRule}
@@ -17,7 +17,7 @@ some_anyway true f g h = cc
 some_anyway false f g h = cc
 
 -- no fault is the lesser of two where there is none
-lesser_none : (f g : Option SettingsFault) → lesser f g ≡ None → (f ≡ None) × (g ≡ None)
+pub lesser_none : (f g : Option SettingsFault) → lesser f g ≡ None → (f ≡ None) × (g ≡ None)
 lesser_none None g h = (refl, h)
 lesser_none (Some f) None h = absurd cc
 lesser_none (Some f) (Some g) h = absurd (some_anyway (nat_lt (fault_number g) (fault_number f)) f g h)
@@ -30,7 +30,7 @@ none_among f (g ∷ fs) h =
     (both.0, (both.1, rest.1))
 
 -- and the least of some likewise
-least_none : (fs : List (Option SettingsFault)) → least fs ≡ None → AllByRecursion (λ f. f ≡ None) fs
+pub least_none : (fs : List (Option SettingsFault)) → least fs ≡ None → AllByRecursion (λ f. f ≡ None) fs
 unfolding least
 least_none fs h = (none_among None fs h).1
 
@@ -69,3 +69,16 @@ pub refused_document : (document : Members) (f : SettingsFault) → document_fau
 unfolding settings_of send_fields
 refused_document document f none (inl e) = inl e
 refused_document document f none (inr (e, refused)) = rw none (inr (inr (e, refused)))
+
+judged_rules : (fault : Option SettingsFault) (document : Members) (rules : List RuleConfig)
+    → rules ≡ rules_of (part_or no_items (list_at (get_member (codes "rule") document)))
+    → IfOk (unless_faulty fault (settings_of document)) (λ s. rules ≡ s.config.rules)
+unfolding settings_of send_fields
+judged_rules None document rules same = same
+judged_rules (Some f) document rules same = tt
+
+-- the rules of a document are those of what it sets
+pub document_rules : (document : Members) (rules : List RuleConfig)
+    → rules ≡ rules_of (part_or no_items (list_at (get_member (codes "rule") document)))
+    → IfOk (settings_if (Some document)) (λ s. rules ≡ s.config.rules)
+document_rules document rules same = judged_rules (document_fault document) document rules same

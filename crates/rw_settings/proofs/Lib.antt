@@ -1,3 +1,4 @@
 pub mod DocumentLemmas
 pub mod KeyLemmas
+pub mod NoteLemmas
 pub mod RuleLemmas

@@ -1,5 +1,5 @@
 -- The tables `[[rule]]`.
-use Rattle.std.specs.Prelude.{ℕ, List, [], ◌∷◌, Bool, true, ◌&&◌, ◌||◌, is_some, Option, Some, None, codes, if◌then◌else◌}
+use Rattle.std.specs.Prelude.{ℕ, List, [], ◌∷◌, Bool, true, ◌&&◌, ◌||◌, is_some, Option, Some, None, codes, map, string_bytes, if◌then◌else◌}
 use Rattle.std.specs.Result.{result_err}
 use Rattle.std.specs.Str.{bytes_eq}
 use Rattle.toml.specs.Data.{Data, as_str, as_table, as_array, Members, no_members, get_member, Items, no_items, item}
@@ -9,6 +9,7 @@ use Rattle.rw_relabel.specs.declared.rule.Action.TheVariants.{Keep, Drop}
 use Rattle.rw_settings.specs.Faults.{lesser, least}
 use Rattle.rw_settings.specs.Values.{keys_fault, text_at, any_text, found_or, list_at, part_or}
 use Rattle.rw_settings.specs.declared.fault.SettingsFault.{SettingsFault}
+use Rattle.rw_settings.specs.declared.rule_tables.RuleFields.{RuleFields}
 use Rattle.rw_settings.specs.declared.fault.SettingsFault.TheVariants.{WrongType, OutOfRange, BadRule}
 
 abbrev pub rule_keys : List (List ℕ)
@@ -78,3 +79,12 @@ rule_config table = record {
 abbrev pub rules_of : Items → List RuleConfig
 rules_of no_items = []
 rules_of (item value rest) = rule_config (part_or no_members (as_table value)) ∷ rules_of rest
+
+-- the rule that is written so
+abbrev pub written_rule : RuleFields → RuleConfig
+written_rule r = record {
+  action = r.action;
+  source_labels = map string_bytes r.source_labels.items;
+  separator = string_bytes r.separator;
+  pattern = string_bytes r.pattern;
+}

@@ -1,7 +1,9 @@
 //! The settings of the program, as TOML.
 #![tactic(auto)]
 
+mod explain;
 mod fault;
+mod notes;
 mod read;
 mod receiving;
 mod rule_tables;
@@ -9,6 +11,9 @@ mod sending;
 mod settings;
 mod values;
 
+pub use explain::explain_settings;
 pub use fault::SettingsFault;
-pub use read::read_settings;
+pub use notes::SettingsNote;
+pub use read::{read_rules, read_settings};
+pub use rule_tables::RuleFields;
 pub use settings::Settings;

@@ -1,18 +1,19 @@
 //! The settings of a text.
 
-ghost use Rattle.std.specs.Prelude.{◌≡◌, ◌⊎◌, All, Any, Some, None, Ok, codes, is_some, IfOk, IfErr, IfSome};
+ghost use Rattle.std.specs.Prelude.{◌≡◌, ◌⊎◌, All, Any, Some, None, Ok, Err, codes, map, is_some, IfOk, IfErr, IfSome};
 ghost use Rattle.std.specs.Str.{is_utf8};
 ghost use Rattle.toml.specs.Parse.{parse_document};
 ghost use Rattle.toml.specs.Data.{get_member, no_members};
 ghost use Rattle.toml.specs.View.{table_view};
 ghost use Rattle.rw_relabel.specs.Patterns.{HasReadablePattern};
+ghost use Rattle.rw_settings.specs.RuleTables.{written_rule};
 ghost use Rattle.rw_settings.specs.Sending.{send_fields, order_fault};
 ghost use Rattle.rw_settings.specs.Settings.{document_fault, settings_if, settings_of, settings_in, IsFaultOf};
 ghost use Rattle.rw_settings.specs.declared.fault.SettingsFault.TheVariants.{OutOfMemory, NotToml, BadRule};
 
 use crate::fault::{SettingsFault, least};
 use crate::receiving::{receive_fault, receive_limits};
-use crate::rule_tables::{rules_fault, rules_of};
+use crate::rule_tables::{RuleFields, rules_fault, rules_of, written_rules};
 use crate::sending::{send_fault, send_fields};
 use crate::settings::Settings;
 use crate::values::{keys_fault, list_at, list_or_none, section, section_or};
@@ -104,7 +105,7 @@ fn settings_of_text(alloc: Global, text: &str) -> Result<Settings, SettingsFault
 }
 
 /// The bytes as a text, where they are UTF-8.
-fn text_in(bytes: &[u8]) -> Option<&str>
+pub(crate) fn text_in(bytes: &[u8]) -> Option<&str>
     ensures text { IfSome result (λ t. t.now ≡ bytes.now) }
     ensures utf8 { is_some result ≡ is_utf8 bytes.now }
 {
@@ -126,4 +127,18 @@ pub fn read_settings(alloc: Global, text: &[u8]) -> Result<Settings, SettingsFau
         Some(text) => settings_of_text(alloc, text),
         None => Err(SettingsFault::NotToml),
     }
+}
+
+/// The rules of a text, as it writes them. Of a text with a fault other than `NotToml` nothing is said.
+#[tactic(auto, unfolding(crate::specs::Settings::settings_in))]
+pub fn read_rules(alloc: Global, text: &[u8]) -> Result<Vec<RuleFields>, SettingsFault>
+    ensures ok { IfOk result (λ v. IfOk (settings_in text.now) (λ s. map written_rule v.items ≡ s.config.rules)) }
+    ensures err { IfErr result (λ f. (f ≡ OutOfMemory) ⊎ ((f ≡ NotToml) × (settings_in text.now ≡ Err NotToml))) }
+{
+    let Some(text) = text_in(text) else {
+        return Err(SettingsFault::NotToml);
+    };
+    let document = document_in(alloc, text)?;
+    let empty = Table::new(alloc);
+    Ok(written_rules(alloc, list_or_none(&document, "rule"), &empty)?)
 }

@@ -4,7 +4,7 @@ ghost use Rattle.std.specs.Prelude.{◌≡◌, ◌⊎◌, All, Any, Contains, ma
 ghost use Rattle.toml.specs.Data.{get_member, no_items, no_members, as_table};
 ghost use Rattle.toml.specs.View.{view, items_view, table_view};
 ghost use Rattle.rw_relabel.specs.Patterns.{HasReadablePattern};
-ghost use Rattle.rw_settings.specs.RuleTables.{action_text_fault, action_fault, are_texts, labels_fault, source_fault, rule_table_fault, rule_fault_of, with_rules_fault, action_of, texts_of, rule_config, rules_of};
+ghost use Rattle.rw_settings.specs.RuleTables.{action_text_fault, action_fault, are_texts, labels_fault, source_fault, rule_table_fault, rule_fault_of, with_rules_fault, action_of, texts_of, rule_config, rules_of, written_rule};
 ghost use Rattle.rw_settings.specs.Settings.{IsRefusedRule};
 ghost use Rattle.rw_settings.specs.Values.{list_at, part_or};
 ghost use Rattle.rw_settings.specs.declared.fault.SettingsFault.TheVariants.{OutOfMemory, BadRule};
@@ -16,7 +16,7 @@ use std::alloc::{AllocError, Global};
 use toml::{Table, Value};
 
 /// What is wrong with the action of a rule.
-fn action_fault(rule: &Table) -> Option<SettingsFault>
+pub(crate) fn action_fault(rule: &Table) -> Option<SettingsFault>
     ensures { result ≡ action_fault (get_member (codes "action") (table_view rule.now)) }
 {
     match value_at(rule, "action") {
@@ -47,7 +47,7 @@ fn are_texts(values: &[Value]) -> bool
 }
 
 /// What is wrong with the source labels of a rule.
-fn source_fault(rule: &Table) -> Option<SettingsFault>
+pub(crate) fn source_fault(rule: &Table) -> Option<SettingsFault>
     ensures { result ≡ source_fault (get_member (codes "source_labels") (table_view rule.now)) }
 {
     match value_at(rule, "source_labels") {
@@ -123,21 +123,41 @@ fn texts_of(alloc: Global, values: &[Value]) -> Result<Vec<String>, AllocError>
     Ok(texts)
 }
 
-/// The rule of a table that has no fault but that its pattern may be refused.
+/// A rule as settings write it, with the defaults of what they leave out.
+#[derive(Debug, Drop)]
+pub struct RuleFields {
+    pub action: Action,
+    pub source_labels: Vec<String>,
+    pub separator: String,
+    pub pattern: String,
+}
+
+/// The rule of a table that has no fault, as it is written.
 #[tactic(auto, unfolding(crate::specs::RuleTables::rule_config))]
+fn fields_of(alloc: Global, table: &Table) -> Result<RuleFields, AllocError>
+    ensures { IfOk result (λ r. written_rule r ≡ rule_config (table_view table.now)) }
+{
+    Ok(RuleFields {
+        action: action_of(text_or(table, "action", "")),
+        source_labels: texts_of(alloc, list_or_none(table, "source_labels"))?,
+        separator: String::from_str(alloc, text_or(table, "separator", DEFAULT_SEPARATOR))?,
+        pattern: String::from_str(alloc, text_or(table, "regex", DEFAULT_PATTERN))?,
+    })
+}
+
+/// The rule of a table that has no fault but that its pattern may be refused.
 fn rule_of(alloc: Global, table: &Table) -> Result<Rule, SettingsFault>
     ensures rule { IfOk result (λ r. r ≡ rule_config (table_view table.now)) }
     ensures readable { IfOk result (λ r. HasReadablePattern r.pattern) }
     ensures err { IfErr result (λ f. (f ≡ OutOfMemory) ⊎ ((f ≡ BadRule) × IsRefusedRule (rule_config (table_view table.now)))) }
 {
-    let built = Rule::build(
-        alloc,
-        action_of(text_or(table, "action", "")),
-        texts_of(alloc, list_or_none(table, "source_labels"))?,
-        String::from_str(alloc, text_or(table, "separator", DEFAULT_SEPARATOR))?,
-        String::from_str(alloc, text_or(table, "regex", DEFAULT_PATTERN))?,
-    );
-    match built {
+    let RuleFields {
+        action,
+        source_labels,
+        separator,
+        pattern,
+    } = fields_of(alloc, table)?;
+    match Rule::build(alloc, action, source_labels, separator, pattern) {
         Ok(rule) => Ok(rule),
         Err(RuleFault::OutOfMemory) => Err(SettingsFault::OutOfMemory),
         Err(_) => Err(SettingsFault::BadRule),
@@ -169,4 +189,28 @@ pub(crate) fn rules_of(
         push_rule(&mut built, rule)?;
     }
     Ok(Rules::new(built))
+}
+
+/// Adds a written rule at the end.
+fn push_fields(written: &mut Vec<RuleFields>, rule: RuleFields) -> Result<(), AllocError>
+    ensures { OnOk result (map written_rule written.new.items ≡ map written_rule written.old.items ++ written_rule rule ∷ []) }
+{
+    written.push(rule)?;
+    Ok(())
+}
+
+/// The rules of tables that have no fault, as they are written.
+pub(crate) fn written_rules(
+    alloc: Global,
+    rules: &[Value],
+    empty: &Table,
+) -> Result<Vec<RuleFields>, AllocError>
+    requires { table_view empty.now ≡ no_members }
+    ensures { IfOk result (λ v. map written_rule v.items ≡ rules_of (items_view rules.now)) }
+{
+    let mut written = Vec::with_capacity(alloc, rules.len())?;
+    for rule in rules {
+        push_fields(&mut written, fields_of(alloc, table_or(rule, empty))?)?;
+    }
+    Ok(written)
 }

@@ -42,7 +42,7 @@ pub(crate) fn send_fields(
 
 /// The fault of a table whose shards or backoff are not between their bounds.
 #[tactic(auto, unfolding(crate::specs::Sending::send_fields, crate::specs::Sending::order_fault))]
-fn order_fault(send: &Table) -> Option<SettingsFault>
+pub(crate) fn order_fault(send: &Table) -> Option<SettingsFault>
     ensures { result ≡ order_fault (table_view send.now) }
 {
     let shards = number_or::<1, 1_000>(send, "shards", Bounded::of(1)).get();

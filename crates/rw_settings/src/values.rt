@@ -16,7 +16,7 @@ use std::alloc::{AllocError, Global};
 use toml::{Table, Value};
 
 /// Whether the key is one of these.
-fn is_known(known: &[&str], key: &str) -> bool
+pub(crate) fn is_known(known: &[&str], key: &str) -> bool
     ensures { result ≡ list_any (bytes_eq key.now) (map (λ k. k.now) known.now) }
 {
     for name in known {

@@ -44,6 +44,15 @@ the settings.
 Exit status: 0; 1 for a bad line or a fault of the log; 2 for bad words or settings; 3 out of memory;
 4 where a file, standard input or output failed.";
 
+pub(crate) const SETTINGS: &str = "\
+Example:
+  rwship settings rwship.toml
+
+It prints a settings file that gives each key, also those that FILE leaves out. docs/SETTINGS.md tells
+the keys and the faults.
+
+Exit status: 0; 2 for bad words or settings; 3 out of memory; 4 where FILE or standard output failed.";
+
 pub(crate) const SEND: &str = "\
 Example:
   rwship send --settings rwship.toml --dir data/wal --to receiver.example:9090

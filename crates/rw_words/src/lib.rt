@@ -9,7 +9,16 @@ use rw_address::{Address, read_address};
 use rw_types::Bounded;
 use std::alloc::{AllocError, Global};
 
-/// What the words ask for. A file or a folder is a path; a missing `settings` stands for the defaults.
+/// Which settings are asked for.
+#[derive(Clone, Copy, Debug)]
+pub struct SettingsFile<'a> {
+    /// The path of the file; none stands for the defaults.
+    pub path: Option<&'a str>,
+    /// Whether each of its faults is told.
+    pub is_explained: bool,
+}
+
+/// What the words ask for. A file or a folder is a path.
 #[derive(Clone, Copy, Debug)]
 pub enum Task<'a> {
     /// One log segment in; its body out.
@@ -24,22 +33,26 @@ pub enum Task<'a> {
     },
     /// One log segment in; its series plan out.
     Plan {
-        settings: Option<&'a str>,
+        settings: SettingsFile<'a>,
         hex: bool,
     },
     /// An event script in; the state at its end out.
     Replay {
-        settings: Option<&'a str>,
+        settings: SettingsFile<'a>,
+    },
+    /// The settings out, each key with its value.
+    Settings {
+        settings: SettingsFile<'a>,
     },
     /// Ships all segments of `dir`.
     Send {
-        settings: Option<&'a str>,
+        settings: SettingsFile<'a>,
         dir: &'a str,
         to: Address<'a>,
     },
     /// Serves connections, and then prints what is held.
     Receive {
-        settings: Option<&'a str>,
+        settings: SettingsFile<'a>,
         listen: Address<'a>,
         connections: Bounded<1, 1_000>,
     },
@@ -58,6 +71,13 @@ fn settings<'a>(alloc: Global) -> Arg<'a> {
         .value_name("FILE")
         .value_parser(ValueParser::NonEmptyString)
         .help("Read the settings from this TOML file")
+}
+
+fn explain<'a>(alloc: Global) -> Arg<'a> {
+    Arg::new(alloc, "explain")
+        .long("explain")
+        .action(ArgAction::SetTrue)
+        .help("Tell each fault of the settings: its key, and what the key takes")
 }
 
 fn body_command<'a>(alloc: Global) -> Result<Command<'a>, AllocError> {
@@ -92,6 +112,7 @@ fn plan_command<'a>(alloc: Global) -> Result<Command<'a>, AllocError> {
         .about("Reads one log segment and prints which of its series the rules keep")
         .after_help(help::PLAN)
         .arg(settings(alloc))?
+        .arg(explain(alloc))?
         .arg(hex(alloc))
 }
 
@@ -99,7 +120,20 @@ fn replay_command<'a>(alloc: Global) -> Result<Command<'a>, AllocError> {
     Command::new(alloc, "replay")
         .about("Reads an event script and prints the state at its end")
         .after_help(help::REPLAY)
-        .arg(settings(alloc))
+        .arg(settings(alloc))?
+        .arg(explain(alloc))
+}
+
+fn settings_command<'a>(alloc: Global) -> Result<Command<'a>, AllocError> {
+    let file = Arg::new(alloc, "settings")
+        .value_name("FILE")
+        .value_parser(ValueParser::NonEmptyString)
+        .help("Print the settings of this TOML file, and without it the defaults");
+    Command::new(alloc, "settings")
+        .about("Prints the settings that a file gives, each key with its value")
+        .after_help(help::SETTINGS)
+        .arg(file)?
+        .arg(explain(alloc))
 }
 
 fn send_command<'a>(alloc: Global) -> Result<Command<'a>, AllocError> {
@@ -118,6 +152,7 @@ fn send_command<'a>(alloc: Global) -> Result<Command<'a>, AllocError> {
         .about("Ships all segments of a folder and prints a report")
         .after_help(help::SEND)
         .arg(settings(alloc))?
+        .arg(explain(alloc))?
         .arg(dir)?
         .arg(to)
 }
@@ -138,6 +173,7 @@ fn receive_command<'a>(alloc: Global) -> Result<Command<'a>, AllocError> {
         .about("Serves connections and prints what they left")
         .after_help(help::RECEIVE)
         .arg(settings(alloc))?
+        .arg(explain(alloc))?
         .arg(listen)?
         .arg(connections)
 }
@@ -153,6 +189,7 @@ pub fn command_line<'a>(alloc: Global) -> Result<Command<'a>, AllocError> {
         .subcommand(log_command(alloc)?)?
         .subcommand(plan_command(alloc)?)?
         .subcommand(replay_command(alloc)?)?
+        .subcommand(settings_command(alloc)?)?
         .subcommand(send_command(alloc)?)?
         .subcommand(receive_command(alloc)?)
 }
@@ -173,7 +210,10 @@ pub fn bad_address<'a>(words: &ArgMatches<'a>) -> Option<(&'static str, &'a str)
 /// What a command's options ask for.
 fn task_named<'a>(name: &str, options: &ArgMatches<'a>) -> Option<Task<'a>> {
     let hex = options.get_flag("hex");
-    let settings = options.get_str("settings");
+    let settings = SettingsFile {
+        path: options.get_str("settings"),
+        is_explained: options.get_flag("explain"),
+    };
     match name.as_bytes() {
         b"body" => Some(Task::Body { hex }),
         b"log" => Some(Task::Log {
@@ -183,6 +223,7 @@ fn task_named<'a>(name: &str, options: &ArgMatches<'a>) -> Option<Task<'a>> {
         }),
         b"plan" => Some(Task::Plan { settings, hex }),
         b"replay" => Some(Task::Replay { settings }),
+        b"settings" => Some(Task::Settings { settings }),
         b"send" => Some(Task::Send {
             settings,
             dir: options.get_str("dir")?,

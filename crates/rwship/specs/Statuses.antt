@@ -7,4 +7,4 @@ use Rattle.rwship.specs.declared.settings.Unset.TheVariants.{Tool, Settings}
 -- that of the fault, and 2 for a fault of the settings
 abbrev pub unset_status : Unset → ℕ
 unset_status (Tool f) = exit_status f
-unset_status (Settings f) = 2
+unset_status (Settings f notes) = 2

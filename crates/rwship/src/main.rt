@@ -14,12 +14,12 @@ use rw_address::Address;
 use rw_receive::run_receive;
 use rw_replay::run_replay;
 use rw_send::{TcpConnect, run_send, segment_files};
-use rw_settings::Settings;
+use rw_settings::{Settings, SettingsNote};
 use rw_tcp::look_up;
 use rw_tool::{ToolFault, run_body, run_log, run_log_dir, run_plan};
-use rw_types::{Bounded, Std};
-use rw_words::{Task, bad_address, command_line, task_of};
-use settings::{Unset, settings_in};
+use rw_types::{Bounded, Std, write_all};
+use rw_words::{SettingsFile, Task, bad_address, command_line, task_of};
+use settings::{Unset, printed_settings, settings_in};
 use std::env;
 use std::io::ErrorKind;
 use std::net::{SocketAddr, TcpListener};
@@ -44,15 +44,25 @@ fn ended(rt: &HostRuntime, outcome: Result<(), ToolFault>) -> ExitCode
     }
 }
 
-/// The same of settings that cannot be read.
+/// Writes a line for each note on settings to standard error.
+fn tell(rt: &HostRuntime, notes: &[SettingsNote]) {
+    for note in notes {
+        let place = note.place.as_str();
+        let text = note.text.as_str();
+        let _ = eprintln!(rt; "  {place}: {text}");
+    }
+}
+
+/// The same of settings that cannot be read, and what is wrong with them where that is asked for.
 fn unset(rt: &HostRuntime, fault: Unset) -> ExitCode
     ensures { process.exit_status result ≡ unset_status fault }
 {
     match fault {
         Unset::Tool(fault) => ended(rt, Err(fault)),
-        Unset::Settings(fault) => {
+        Unset::Settings(fault, notes) => {
             let number = fault.number();
             let _ = eprintln!(rt; "rwship: settings fault {number}");
+            tell(rt, notes.as_slice());
             ExitCode::from(BAD_WORDS)
         }
     }
@@ -102,7 +112,7 @@ fn log(rt: &HostRuntime, hex: bool, pages: Bounded<1, 4096>, dir: Option<&str>) 
 }
 
 /// Prints the plan of a segment.
-fn plan(rt: &HostRuntime, settings: Option<&str>, hex: bool) -> ExitCode {
+fn plan(rt: &HostRuntime, settings: SettingsFile<'_>, hex: bool) -> ExitCode {
     let mut input = Std::new(rt.stdin());
     let mut output = Std::new(rt.stdout());
     match settings_in(rt, settings) {
@@ -115,13 +125,25 @@ fn plan(rt: &HostRuntime, settings: Option<&str>, hex: bool) -> ExitCode {
 }
 
 /// Plays a script and prints the state at its end.
-fn replay(rt: &HostRuntime, settings: Option<&str>) -> ExitCode {
+fn replay(rt: &HostRuntime, settings: SettingsFile<'_>) -> ExitCode {
     let mut input = Std::new(rt.stdin());
     let mut output = Std::new(rt.stdout());
     match settings_in(rt, settings) {
         Ok(settings) => {
             let outcome = run_replay(rt.alloc(), &mut input, &mut output, settings);
             ended(rt, outcome)
+        }
+        Err(fault) => unset(rt, fault),
+    }
+}
+
+/// Prints settings, each key with its value.
+fn print_settings(rt: &HostRuntime, settings: SettingsFile<'_>) -> ExitCode {
+    let mut output = Std::new(rt.stdout());
+    match printed_settings(rt, settings) {
+        Ok(text) => {
+            let outcome = write_all(&mut output, text.as_bytes());
+            ended(rt, outcome.map_err(ToolFault::from))
         }
         Err(fault) => unset(rt, fault),
     }
@@ -164,7 +186,7 @@ fn ship<R: Threads + Wait + Clock + Copy + Send + 'static>(
 fn send<R: Threads + Wait + Clock + Copy + Send + 'static>(
     rt: &HostRuntime,
     threads: &R,
-    settings: Option<&str>,
+    settings: SettingsFile<'_>,
     dir: &str,
     to: Address<'_>,
 ) -> ExitCode {
@@ -178,7 +200,7 @@ fn send<R: Threads + Wait + Clock + Copy + Send + 'static>(
 fn receive<R: Threads + Wait + Clock + Sync>(
     rt: &HostRuntime,
     threads: &R,
-    settings: Option<&str>,
+    settings: SettingsFile<'_>,
     listen: Address<'_>,
     connections: Bounded<1, 1_000>,
 ) -> ExitCode {
@@ -212,6 +234,7 @@ fn perform<R: Threads + Wait + Clock + Copy + Send + Sync + 'static>(
         Task::Log { hex, pages, dir } => log(rt, *hex, *pages, *dir),
         Task::Plan { settings, hex } => plan(rt, *settings, *hex),
         Task::Replay { settings } => replay(rt, *settings),
+        Task::Settings { settings } => print_settings(rt, *settings),
         Task::Send { settings, dir, to } => send(rt, threads, *settings, dir, *to),
         Task::Receive {
             settings,

@@ -1,20 +1,23 @@
 //! The settings that a command is given.
 
-ghost use Rattle.std.specs.Prelude.{◌≡◌, [], None, Ok, IfOk};
+ghost use Rattle.std.specs.Prelude.{◌≡◌, [], None, Ok, string_bytes, IfOk, IsOkAnd};
 ghost use Rattle.rw_settings.specs.Settings as toml;
+ghost use Rattle.rw_settings_text.specs.SettingsText.{settings_text};
 
-use rw_settings::{Settings, SettingsFault, read_settings};
+use rw_settings::{Settings, SettingsFault, SettingsNote, explain_settings, read_settings};
+use rw_settings_text::print_settings;
 use rw_tool::ToolFault;
+use rw_words::SettingsFile;
 use std::fs;
 use std::io::ErrorKind;
 
 /// Why there are no settings.
-#[derive(Clone, Copy, Debug)]
+#[derive(Debug, Drop)]
 pub enum Unset {
     /// The file cannot be read, or memory ran out.
     Tool(ToolFault),
-    /// The file has this fault, which is not want of memory.
-    Settings(SettingsFault),
+    /// The file has this fault, which is not want of memory, and these notes tell each of its faults where that was asked for.
+    Settings(SettingsFault, Vec<SettingsNote>),
 }
 
 /// The text of a file.
@@ -26,20 +29,48 @@ fn text_of(rt: &HostRuntime, path: &str) -> Result<Vec<u8>, ToolFault> {
     }
 }
 
-/// The settings in a file, or the defaults where there is none.
-pub fn settings_in(rt: &HostRuntime, path: Option<&str>) -> Result<Settings, Unset>
-    ensures { path.entry ≡ None → IfOk result (λ s. toml.settings_in [] ≡ Ok s) }
+/// The text of a settings file, or the empty one where there is none.
+fn text_or_none(rt: &HostRuntime, path: Option<&str>) -> Result<Vec<u8>, Unset>
+    ensures { path.entry ≡ None → IfOk result (λ t. t.items ≡ []) }
 {
-    let text = match path {
-        Some(path) => match text_of(rt, path) {
-            Ok(text) => text,
-            Err(fault) => return Err(Unset::Tool(fault)),
-        },
-        None => Vec::new(rt.alloc()),
-    };
+    match path {
+        Some(path) => text_of(rt, path).map_err(Unset::Tool),
+        None => Ok(Vec::new(rt.alloc())),
+    }
+}
+
+/// Why a text was refused that has this fault, with notes on each of its faults where they are asked for.
+fn refused(rt: &HostRuntime, text: &[u8], fault: SettingsFault, is_explained: bool) -> Unset {
+    if fault == SettingsFault::OutOfMemory {
+        return Unset::Tool(ToolFault::OutOfMemory);
+    }
+    if !is_explained {
+        return Unset::Settings(fault, Vec::new(rt.alloc()));
+    }
+    match explain_settings(rt.alloc(), text) {
+        Ok(notes) => Unset::Settings(fault, notes),
+        Err(_) => Unset::Tool(ToolFault::OutOfMemory),
+    }
+}
+
+/// The settings that are asked for.
+pub fn settings_in(rt: &HostRuntime, file: SettingsFile<'_>) -> Result<Settings, Unset>
+    ensures { file.entry.path ≡ None → IfOk result (λ s. toml.settings_in [] ≡ Ok s) }
+{
+    let text = text_or_none(rt, file.path)?;
     match read_settings(rt.alloc(), &text) {
         Ok(settings) => Ok(settings),
-        Err(SettingsFault::OutOfMemory) => Err(Unset::Tool(ToolFault::OutOfMemory)),
-        Err(fault) => Err(Unset::Settings(fault)),
+        Err(fault) => Err(refused(rt, &text, fault, file.is_explained)),
+    }
+}
+
+/// The settings that are asked for, as a text that gives each key.
+pub fn printed_settings(rt: &HostRuntime, file: SettingsFile<'_>) -> Result<String, Unset>
+    ensures { file.entry.path ≡ None → IfOk result (λ t. IsOkAnd (toml.settings_in []) (λ s. string_bytes t ≡ settings_text s)) }
+{
+    let text = text_or_none(rt, file.path)?;
+    match print_settings(rt.alloc(), &text) {
+        Ok(text) => Ok(text),
+        Err(fault) => Err(refused(rt, &text, fault, file.is_explained)),
     }
 }

@@ -20,4 +20,6 @@ mod settings_documents;
 #[cfg(test)]
 mod settings_ranges;
 #[cfg(test)]
+mod settings_texts;
+#[cfg(test)]
 mod texts;

@@ -1,0 +1,489 @@
+//! What is wrong with a text of settings, key by key.
+
+ghost use Rattle.std.specs.Prelude.{◌≡◌, ◌⊎◌, Some, None, codes, IfOk, OnOk};
+ghost use Rattle.std.specs.Result.{result_err};
+ghost use Rattle.toml.specs.Data.{get_member, no_members, as_table};
+ghost use Rattle.toml.specs.Parse.{parse_document};
+ghost use Rattle.toml.specs.View.{view, items_view, table_view};
+ghost use Rattle.rw_types.specs.Requests.{is_host_name, is_request_path};
+ghost use Rattle.rw_settings.specs.Faults.{lesser};
+ghost use Rattle.rw_settings.specs.Notes.{noted, IsNoted};
+ghost use Rattle.rw_settings.specs.Receiving.{receive_fault};
+ghost use Rattle.rw_settings.specs.RuleTables.{action_fault, source_fault, rule_table_fault, rule_fault_of, with_rules_fault};
+ghost use Rattle.rw_settings.specs.Sending.{order_fault, send_fault};
+ghost use Rattle.rw_settings.specs.Settings.{document_fault, settings_if, settings_in};
+ghost use Rattle.rw_settings.specs.Values.{number_at, text_at, any_text, part_fault, section, list_at};
+ghost use Rattle.rw_settings.specs.declared.fault.SettingsFault.TheVariants.{NotToml, WrongType, BadRule};
+
+use crate::fault::SettingsFault;
+use crate::notes::{SettingsNote, note_keys, note_value, push_note};
+use crate::read::text_in;
+use crate::rule_tables::{action_fault, source_fault};
+use crate::sending::order_fault;
+use crate::values::{
+    host_fault, list_at, list_or_none, number_fault, path_fault, section, text_fault, value_at,
+};
+use regex::Regex;
+use std::alloc::{AllocError, Global};
+use toml::{Table, Value};
+
+/// Adds a note on the whole number at a key, where it has a fault.
+fn note_number<const LOW: u64, const HIGH: u64>(
+    alloc: Global,
+    notes: &mut Vec<SettingsNote>,
+    section: &str,
+    table: &Table,
+    key: &str,
+) -> Result<(), AllocError>
+    ensures { OnOk result (noted notes.new.items ≡ lesser (noted notes.old.items)
+        (result_err (number_at LOW HIGH (get_member key.now (table_view table.now))))) }
+{
+    let takes = format!(in alloc; "a whole number from {LOW} to {HIGH}")?;
+    let fault = number_fault::<LOW, HIGH>(table, key);
+    note_value(
+        alloc,
+        notes,
+        section,
+        key,
+        value_at(table, key),
+        fault,
+        takes.as_str(),
+    )
+}
+
+/// Adds a note on the path at a key, where it has a fault.
+fn note_path(
+    alloc: Global,
+    notes: &mut Vec<SettingsNote>,
+    section: &str,
+    table: &Table,
+    key: &str,
+) -> Result<(), AllocError>
+    ensures { OnOk result (noted notes.new.items ≡ lesser (noted notes.old.items)
+        (result_err (text_at is_request_path (get_member key.now (table_view table.now))))) }
+{
+    let takes = "'/' and then letters, digits and '/-._~%?=&', 255 bytes at most";
+    let fault = path_fault(table, key);
+    note_value(
+        alloc,
+        notes,
+        section,
+        key,
+        value_at(table, key),
+        fault,
+        takes,
+    )
+}
+
+/// Adds a note on the text at a key, where it has a fault.
+fn note_text(
+    alloc: Global,
+    notes: &mut Vec<SettingsNote>,
+    section: &str,
+    table: &Table,
+    key: &str,
+) -> Result<(), AllocError>
+    ensures { OnOk result (noted notes.new.items ≡ lesser (noted notes.old.items)
+        (result_err (text_at any_text (get_member key.now (table_view table.now))))) }
+{
+    let fault = text_fault(table, key);
+    note_value(
+        alloc,
+        notes,
+        section,
+        key,
+        value_at(table, key),
+        fault,
+        "a text",
+    )
+}
+
+/// Adds a note on the host of the table `send`, where it has a fault.
+fn note_host(alloc: Global, notes: &mut Vec<SettingsNote>, send: &Table) -> Result<(), AllocError>
+    ensures { OnOk result (noted notes.new.items ≡ lesser (noted notes.old.items)
+        (result_err (text_at is_host_name (get_member (codes "host") (table_view send.now))))) }
+{
+    let fault = host_fault(send, "host");
+    let value = value_at(send, "host");
+    let takes = "1 to 255 bytes, each '!' to '~'";
+    note_value(alloc, notes, "send.", "host", value, fault, takes)
+}
+
+/// Adds a note where shards or backoff are not between their bounds.
+#[tactic(auto, using(crate::proofs::NoteLemmas::lesser_of_none))]
+fn note_order(alloc: Global, notes: &mut Vec<SettingsNote>, send: &Table) -> Result<(), AllocError>
+    ensures { OnOk result (noted notes.new.items ≡ lesser (noted notes.old.items) (order_fault (table_view send.now))) }
+{
+    let Some(fault) = order_fault(send) else {
+        return Ok(());
+    };
+    let place = String::from_str(alloc, "send")?;
+    let text = String::from_str(
+        alloc,
+        "min_shards <= shards <= max_shards and min_backoff_ms <= max_backoff_ms have to hold, also of defaults",
+    )?;
+    push_note(notes, fault, place, text)
+}
+
+/// Adds a note on each fault of the table `send`.
+fn note_send(alloc: Global, notes: &mut Vec<SettingsNote>, send: &Table) -> Result<(), AllocError>
+    ensures { OnOk result (noted notes.new.items ≡ lesser (noted notes.old.items) (send_fault (table_view send.now))) }
+{
+    let keys = [
+        "host",
+        "path",
+        "shards",
+        "min_shards",
+        "max_shards",
+        "capacity",
+        "batch",
+        "min_backoff_ms",
+        "max_backoff_ms",
+        "timeout_ms",
+    ];
+    note_keys(alloc, notes, "send.", send, &keys)?;
+    note_host(alloc, notes, send)?;
+    note_path(alloc, notes, "send.", send, "path")?;
+    note_number::<1, 1_000>(alloc, notes, "send.", send, "shards")?;
+    note_number::<1, 1_000>(alloc, notes, "send.", send, "min_shards")?;
+    note_number::<1, 1_000>(alloc, notes, "send.", send, "max_shards")?;
+    note_number::<1, 1_000_000>(alloc, notes, "send.", send, "capacity")?;
+    note_number::<1, 10_000>(alloc, notes, "send.", send, "batch")?;
+    note_number::<1, 3_600_000>(alloc, notes, "send.", send, "min_backoff_ms")?;
+    note_number::<1, 3_600_000>(alloc, notes, "send.", send, "max_backoff_ms")?;
+    note_number::<1, 3_600_000>(alloc, notes, "send.", send, "timeout_ms")?;
+    note_order(alloc, notes, send)?;
+    Ok(())
+}
+
+/// Adds a note on each fault of the table `receive`.
+fn note_receive(
+    alloc: Global,
+    notes: &mut Vec<SettingsNote>,
+    receive: &Table,
+) -> Result<(), AllocError>
+    ensures { OnOk result (noted notes.new.items ≡ lesser (noted notes.old.items) (receive_fault (table_view receive.now))) }
+{
+    let keys = [
+        "path",
+        "max_body_bytes",
+        "max_labels",
+        "max_label_bytes",
+        "busy_first",
+    ];
+    note_keys(alloc, notes, "receive.", receive, &keys)?;
+    note_path(alloc, notes, "receive.", receive, "path")?;
+    note_number::<1, 67_108_864>(alloc, notes, "receive.", receive, "max_body_bytes")?;
+    note_number::<1, 64>(alloc, notes, "receive.", receive, "max_labels")?;
+    note_number::<1, 16_384>(alloc, notes, "receive.", receive, "max_label_bytes")?;
+    note_number::<0, 1_000_000>(alloc, notes, "receive.", receive, "busy_first")?;
+    Ok(())
+}
+
+/// Adds a note on the action of a rule, where it has a fault.
+fn note_action(
+    alloc: Global,
+    notes: &mut Vec<SettingsNote>,
+    section: &str,
+    rule: &Table,
+) -> Result<(), AllocError>
+    ensures { OnOk result (noted notes.new.items ≡ lesser (noted notes.old.items)
+        (action_fault (get_member (codes "action") (table_view rule.now)))) }
+{
+    let fault = action_fault(rule);
+    let value = value_at(rule, "action");
+    note_value(
+        alloc,
+        notes,
+        section,
+        "action",
+        value,
+        fault,
+        "keep or drop",
+    )
+}
+
+/// Adds a note on the source labels of a rule, where they have a fault.
+fn note_labels(
+    alloc: Global,
+    notes: &mut Vec<SettingsNote>,
+    section: &str,
+    rule: &Table,
+) -> Result<(), AllocError>
+    ensures { OnOk result (noted notes.new.items ≡ lesser (noted notes.old.items)
+        (source_fault (get_member (codes "source_labels") (table_view rule.now)))) }
+{
+    let fault = source_fault(rule);
+    let value = value_at(rule, "source_labels");
+    let takes = "a list of texts, at least one";
+    note_value(alloc, notes, section, "source_labels", value, fault, takes)
+}
+
+/// Adds a note on each fault of a rule's table, except that its pattern is refused.
+fn note_rule_table(
+    alloc: Global,
+    notes: &mut Vec<SettingsNote>,
+    section: &str,
+    rule: &Table,
+) -> Result<(), AllocError>
+    ensures { OnOk result (noted notes.new.items ≡ lesser (noted notes.old.items) (rule_table_fault (table_view rule.now))) }
+{
+    let keys = ["action", "source_labels", "separator", "regex"];
+    note_keys(alloc, notes, section, rule, &keys)?;
+    note_action(alloc, notes, section, rule)?;
+    note_labels(alloc, notes, section, rule)?;
+    note_text(alloc, notes, section, rule, "separator")?;
+    note_text(alloc, notes, section, rule, "regex")?;
+    Ok(())
+}
+
+/// Adds a note on each fault of a rule, except that its pattern is refused.
+fn note_rule(
+    alloc: Global,
+    notes: &mut Vec<SettingsNote>,
+    number: usize,
+    rule: &Value,
+) -> Result<(), AllocError>
+    ensures { OnOk result (noted notes.new.items ≡ lesser (noted notes.old.items) (rule_fault_of (as_table (view rule.now)))) }
+{
+    match rule.as_table() {
+        None => {
+            let place = format!(in alloc; "rule {number}")?;
+            let text = String::from_str(alloc, "is no table")?;
+            push_note(notes, SettingsFault::WrongType, place, text)
+        }
+        Some(table) => {
+            let section = format!(in alloc; "rule {number}, ")?;
+            note_rule_table(alloc, notes, section.as_str(), table)
+        }
+    }
+}
+
+/// Adds a note on each fault of rules, except that a pattern is refused.
+fn note_rules(
+    alloc: Global,
+    notes: &mut Vec<SettingsNote>,
+    rules: &[Value],
+) -> Result<(), AllocError>
+    ensures { OnOk result (noted notes.new.items ≡ lesser (noted notes.old.items) (with_rules_fault None (items_view rules.now))) }
+{
+    for (i, rule) in rules.iter().enumerate() {
+        note_rule(alloc, notes, i + 1, rule)?;
+    }
+    Ok(())
+}
+
+/// Adds a note on a part of the document that is of a wrong type.
+fn note_part(
+    alloc: Global,
+    notes: &mut Vec<SettingsNote>,
+    key: &str,
+    takes: &str,
+) -> Result<(), AllocError>
+    ensures { OnOk result (noted notes.new.items ≡ lesser (noted notes.old.items) (Some WrongType)) }
+{
+    let place = String::from_str(alloc, key)?;
+    let text = format!(in alloc; "is of another type; it takes {takes}")?;
+    push_note(notes, SettingsFault::WrongType, place, text)
+}
+
+/// Adds a note on each fault of what stands at `send`.
+fn note_send_part(
+    alloc: Global,
+    notes: &mut Vec<SettingsNote>,
+    document: &Table,
+    empty: &Table,
+) -> Result<(), AllocError>
+    requires { table_view empty.now ≡ no_members }
+    ensures { OnOk result (noted notes.new.items ≡ lesser (noted notes.old.items)
+        (part_fault send_fault (section (get_member (codes "send") (table_view document.now))))) }
+{
+    match section(document, "send", empty) {
+        None => note_part(alloc, notes, "send", "a table, [send]"),
+        Some(send) => note_send(alloc, notes, send),
+    }
+}
+
+/// Adds a note on each fault of what stands at `receive`.
+fn note_receive_part(
+    alloc: Global,
+    notes: &mut Vec<SettingsNote>,
+    document: &Table,
+    empty: &Table,
+) -> Result<(), AllocError>
+    requires { table_view empty.now ≡ no_members }
+    ensures { OnOk result (noted notes.new.items ≡ lesser (noted notes.old.items)
+        (part_fault receive_fault (section (get_member (codes "receive") (table_view document.now))))) }
+{
+    match section(document, "receive", empty) {
+        None => note_part(alloc, notes, "receive", "a table, [receive]"),
+        Some(receive) => note_receive(alloc, notes, receive),
+    }
+}
+
+/// Adds a note on each fault of what stands at `rule`, except that a pattern is refused.
+fn note_rules_part(
+    alloc: Global,
+    notes: &mut Vec<SettingsNote>,
+    document: &Table,
+) -> Result<(), AllocError>
+    ensures { OnOk result (noted notes.new.items ≡ lesser (noted notes.old.items)
+        (part_fault (with_rules_fault None) (list_at (get_member (codes "rule") (table_view document.now))))) }
+{
+    match list_at(document, "rule") {
+        None => note_part(alloc, notes, "rule", "a list of tables, each [[rule]]"),
+        Some(rules) => note_rules(alloc, notes, rules),
+    }
+}
+
+/// Adds a note on each fault of a document, except that a pattern is refused.
+fn note_document(
+    alloc: Global,
+    notes: &mut Vec<SettingsNote>,
+    document: &Table,
+    empty: &Table,
+) -> Result<(), AllocError>
+    requires { table_view empty.now ≡ no_members }
+    ensures { OnOk result (noted notes.new.items ≡ lesser (noted notes.old.items) (document_fault (table_view document.now))) }
+{
+    note_keys(alloc, notes, "", document, &["send", "receive", "rule"])?;
+    note_send_part(alloc, notes, document, empty)?;
+    note_receive_part(alloc, notes, document, empty)?;
+    note_rules_part(alloc, notes, document)?;
+    Ok(())
+}
+
+/// Why the crate of regular expressions refuses a pattern.
+fn refusal(alloc: Global, pattern: &str) -> Result<Option<&'static str>, AllocError> {
+    match Regex::new(alloc, pattern) {
+        Ok(_) => Ok(None),
+        Err(regex::Error::OutOfMemory) => Err(AllocError),
+        Err(regex::Error::Syntax(error)) => Ok(Some(error.kind.message())),
+        Err(_) => Ok(Some("it takes too much room when it is compiled")),
+    }
+}
+
+/// Why a pattern is refused, alone or in the form in which it is used.
+fn refusal_as_used(alloc: Global, pattern: &str) -> Result<Option<&'static str>, AllocError> {
+    match refusal(alloc, pattern)? {
+        Some(why) => Ok(Some(why)),
+        None => {
+            let anchored = format!(in alloc; "^(?s:{pattern})$")?;
+            refusal(alloc, anchored.as_str())
+        }
+    }
+}
+
+/// The pattern that a rule writes, where it writes one.
+fn pattern_of(rule: &Value) -> Option<&str> {
+    match rule.as_table() {
+        None => None,
+        Some(table) => match value_at(table, "regex") {
+            None => None,
+            Some(value) => value.as_str(),
+        },
+    }
+}
+
+/// Adds a note on the pattern of a rule, where it is refused.
+fn note_pattern(
+    alloc: Global,
+    notes: &mut Vec<SettingsNote>,
+    number: usize,
+    pattern: &str,
+) -> Result<(), AllocError>
+    ensures { OnOk result ((noted notes.new.items ≡ noted notes.old.items)
+        ⊎ (noted notes.new.items ≡ lesser (noted notes.old.items) (Some BadRule))) }
+{
+    let Some(why) = refusal_as_used(alloc, pattern)? else {
+        return Ok(());
+    };
+    let place = format!(in alloc; "rule {number}, regex")?;
+    let text = format!(in alloc; "{pattern:?} is no regular expression: {why}")?;
+    push_note(notes, SettingsFault::BadRule, place, text)
+}
+
+/// Adds a note on each pattern of rules that is refused.
+fn note_patterns(
+    alloc: Global,
+    notes: &mut Vec<SettingsNote>,
+    rules: &[Value],
+) -> Result<(), AllocError>
+    ensures { OnOk result (IsNoted (noted notes.old.items) (noted notes.new.items)) }
+{
+    for (i, rule) in rules.iter().enumerate() {
+        if let Some(pattern) = pattern_of(rule) {
+            note_pattern(alloc, notes, i + 1, pattern)?;
+        }
+    }
+    Ok(())
+}
+
+/// Notes on a document.
+#[tactic(auto, unfolding(crate::specs::Notes::noted))]
+fn notes_of(alloc: Global, document: &Table) -> Result<Vec<SettingsNote>, AllocError>
+    ensures { IfOk result (λ v. IsNoted (document_fault (table_view document.now)) (noted v.items)) }
+{
+    let mut notes = Vec::new(alloc);
+    let empty = Table::new(alloc);
+    note_document(alloc, &mut notes, document, &empty)?;
+    note_patterns(alloc, &mut notes, list_or_none(document, "rule"))?;
+    Ok(notes)
+}
+
+/// The line and the column of what follows these bytes, both from 1. A column counts characters.
+fn position_after(bytes: &[u8]) -> (usize, usize) {
+    let mut line = 1usize;
+    let mut column = 1usize;
+    for byte in bytes {
+        if *byte == b'\n' {
+            line = line.saturating_add(1);
+            column = 1;
+        } else if *byte & 0xC0 != 0x80 {
+            column = column.saturating_add(1);
+        }
+    }
+    (line, column)
+}
+
+/// The note on a text that is no TOML from here on.
+#[tactic(auto, unfolding(crate::specs::Notes::noted))]
+fn syntax_note(alloc: Global, before: &[u8], message: &str) -> Result<Vec<SettingsNote>, AllocError>
+    ensures { IfOk result (λ v. noted v.items ≡ Some NotToml) }
+{
+    let (line, column) = position_after(before);
+    let place = format!(in alloc; "line {line}, column {column}")?;
+    let text = String::from_str(alloc, message)?;
+    let mut notes = Vec::new(alloc);
+    push_note(&mut notes, SettingsFault::NotToml, place, text)?;
+    Ok(notes)
+}
+
+/// Notes on a text.
+fn notes_of_text(alloc: Global, text: &str) -> Result<Vec<SettingsNote>, AllocError>
+    ensures { IfOk result (λ v. IsNoted (result_err (settings_if (parse_document text.now))) (noted v.items)) }
+{
+    match toml::table_from_str(alloc, text) {
+        Ok(document) => notes_of(alloc, &document),
+        Err(error) => match error.span() {
+            None => Err(AllocError),
+            Some(range) => {
+                let bytes = text.as_bytes();
+                let before = &bytes[..range.start.min(bytes.len())];
+                syntax_note(alloc, before, error.message())
+            }
+        },
+    }
+}
+
+/// Explains what is wrong with a text of settings: a note for each fault, `send` and `receive` first, key by key, and then the rules in their order,
+/// at last the patterns that are refused. No note stands for settings that `read_settings` reads.
+#[tactic(auto, unfolding(crate::specs::Settings::settings_in))]
+pub fn explain_settings(alloc: Global, text: &[u8]) -> Result<Vec<SettingsNote>, AllocError>
+    ensures { IfOk result (λ v. IsNoted (result_err (settings_in text.now)) (noted v.items)) }
+{
+    match text_in(text) {
+        Some(text) => notes_of_text(alloc, text),
+        None => syntax_note(alloc, &[], "the text is not UTF-8"),
+    }
+}
