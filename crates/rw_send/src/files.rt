@@ -1,6 +1,6 @@
 //! The files of a log in a folder.
 
-ghost use Rattle.std.specs.Prelude.{◌≡◌, ◌<◌, ◌^◌, ℕ, IfOk, MatchOption};
+ghost use Rattle.std.specs.Prelude.{◌≡◌, ◌<◌, ◌^◌, ℕ, IfOk, MatchOption, string_bytes};
 ghost use Rattle.std.specs.List.Sorted.{IsPermutation, IsSortedBy};
 ghost use Rattle.rw_send.specs.Folders.{IsNameOf, comes_before};
 
@@ -23,6 +23,16 @@ const MAX_DIGITS: usize = 8;
 pub struct SegmentFile<R> {
     rt: R,
     path: PathBuf,
+    name: String,
+}
+
+impl<R> SegmentFile<R> {
+    /// The name of the file in its folder; empty where the folder cannot be read.
+    pub fn name(&self) -> &str
+        ensures { result.now ≡ string_bytes self.now.name }
+    {
+        self.name.as_str()
+    }
 }
 
 impl<R: Files<File = File>> Open for SegmentFile<R> {
@@ -110,13 +120,18 @@ pub fn segment_files<R: Files<File = File> + AllocGlobal + Copy>(
         Ok(names) => {
             for segment in names {
                 let path = Path::new(dir).join(alloc, segment.name.as_str())?;
-                files.push(Opened::new(SegmentFile { rt: *rt, path }))?;
+                files.push(Opened::new(SegmentFile {
+                    rt: *rt,
+                    path,
+                    name: segment.name,
+                }))?;
             }
         }
         Err(ToolFault::OutOfMemory) => return Err(AllocError),
         Err(_) => files.push(Opened::unreadable(SegmentFile {
             rt: *rt,
             path: PathBuf::new(alloc),
+            name: String::new(alloc),
         }))?,
     }
     Ok(files)

@@ -1,5 +1,6 @@
 //! What is opened when it is first read.
 
+ghost use Rattle.std.specs.Prelude.{◌≡◌};
 ghost use Rattle.std.specs.Io.{ReadsAtMost};
 ghost use Rattle.std.specs.Io.KnownBytes.{ReadConsumes};
 ghost use Rattle.rw_send.specs.Opening.{left_of};
@@ -30,6 +31,13 @@ impl<O: Open> Opened<O> {
             source: None,
             failed: false,
         }
+    }
+
+    /// What it opens.
+    pub fn place(&self) -> &O
+        ensures { result.now ≡ self.now.place }
+    {
+        &self.place
     }
 
     /// Each read fails, and nothing is opened.

@@ -34,6 +34,16 @@ samples are kept and filtered. docs/SETTINGS.md tells the rules.
 Exit status: 0; 1 for a fault of the log; 2 for bad words or settings; 3 out of memory; 4 where a
 file, standard input or output failed.";
 
+pub(crate) const INSPECT: &str = "\
+Example:
+  rwship inspect --dir data/wal
+
+It prints a row for each segment, one for all, and how many samples 'send' would drop where no rules
+are set. docs/OPERATING.md shows a table, and what is said of a fault.
+
+Exit status: 0; 1 for a fault of the log, behind its report; 2 for bad words; 3 out of memory; 4 where
+a file, standard input or output failed.";
+
 pub(crate) const REPLAY: &str = "\
 Example:
   printf 'log series 1 {__name__=\"up\"}\\nlog sample 1 1000 1\\nsettle\\n' | rwship replay

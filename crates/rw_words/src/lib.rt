@@ -36,6 +36,11 @@ pub enum Task<'a> {
         settings: SettingsFile<'a>,
         hex: bool,
     },
+    /// One log segment in, or all segments of `dir`; what they hold out.
+    Inspect {
+        dir: Option<&'a str>,
+        json: bool,
+    },
     /// An event script in; the state at its end out.
     Replay {
         settings: SettingsFile<'a>,
@@ -116,6 +121,23 @@ fn plan_command<'a>(alloc: Global) -> Result<Command<'a>, AllocError> {
         .arg(hex(alloc))
 }
 
+fn inspect_command<'a>(alloc: Global) -> Result<Command<'a>, AllocError> {
+    let dir = Arg::new(alloc, "dir")
+        .long("dir")
+        .value_name("DIR")
+        .value_parser(ValueParser::NonEmptyString)
+        .help("Read the segments of this folder in place of one on standard input");
+    let json = Arg::new(alloc, "json")
+        .long("json")
+        .action(ArgAction::SetTrue)
+        .help("Write JSON, one object a line");
+    Command::new(alloc, "inspect")
+        .about("Reads a log and prints what its segments hold, and where it is damaged")
+        .after_help(help::INSPECT)
+        .arg(dir)?
+        .arg(json)
+}
+
 fn replay_command<'a>(alloc: Global) -> Result<Command<'a>, AllocError> {
     Command::new(alloc, "replay")
         .about("Reads an event script and prints the state at its end")
@@ -188,6 +210,7 @@ pub fn command_line<'a>(alloc: Global) -> Result<Command<'a>, AllocError> {
         .subcommand(body_command(alloc)?)?
         .subcommand(log_command(alloc)?)?
         .subcommand(plan_command(alloc)?)?
+        .subcommand(inspect_command(alloc)?)?
         .subcommand(replay_command(alloc)?)?
         .subcommand(settings_command(alloc)?)?
         .subcommand(send_command(alloc)?)?
@@ -222,6 +245,10 @@ fn task_named<'a>(name: &str, options: &ArgMatches<'a>) -> Option<Task<'a>> {
             dir: options.get_str("dir"),
         }),
         b"plan" => Some(Task::Plan { settings, hex }),
+        b"inspect" => Some(Task::Inspect {
+            dir: options.get_str("dir"),
+            json: options.get_flag("json"),
+        }),
         b"replay" => Some(Task::Replay { settings }),
         b"settings" => Some(Task::Settings { settings }),
         b"send" => Some(Task::Send {

@@ -11,15 +11,17 @@ ghost use Rattle.rwship.specs.Statuses.{unset_status};
 use clap::ArgMatches;
 use clap::error::ErrorKind as WordsErrorKind;
 use rw_address::Address;
+use rw_inspect::{Named, Report, inspect, json_of, table_of};
 use rw_receive::run_receive;
 use rw_replay::run_replay;
-use rw_send::{TcpConnect, run_send, segment_files};
+use rw_send::{Opened, SegmentFile, TcpConnect, run_send, segment_files};
 use rw_settings::{Settings, SettingsNote};
 use rw_tcp::look_up;
 use rw_tool::{ToolFault, run_body, run_log, run_log_dir, run_plan};
 use rw_types::{Bounded, Std, write_all};
 use rw_words::{SettingsFile, Task, bad_address, command_line, task_of};
 use settings::{Unset, printed_settings, settings_in};
+use std::alloc::AllocError;
 use std::env;
 use std::io::ErrorKind;
 use std::net::{SocketAddr, TcpListener};
@@ -121,6 +123,52 @@ fn plan(rt: &HostRuntime, settings: SettingsFile<'_>, hex: bool) -> ExitCode {
             ended(rt, outcome)
         }
         Err(fault) => unset(rt, fault),
+    }
+}
+
+/// The segments of a folder, each with the name of its file.
+fn named_files(
+    rt: &HostRuntime,
+    dir: &str,
+) -> Result<Vec<Named<Opened<SegmentFile<HostRuntime>>>>, AllocError> {
+    let alloc = rt.alloc();
+    let mut named = Vec::new(alloc);
+    for source in segment_files(rt, dir)? {
+        let name = String::from_str(alloc, source.place().name())?;
+        if named.push(Named { name, source }).is_err() {
+            return Err(AllocError);
+        }
+    }
+    Ok(named)
+}
+
+/// Reads the segments of a folder, or the one on standard input.
+fn inspected(rt: &HostRuntime, dir: Option<&str>) -> Result<Report, ToolFault> {
+    let alloc = rt.alloc();
+    if let Some(dir) = dir {
+        return Ok(inspect(alloc, named_files(rt, dir)?)?);
+    }
+    let mut one = Vec::with_capacity(alloc, 1)?;
+    one.push_reserved(Named {
+        name: String::from_str(alloc, "-")?,
+        source: Std::new(rt.stdin()),
+    });
+    Ok(inspect(alloc, one)?)
+}
+
+/// Prints what the segments hold. A fault of the log stands at the end.
+fn print_inspected(rt: &HostRuntime, dir: Option<&str>, json: bool) -> Result<(), ToolFault> {
+    let report = inspected(rt, dir)?;
+    let text = if json {
+        json_of(rt.alloc(), &report)?
+    } else {
+        table_of(rt.alloc(), &report)?
+    };
+    let mut output = Std::new(rt.stdout());
+    write_all(&mut output, &text)?;
+    match report.damage {
+        Some(damage) => Err(ToolFault::Log(damage.fault)),
+        None => Ok(()),
     }
 }
 
@@ -233,6 +281,7 @@ fn perform<R: Threads + Wait + Clock + Copy + Send + Sync + 'static>(
         Task::Body { hex } => body(rt, *hex),
         Task::Log { hex, pages, dir } => log(rt, *hex, *pages, *dir),
         Task::Plan { settings, hex } => plan(rt, *settings, *hex),
+        Task::Inspect { dir, json } => ended(rt, print_inspected(rt, *dir, *json)),
         Task::Replay { settings } => replay(rt, *settings),
         Task::Settings { settings } => print_settings(rt, *settings),
         Task::Send { settings, dir, to } => send(rt, threads, *settings, dir, *to),

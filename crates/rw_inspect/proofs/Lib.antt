@@ -1,0 +1,5 @@
+pub mod CounterLemmas
+pub mod InspectLemmas
+pub mod PlacedLemmas
+pub mod ReadingLemmas
+pub mod TextLemmas

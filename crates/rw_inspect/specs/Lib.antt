@@ -1,0 +1,6 @@
+pub mod Counting
+pub mod Inspecting
+pub mod Reading
+pub mod Sums
+pub mod Texts
+pub mod Troubles

@@ -1,0 +1,75 @@
+-- How a segment is read to its end.
+use Rattle.std.specs.Prelude.{◌≡◌, ℕ, List, [], ◌∷◌, ◌++◌, length, Option}
+use Rattle.std.specs.Io.KnownBytes.{Consumes, IsAtEnd}
+use Rattle.rw_types.specs.declared.entry.Entry.{Entry}
+use Rattle.rw_codes.specs.Pieces.{Piece, bytes, entries, page_size, reading, skipped}
+use Rattle.rw_codes.specs.declared.tail_fault.TailFault.{TailFault}
+use Rattle.rw_wal_tail.specs.Fed.{Fed}
+use Rattle.rw_feeder.specs.Feeders.{HasRead, HasTaken}
+use Rattle.rw_inspect.specs.Counting.{Counted}
+use Rattle.rw_inspect.specs.declared.reading.Next.{Next}
+use Rattle.rw_inspect.specs.declared.reading.Next.TheVariants as next
+
+-- one more entry of the same pieces was given
+pub record Gives (e : Entry) (old new : Fed) : Type 0 where
+  pub fed : new.pieces ≡ old.pieces
+  pub has : (taken : List Entry) → HasTaken old taken → HasTaken new (taken ++ e ∷ [])
+
+-- all entries were taken, with this fault behind them, if there is one
+pub record HasTakenAll (t : Fed) (taken : List Entry) (found : Option TailFault) : Type 0 where
+  pub taken_all : HasTaken t taken
+  pub read : HasRead t.pieces taken found
+  pub passed : t.skipped ≡ skipped t.pieces
+
+-- no entry was left
+pub record Ends (found : Option TailFault) (old new : Fed) : Type 0 where
+  pub fed : new.pieces ≡ old.pieces
+  pub all : (taken : List Entry) → HasTaken old taken → HasTakenAll new taken found
+
+abbrev pub ComesNext : Fed → Fed → Next → Type 0
+ComesNext old new (next.Entry e) = Gives e old new
+ComesNext old new (next.End found) = Ends found old new
+
+-- entries were counted, of the segment at hand
+pub record Grows (old new : Counted) : Type 0 where
+  pub more : List Entry
+  pub entries_are : new.entries ≡ old.entries ++ more
+  pub here_are : new.here ≡ old.here ++ more
+
+-- all entries of the same pieces were taken and counted
+pub record TakesAll (t new : Fed) (before after : Counted) (found : Option TailFault) : Type 0 where
+  pub fed : new.pieces ≡ t.pieces
+  pub all : HasTakenAll new after.entries found
+  pub grows : Grows before after
+
+-- one more piece of so many bytes was read and fed
+pub record FeedsMore (left_before left_after : Option (List ℕ)) (before after : Fed) (n : ℕ) : Type 0 where
+  pub text : List ℕ
+  pub read : Consumes left_before left_after text
+  pub counted : n ≡ length text
+  pub fed : after ≡ record before { pieces = before.pieces ++ bytes text ∷ [] }
+  pub more : List Entry
+  pub goes_on : entries after.pieces ≡ entries before.pieces ++ more
+
+-- pieces, whatever comes after them, are read as earlier ones and this text
+abbrev pub AreFed : List Piece → List ℕ → List Piece → Type 0
+AreFed old text new = (later : List Piece) → reading page_size (new ++ later) ≡ reading page_size (old ++ bytes text ∷ later)
+
+-- a text was read, and its entries were taken and counted, with those before
+pub record HasFed (left_before left_after : Option (List ℕ)) (t new : Fed) (before after : Counted) (n : ℕ) : Type 0 where
+  pub text : List ℕ
+  pub read : Consumes left_before left_after text
+  pub counted : n ≡ length text
+  pub same : AreFed t.pieces text new.pieces
+  pub taken : HasTaken new after.entries
+  pub grows : Grows before after
+
+-- the same to the end of the segment
+pub record ReadsText (left_before left_after : Option (List ℕ)) (t new : Fed) (before after : Counted) (found : ℕ × Option TailFault) : Type 0 where
+  pub text : List ℕ
+  pub read : Consumes left_before left_after text
+  pub ended : IsAtEnd left_after
+  pub counted : found.0 ≡ length text
+  pub same : AreFed t.pieces text new.pieces
+  pub all : HasTakenAll new after.entries found.1
+  pub grows : Grows before after

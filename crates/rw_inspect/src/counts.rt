@@ -1,0 +1,17 @@
+//! What is counted of a whole log.
+
+use crate::sums::Sums;
+
+/// What is counted of the entries of a log.
+#[derive(Clone, Copy, Debug, PartialEq, Eq)]
+pub struct Counts {
+    pub sums: Sums,
+    /// Different label sets among the definitions.
+    pub label_sets: u64,
+    /// Samples without a definition of their reference before them.
+    pub without_series: u64,
+    /// Samples whose labels are no label set.
+    pub bad_labels: u64,
+    /// Samples that do not rise: an earlier sample of the label set has the same timestamp or a later one.
+    pub not_rising: u64,
+}

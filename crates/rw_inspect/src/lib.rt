@@ -1,0 +1,23 @@
+//! What a log holds, counted: series, samples, timestamps, and the samples that a sender would drop.
+#![tactic(auto)]
+
+mod counter;
+mod counts;
+mod json;
+mod pushing;
+mod reading;
+mod report;
+mod segments;
+mod sizes;
+mod sums;
+mod table;
+mod troubles;
+mod words;
+
+pub use counter::Counter;
+pub use counts::Counts;
+pub use json::json_of;
+pub use report::{Damage, Report, Segment};
+pub use segments::{Named, inspect};
+pub use sums::Sums;
+pub use table::table_of;

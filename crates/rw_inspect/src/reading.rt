@@ -1,0 +1,99 @@
+//! A segment, read to its end.
+
+ghost use Rattle.std.specs.Prelude.{◌≡◌, ◌<◌, ◌⊎◌, ◌+◌, ℕ, [], length, true, Err, Ok, Some, None, IfOk};
+ghost use Rattle.std.specs.Io.KnownBytes.{Consumes, IsAtEnd};
+ghost use Rattle.rw_types.specs.declared.transfer.ReadFault.TheVariants.{Failed};
+ghost use Rattle.rw_feeder.specs.Feeders.{HasTaken};
+ghost use Rattle.rw_inspect.specs.Reading.{ComesNext, FeedsMore, ReadsText, TakesAll};
+
+use crate::counter::Counter;
+use rw_types::{Entry, ReadFault, Source};
+use rw_wal_tail::{Tail, TailFault};
+use std::alloc::AllocError;
+
+/// What comes next in a log.
+#[derive(Debug, Drop)]
+pub(crate) enum Next {
+    Entry(Entry),
+    /// No entry more as far as the log has come, and this fault, if it has one.
+    End(Option<TailFault>),
+}
+
+/// What comes next.
+fn next_of(tail: &mut Tail) -> Result<Next, AllocError>
+    ensures { IfOk result (ComesNext tail.old tail.new) }
+{
+    match tail.next_entry() {
+        Ok(Some(entry)) => Ok(Next::Entry(entry)),
+        Ok(None) => Ok(Next::End(None)),
+        Err(fault) => match fault {
+            TailFault::OutOfMemory => Err(AllocError),
+            _ => Ok(Next::End(Some(fault))),
+        },
+    }
+}
+
+/// Takes the entries that the reader of the log has left, and answers the fault behind them, if there is one.
+fn take_all(tail: &mut Tail, counts: &mut Counter) -> Result<Option<TailFault>, AllocError>
+    requires { HasTaken tail.old counts.old.entries }
+    ensures { IfOk result (TakesAll tail.old tail.new counts.old counts.new) }
+{
+    for _ in 0..u64::MAX {
+        match next_of(tail)? {
+            Next::Entry(entry) => counts.take(entry)?,
+            Next::End(fault) => return Ok(fault),
+        }
+    }
+    Err(AllocError)
+}
+
+/// Feeds what one read gives, and answers how many bytes it gave; none at the end of the input.
+fn feed_some<S: Source>(
+    source: &mut S,
+    chunk: &mut [u8],
+    tail: &mut Tail,
+) -> Result<Option<u64>, ReadFault>
+    requires { 0 < length chunk.old }
+    ensures more { (n : ℕ) → result ≡ Ok (Some n) → FeedsMore (S.remaining source.old) (S.remaining source.new) tail.old tail.new n }
+    ensures end { result ≡ Ok None → Consumes (S.remaining source.old) (S.remaining source.new) [] × IsAtEnd (S.remaining source.new) × (tail.new ≡ tail.old) }
+    ensures sure { S.is_sure source.old ≡ true → (S.is_sure source.new ≡ true) × (result ≡ Err Failed → ⊥) }
+{
+    let Ok(count) = source.read(chunk) else {
+        return Err(ReadFault::Failed);
+    };
+    if count == 0 {
+        return Ok(None);
+    }
+    tail.feed(&chunk[..count])?;
+    Ok(Some(count as u64))
+}
+
+/// So many bytes and some more. A number that does not fit is want of memory.
+fn sum(bytes: u64, more: u64) -> Result<u64, AllocError>
+    ensures { IfOk result (λ n. n ≡ bytes + more) }
+{
+    bytes.checked_add(more).ok_or(AllocError)
+}
+
+/// Reads a segment to its end, also behind a fault, and counts its bytes and entries.
+pub(crate) fn read_text<S: Source>(
+    source: &mut S,
+    chunk: &mut [u8],
+    tail: &mut Tail,
+    counts: &mut Counter,
+) -> Result<(u64, Option<TailFault>), ReadFault>
+    requires room { 0 < length chunk.old }
+    requires taken { HasTaken tail.old counts.old.entries }
+    ensures ok { IfOk result (ReadsText (S.remaining source.old) (S.remaining source.new) tail.old tail.new counts.old counts.new) }
+    ensures sure { S.is_sure source.old ≡ true → result ≡ Err Failed → ⊥ }
+{
+    let mut bytes = 0;
+    for _ in 0..u64::MAX {
+        let fault = take_all(tail, counts)?;
+        match feed_some(source, chunk, tail)? {
+            Some(more) => bytes = sum(bytes, more)?,
+            None => return Ok((bytes, fault)),
+        }
+    }
+    Err(ReadFault::OutOfMemory)
+}

@@ -1,0 +1,149 @@
+//! The segments of a log, read one after the other.
+
+ghost use Rattle.std.specs.Prelude.{◌≡◌, ◌<◌, [], ℕ, List, length, map, true, Err, None, IfOk, OnOk, ◌++◌, ◌∷◌, vec_len};
+ghost use Rattle.rw_types.specs.declared.transfer.ReadFault.TheVariants.{Failed};
+ghost use Rattle.rw_inspect.specs.Inspecting.{AllSure, IsInspected, IsReportOf, IsReportOfFirst, ReadsFirst, ReadsSegment, begun, fault_in, source_of};
+ghost use Rattle.rw_inspect.specs.Reading.{HasTakenAll};
+
+use crate::counter::Counter;
+use crate::reading::read_text;
+use crate::report::{Damage, Report, Segment};
+use rw_types::{ReadFault, Source};
+use rw_wal_tail::{Tail, TailFault};
+use std::alloc::{AllocError, Global};
+
+/// How many bytes one read asks for.
+const CHUNK: usize = 64 * 1024;
+
+/// A segment that is to be read, with the name that it is reported by.
+#[derive(Drop)]
+pub struct Named<S> {
+    pub name: String,
+    pub source: S,
+}
+
+fn zeros(alloc: Global, len: usize) -> Result<Vec<u8>, AllocError>
+    ensures { IfOk result (λ v. vec_len v ≡ len) }
+{
+    vec![in alloc; 0; len]
+}
+
+/// The next segment begins.
+fn begin_segment(is_first: bool, tail: &mut Tail, counts: &mut Counter)
+    ensures fed { tail.new ≡ record tail.old { pieces = begun is_first tail.old.pieces } }
+    ensures here { counts.new ≡ record counts.old { here = [] } }
+{
+    if !is_first {
+        tail.next_segment();
+    }
+    counts.next_segment();
+}
+
+/// Adds a row.
+fn add_row(rows: &mut Vec<Segment>, row: Segment) -> Result<(), AllocError>
+    ensures { OnOk result (rows.new.items ≡ rows.old.items ++ row ∷ []) }
+{
+    match rows.push(row) {
+        Ok(()) => Ok(()),
+        Err(_) => Err(AllocError),
+    }
+}
+
+/// Reads the next segment, and answers what was found in it, and its fault.
+fn read_segment<S: Source + Drop>(
+    is_first: bool,
+    segment: Named<S>,
+    chunk: &mut [u8],
+    tail: &mut Tail,
+    counts: &mut Counter,
+) -> Result<(Segment, Option<TailFault>), ReadFault>
+    requires room { 0 < length chunk.old }
+    requires sound { HasTakenAll tail.old counts.old.entries None }
+    ensures ok { IfOk result (ReadsSegment is_first (S.remaining segment.source) tail.old tail.new counts.old counts.new) }
+    ensures sure { S.is_sure segment.source ≡ true → result ≡ Err Failed → ⊥ }
+{
+    let before = tail.skipped();
+    begin_segment(is_first, tail, counts);
+    let Named { name, mut source } = segment;
+    let (bytes, fault) = read_text(&mut source, chunk, tail, counts)?;
+    let found = Segment {
+        name,
+        bytes,
+        passed: tail.skipped() - before,
+        sums: counts.sums_here(),
+    };
+    Ok((found, fault))
+}
+
+/// Reads segments up to the end of the first one with a fault, and answers the fault.
+fn read_all<S: Source + Drop>(
+    alloc: Global,
+    segments: Vec<Named<S>>,
+    tail: &mut Tail,
+    counts: &mut Counter,
+    rows: &mut Vec<Segment>,
+) -> Result<Option<TailFault>, ReadFault>
+    requires { IsInspected [] tail.old counts.old rows.old.items None }
+    ensures ok { IfOk result (λ fault. (texts : List (List ℕ)) × ReadsFirst (map (source_of S.remaining) segments.items) texts fault
+        × IsInspected texts tail.new counts.new rows.new.items fault) }
+    ensures sure { AllSure (map (source_of S.is_sure) segments.items) → result ≡ Err Failed → ⊥ }
+{
+    let mut chunk = zeros(alloc, CHUNK)?;
+    for segment in segments {
+        let is_first = rows.is_empty();
+        let (row, fault) = read_segment(is_first, segment, &mut chunk, tail, counts)?;
+        add_row(rows, row)?;
+        if fault.is_some() {
+            return Ok(fault);
+        }
+    }
+    Ok(None)
+}
+
+/// The damage of a log with this fault, if it has one.
+fn damage_of(tail: &Tail, fault: Option<TailFault>) -> Option<Damage>
+    ensures { fault_in result ≡ fault }
+{
+    match fault {
+        Some(fault) => Some(Damage {
+            fault,
+            place: tail.fault_place(),
+        }),
+        None => None,
+    }
+}
+
+/// The report of what was read.
+fn report_of(
+    alloc: Global,
+    tail: &Tail,
+    counts: &Counter,
+    segments: Vec<Segment>,
+    fault: Option<TailFault>,
+) -> Result<Report, AllocError>
+    ensures { (texts : List (List ℕ)) → IsInspected texts tail.now counts.now segments.items fault → IfOk result (IsReportOf texts) }
+{
+    let mut first_not_rising = Vec::new(alloc);
+    first_not_rising.extend_from_slice(counts.first_not_rising())?;
+    Ok(Report {
+        segments,
+        counts: counts.counts(),
+        first_not_rising,
+        damage: damage_of(tail, fault),
+    })
+}
+
+/// Reads the segments of a log in order, to the end of the last one or of the first one with a fault, and reports what is in them.
+pub fn inspect<S: Source + Drop>(
+    alloc: Global,
+    segments: Vec<Named<S>>,
+) -> Result<Report, ReadFault>
+    ensures ok { IfOk result (IsReportOfFirst (map (source_of S.remaining) segments.items)) }
+    ensures sure { AllSure (map (source_of S.is_sure) segments.items) → result ≡ Err Failed → ⊥ }
+{
+    let mut tail = Tail::new(alloc);
+    let mut counts = Counter::new(alloc);
+    let mut rows = Vec::new(alloc);
+    let fault = read_all(alloc, segments, &mut tail, &mut counts, &mut rows)?;
+    Ok(report_of(alloc, &tail, &counts, rows, fault)?)
+}

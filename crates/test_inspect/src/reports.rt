@@ -1,0 +1,114 @@
+//! Reports of two segments, and of one that is damaged.
+
+use rw_inspect::{Named, Report, inspect, json_of, table_of};
+use rw_types::{RawLabels, ReadFault, Room, Word};
+use rw_wal_write::{SegmentWriter, sample_record, series_record};
+use std::alloc::{AllocError, Global};
+use std::test::Fail;
+
+/// What is logged: a definition of a reference by its one label, or a sample of it at a time.
+#[derive(Clone, Copy)]
+enum Logged {
+    Def(u64, &'static str, &'static str),
+    Sample(u64, i64),
+}
+
+fn record_of(alloc: Global, logged: Logged) -> Result<Vec<u8>, AllocError> {
+    match logged {
+        Logged::Def(reference, name, value) => {
+            let mut labels = RawLabels::new(alloc);
+            labels.push(name.as_bytes(), value.as_bytes())?;
+            series_record(alloc, reference, &labels)
+        }
+        Logged::Sample(reference, t) => sample_record(alloc, &[(reference, t, Word(0))]),
+    }
+}
+
+fn segment_of(alloc: Global, entries: &[Logged]) -> Result<Vec<u8>, AllocError> {
+    let mut writer = SegmentWriter::new(Room::new(alloc, 4096)?, 1);
+    for logged in entries {
+        let rec = record_of(alloc, *logged)?;
+        if !rec.is_empty() {
+            let _ = writer.log(&rec);
+        }
+    }
+    Ok(writer.into_inner().into_bytes())
+}
+
+fn named<'a>(alloc: Global, name: &str, text: &'a [u8]) -> Result<Named<&'a [u8]>, AllocError> {
+    Ok(Named {
+        name: String::from_str(alloc, name)?,
+        source: text,
+    })
+}
+
+/// The report of two segments.
+fn report_of(alloc: Global, first: &[u8], second: &[u8]) -> Result<Report, ReadFault> {
+    let mut segments = Vec::with_capacity(alloc, 2)?;
+    segments.push_reserved(named(alloc, "0", first)?);
+    segments.push_reserved(named(alloc, "\"1", second)?);
+    inspect(alloc, segments)
+}
+
+/// Series 1 and 4 have one label set, 3 has none, and 2 has no definition.
+static FIRST: [Logged; 3] = [
+    Logged::Def(1, "__name__", "up"),
+    Logged::Sample(1, 1000),
+    Logged::Sample(1, 1000),
+];
+
+static SECOND: [Logged; 6] = [
+    Logged::Sample(2, -500),
+    Logged::Def(3, "9", "a"),
+    Logged::Sample(3, 1),
+    Logged::Def(4, "__name__", "up"),
+    Logged::Sample(4, 2000),
+    Logged::Sample(4, 1500),
+];
+
+const TABLE: &str =
+    "   segment          bytes   pages     entries      series     samples passed over       earliest         latest
+         0             97       1           3           1           2           0           1000           1000
+        \"1            186       1           6           2           4           0           -500           2000
+       all            283       2           9           3           6           0           -500           2000
+label sets                  1
+samples without a series    1
+samples with bad labels     1
+samples that do not rise    2
+their first positions       2 8
+";
+
+const JSON: &str = "\
+{\"type\":\"segment\",\"file\":\"0\",\"bytes\":97,\"pages\":1,\"passed_over\":0,\"entries\":3,\"series\":1,\"samples\":2,\"earliest\":1000,\"latest\":1000}\n\
+{\"type\":\"segment\",\"file\":\"\\\"1\",\"bytes\":186,\"pages\":1,\"passed_over\":0,\"entries\":6,\"series\":2,\"samples\":4,\"earliest\":-500,\"latest\":2000}\n\
+{\"type\":\"totals\",\"bytes\":283,\"pages\":2,\"passed_over\":0,\"entries\":9,\"series\":3,\"samples\":6,\"earliest\":-500,\"latest\":2000,\"label_sets\":1,\"without_series\":1,\"bad_labels\":1,\"not_rising\":2,\"first_not_rising\":[2,8]}\n\
+";
+
+const DAMAGED: &str = "\
+{\"type\":\"segment\",\"file\":\"0\",\"bytes\":97,\"pages\":1,\"passed_over\":0,\"entries\":2,\"series\":1,\"samples\":1,\"earliest\":1000,\"latest\":1000}\n\
+{\"type\":\"totals\",\"bytes\":97,\"pages\":1,\"passed_over\":0,\"entries\":2,\"series\":1,\"samples\":1,\"earliest\":1000,\"latest\":1000,\"label_sets\":1,\"without_series\":0,\"bad_labels\":0,\"not_rising\":0,\"first_not_rising\":[]}\n\
+{\"type\":\"fault\",\"fault\":\"checksum of the fragment is not that of its data\",\"file\":\"0\",\"offset\":63,\"behind\":34,\"next\":\"copy the segment again and compare; send ships what stands before the fault, and nothing behind it\"}\n\
+";
+
+/// The reports of both segments, and of the first with its last byte changed.
+fn texts(alloc: Global) -> Result<(Vec<u8>, Vec<u8>, Vec<u8>), ReadFault> {
+    let mut first = segment_of(alloc, &FIRST)?;
+    let second = segment_of(alloc, &SECOND)?;
+    let report = report_of(alloc, &first, &second)?;
+    let table = table_of(alloc, &report)?;
+    let json = json_of(alloc, &report)?;
+    if let Some(byte) = first.last_mut() {
+        *byte = 1;
+    }
+    let damaged = json_of(alloc, &report_of(alloc, &first, &second)?)?;
+    Ok((table, json, damaged))
+}
+
+#[test]
+fn two_segments(rt: HostRuntime) -> Result<(), Fail> {
+    let (table, json, damaged) = texts(rt.alloc())?;
+    assert!(rt; table.as_slice() == TABLE.as_bytes());
+    assert!(rt; json.as_slice() == JSON.as_bytes());
+    assert!(rt; damaged.as_slice() == DAMAGED.as_bytes());
+    Ok(())
+}
