@@ -1,11 +1,12 @@
 //! The codes: values from the public standards, and the edges of each length.
 
+use crate::rows::none_is_wrong;
 use rw_codes::{CodeFault, crc32c, get_uvarint, get_varint, put_uvarint, put_varint};
 use std::alloc::{AllocError, Global};
 use std::test::Fail;
 
 /// Numbers and their shortest forms: the least and the greatest of each length.
-const NUMBERS: [(u64, &[u8]); 21] = [
+static NUMBERS: [(u64, &[u8]); 21] = [
     (0, &[0]),
     (127, &[127]),
     (128, &[128, 1]),
@@ -45,7 +46,7 @@ const NUMBERS: [(u64, &[u8]); 21] = [
 ];
 
 /// Texts and their CRC.
-const CRCS: [(&[u8], u32); 6] = [
+static CRCS: [(&[u8], u32); 6] = [
     (b"", 0x0000_0000),
     (b"123456789", 0xE306_9283),
     (&[2], 0xB346_23A6),
@@ -55,7 +56,7 @@ const CRCS: [(&[u8], u32); 6] = [
 ];
 
 /// Signed numbers and their shortest forms.
-const SIGNED: [(i64, &[u8]); 8] = [
+static SIGNED: [(i64, &[u8]); 8] = [
     (0, &[0]),
     (-1, &[1]),
     (1, &[2]),
@@ -67,7 +68,7 @@ const SIGNED: [(i64, &[u8]); 8] = [
 ];
 
 /// Texts that no number has as its shortest form, and what is read of them.
-const OTHER_FORMS: [(&[u8], Result<(u64, usize), CodeFault>); 8] = [
+static OTHER_FORMS: [(&[u8], Result<(u64, usize), CodeFault>); 8] = [
     (&[128, 0], Ok((0, 2))),
     (&[129, 128, 0], Ok((1, 3))),
     (
@@ -96,6 +97,12 @@ const OTHER_FORMS: [(&[u8], Result<(u64, usize), CodeFault>); 8] = [
     ),
 ];
 
+/// Texts that no signed number has, and what is read of them.
+static NO_SIGNED: [(&[u8], CodeFault); 2] = [
+    (&[128], CodeFault::Short),
+    (&[255; 10], CodeFault::TooBig),
+];
+
 fn wrong_crc() -> Option<usize> {
     for (i, (text, want)) in CRCS.iter().enumerate() {
         if crc32c(text) != *want {
@@ -107,16 +114,16 @@ fn wrong_crc() -> Option<usize> {
 
 #[test]
 fn crc_of_known_texts(rt: HostRuntime) {
-    assert_eq!(rt; wrong_crc(), None);
+    none_is_wrong(&rt, wrong_crc());
 }
 
 /// Whether the number has this form, also with another byte behind it.
-fn is_form_of(alloc: Global, n: u64, bytes: &[u8]) -> Result<bool, AllocError> {
-    let mut out = Vec::new(alloc);
-    put_uvarint(&mut out, n)?;
+fn is_form_of(out: &mut Vec<u8>, n: u64, bytes: &[u8]) -> Result<bool, AllocError> {
+    out.clear();
+    put_uvarint(out, n)?;
     let is_written = out.as_slice() == bytes;
     out.push(7)?;
-    Ok(is_written && get_uvarint(&out) == Ok((n, bytes.len())))
+    Ok(is_written && get_uvarint(out) == Ok((n, bytes.len())))
 }
 
 /// Whether each front of the form is too short.
@@ -129,33 +136,9 @@ fn is_short_where_cut(bytes: &[u8]) -> bool {
     true
 }
 
-fn wrong_number(alloc: Global) -> Result<Option<u64>, AllocError> {
-    for (n, bytes) in NUMBERS {
-        if !is_form_of(alloc, n, bytes)? || !is_short_where_cut(bytes) {
-            return Ok(Some(n));
-        }
-    }
-    Ok(None)
-}
-
-#[test]
-fn numbers_there_and_back(rt: HostRuntime) -> Result<(), Fail> {
-    assert_eq!(rt; wrong_number(rt.alloc())?, None);
-    Ok(())
-}
-
-/// Whether the signed number has this form, also with another byte behind it.
-fn is_signed_form_of(alloc: Global, z: i64, bytes: &[u8]) -> Result<bool, AllocError> {
-    let mut out = Vec::new(alloc);
-    put_varint(&mut out, z)?;
-    let is_written = out.as_slice() == bytes;
-    out.push(7)?;
-    Ok(is_written && get_varint(&out) == Ok((z, bytes.len())))
-}
-
-fn wrong_signed(alloc: Global) -> Result<Option<usize>, AllocError> {
-    for (i, (z, bytes)) in SIGNED.iter().enumerate() {
-        if !is_signed_form_of(alloc, *z, bytes)? {
+fn wrong_number(out: &mut Vec<u8>) -> Result<Option<usize>, AllocError> {
+    for (i, (n, bytes)) in NUMBERS.iter().enumerate() {
+        if !is_form_of(out, *n, bytes)? || !is_short_where_cut(bytes) {
             return Ok(Some(i));
         }
     }
@@ -163,10 +146,42 @@ fn wrong_signed(alloc: Global) -> Result<Option<usize>, AllocError> {
 }
 
 #[test]
+fn numbers_there_and_back(rt: HostRuntime) -> Result<(), Fail> {
+    none_is_wrong(&rt, wrong_number(&mut Vec::new(rt.alloc()))?);
+    Ok(())
+}
+
+/// Whether the signed number has this form, also with another byte behind it.
+fn is_signed_form_of(out: &mut Vec<u8>, z: i64, bytes: &[u8]) -> Result<bool, AllocError> {
+    out.clear();
+    put_varint(out, z)?;
+    let is_written = out.as_slice() == bytes;
+    out.push(7)?;
+    Ok(is_written && get_varint(out) == Ok((z, bytes.len())))
+}
+
+fn wrong_signed(out: &mut Vec<u8>) -> Result<Option<usize>, AllocError> {
+    for (i, (z, bytes)) in SIGNED.iter().enumerate() {
+        if !is_signed_form_of(out, *z, bytes)? {
+            return Ok(Some(i));
+        }
+    }
+    Ok(None)
+}
+
+fn read_signed() -> Option<usize> {
+    for (i, (text, fault)) in NO_SIGNED.iter().enumerate() {
+        if get_varint(text) != Err(*fault) {
+            return Some(i);
+        }
+    }
+    None
+}
+
+#[test]
 fn signed_there_and_back(rt: HostRuntime) -> Result<(), Fail> {
-    assert_eq!(rt; wrong_signed(rt.alloc())?, None);
-    assert!(rt; get_varint(&[128]) == Err(CodeFault::Short));
-    assert!(rt; get_varint(&[255; 10]) == Err(CodeFault::TooBig));
+    none_is_wrong(&rt, wrong_signed(&mut Vec::new(rt.alloc()))?);
+    none_is_wrong(&rt, read_signed());
     Ok(())
 }
 
@@ -181,7 +196,7 @@ fn wrong_form() -> Option<usize> {
 
 #[test]
 fn other_forms(rt: HostRuntime) {
-    assert_eq!(rt; wrong_form(), None);
+    none_is_wrong(&rt, wrong_form());
 }
 
 /// Whether the number is written whole, or nothing where memory is refused.
@@ -202,11 +217,10 @@ fn is_signed_whole_or_nothing(out: &mut Vec<u8>) -> bool {
     }
 }
 
-fn half_written(alloc: Global) -> Option<u64> {
-    let mut out = Vec::new(alloc);
-    for (n, bytes) in NUMBERS {
-        if !is_whole_or_nothing(&mut out, n, bytes) || !is_signed_whole_or_nothing(&mut out) {
-            return Some(n);
+fn half_written(out: &mut Vec<u8>) -> Option<usize> {
+    for (i, (n, bytes)) in NUMBERS.iter().enumerate() {
+        if !is_whole_or_nothing(out, *n, bytes) || !is_signed_whole_or_nothing(out) {
+            return Some(i);
         }
     }
     None
@@ -215,5 +229,5 @@ fn half_written(alloc: Global) -> Option<u64> {
 /// Where memory runs out, what was written stays as it was. It shows when each allocation fails in turn.
 #[test]
 fn refused_memory_writes_nothing(rt: HostRuntime) {
-    assert_eq!(rt; half_written(rt.alloc()), None);
+    none_is_wrong(&rt, half_written(&mut Vec::new(rt.alloc())));
 }

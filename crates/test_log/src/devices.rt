@@ -93,8 +93,8 @@ fn with_room(room: usize) -> Std<Interrupting> {
     Std::new(Interrupting { room, turn: false })
 }
 
-/// What readers give, one after the other into one text, and how each read ends.
-fn read_in_turn(alloc: Global) -> (Vec<u8>, [Result<(), ReadFault>; 5]) {
+/// Whether readers give these texts, one after the other into one, and each read ends as it is to.
+fn read_in_turn(alloc: Global) -> bool {
     let mut out = Vec::new(alloc);
     let whole = read_to_end(alloc, &mut b"whole".as_slice(), &mut out);
     let slow = read_to_end(alloc, &mut byte_by_byte(b" byte by byte", false), &mut out);
@@ -102,16 +102,15 @@ fn read_in_turn(alloc: Global) -> (Vec<u8>, [Result<(), ReadFault>; 5]) {
     let broken = read_to_end(alloc, &mut reader, &mut out);
     let still_broken = read_to_end(alloc, &mut reader, &mut out);
     let interrupted = read_to_end(alloc, &mut with_room(3), &mut out);
-    (out, [whole, slow, broken, still_broken, interrupted])
+    let failed = Err(ReadFault::Failed);
+    out.as_slice() == b"whole byte by byte and brokenxxx".as_slice()
+        && [whole, slow, broken, still_broken, interrupted]
+            == [Ok(()), Ok(()), failed, failed, Ok(())]
 }
 
 #[test]
 fn reads_to_the_end(rt: HostRuntime) {
-    let (text, ends) = read_in_turn(rt.alloc());
-    let failed = Err(ReadFault::Failed);
-    let is_so = text.as_slice() == b"whole byte by byte and brokenxxx".as_slice()
-        && ends == [Ok(()), Ok(()), failed, failed, Ok(())];
-    assert!(rt; is_so);
+    assert!(rt; read_in_turn(rt.alloc()));
 }
 
 fn fills_its_room(alloc: Global) -> Result<bool, AllocError> {
@@ -125,12 +124,8 @@ fn fails_past_its_room(alloc: Global) -> Result<bool, AllocError> {
     let first = write_all(&mut room, b"one ");
     let second = write_all(&mut room, b"more");
     let third = room.write(b"x");
-    Ok(
-        first == Ok(())
-            && second == Err(Failed)
-            && third == Err(Failed)
-            && room.as_slice() == b"one ".as_slice(),
-    )
+    let is_so = first == Ok(()) && second == Err(Failed) && third == Err(Failed);
+    Ok(is_so && room.as_slice() == b"one ".as_slice())
 }
 
 fn fails_where_no_byte_is_taken() -> bool {
@@ -148,8 +143,8 @@ fn fails_where_no_byte_is_taken() -> bool {
 
 #[test]
 fn writes_within_room(rt: HostRuntime) -> Result<(), Fail> {
-    assert!(rt; fills_its_room(rt.alloc())?);
-    assert!(rt; fails_past_its_room(rt.alloc())?);
-    assert!(rt; fails_where_no_byte_is_taken());
+    let fills = fills_its_room(rt.alloc())?;
+    let fails = fails_past_its_room(rt.alloc())?;
+    assert!(rt; fills && fails && fails_where_no_byte_is_taken());
     Ok(())
 }

@@ -1,19 +1,21 @@
 //! Which labels are a label set, and the order of label sets.
 
+use crate::rows::none_is_wrong;
 use rw_types::{LabelFault, LabelSet, MAX_LABEL_BYTES, MAX_LABELS, RawLabels};
 use std::alloc::{AllocError, Global};
 use std::test::Fail;
 
-fn raw(alloc: Global, labels: &[(&str, &str)]) -> Result<RawLabels, AllocError> {
-    let mut raw = RawLabels::new(alloc);
+type Labels<'a> = &'a [(&'a str, &'a str)];
+
+fn push_all(raw: &mut RawLabels, labels: Labels<'_>) -> Result<(), AllocError> {
     for (name, value) in labels {
         raw.push(name.as_bytes(), value.as_bytes())?;
     }
-    Ok(raw)
+    Ok(())
 }
 
 /// Labels, and the first fault of them.
-const FAULTS: [(&[(&str, &str)], LabelFault); 12] = [
+static FAULTS: [(Labels<'static>, LabelFault); 12] = [
     (&[("", "1")], LabelFault::EmptyName),
     (&[("9a", "1")], LabelFault::BadName),
     (&[("a:b", "1")], LabelFault::BadName),
@@ -29,7 +31,7 @@ const FAULTS: [(&[(&str, &str)], LabelFault); 12] = [
     (&[("b", ""), ("a", "1")], LabelFault::EmptyValue),
 ];
 
-const SETS: [&[(&str, &str)]; 4] = [
+static SETS: [Labels<'static>; 4] = [
     &[],
     &[("Z_9", "säge\n")],
     &[("__name__", "job:up:rate5m")],
@@ -37,7 +39,7 @@ const SETS: [&[(&str, &str)]; 4] = [
 ];
 
 /// Label sets, each less than the next.
-const RISING: [&[(&str, &str)]; 6] = [
+static RISING: [Labels<'static>; 6] = [
     &[],
     &[("a", "1")],
     &[("a", "1"), ("b", "1")],
@@ -50,58 +52,76 @@ fn fault(alloc: Global, labels: &RawLabels) -> Option<LabelFault> {
     LabelSet::check(alloc, labels).err()
 }
 
-fn wrong_fault(alloc: Global) -> Result<Option<usize>, AllocError> {
+/// The fault of labels once these are added to them. Want of memory is one too.
+fn fault_with(alloc: Global, labels: &mut RawLabels, more: Labels<'_>) -> Option<LabelFault> {
+    match push_all(labels, more) {
+        Ok(()) => fault(alloc, labels),
+        Err(_) => Some(LabelFault::OutOfMemory),
+    }
+}
+
+fn wrong_fault(alloc: Global) -> Option<usize> {
     for (i, (labels, first)) in FAULTS.iter().enumerate() {
-        if fault(alloc, &raw(alloc, labels)?) != Some(*first) {
-            return Ok(Some(i));
+        if fault_with(alloc, &mut RawLabels::new(alloc), labels) != Some(*first) {
+            return Some(i);
         }
     }
-    Ok(None)
+    None
 }
 
-/// The fault of a name that is empty, and of a value that is no UTF-8.
-fn fault_of_bytes(alloc: Global) -> Result<Option<LabelFault>, AllocError> {
+/// Whether a name that is empty, and a value that is no UTF-8, have this fault.
+fn bytes_have(alloc: Global, first: LabelFault) -> bool {
     let mut bytes = RawLabels::new(alloc);
-    bytes.push(b"", b"1")?;
-    bytes.push(b"b", b"\xff")?;
-    Ok(fault(alloc, &bytes))
+    bytes.push(b"", b"1").is_ok()
+        && bytes.push(b"b", b"\xff").is_ok()
+        && fault(alloc, &bytes) == Some(first)
 }
 
 #[test]
-fn first_faults(rt: HostRuntime) -> Result<(), Fail> {
-    assert_eq!(rt; wrong_fault(rt.alloc())?, None);
-    assert!(rt; fault_of_bytes(rt.alloc())? == Some(LabelFault::NotUtf8));
-    assert!(rt; LabelFault::NotUtf8 as u8 == 1);
-    assert!(rt; LabelFault::TooLong as u8 == 7);
-    Ok(())
+fn first_faults(rt: HostRuntime) {
+    none_is_wrong(&rt, wrong_fault(rt.alloc()));
+    assert!(rt;
+        bytes_have(rt.alloc(), LabelFault::NotUtf8)
+            && LabelFault::NotUtf8 as u8 == 1
+            && LabelFault::TooLong as u8 == 7
+    );
 }
 
-fn is_same(texts: &[(String, String)], labels: &[(&str, &str)]) -> bool {
-    texts.len() == labels.len()
-        && texts
-            .iter()
-            .zip(labels)
-            .all(|(a, b)| a.0.as_str() == b.0 && a.1.as_str() == b.1)
-}
-
-fn set_of(alloc: Global, labels: &[(&str, &str)]) -> Result<LabelSet, Fail> {
-    let raw = raw(alloc, labels)?;
-    Ok(LabelSet::check(alloc, &raw)?)
-}
-
-fn wrong_set(alloc: Global) -> Result<Option<usize>, Fail> {
-    for (i, labels) in SETS.iter().enumerate() {
-        if !is_same(set_of(alloc, labels)?.as_slice(), labels) {
-            return Ok(Some(i));
+fn is_same(texts: &[(String, String)], labels: Labels<'_>) -> bool {
+    for (a, b) in texts.iter().zip(labels) {
+        if a.0.as_str() != b.0 || a.1.as_str() != b.1 {
+            return false;
         }
     }
-    Ok(None)
+    texts.len() == labels.len()
+}
+
+fn set_of(alloc: Global, labels: Labels<'_>) -> Result<LabelSet, LabelFault> {
+    let mut raw = RawLabels::new(alloc);
+    push_all(&mut raw, labels)?;
+    LabelSet::check(alloc, &raw)
+}
+
+/// Whether these labels are a label set, which has them.
+fn is_set(alloc: Global, labels: Labels<'_>) -> bool {
+    match set_of(alloc, labels) {
+        Ok(set) => is_same(set.as_slice(), labels),
+        Err(_) => false,
+    }
+}
+
+fn wrong_set(alloc: Global) -> Option<usize> {
+    for (i, labels) in SETS.iter().enumerate() {
+        if !is_set(alloc, labels) {
+            return Some(i);
+        }
+    }
+    None
 }
 
 #[test]
-fn label_sets(rt: HostRuntime) -> Result<(), Fail> {
-    assert_eq!(rt; wrong_set(rt.alloc())?, None);
-    Ok(())
+fn label_sets(rt: HostRuntime) {
+    none_is_wrong(&rt, wrong_set(rt.alloc()));
 }
 
 /// Adds as many labels as there can be.
@@ -113,59 +133,62 @@ fn push_most(alloc: Global, labels: &mut RawLabels) -> Result<(), AllocError> {
     Ok(())
 }
 
-/// The faults of as many labels as there can be, of one more, and of another one that is not in order.
-fn faults_of_many(alloc: Global) -> Result<[Option<LabelFault>; 3], AllocError> {
+const TOO_MANY: Option<LabelFault> = Some(LabelFault::TooMany);
+
+/// Whether as many labels as there can be have no fault, one more has one, and another one that is not in order.
+fn judges_many(alloc: Global) -> bool {
     let mut labels = RawLabels::new(alloc);
-    push_most(alloc, &mut labels)?;
-    let most = fault(alloc, &labels);
-    labels.push(b"m", b"1")?;
-    let one_more = fault(alloc, &labels);
-    labels.push(b"a", b"1")?;
-    Ok([most, one_more, fault(alloc, &labels)])
+    push_most(alloc, &mut labels).is_ok()
+        && fault(alloc, &labels) == None
+        && fault_with(alloc, &mut labels, &[("m", "1")]) == TOO_MANY
+        && fault_with(alloc, &mut labels, &[("a", "1")]) == Some(LabelFault::NotSorted)
 }
 
-/// The faults of a label of the most bytes, of one more byte, and of too many labels too.
-fn faults_of_long(alloc: Global) -> Result<[Option<LabelFault>; 3], AllocError> {
-    let value = vec![in alloc; b'x'; MAX_LABEL_BYTES]?;
+/// Whether a label of the most bytes has no fault, one more byte has one, and too many labels too.
+fn judges_long(alloc: Global, longest: &[u8]) -> bool {
     let mut labels = RawLabels::new(alloc);
-    labels.push(b"a", &value[1..])?;
-    let longest = fault(alloc, &labels);
-    labels.push(b"b", b"1")?;
-    let longer = fault(alloc, &labels);
-    push_most(alloc, &mut labels)?;
-    Ok([longest, longer, fault(alloc, &labels)])
+    labels.push(b"a", longest).is_ok()
+        && fault(alloc, &labels) == None
+        && fault_with(alloc, &mut labels, &[("b", "1")]) == Some(LabelFault::TooLong)
+        && push_most(alloc, &mut labels).is_ok()
+        && fault(alloc, &labels) == TOO_MANY
 }
 
 #[test]
 fn limits(rt: HostRuntime) -> Result<(), Fail> {
-    let too_many = Some(LabelFault::TooMany);
-    let of_many = [None, too_many, Some(LabelFault::NotSorted)];
-    assert!(rt; faults_of_many(rt.alloc())? == of_many);
-    let of_long = [None, Some(LabelFault::TooLong), too_many];
-    assert!(rt; faults_of_long(rt.alloc())? == of_long);
+    let value = vec![in rt.alloc(); b'x'; MAX_LABEL_BYTES]?;
+    assert!(rt; judges_many(rt.alloc()) && judges_long(rt.alloc(), &value[1..]));
     Ok(())
 }
 
-/// Whether the sets at these places are ordered and equal as their places are.
-fn is_ordered(alloc: Global, i: usize, j: usize) -> Result<bool, Fail> {
-    let a = set_of(alloc, RISING[i % RISING.len()])?;
-    let b = set_of(alloc, RISING[j % RISING.len()])?;
-    Ok(a.cmp(&b) == i.cmp(&j) && (a == b) == (i == j))
-}
-
-fn wrong_order(alloc: Global) -> Result<Option<(usize, usize)>, Fail> {
-    for i in 0..RISING.len() {
-        for j in 0..RISING.len() {
-            if !is_ordered(alloc, i, j)? {
-                return Ok(Some((i, j)));
-            }
+/// The first of the sets that is not ordered beside this one as their places are.
+fn wrong_beside(alloc: Global, a: &LabelSet, i: usize) -> Option<usize> {
+    for (j, labels) in RISING.iter().enumerate() {
+        let is_so = match set_of(alloc, labels) {
+            Ok(b) => a.cmp(&b) == i.cmp(&j) && (*a == b) == (i == j),
+            Err(_) => false,
+        };
+        if !is_so {
+            return Some(j);
         }
     }
-    Ok(None)
+    None
+}
+
+fn wrong_order(alloc: Global) -> Option<usize> {
+    for (i, labels) in RISING.iter().enumerate() {
+        let is_so = match set_of(alloc, labels) {
+            Ok(a) => wrong_beside(alloc, &a, i).is_none(),
+            Err(_) => false,
+        };
+        if !is_so {
+            return Some(i);
+        }
+    }
+    None
 }
 
 #[test]
-fn order(rt: HostRuntime) -> Result<(), Fail> {
-    assert_eq!(rt; wrong_order(rt.alloc())?, None);
-    Ok(())
+fn order(rt: HostRuntime) {
+    none_is_wrong(&rt, wrong_order(rt.alloc()));
 }

@@ -6,6 +6,8 @@ mod codes;
 #[cfg(test)]
 mod devices;
 #[cfg(test)]
+mod fragments;
+#[cfg(test)]
 mod histories;
 #[cfg(test)]
 mod labels;
@@ -17,6 +19,8 @@ mod message_encoding;
 mod message_memory;
 #[cfg(test)]
 mod message_rows;
+#[cfg(test)]
+mod rows;
 #[cfg(test)]
 mod tail;
 #[cfg(test)]

@@ -1,12 +1,14 @@
-use crate::message_rows::{ONE, WORD_OF_ONE, message};
+use crate::message_rows::{ONE, WORD_OF_ONE, is_spelled, message};
+use crate::rows::none_is_wrong;
 use rw_types::Word;
 use rw_write_request::{
-    bytes_field_len, encode, encoded_len, label_field_len, put_label_field, put_sample_field,
+    bytes_field_len, encoded_len, label_field_len, put_label_field, put_sample_field,
     put_series_front, sample_field_is_short,
 };
+use std::alloc::{AllocError, Global};
 use std::test::Fail;
 
-fn put_sample(out: &mut Vec<u8>, word: u64, timestamp: i64) -> Result<(), Fail> {
+fn put_sample(out: &mut Vec<u8>, word: u64, timestamp: i64) -> Result<(), AllocError> {
     sample_field_is_short();
     out.reserve(22)?;
     put_sample_field(out, Word(word), timestamp);
@@ -15,66 +17,86 @@ fn put_sample(out: &mut Vec<u8>, word: u64, timestamp: i64) -> Result<(), Fail> 
 
 #[test]
 fn a_message_is_spelled(rt: HostRuntime) -> Result<(), Fail> {
-    let alloc = rt.alloc();
-    let message = message(alloc)?;
-    let bytes = encode(alloc, &message)?;
-    assert_eq!(rt; bytes.as_slice(), ONE.as_slice());
-    assert_eq!(rt; encoded_len(&message), Some(32));
+    let message = message(rt.alloc())?;
+    assert!(rt; is_spelled(rt.alloc(), &message, &ONE) && encoded_len(&message) == Some(32));
     Ok(())
 }
 
 /// Neither a word of 0 nor a timestamp of 0 is written, and a negative timestamp takes ten bytes.
+static SAMPLES: [(u64, i64, &[u8]); 6] = [
+    (0, 0, &[0x12, 0x00]),
+    (0, 1, &[0x12, 0x02, 0x10, 0x01]),
+    (
+        0,
+        -1,
+        &[
+            0x12, 0x0b, 0x10, 0xff, 0xff, 0xff, 0xff, 0xff, 0xff, 0xff, 0xff, 0xff, 0x01,
+        ],
+    ),
+    (
+        WORD_OF_ONE,
+        0,
+        &[0x12, 0x09, 0x09, 0, 0, 0, 0, 0, 0, 0xf0, 0x3f],
+    ),
+    (
+        WORD_OF_ONE,
+        1000,
+        &[
+            0x12, 0x0c, 0x09, 0, 0, 0, 0, 0, 0, 0xf0, 0x3f, 0x10, 0xe8, 0x07,
+        ],
+    ),
+    (
+        0x4008_0000_0000_0000,
+        i64::MIN,
+        &[
+            0x12, 0x14, 0x09, 0, 0, 0, 0, 0, 0, 0x08, 0x40, 0x10, 0x80, 0x80, 0x80, 0x80, 0x80,
+            0x80, 0x80, 0x80, 0x80, 0x01,
+        ],
+    ),
+];
+
+/// Whether a sample has this field.
+fn is_field_of(
+    field: &mut Vec<u8>,
+    word: u64,
+    timestamp: i64,
+    expected: &[u8],
+) -> Result<bool, AllocError> {
+    field.clear();
+    put_sample(field, word, timestamp)?;
+    Ok(field.as_slice() == expected)
+}
+
+fn wrong_sample(field: &mut Vec<u8>) -> Result<Option<usize>, AllocError> {
+    for (i, (word, timestamp, expected)) in SAMPLES.iter().enumerate() {
+        if !is_field_of(field, *word, *timestamp, expected)? {
+            return Ok(Some(i));
+        }
+    }
+    Ok(None)
+}
+
 #[test]
 fn samples_are_spelled(rt: HostRuntime) -> Result<(), Fail> {
-    let rows: [(u64, i64, &[u8]); 6] = [
-        (0, 0, &[0x12, 0x00]),
-        (0, 1, &[0x12, 0x02, 0x10, 0x01]),
-        (
-            0,
-            -1,
-            &[
-                0x12, 0x0b, 0x10, 0xff, 0xff, 0xff, 0xff, 0xff, 0xff, 0xff, 0xff, 0xff, 0x01,
-            ],
-        ),
-        (
-            WORD_OF_ONE,
-            0,
-            &[0x12, 0x09, 0x09, 0, 0, 0, 0, 0, 0, 0xf0, 0x3f],
-        ),
-        (
-            WORD_OF_ONE,
-            1000,
-            &[
-                0x12, 0x0c, 0x09, 0, 0, 0, 0, 0, 0, 0xf0, 0x3f, 0x10, 0xe8, 0x07,
-            ],
-        ),
-        (
-            0x4008_0000_0000_0000,
-            i64::MIN,
-            &[
-                0x12, 0x14, 0x09, 0, 0, 0, 0, 0, 0, 0x08, 0x40, 0x10, 0x80, 0x80, 0x80, 0x80, 0x80,
-                0x80, 0x80, 0x80, 0x80, 0x01,
-            ],
-        ),
-    ];
-    for (word, timestamp, expected) in &rows {
-        let mut field = Vec::new(rt.alloc());
-        put_sample(&mut field, *word, *timestamp)?;
-        assert_eq!(rt; field.as_slice(), *expected);
-    }
+    none_is_wrong(&rt, wrong_sample(&mut Vec::new(rt.alloc()))?);
     Ok(())
+}
+
+/// Whether a series has its parts, which are as long as they are said to be.
+fn has_parts(alloc: Global) -> Result<bool, AllocError> {
+    if label_field_len("__name__", "up") != Some(16) || bytes_field_len(30) != Some(32) {
+        return Ok(false);
+    }
+    let mut bytes = Vec::with_capacity(alloc, 32)?;
+    put_series_front(&mut bytes, 30);
+    put_label_field(&mut bytes, "__name__", "up");
+    let is_put = put_sample(&mut bytes, WORD_OF_ONE, 1000).is_ok();
+    Ok(is_put && bytes.as_slice() == ONE.as_slice())
 }
 
 /// A series as one who knows its parts writes it.
 #[test]
-fn a_series_is_made_in_parts(rt: HostRuntime) -> Result<(), Fail> {
-    assert_eq!(rt; label_field_len("__name__", "up"), Some(16));
-    assert_eq!(rt; bytes_field_len(30), Some(32));
-    assert_eq!(rt; bytes_field_len(usize::MAX), None);
-    let mut bytes = Vec::with_capacity(rt.alloc(), 32)?;
-    put_series_front(&mut bytes, 30);
-    put_label_field(&mut bytes, "__name__", "up");
-    put_sample(&mut bytes, WORD_OF_ONE, 1000)?;
-    assert_eq!(rt; bytes.as_slice(), ONE.as_slice());
-    Ok(())
+fn a_series_is_made_in_parts(rt: HostRuntime) {
+    let is_none = bytes_field_len(usize::MAX).is_none();
+    assert!(rt; is_none && has_parts(rt.alloc()) == Ok(true));
 }

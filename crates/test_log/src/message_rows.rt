@@ -1,9 +1,8 @@
 //! A message that several tests read and write.
 
 use rw_types::Word;
-use rw_write_request::{Message, Series};
-use std::alloc::Global;
-use std::test::Fail;
+use rw_write_request::{Message, Series, encode};
+use std::alloc::{AllocError, Global};
 
 /// `up` with the value 1 at 1000 ms.
 pub const ONE: [u8; 32] = [
@@ -14,16 +13,28 @@ pub const ONE: [u8; 32] = [
 /// The word of 1.
 pub const WORD_OF_ONE: u64 = 0x3ff0_0000_0000_0000;
 
-pub fn label(alloc: Global, name: &str, value: &str) -> Result<(String, String), Fail> {
-    let name = String::from_str(alloc, name)?;
-    let value = String::from_str(alloc, value)?;
-    Ok((name, value))
-}
-
 /// The message that `ONE` spells.
-pub fn message(alloc: Global) -> Result<Message, Fail> {
-    let labels = vec![in alloc; label(alloc, "__name__", "up")?]?;
+pub fn message(alloc: Global) -> Result<Message, AllocError> {
+    let name = String::from_str(alloc, "__name__")?;
+    let value = String::from_str(alloc, "up")?;
+    let labels = vec![in alloc; (name, value)]?;
     let samples = vec![in alloc; (Word(WORD_OF_ONE), 1000i64)]?;
     let series = vec![in alloc; Series { labels, samples }]?;
     Ok(Message { series })
+}
+
+/// The message's canonical spelling. Where memory is refused it is spelled again.
+fn encoded(alloc: Global, message: &Message) -> Result<Vec<u8>, AllocError> {
+    match encode(alloc, message) {
+        Err(_) => encode(alloc, message),
+        answer => answer,
+    }
+}
+
+/// Whether these bytes are the message's canonical spelling.
+pub fn is_spelled(alloc: Global, message: &Message, bytes: &[u8]) -> bool {
+    match encoded(alloc, message) {
+        Ok(found) => found.as_slice() == bytes,
+        Err(_) => false,
+    }
 }

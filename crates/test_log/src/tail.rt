@@ -1,9 +1,10 @@
 //! The reader that follows a log: rows of the format, whole, in pieces, changed, and with memory refused.
 
-use rw_codes::crc32c;
-use rw_types::{Entry, RawLabels, Room, Word};
+use crate::fragments::{is_logged, put_fragment, up_record};
+use crate::rows::none_is_wrong;
+use rw_types::{Entry, Room, Word};
 use rw_wal_tail::{FaultPlace, Tail, TailFault};
-use rw_wal_write::{SegmentWriter, sample_record, series_record};
+use rw_wal_write::{SegmentWriter, sample_record};
 use std::alloc::{AllocError, Global};
 use std::test::Fail;
 
@@ -84,36 +85,20 @@ impl Seen {
             }
         }
     }
+
+    /// Feeds a piece, and reads on.
+    fn feed(&mut self, tail: &mut Tail, piece: &[u8]) {
+        if is_fed(tail, piece) {
+            self.read(tail);
+        } else {
+            self.end = Some(TailFault::OutOfMemory);
+        }
+    }
 }
 
 /// Feeds a piece, a second time where memory was refused: so where an allocation fails, each in turn, the same is read.
-fn feed(tail: &mut Tail, piece: &[u8]) -> Result<(), AllocError> {
-    match tail.feed(piece) {
-        Ok(()) => Ok(()),
-        Err(AllocError) => tail.feed(piece),
-    }
-}
-
-/// What a reader gives of pieces, of which None is the next segment.
-fn read_pieces(alloc: Global, pieces: &[Option<&[u8]>]) -> Result<Seen, AllocError> {
-    let mut tail = Tail::new(alloc);
-    let mut seen = NOTHING;
-    for piece in pieces {
-        match piece {
-            Some(bytes) => feed(&mut tail, bytes)?,
-            None => tail.next_segment(),
-        }
-    }
-    seen.read(&mut tail);
-    Ok(seen)
-}
-
-/// Adds a fragment.
-fn put_fragment(out: &mut Vec<u8>, kind: u8, data: &[u8]) -> Result<(), AllocError> {
-    let [high, low] = ((data.len() % 65_536) as u16).to_be_bytes();
-    out.extend_from_slice(&[kind, high, low])?;
-    out.extend_from_slice(&crc32c(data).to_be_bytes())?;
-    out.extend_from_slice(data)
+fn is_fed(tail: &mut Tail, piece: &[u8]) -> bool {
+    tail.feed(piece).is_ok() || tail.feed(piece).is_ok()
 }
 
 /// So many bytes 3, a record of another type.
@@ -122,20 +107,14 @@ fn put_filler(out: &mut Vec<u8>, len: usize) -> Result<(), AllocError> {
     put_fragment(out, 1, &data)
 }
 
-/// What a reader has given in all once it is fed another piece.
-fn read_on(tail: &mut Tail, seen: Seen, piece: &[u8]) -> Result<Seen, AllocError> {
-    feed(tail, piece)?;
-    let mut all = seen;
-    all.read(tail);
-    Ok(all)
-}
-
-/// What a reader gives of a front, and then of the rest too.
-fn read_twice(alloc: Global, front: &[u8], back: &[u8]) -> Result<(Seen, Seen), AllocError> {
+/// Whether a reader gives this of a front, and all of both then.
+fn reads_in_two(alloc: Global, front: &[u8], back: &[u8], first: Seen) -> bool {
     let mut tail = Tail::new(alloc);
-    let first = read_on(&mut tail, NOTHING, front)?;
-    let both = read_on(&mut tail, first, back)?;
-    Ok((first, both))
+    let mut seen = NOTHING;
+    seen.feed(&mut tail, front);
+    let is_so = seen == first;
+    seen.feed(&mut tail, back);
+    is_so && seen == BOTH
 }
 
 /// What is read of a front of so many bytes.
@@ -147,59 +126,66 @@ fn of_front(cut: usize) -> Seen {
     }
 }
 
-fn wrong_cut(alloc: Global) -> Result<Option<usize>, AllocError> {
+fn wrong_cut(alloc: Global) -> Option<usize> {
     for cut in 0..=63usize {
         let (front, back) = UP.split_at(cut);
-        if read_twice(alloc, front, back)? != (of_front(cut), BOTH) {
-            return Ok(Some(cut));
+        if !reads_in_two(alloc, front, back, of_front(cut)) {
+            return Some(cut);
         }
     }
-    Ok(None)
+    None
 }
 
 #[test]
-fn cut_anywhere(rt: HostRuntime) -> Result<(), Fail> {
-    assert_eq!(rt; wrong_cut(rt.alloc())?, None);
-    Ok(())
+fn cut_anywhere(rt: HostRuntime) {
+    none_is_wrong(&rt, wrong_cut(rt.alloc()));
 }
 
-/// What a reader gives of the bytes one by one, and how much it has read and skipped.
-fn read_bytes(alloc: Global) -> Result<(Seen, u64, u64), AllocError> {
-    let mut tail = Tail::new(alloc);
+/// Feeds pieces of so many bytes, and reads behind each of them.
+fn feed_by(tail: &mut Tail, text: &[u8], size: usize) -> Seen {
     let mut seen = NOTHING;
-    for byte in UP {
-        seen = read_on(&mut tail, seen, &[byte])?;
+    for piece in text.chunks(size.max(1)) {
+        seen.feed(tail, piece);
     }
-    Ok((seen, tail.entries_read(), tail.skipped()))
+    seen
+}
+
+/// Whether a text in pieces of so many bytes gives this, and so many entries are read and skipped.
+fn reads_all(alloc: Global, text: &[u8], size: usize, all: Seen, read: u64, skipped: u64) -> bool {
+    let mut tail = Tail::new(alloc);
+    let seen = feed_by(&mut tail, text, size);
+    seen == all && tail.entries_read() == read && tail.skipped() == skipped
 }
 
 #[test]
-fn byte_by_byte(rt: HostRuntime) -> Result<(), Fail> {
-    assert!(rt; read_bytes(rt.alloc())? == (BOTH, 2, 0));
-    Ok(())
+fn byte_by_byte(rt: HostRuntime) {
+    assert!(rt; reads_all(rt.alloc(), &UP, 1, BOTH, 2, 0));
 }
 
 /// What a copy of a reader has given in all once the copy is fed another piece.
-fn read_by_copy(tail: &Tail, seen: Seen, piece: &[u8]) -> Result<Seen, Fail> {
-    let mut copy = tail.copy()?;
-    Ok(read_on(&mut copy, seen, piece)?)
+fn read_by_copy(tail: &Tail, seen: Seen, piece: &[u8]) -> Option<Seen> {
+    let mut copy = tail.copy().ok()?;
+    let mut all = seen;
+    all.feed(&mut copy, piece);
+    Some(all)
 }
 
-/// What a copy gives of the rest, then the reader without it, and then with it.
-fn read_beside_copy(alloc: Global) -> Result<[Seen; 3], Fail> {
+/// Whether a copy gives the rest, the reader does not without it, and does with it.
+fn reads_beside_copy(alloc: Global) -> bool {
     let mut tail = Tail::new(alloc);
     let (front, back) = UP.split_at(40);
-    let mut seen = read_on(&mut tail, NOTHING, front)?;
-    let of_copy = read_by_copy(&tail, seen, back)?;
+    let mut seen = NOTHING;
+    seen.feed(&mut tail, front);
+    let is_so = read_by_copy(&tail, seen, back) == Some(BOTH);
     seen.read(&mut tail);
-    let both = read_on(&mut tail, seen, back)?;
-    Ok([of_copy, seen, both])
+    let is_unmoved = seen == DEFINITION;
+    seen.feed(&mut tail, back);
+    is_so && is_unmoved && seen == BOTH
 }
 
 #[test]
-fn copy_reads_on_by_itself(rt: HostRuntime) -> Result<(), Fail> {
-    assert!(rt; read_beside_copy(rt.alloc())? == [BOTH, DEFINITION, BOTH]);
-    Ok(())
+fn copy_reads_on_by_itself(rt: HostRuntime) {
+    assert!(rt; reads_beside_copy(rt.alloc()));
 }
 
 /// What is there once a byte has another value.
@@ -220,34 +206,41 @@ fn changed(at: usize, value: u8) -> Seen {
 }
 
 /// Whether the text with this byte changed is read as it should be.
-fn is_as_changed(alloc: Global, at: usize, value: u8) -> Result<bool, AllocError> {
-    let mut text = UP;
-    if at >= text.len() || text[at] == value {
-        return Ok(true);
-    }
-    text[at] = value;
-    Ok(read_pieces(alloc, &[Some(&text)])? == changed(at, value))
+fn is_as_changed(alloc: Global, text: &[u8], at: usize, value: u8) -> bool {
+    let mut tail = Tail::new(alloc);
+    let mut seen = NOTHING;
+    seen.feed(&mut tail, text);
+    seen == changed(at, value)
 }
 
-fn wrong_change(alloc: Global) -> Result<Option<(usize, u8)>, AllocError> {
-    for at in 0..UP.len() {
-        for value in 0..=255u8 {
-            if !is_as_changed(alloc, at, value)? {
-                return Ok(Some((at, value)));
-            }
+/// The first value of the byte at this place that is read otherwise.
+fn wrong_value(alloc: Global, at: usize) -> Option<u8> {
+    let mut text = UP;
+    for value in 0..=255u8 {
+        text[at % 63] = value;
+        if value != UP[at % 63] && !is_as_changed(alloc, &text, at, value) {
+            return Some(value);
         }
     }
-    Ok(None)
+    None
+}
+
+fn wrong_change(alloc: Global) -> Option<usize> {
+    for at in 0..UP.len() {
+        if wrong_value(alloc, at).is_some() {
+            return Some(at);
+        }
+    }
+    None
 }
 
 #[test]
-fn each_byte_changed(rt: HostRuntime) -> Result<(), Fail> {
-    assert_eq!(rt; wrong_change(rt.alloc())?, None);
-    Ok(())
+fn each_byte_changed(rt: HostRuntime) {
+    none_is_wrong(&rt, wrong_change(rt.alloc()));
 }
 
 /// Texts, and the fault that their last byte shows.
-const FAULTS: [(&[u8], TailFault); 8] = [
+static FAULTS: [(&[u8], TailFault); 8] = [
     (&[5], TailFault::BadType),
     (&[1, 128, 0, 0, 0, 0, 0], TailFault::BadLength),
     (&[1, 0, 1, 0, 0, 0, 0, 2], TailFault::BadCrc),
@@ -267,39 +260,67 @@ const FAULTS: [(&[u8], TailFault); 8] = [
     ),
 ];
 
-/// Whether the fault comes with the last byte and not before, and stays.
-fn is_fault_at_once(alloc: Global, text: &[u8], fault: TailFault) -> Result<bool, AllocError> {
-    let mut tail = Tail::new(alloc);
-    let mut seen = NOTHING;
+/// Feeds a text byte by byte. Whether anything is read before the last of them.
+fn feed_bytes(seen: &mut Seen, tail: &mut Tail, text: &[u8]) -> bool {
     let mut is_early = false;
     for byte in text {
-        is_early |= seen != NOTHING;
-        seen = read_on(&mut tail, seen, &[*byte])?;
+        is_early |= *seen != NOTHING;
+        seen.feed(tail, &[*byte]);
     }
-    let at_end = seen;
-    feed(&mut tail, &UP)?;
+    is_early
+}
+
+/// Whether the fault comes with the last byte and not before, and stays.
+fn is_fault_at_once(alloc: Global, text: &[u8], fault: TailFault) -> bool {
+    let mut tail = Tail::new(alloc);
+    let mut seen = NOTHING;
+    let is_early = feed_bytes(&mut seen, &mut tail, text);
+    let is_at_end = seen == NOTHING.but(fault);
+    seen.feed(&mut tail, &UP);
     tail.next_segment();
     seen.read(&mut tail);
-    Ok(!is_early && at_end == NOTHING.but(fault) && seen == NOTHING.but(fault))
+    !is_early && is_at_end && seen == NOTHING.but(fault)
 }
 
-fn wrong_fault(alloc: Global) -> Result<Option<usize>, AllocError> {
+fn wrong_fault(alloc: Global) -> Option<usize> {
     for (i, (text, fault)) in FAULTS.iter().enumerate() {
-        if !is_fault_at_once(alloc, text, *fault)? {
-            return Ok(Some(i));
+        if !is_fault_at_once(alloc, text, *fault) {
+            return Some(i);
         }
     }
-    Ok(None)
+    None
 }
 
 #[test]
-fn faults_stay_and_come_at_once(rt: HostRuntime) -> Result<(), Fail> {
-    assert_eq!(rt; wrong_fault(rt.alloc())?, None);
-    Ok(())
+fn faults_stay_and_come_at_once(rt: HostRuntime) {
+    none_is_wrong(&rt, wrong_fault(rt.alloc()));
 }
 
-#[test]
-fn ends_of_segments(rt: HostRuntime) -> Result<(), Fail> {
+/// Feeds pieces, of which None is the next segment. No, where memory is refused.
+fn feed_all(tail: &mut Tail, pieces: &[Option<&[u8]>]) -> bool {
+    for piece in pieces {
+        match piece {
+            Some(bytes) => {
+                if !is_fed(tail, bytes) {
+                    return false;
+                }
+            }
+            None => tail.next_segment(),
+        }
+    }
+    true
+}
+
+/// Whether a reader gives this of pieces.
+fn reads(alloc: Global, pieces: &[Option<&[u8]>], all: Seen) -> bool {
+    let mut tail = Tail::new(alloc);
+    let is_fed = feed_all(&mut tail, pieces);
+    let mut seen = NOTHING;
+    seen.read(&mut tail);
+    is_fed && seen == all
+}
+
+fn wrong_end(alloc: Global) -> Option<usize> {
     let up: &[u8] = &UP;
     let (cut, rest) = up.split_at(34);
     let twice = Seen {
@@ -307,152 +328,139 @@ fn ends_of_segments(rt: HostRuntime) -> Result<(), Fail> {
         samples: 2,
         ..BOTH
     };
+    let torn = DEFINITION.but(TailFault::TornSegment);
     let rows: [(&[Option<&[u8]>], Seen); 4] = [
-        (&[Some(cut), None], DEFINITION.but(TailFault::TornSegment)),
-        (
-            &[Some(cut), None, Some(rest)],
-            DEFINITION.but(TailFault::TornSegment),
-        ),
+        (&[Some(cut), None], torn),
+        (&[Some(cut), None, Some(rest)], torn),
         (&[Some(up), None, None, Some(cut), Some(rest), None], twice),
         (&[None, Some(up), Some(&[0, 0]), None, Some(up)], twice),
     ];
-    for (pieces, seen) in rows {
-        assert!(rt; read_pieces(rt.alloc(), pieces)? == seen);
+    for (i, (pieces, seen)) in rows.iter().enumerate() {
+        if !reads(alloc, pieces, *seen) {
+            return Some(i);
+        }
     }
-    Ok(())
+    None
 }
 
-/// What a reader gives of a filler of so many bytes, this end of its page and the two records, and how much it skips.
-fn read_past_page(alloc: Global, filler: usize, end: &[u8]) -> Result<(Seen, u64), AllocError> {
-    let mut text = Vec::new(alloc);
-    put_filler(&mut text, filler)?;
+#[test]
+fn ends_of_segments(rt: HostRuntime) {
+    none_is_wrong(&rt, wrong_end(rt.alloc()));
+}
+
+/// A filler of so many bytes, and the end of its page. With seven bytes left a fragment without data stands there, with six zeros.
+static PAGES: [(usize, &[u8]); 2] = [
+    (
+        32_754,
+        &[2, 0, 0, 0, 0, 0, 0, 4, 0, 1, 0xb3, 0x46, 0x23, 0xa6, 2],
+    ),
+    (
+        32_755,
+        &[0, 0, 0, 0, 0, 0, 1, 0, 1, 0xb3, 0x46, 0x23, 0xa6, 2],
+    ),
+];
+
+/// A filler of so many bytes, this end of its page, and the two records.
+fn put_page(text: &mut Vec<u8>, filler: usize, end: &[u8]) -> Result<(), AllocError> {
+    put_filler(text, filler)?;
     text.extend_from_slice(end)?;
-    text.extend_from_slice(&UP)?;
-    let mut tail = Tail::new(alloc);
-    let seen = read_on(&mut tail, NOTHING, &text)?;
-    Ok((seen, tail.skipped()))
+    text.extend_from_slice(&UP)
+}
+
+fn wrong_page(alloc: Global, text: &mut Vec<u8>) -> Result<Option<usize>, AllocError> {
+    for (i, (filler, end)) in PAGES.iter().enumerate() {
+        text.clear();
+        put_page(text, *filler, end)?;
+        if !reads_all(alloc, text, text.len(), BOTH, 2, 1) {
+            return Ok(Some(i));
+        }
+    }
+    Ok(None)
 }
 
 #[test]
 fn ends_of_pages(rt: HostRuntime) -> Result<(), Fail> {
-    // With seven bytes left a fragment without data stands there, with six zeros.
-    let rows: [(usize, &[u8]); 2] = [
-        (
-            32_754,
-            &[2, 0, 0, 0, 0, 0, 0, 4, 0, 1, 0xb3, 0x46, 0x23, 0xa6, 2],
-        ),
-        (
-            32_755,
-            &[0, 0, 0, 0, 0, 0, 1, 0, 1, 0xb3, 0x46, 0x23, 0xa6, 2],
-        ),
-    ];
-    for (filler, end) in rows {
-        assert!(rt; read_past_page(rt.alloc(), filler, end)? == (BOTH, 1));
-    }
+    none_is_wrong(&rt, wrong_page(rt.alloc(), &mut Vec::new(rt.alloc()))?);
     Ok(())
 }
 
 /// A record of 7,000 samples.
-fn long_record(alloc: Global) -> Result<Vec<u8>, AllocError> {
-    let mut record = Vec::new(alloc);
+fn put_long_record(record: &mut Vec<u8>) -> Result<(), AllocError> {
     record.extend_from_slice(&UP[36..53])?;
     for _ in 0..7_000u32 {
         record.extend_from_slice(&[0, 2, 0, 0, 0, 0, 0, 0, 0, 9])?;
     }
-    Ok(record)
+    Ok(())
 }
 
-/// The record in fragments of three pages, and zeros.
-fn three_pages(alloc: Global) -> Result<Vec<u8>, AllocError> {
-    let record = long_record(alloc)?;
-    let mut text = Vec::new(alloc);
+/// A record in fragments of three pages, and zeros.
+fn put_pages(text: &mut Vec<u8>, record: &[u8]) -> Result<(), AllocError> {
     for (kind, data) in [2u8, 3, 4].iter().zip(record.chunks(32_761)) {
-        put_fragment(&mut text, *kind, data)?;
+        put_fragment(text, *kind, data)?;
     }
-    text.extend_from_slice(&[0; 1_000])?;
-    Ok(text)
-}
-
-fn read_by_thousands(alloc: Global, text: &[u8]) -> Result<Seen, AllocError> {
-    let mut tail = Tail::new(alloc);
-    let mut seen = NOTHING;
-    for piece in text.chunks(1_000) {
-        seen = read_on(&mut tail, seen, piece)?;
-    }
-    Ok(seen)
+    text.extend_from_slice(&[0; 1_000])
 }
 
 #[test]
 fn a_record_over_three_pages(rt: HostRuntime) -> Result<(), Fail> {
-    let text = three_pages(rt.alloc())?;
+    let mut record = Vec::new(rt.alloc());
+    let mut text = Vec::new(rt.alloc());
+    let is_put = put_long_record(&mut record).is_ok() && put_pages(&mut text, &record).is_ok();
     let whole = Seen {
         definitions: 0,
         samples: 7_000,
         last: (1, 1_001, 9),
         end: None,
     };
-    assert!(rt; read_by_thousands(rt.alloc(), &text)? == whole);
+    assert!(rt; is_put && reads_all(rt.alloc(), &text, 1_000, whole, 7_000, 0));
     Ok(())
 }
 
-/// Whether each record is logged.
-fn are_logged(writer: &mut SegmentWriter<Room>, records: &[&[u8]]) -> bool {
-    for record in records {
-        if record.is_empty() || writer.log(record).is_err() {
-            return false;
-        }
-    }
-    true
+/// Whether a definition, a record of another type, two samples and no sample are logged.
+fn are_logged(alloc: Global, writer: &mut SegmentWriter<Room>) -> bool {
+    let samples = [(1, 1000, Word(5)), (3, 990, Word(7))];
+    is_logged(writer, up_record(alloc))
+        && is_logged(writer, b"\x03 of another type".to_vec(alloc))
+        && is_logged(writer, sample_record(alloc, &samples))
+        && is_logged(writer, sample_record(alloc, &[]))
 }
 
-/// A segment of a definition, a record of another type, two samples and no sample.
-fn written(alloc: Global) -> Result<Option<Vec<u8>>, Fail> {
-    let mut labels = RawLabels::new(alloc);
-    labels.push(b"__name__", b"up")?;
-    let series = series_record(alloc, 1, &labels)?;
-    let samples = sample_record(alloc, &[(1, 1000, Word(5)), (3, 990, Word(7))])?;
-    let no_samples = sample_record(alloc, &[])?;
+/// The segment of these records.
+fn written(alloc: Global) -> Result<Vec<u8>, AllocError> {
     let mut writer = SegmentWriter::new(Room::new(alloc, 1000)?, 1);
-    let records: [&[u8]; 4] = [&series, b"\x03 of another type", &samples, &no_samples];
-    let are_logged = are_logged(&mut writer, &records);
-    Ok(are_logged.then_some(writer.into_inner().into_bytes()))
-}
-
-/// What a reader gives of a text, and how much it has read and skipped.
-fn read_text(alloc: Global, text: &[u8]) -> Result<(Seen, u64, u64), AllocError> {
-    let mut tail = Tail::new(alloc);
-    let seen = read_on(&mut tail, NOTHING, text)?;
-    Ok((seen, tail.entries_read(), tail.skipped()))
+    if are_logged(alloc, &mut writer) {
+        Ok(writer.into_inner().into_bytes())
+    } else {
+        Err(AllocError)
+    }
 }
 
 #[test]
 fn what_was_written_is_read(rt: HostRuntime) -> Result<(), Fail> {
-    let text = written(rt.alloc())?.ok_or("a record was refused")?;
+    let text = written(rt.alloc())?;
     let all = Seen {
         definitions: 1,
         samples: 2,
         last: (3, 990, 7),
         end: None,
     };
-    assert!(rt; read_text(rt.alloc(), &text)? == (all, 3, 1));
+    assert!(rt; reads_all(rt.alloc(), &text, text.len(), all, 3, 1));
     Ok(())
 }
 
 /// Where a reader of pieces, of which None is the next segment, finds a fault: the segment and the offset.
-fn fault_place(alloc: Global, pieces: &[Option<&[u8]>]) -> Result<Option<(u64, u64)>, AllocError> {
+fn fault_place(alloc: Global, pieces: &[Option<&[u8]>]) -> Option<(u64, u64)> {
     let mut tail = Tail::new(alloc);
     let mut seen = NOTHING;
     for piece in pieces {
         match piece {
-            Some(bytes) => seen = read_on(&mut tail, seen, bytes)?,
+            Some(bytes) => seen.feed(&mut tail, bytes),
             None => tail.next_segment(),
         }
     }
     seen.read(&mut tail);
-    match tail.fault_place() {
-        Some(FaultPlace { segment, offset }) => Ok(Some((segment, offset))),
-        None => Ok(None),
-    }
+    let FaultPlace { segment, offset } = tail.fault_place()?;
+    Some((segment, offset))
 }
 
 #[test]
@@ -482,7 +490,7 @@ fn places_of_faults(rt: HostRuntime) -> Result<(), Fail> {
         (&[Some(up), Some(opening), None, Some(up)], Some((0, 70))),
     ];
     for (pieces, place) in rows {
-        assert!(rt; fault_place(rt.alloc(), pieces)? == place);
+        assert!(rt; fault_place(rt.alloc(), pieces) == place);
     }
     Ok(())
 }
@@ -493,7 +501,7 @@ fn place_past_page(alloc: Global, kind: u8, next: &[u8]) -> Result<Option<(u64, 
     let mut text = Vec::new(alloc);
     put_fragment(&mut text, kind, &data)?;
     text.extend_from_slice(next)?;
-    fault_place(alloc, &[Some(&text)])
+    Ok(fault_place(alloc, &[Some(&text)]))
 }
 
 #[test]

@@ -1,10 +1,11 @@
 //! The words of whole numbers.
 
+use crate::rows::none_is_wrong;
 use rw_types::Word;
 
 const TWO_TO_53: i64 = 9_007_199_254_740_992;
 
-const WORDS: [(i64, u64); 7] = [
+static WORDS: [(i64, u64); 7] = [
     (0, 0),
     (1, 0x3ff0_0000_0000_0000),
     (3, 0x4008_0000_0000_0000),
@@ -14,10 +15,10 @@ const WORDS: [(i64, u64); 7] = [
     (-TWO_TO_53, 0xc340_0000_0000_0000),
 ];
 
-const WITHOUT_WORD: [i64; 4] = [TWO_TO_53 + 1, -TWO_TO_53 - 1, i64::MAX, i64::MIN];
+static WITHOUT_WORD: [i64; 4] = [TWO_TO_53 + 1, -TWO_TO_53 - 1, i64::MAX, i64::MIN];
 
 /// Minus zero, a half, 2^53 + 2, infinity, a number that is none.
-const NO_WHOLE_NUMBERS: [u64; 5] = [
+static NO_WHOLE_NUMBERS: [u64; 5] = [
     0x8000_0000_0000_0000,
     0x3fe0_0000_0000_0000,
     0x4340_0000_0000_0001,
@@ -25,10 +26,28 @@ const NO_WHOLE_NUMBERS: [u64; 5] = [
     0x7ff8_0000_0000_0001,
 ];
 
-fn wrong_word() -> Option<i64> {
-    for (m, bits) in WORDS {
-        if Word::of_int(m) != Some(Word(bits)) || Word(bits).as_int() != Some(m) {
-            return Some(m);
+fn wrong_word() -> Option<usize> {
+    for (i, (m, bits)) in WORDS.iter().enumerate() {
+        if Word::of_int(*m) != Some(Word(*bits)) || Word(*bits).as_int() != Some(*m) {
+            return Some(i);
+        }
+    }
+    None
+}
+
+fn number_with_word() -> Option<usize> {
+    for (i, m) in WITHOUT_WORD.iter().enumerate() {
+        if Word::of_int(*m).is_some() {
+            return Some(i);
+        }
+    }
+    None
+}
+
+fn word_with_number() -> Option<usize> {
+    for (i, bits) in NO_WHOLE_NUMBERS.iter().enumerate() {
+        if Word(*bits).as_int().is_some() {
+            return Some(i);
         }
     }
     None
@@ -36,11 +55,7 @@ fn wrong_word() -> Option<i64> {
 
 #[test]
 fn words_of_whole_numbers(rt: HostRuntime) {
-    assert_eq!(rt; wrong_word(), None);
-    assert!(rt; WITHOUT_WORD.iter().all(|m| Word::of_int(*m).is_none()));
-    assert!(rt;
-        NO_WHOLE_NUMBERS
-            .iter()
-            .all(|bits| Word(*bits).as_int().is_none())
-    );
+    none_is_wrong(&rt, wrong_word());
+    none_is_wrong(&rt, number_with_word());
+    none_is_wrong(&rt, word_with_number());
 }

@@ -3,32 +3,35 @@
 ghost use Rattle.std.specs.Prelude.{◌≡◌, ◌<◌, ◌+◌, IfOk};
 ghost use Rattle.std.specs.Arc.{arc_value};
 
-use crate::logs::{ONE, TWO, UP};
+use crate::logs::{FOUR, ONE, TWO, UP};
 use crate::seated::{Seated, Seats};
-use crate::work::{Step, Stop, Wanted, Work, config_of, feed, over_two_epochs, run};
+use crate::work::{Call, Ending, Stop, Task, Wanted, done};
+use Call::{Feed, Flush, NextSegment, Reshard};
 use rw_ledger::Reason;
 use rw_recv_head::{Head, Limits};
 use rw_shared_head::{Seat, SharedHead};
-use rw_shipper::Outcome;
 use rw_types::{Bounded, LabelFault, LabelSet, Word};
 use std::alloc::{AllocError, Global};
 use std::marker::Brand;
 use std::sync::ledger::{Blank, Ledger};
 use std::sync::{Arc, Wait};
-use std::test::Fail;
 use std::thread::Threads;
 
-fn seats_of<R: Drop, L: Ledger>(
-    alloc: Global,
-    transports: Vec<Seated<R, L>>,
-) -> Result<Vec<Seat<L>>, AllocError> {
-    let mut seats = Vec::new(alloc);
+/// What is shipped to so many seats of a head, what is wanted, and the samples that the head then has, all of one metric.
+struct Row<'a> {
+    seats: u64,
+    task: Task<'a>,
+    wanted: Wanted<'a>,
+    name: &'a str,
+    samples: &'a [(i64, u64)],
+}
+
+fn put_seats<R: Drop, L: Ledger>(seats: &mut Vec<Seat<L>>, transports: Vec<Seated<R, L>>) {
     for transport in transports {
         if let Some(seat) = transport.into_seat() {
-            seats.push(seat)?;
+            let _ = seats.push(seat);
         }
     }
-    Ok(seats)
 }
 
 /// A head without samples, and so many seats.
@@ -64,32 +67,30 @@ fn gathered<L: Ledger>(
     Some(shared.gather(seats))
 }
 
-/// Ships from two shards to the seats of one head, of which each worker takes one, and gathers them. Gives what was done, and the head.
+/// Ships to the seats of one head, of which each worker takes one, and gathers them. Gives whether all was done as wanted, and the head.
 fn shipped<R: Threads + Wait + Copy + Send + 'static, L: Ledger + Send + Sync + 'static>(
     rt: &R,
     alloc: Global,
     blank: Blank,
     count: usize,
-    steps: Vec<Step>,
-) -> Result<(Work, Head), Fail>
+    row: &Row<'_>,
+) -> Option<(bool, Head)>
     requires some { 0 < count }
     requires name { blank.name ≡ L.name }
     requires parts { (blank.parts ≡ count + 1) × (L.parts ≡ count + 1) }
 {
-    let (shared, seats) = shared_head::<L>(alloc, blank, count)?;
+    let (shared, seats) = shared_head::<L>(alloc, blank, count).ok()?;
     let connect = Seats {
         rt: *rt,
         alloc,
-        shared: shared.clone()?,
+        shared: shared.clone().ok()?,
         seats,
     };
-    let config = config_of(alloc, Bounded::of(2), Bounded::of(2_000))?;
-    let (work, transports) = run(rt, alloc, config, connect, steps, Stop::Orderly)?;
-    let seats = seats_of(alloc, transports)?;
-    match gathered(shared, seats, count) {
-        Some(head) => Ok((work, head)),
-        None => Err(Fail::from("not all seats are back")),
-    }
+    let (work, transports) = done(rt, alloc, &row.task, connect)?;
+    let is_so = work.is(&row.wanted);
+    let mut seats = Vec::new(alloc);
+    put_seats(&mut seats, transports);
+    Some((is_so, gathered(shared, seats, count)?))
 }
 
 /// The same for so many seats.
@@ -97,10 +98,10 @@ fn shipped_to_seats<R: Threads + Wait + Copy + Send + 'static>(
     rt: &R,
     alloc: Global,
     seats: Bounded<1, 1_000>,
-    steps: Vec<Step>,
-) -> Result<(Work, Head), Fail> {
+    row: &Row<'_>,
+) -> Option<(bool, Head)> {
     let count = seats.get();
-    shipped::<R, Brand>(rt, alloc, Blank::new(count + 1), count as usize, steps)
+    shipped::<R, Brand>(rt, alloc, Blank::new(count + 1), count as usize, row)
 }
 
 fn texts(alloc: Global, name: &str) -> Result<Vec<(String, String)>, AllocError> {
@@ -119,71 +120,122 @@ fn labels(alloc: Global, name: &str) -> Result<LabelSet, LabelFault> {
 }
 
 /// Whether these are the samples.
-fn are(held: &[(i64, Word)], wanted: &[(i64, Word)]) -> bool {
+fn are(held: &[(i64, Word)], wanted: &[(i64, u64)]) -> bool {
+    for (a, b) in held.iter().zip(wanted) {
+        if a.0 != b.0 || a.1 != Word(b.1) {
+            return false;
+        }
+    }
     held.len() == wanted.len()
-        && held
-            .iter()
-            .zip(wanted)
-            .all(|(a, b)| a.0 == b.0 && a.1 == b.1)
 }
 
 /// Whether the head has these samples for the metric of this name, and no others.
-fn holds(alloc: Global, head: &Head, name: &str, wanted: &[(i64, Word)]) -> Result<bool, Fail> {
-    let held = head.samples(&labels(alloc, name)?)?;
+fn holds(
+    alloc: Global,
+    head: &Head,
+    name: &str,
+    wanted: &[(i64, u64)],
+) -> Result<bool, LabelFault> {
+    let labels = labels(alloc, name)?;
+    let held = head.samples(&labels)?;
     Ok(head.total() == wanted.len() as u64 && are(&held, wanted))
 }
 
-#[test]
-fn the_head_has_all_samples(rt: HostRuntime) -> Result<(), Fail> {
-    let alloc = rt.alloc();
-    let mut steps = Vec::new(alloc);
-    steps.push(feed(alloc, &[UP], &[(1, 10, ONE), (1, 20, TWO)])?)?;
-    steps.push(Step::Flush)?;
-    let (work, head) = shipped_to_seats(&rt, alloc, Bounded::of(2), steps)?;
-    let wanted = Wanted {
+/// Whether a head has what a row wants.
+fn has_all<R: Threads + Wait + Copy + Send + 'static>(
+    rt: &R,
+    alloc: Global,
+    row: &Row<'_>,
+) -> Result<bool, LabelFault> {
+    let Some(seats) = Bounded::new(row.seats) else {
+        return Ok(false);
+    };
+    match shipped_to_seats(rt, alloc, seats, row) {
+        Some((true, head)) => holds(alloc, &head, row.name, row.samples),
+        _ => Ok(false),
+    }
+}
+
+static ALL: Row<'static> = Row {
+    seats: 2,
+    task: Task {
+        shards: 2,
+        batch: 2_000,
+        calls: &[Feed(&[UP], &[(1, 10, ONE), (1, 20, TWO)], None), Flush],
+        stop: Stop::Orderly,
+    },
+    wanted: Wanted {
         faults: &[None, None],
-        outcome: &Outcome::Complete(3),
+        ending: Ending::Complete(3),
         named: &[],
         resolved: &[2, 0],
         stopped: 0,
-    };
-    assert_eq!(rt; work.difference(wanted), None);
-    assert!(rt; holds(alloc, &head, "up", &[(10, ONE), (20, TWO)])?);
-    Ok(())
+    },
+    name: "up",
+    samples: &[(10, ONE), (20, TWO)],
+};
+
+#[test]
+fn the_head_has_all_samples(rt: HostRuntime) {
+    assert_eq!(rt; has_all(&rt, rt.alloc(), &ALL), Ok(true));
 }
 
-/// The third and the fourth reference are one series.
-#[test]
-fn the_head_has_the_samples_of_both_epochs(rt: HostRuntime) -> Result<(), Fail> {
-    let alloc = rt.alloc();
-    let steps = over_two_epochs(alloc, &[(3, 10, ONE)], &[(4, 20, TWO)])?;
-    let (work, head) = shipped_to_seats(&rt, alloc, Bounded::of(5), steps)?;
-    let wanted = Wanted {
+static OF_BOTH_EPOCHS: Row<'static> = Row {
+    seats: 5,
+    task: Task {
+        shards: 2,
+        batch: 2_000,
+        calls: &[
+            Feed(&FOUR, &[(3, 10, ONE)], None),
+            Reshard(3),
+            NextSegment,
+            Feed(&[], &[(4, 20, TWO)], None),
+        ],
+        stop: Stop::Orderly,
+    },
+    wanted: Wanted {
         faults: &[None, None, None, None],
-        outcome: &Outcome::Complete(6),
+        ending: Ending::Complete(6),
         named: &[],
         resolved: &[1, 0, 0, 0, 1],
         stopped: 0,
-    };
-    assert_eq!(rt; work.difference(wanted), None);
-    assert!(rt; holds(alloc, &head, "c", &[(10, ONE), (20, TWO)])?);
-    Ok(())
+    },
+    name: "c",
+    samples: &[(10, ONE), (20, TWO)],
+};
+
+/// The third and the fourth reference are one series.
+#[test]
+fn the_head_has_the_samples_of_both_epochs(rt: HostRuntime) {
+    assert_eq!(rt; has_all(&rt, rt.alloc(), &OF_BOTH_EPOCHS), Ok(true));
 }
 
-/// The third and the fourth reference are one series, of which the second epoch has a sample at the timestamp of the first one's.
-#[test]
-fn the_head_has_the_samples_that_rise(rt: HostRuntime) -> Result<(), Fail> {
-    let alloc = rt.alloc();
-    let steps = over_two_epochs(alloc, &[(3, 10, ONE)], &[(4, 10, TWO), (4, 20, TWO)])?;
-    let (work, head) = shipped_to_seats(&rt, alloc, Bounded::of(5), steps)?;
-    let wanted = Wanted {
+static THAT_RISE: Row<'static> = Row {
+    seats: 5,
+    task: Task {
+        shards: 2,
+        batch: 2_000,
+        calls: &[
+            Feed(&FOUR, &[(3, 10, ONE)], None),
+            Reshard(3),
+            NextSegment,
+            Feed(&[], &[(4, 10, TWO), (4, 20, TWO)], None),
+        ],
+        stop: Stop::Orderly,
+    },
+    wanted: Wanted {
         faults: &[None, None, None, None],
-        outcome: &Outcome::Complete(7),
+        ending: Ending::Complete(7),
         named: &[(0, 5, Reason::NotRising)],
         resolved: &[1, 0, 0, 0, 1],
         stopped: 0,
-    };
-    assert_eq!(rt; work.difference(wanted), None);
-    assert!(rt; holds(alloc, &head, "c", &[(10, ONE), (20, TWO)])?);
-    Ok(())
+    },
+    name: "c",
+    samples: &[(10, ONE), (20, TWO)],
+};
+
+/// The third and the fourth reference are one series, of which the second epoch has a sample at the timestamp of the first one's.
+#[test]
+fn the_head_has_the_samples_that_rise(rt: HostRuntime) {
+    assert_eq!(rt; has_all(&rt, rt.alloc(), &THAT_RISE), Ok(true));
 }

@@ -1,45 +1,32 @@
 //! The work of a shipper from its start to its stop.
 
-use crate::logs::{FOUR, Named, segment};
+use crate::logs::{Named, Samples, segment};
 use rw_ledger::{Ledger, Reason};
 use rw_sender::{Config, ConfigFields};
 use rw_shipper::{Connect, Ends, FeedFault, Finished, Load, Outcome, Report, Shipper};
-use rw_types::{Bounded, Word};
-use rw_wal_tail::Piece;
+use rw_types::Bounded;
+use rw_wal_tail::{Piece, TailFault};
 use rw_worker::Transport;
 use std::alloc::{AllocError, Global};
 use std::sync::Wait;
-use std::test::Fail;
 use std::thread::Threads;
 
 /// One call of a shipper.
+#[derive(Clone, Copy)]
+pub(crate) enum Call<'a> {
+    /// Bytes that define these series and have these samples, and a byte that begins no record, where there is one.
+    Feed(&'a [Named], Samples<'a>, Option<u8>),
+    NextSegment,
+    Flush,
+    Reshard(u64),
+}
+
+/// A call with what it takes.
 #[derive(Drop)]
-pub(crate) enum Step {
+enum Step {
     Feed(Piece),
     Flush,
     Reshard(Bounded<1, 1_000>),
-}
-
-pub(crate) fn feed(
-    alloc: Global,
-    series: &[Named],
-    samples: &[(u64, i64, Word)],
-) -> Result<Step, Fail> {
-    Ok(Step::Feed(Piece::Bytes(segment(alloc, series, samples)?)))
-}
-
-/// A log in two segments, and a change to three shards between them.
-pub(crate) fn over_two_epochs(
-    alloc: Global,
-    first: &[(u64, i64, Word)],
-    later: &[(u64, i64, Word)],
-) -> Result<Vec<Step>, Fail> {
-    let mut steps = Vec::new(alloc);
-    steps.push(feed(alloc, &FOUR, first)?)?;
-    steps.push(Step::Reshard(Bounded::of(3)))?;
-    steps.push(Step::Feed(Piece::NextSegment))?;
-    steps.push(feed(alloc, &[], later)?)?;
-    Ok(steps)
 }
 
 /// How a shipper is stopped.
@@ -47,6 +34,16 @@ pub(crate) fn over_two_epochs(
 pub(crate) enum Stop {
     Orderly,
     Hard,
+}
+
+/// What a shipper is set to, what is called, and how it is stopped.
+#[derive(Clone, Copy)]
+pub(crate) struct Task<'a> {
+    pub(crate) shards: u64,
+    /// How many samples a batch has.
+    pub(crate) batch: u64,
+    pub(crate) calls: &'a [Call<'a>],
+    pub(crate) stop: Stop,
 }
 
 /// What a shipper did.
@@ -69,35 +66,45 @@ pub(crate) struct Work {
     pub(crate) stopped: usize,
 }
 
+/// How the work is to end.
+#[derive(Clone, Copy)]
+pub(crate) enum Ending<'a> {
+    Complete(u64),
+    /// How many entries were placed, and the positions of the samples that are not resolved.
+    Abandoned(u64, &'a [u64]),
+    Damaged(TailFault),
+}
+
 /// What a shipper is to do.
 #[derive(Clone, Copy)]
 pub(crate) struct Wanted<'a> {
     pub(crate) faults: &'a [Option<FeedFault>],
-    pub(crate) outcome: &'a Outcome,
+    pub(crate) ending: Ending<'a>,
     pub(crate) named: &'a [(usize, u64, Reason)],
     pub(crate) resolved: &'a [u64],
     pub(crate) stopped: usize,
 }
 
+pub(crate) fn ends_so(outcome: &Outcome, ending: Ending<'_>) -> bool {
+    match (outcome, ending) {
+        (Outcome::Complete(placed), Ending::Complete(wanted)) => *placed == wanted,
+        (Outcome::Abandoned { placed, samples }, Ending::Abandoned(wanted, positions)) => {
+            *placed == wanted && samples.as_slice() == positions
+        }
+        (Outcome::Damaged(fault), Ending::Damaged(wanted)) => *fault == wanted,
+        _ => false,
+    }
+}
+
 impl Work {
-    /// The first difference from what is wanted. Each worker that was not stopped takes all.
-    pub(crate) fn difference(&self, wanted: Wanted<'_>) -> Option<&'static str> {
-        if self.faults.as_slice() != wanted.faults {
-            return Some("faults");
-        }
-        if &self.outcome != wanted.outcome {
-            return Some("outcome");
-        }
-        if self.named.as_slice() != wanted.named {
-            return Some("named");
-        }
-        if self.resolved.as_slice() != wanted.resolved {
-            return Some("resolved");
-        }
-        if self.stopped != wanted.stopped {
-            return Some("stopped");
-        }
-        self.odd_count()
+    /// Whether it is what is wanted. Each worker that was not stopped takes all.
+    pub(crate) fn is(&self, wanted: &Wanted<'_>) -> bool {
+        self.faults.as_slice() == wanted.faults
+            && ends_so(&self.outcome, wanted.ending)
+            && self.named.as_slice() == wanted.named
+            && self.resolved.as_slice() == wanted.resolved
+            && self.stopped == wanted.stopped
+            && self.counts_all()
     }
 
     /// Whether a call failed, and each later one answered as it did.
@@ -114,7 +121,12 @@ impl Work {
 
     /// Whether no call failed.
     pub(crate) fn has_no_fault(&self) -> bool {
-        self.faults.iter().all(|fault| fault.is_none())
+        for fault in &self.faults {
+            if fault.is_some() {
+                return false;
+            }
+        }
+        true
     }
 
     /// Whether each sample that was placed behind so many series is resolved or listed as abandoned.
@@ -131,34 +143,56 @@ impl Work {
         placed.saturating_sub(series) == known
     }
 
-    fn odd_count(&self) -> Option<&'static str> {
+    /// Whether nothing is filtered, each shard has a part beside the feeder's, and is whole or stopped.
+    fn counts_all(&self) -> bool {
         let shards = self.resolved.len();
-        if self.filtered != 0 {
-            return Some("filtered");
-        }
-        if self.parts.saturating_sub(1) != shards {
-            return Some("parts");
-        }
-        if self.whole.saturating_add(self.stopped) != shards {
-            return Some("whole");
-        }
-        None
+        self.filtered == 0
+            && self.parts.saturating_sub(1) == shards
+            && self.whole.saturating_add(self.stopped) == shards
     }
 }
 
 /// So many shards, and batches of so many samples.
-pub(crate) fn config_of(
-    alloc: Global,
-    shards: Bounded<1, 1_000>,
-    batch: Bounded<1, 10_000>,
-) -> Result<Config, Fail> {
-    let mut fields = ConfigFields::standard(alloc)?;
+pub(crate) fn config_of(alloc: Global, shards: u64, batch: u64) -> Option<Config> {
+    let shards = Bounded::new(shards)?;
+    let batch = Bounded::new(batch)?;
+    let mut fields = ConfigFields::standard(alloc).ok()?;
     fields.shards = shards;
     fields.batch = batch;
-    match Config::new(fields) {
-        Some(config) => Ok(config),
-        None => Err(Fail::from("no order")),
+    Config::new(fields)
+}
+
+fn fed(
+    alloc: Global,
+    series: &[Named],
+    samples: Samples<'_>,
+    behind: Option<u8>,
+) -> Result<Step, AllocError> {
+    let mut log = segment(alloc, series, samples)?;
+    if let Some(byte) = behind {
+        log.push(byte)?;
     }
+    Ok(Step::Feed(Piece::Bytes(log)))
+}
+
+fn step_of(alloc: Global, call: Call<'_>) -> Result<Step, AllocError> {
+    match call {
+        Call::Feed(series, samples, behind) => fed(alloc, series, samples, behind),
+        Call::NextSegment => Ok(Step::Feed(Piece::NextSegment)),
+        Call::Flush => Ok(Step::Flush),
+        Call::Reshard(shards) => match Bounded::new(shards) {
+            Some(shards) => Ok(Step::Reshard(shards)),
+            None => Err(AllocError),
+        },
+    }
+}
+
+/// Adds calls with what they take.
+fn put_steps(alloc: Global, steps: &mut Vec<Step>, calls: &[Call<'_>]) -> Result<(), AllocError> {
+    for call in calls {
+        steps.push(step_of(alloc, *call)?)?;
+    }
+    Ok(())
 }
 
 fn named_in(alloc: Global, parts: &[Ledger]) -> Result<Vec<(usize, u64, Reason)>, AllocError> {
@@ -237,6 +271,20 @@ fn fault_of<R: Threads + Wait + Copy + Send + 'static, C: Connect + Drop>(
     answer.err()
 }
 
+/// Takes these steps, and notes what each answered and the load after it.
+fn take_steps<R: Threads + Wait + Copy + Send + 'static, C: Connect + Drop>(
+    rt: &R,
+    shipper: &mut Shipper<C>,
+    steps: Vec<Step>,
+    faults: &mut Vec<Option<FeedFault>>,
+    loads: &mut Vec<Load>,
+) {
+    for step in steps {
+        let _ = faults.push(fault_of(rt, shipper, step));
+        let _ = loads.push(shipper.load());
+    }
+}
+
 fn report_of<R: Threads + Wait, C: Connect + Drop>(
     rt: &R,
     shipper: Shipper<C>,
@@ -249,8 +297,8 @@ fn report_of<R: Threads + Wait, C: Connect + Drop>(
     }
 }
 
-/// Takes these steps, and stops. Gives what was done, and the transports.
-pub(crate) fn run<R: Threads + Wait + Copy + Send + 'static, C: Connect + Drop>(
+/// Starts a shipper, takes these steps, and stops.
+fn ship<R: Threads + Wait + Copy + Send + 'static, C: Connect + Drop>(
     rt: &R,
     alloc: Global,
     config: Config,
@@ -258,12 +306,22 @@ pub(crate) fn run<R: Threads + Wait + Copy + Send + 'static, C: Connect + Drop>(
     steps: Vec<Step>,
     stop: Stop,
 ) -> Result<(Work, Vec<C::T>), AllocError> {
+    let mut faults = Vec::with_capacity(alloc, steps.len())?;
+    let mut loads = Vec::with_capacity(alloc, steps.len())?;
     let mut shipper = Shipper::start(rt, alloc, config, connect)?;
-    let mut faults = Vec::new(alloc);
-    let mut loads = Vec::new(alloc);
-    for step in steps {
-        faults.push(fault_of(rt, &mut shipper, step))?;
-        loads.push(shipper.load())?;
-    }
+    take_steps(rt, &mut shipper, steps, &mut faults, &mut loads);
     work_of(alloc, faults, loads, report_of(rt, shipper, stop))
+}
+
+/// Does a task. Gives what was done, and the transports; none where the start is refused, or memory is.
+pub(crate) fn done<R: Threads + Wait + Copy + Send + 'static, C: Connect + Drop>(
+    rt: &R,
+    alloc: Global,
+    task: &Task<'_>,
+    connect: C,
+) -> Option<(Work, Vec<C::T>)> {
+    let mut steps = Vec::new(alloc);
+    put_steps(alloc, &mut steps, task.calls).ok()?;
+    let config = config_of(alloc, task.shards, task.batch)?;
+    ship(rt, alloc, config, connect, steps, task.stop).ok()
 }

@@ -1,44 +1,17 @@
 //! One queue: both ends in one thread, and each in a thread of its own.
 
-ghost use Rattle.std.specs.Prelude.{◌≡◌, [], IfSome};
-ghost use Rattle.rw_shard_queue.specs.declared.item.Item.TheVariants as item;
+ghost use Rattle.std.specs.Prelude.{◌≡◌, IfSome};
 
+use crate::feeding::two;
 use rw_ruled_queue::{Drain, Ended, Feed, Gone, Item, Kind, Open, Taken, begins, compare, open};
-use rw_types::{LabelSet, Place, Word};
+use rw_types::{LabelSet, Word};
 use std::alloc::{AllocError, Global};
 use std::sync::{Arc, Wait};
 use std::test::Fail;
-use std::thread::join;
-
-/// The sample of this number at this position, of the queue of shard 1 in epoch 3.
-fn sample(seq: u64, pos: u64, t: i64, word: Word, labels: Arc<LabelSet>) -> Item
-    ensures { result ≡ item.Sample (record { epoch = 3; shard = 1; seq = seq; pos = pos; series = 0 }) t word labels }
-{
-    let place = Place {
-        epoch: 3,
-        shard: 1,
-        seq,
-        pos,
-        series: 0,
-    };
-    Item::Sample(place, t, word, labels)
-}
+use std::thread::{Threads, join};
 
 fn no_labels(alloc: Global) -> Result<Arc<LabelSet>, AllocError> {
     Ok(Arc::new(alloc, LabelSet::empty(alloc))?)
-}
-
-/// Puts two samples with a Flush between, and ends.
-fn fed<R: Wait>(rt: &R, feed: Feed<Open>, labels: Arc<LabelSet>) -> Option<Feed<Ended>>
-    requires { (feed.queue.epoch ≡ 3) × (feed.queue.shard ≡ 1) × (feed.put ≡ []) }
-    ensures { IfSome result (λ f. f.queue ≡ feed.queue) }
-{
-    let copy = Arc::try_clone(&labels).ok()?;
-    let mut feed = feed;
-    feed.put(rt, sample(0, 5, 1000, Word(0), copy)).ok()?;
-    feed.put(rt, Item::Flush).ok()?;
-    feed.put(rt, sample(1, 9, 2000, Word(0), labels)).ok()?;
-    feed.end(rt, Kind::Orderly).ok()
 }
 
 /// What was taken: the position of a sample, nothing of a Flush, and the end where an End was taken.
@@ -84,70 +57,95 @@ fn drained<R: Wait>(rt: &R, drain: Drain<Open>, positions: Vec<Option<u64>>) -> 
     unreachable!()
 }
 
+/// Whether all was taken as it was put, up to an orderly End.
+fn is_whole<R: Wait>(rt: &R, fed: Option<Feed<Ended>>, haul: Haul) -> bool
+    requires { IfSome fed (λ f. IfSome haul.end (λ e. f.queue ≡ e.1.queue)) }
+{
+    let Some(feed) = fed else {
+        return false;
+    };
+    let Haul { positions, end } = haul;
+    let Some((kind, drain)) = end else {
+        return false;
+    };
+    let _whole = compare(rt, feed, drain);
+    kind == Kind::Orderly && positions.as_slice() == [Some(5), None, Some(9)].as_slice()
+}
+
+/// Whether a thread takes all behind what it has put.
+fn takes_in_one_thread<R: Wait>(
+    rt: &R,
+    alloc: Global,
+    labels: Arc<LabelSet>,
+) -> Result<bool, AllocError> {
+    let positions = Vec::with_capacity(alloc, 3)?;
+    let (feed, drain) = open(alloc, 3, 1, 4)?;
+    let (feed, drain) = begins(feed, drain);
+    let Some(feed) = two(rt, feed, labels, Word(0)) else {
+        return Ok(false);
+    };
+    let (feed, drain) = begins(feed, drain);
+    let haul = drained(rt, drain, positions);
+    Ok(is_whole(rt, Some(feed), haul))
+}
+
 #[test]
 fn one_thread(rt: HostRuntime) -> Result<(), Fail> {
-    let alloc = rt.alloc();
-    let (feed, drain) = open(alloc, 3, 1, 4)?;
-    let labels = no_labels(alloc)?;
-    let (feed, drain) = begins(feed, drain);
-    let Some(feed) = fed(&rt, feed, labels) else {
-        return Err(Fail::from("gone"));
-    };
-    let (feed, drain) = begins(feed, drain);
-    let Haul { positions, end } = drained(&rt, drain, Vec::with_capacity(alloc, 3)?);
-    assert_eq!(rt; positions.as_slice(), [Some(5), None, Some(9)].as_slice());
-    let Some((kind, drain)) = end else {
-        return Err(Fail::from("gone"));
-    };
-    assert_eq!(rt; kind, Kind::Orderly);
-    let _whole = compare(&rt, feed, drain);
+    let labels = no_labels(rt.alloc())?;
+    assert_eq!(rt; takes_in_one_thread(&rt, rt.alloc(), labels), Ok(true));
     Ok(())
+}
+
+/// Whether a thread takes all that another one puts.
+fn takes_in_two_threads<R: Threads + Wait + Sync>(
+    rt: &R,
+    alloc: Global,
+    labels: Arc<LabelSet>,
+) -> Result<bool, AllocError> {
+    let positions = Vec::with_capacity(alloc, 3)?;
+    let (feed, drain) = open(alloc, 3, 1, 1)?;
+    let (fed, haul) = join(
+        rt,
+        || two(rt, feed, labels, Word(0)),
+        || drained(rt, drain, positions),
+    );
+    Ok(is_whole(rt, fed, haul))
 }
 
 /// The queue holds one item, so each thread waits for the other.
 #[test]
 fn two_threads(rt: HostRuntime) -> Result<(), Fail> {
-    let alloc = rt.alloc();
-    let (feed, drain) = open(alloc, 3, 1, 1)?;
-    let labels = no_labels(alloc)?;
-    let positions = Vec::with_capacity(alloc, 3)?;
-    let (fed, haul) = join(
-        &rt,
-        || fed(&rt, feed, labels),
-        || drained(&rt, drain, positions),
-    );
-    let Haul { positions, end } = haul;
-    assert_eq!(rt; positions.as_slice(), [Some(5), None, Some(9)].as_slice());
-    let Some(feed) = fed else {
-        return Err(Fail::from("gone"));
-    };
-    let Some((kind, drain)) = end else {
-        return Err(Fail::from("gone"));
-    };
-    assert_eq!(rt; kind, Kind::Orderly);
-    let _whole = compare(&rt, feed, drain);
+    let labels = no_labels(rt.alloc())?;
+    assert_eq!(rt; takes_in_two_threads(&rt, rt.alloc(), labels), Ok(true));
     Ok(())
 }
 
-/// An end that waits for room, and one that waits for an item, are told when the other end is given up.
-#[test]
-fn gone_ends(rt: HostRuntime) -> Result<(), Fail> {
-    let alloc = rt.alloc();
+/// Whether an end that waits for room is told when the other end is given up.
+fn feed_is_told<R: Threads + Wait + Sync>(rt: &R, alloc: Global) -> Result<bool, AllocError> {
     let (mut feed, drain) = open(alloc, 3, 1, 1)?;
-    assert!(rt; feed.put(&rt, Item::Flush).is_ok());
+    let is_put = feed.put(rt, Item::Flush).is_ok();
     let ((feed, answer), _killed) = join(
-        &rt,
+        rt,
         || {
-            let answer = feed.put(&rt, Item::Flush);
+            let answer = feed.put(rt, Item::Flush);
             (feed, answer)
         },
         || drain.kill(),
     );
-    assert!(rt; matches!(answer, Err((Item::Flush, Gone))));
-    assert!(rt; matches!(feed.end(&rt, Kind::Hard), Err((_, Gone))));
+    let is_told = matches!(answer, Err((Item::Flush, Gone)));
+    let is_told_at_end = matches!(feed.end(rt, Kind::Hard), Err((_, Gone)));
+    Ok(is_put && is_told && is_told_at_end)
+}
+
+/// Whether an end that waits for an item is told.
+fn drain_is_told<R: Threads + Wait + Sync>(rt: &R, alloc: Global) -> Result<bool, AllocError> {
     let (feed, drain) = open(alloc, 3, 1, 1)?;
-    let (haul, ()) = join(&rt, || drained(&rt, drain, Vec::new(alloc)), || drop(feed));
-    assert!(rt; haul.end.is_none());
-    assert!(rt; haul.positions.is_empty());
-    Ok(())
+    let (haul, ()) = join(rt, || drained(rt, drain, Vec::new(alloc)), || drop(feed));
+    Ok(haul.end.is_none() && haul.positions.is_empty())
+}
+
+#[test]
+fn gone_ends(rt: HostRuntime) {
+    assert_eq!(rt; feed_is_told(&rt, rt.alloc()), Ok(true));
+    assert_eq!(rt; drain_is_told(&rt, rt.alloc()), Ok(true));
 }

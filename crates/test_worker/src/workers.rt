@@ -1,18 +1,17 @@
 //! What a worker sends, and what it reports.
 
-ghost use Rattle.std.specs.Prelude.{◌≡◌, [], IfOk, IfSome};
-ghost use Rattle.rw_shard_queue.specs.declared.item.Item.TheVariants as item;
+ghost use Rattle.std.specs.Prelude.{◌≡◌, ◌<◌, [], IfOk};
 
+use crate::feeding::{one, two};
 use crate::memory::{Script, Times};
 use http::StatusCode;
 use rw_ledger::{Ledger, Reason};
-use rw_ruled_queue::{Drain, Ended, Feed, Item, Kind, Open, open};
+use rw_ruled_queue::{Drain, Feed, Kind, Open, open};
 use rw_sender::{Config, ConfigFields};
-use rw_types::{Bounded, LabelSet, Place, RawLabels, Word};
+use rw_types::{Bounded, LabelFault, LabelSet, RawLabels, Word};
 use rw_worker::{Lost, Reply, StopFlag, TakingEnd, Worker, WorkerReport, spawn};
 use std::alloc::{AllocError, Global};
 use std::sync::{Arc, Wait};
-use std::test::Fail;
 use std::thread::Threads;
 
 /// The request of the message of the sample 1 at 1000 ms of the series `up`.
@@ -21,50 +20,14 @@ const UP: &[u8] =
 
 const ONE: Word = Word(0x3ff0_0000_0000_0000);
 
-/// The sample of this number at this position, of the queue of shard 1 in epoch 3.
-fn sample(seq: u64, pos: u64, t: i64, word: Word, labels: Arc<LabelSet>) -> Item
-    ensures { result ≡ item.Sample (record { epoch = 3; shard = 1; seq = seq; pos = pos; series = 0 }) t word labels }
-{
-    let place = Place {
-        epoch: 3,
-        shard: 1,
-        seq,
-        pos,
-        series: 0,
-    };
-    Item::Sample(place, t, word, labels)
-}
-
-fn up(alloc: Global) -> Result<Arc<LabelSet>, Fail> {
-    let mut labels = RawLabels::new(alloc);
-    labels.push(b"__name__", b"up")?;
-    match LabelSet::check(alloc, &labels) {
-        Ok(labels) => Ok(Arc::new(alloc, labels)?),
-        Err(_) => Err(Fail::from("no label set")),
+fn up(alloc: Global) -> Result<Arc<LabelSet>, LabelFault> {
+    let mut raw = RawLabels::new(alloc);
+    raw.push(b"__name__", b"up")?;
+    let labels = LabelSet::check(alloc, &raw)?;
+    match Arc::new(alloc, labels) {
+        Ok(labels) => Ok(labels),
+        Err(_) => Err(LabelFault::OutOfMemory),
     }
-}
-
-/// Puts a sample, and an End of this kind.
-fn one<R: Wait>(rt: &R, feed: Feed<Open>, labels: Arc<LabelSet>, kind: Kind) -> Option<Feed<Ended>>
-    requires { (feed.queue.epoch ≡ 3) × (feed.queue.shard ≡ 1) × (feed.put ≡ []) }
-    ensures { IfSome result (λ f. f.queue ≡ feed.queue) }
-{
-    let mut feed = feed;
-    feed.put(rt, sample(0, 5, 1000, ONE, labels)).ok()?;
-    feed.end(rt, kind).ok()
-}
-
-/// Puts two samples with a Flush between, and ends.
-fn two<R: Wait>(rt: &R, feed: Feed<Open>, labels: Arc<LabelSet>) -> Option<Feed<Ended>>
-    requires { (feed.queue.epoch ≡ 3) × (feed.queue.shard ≡ 1) × (feed.put ≡ []) }
-    ensures { IfSome result (λ f. f.queue ≡ feed.queue) }
-{
-    let copy = Arc::try_clone(&labels).ok()?;
-    let mut feed = feed;
-    feed.put(rt, sample(0, 5, 1000, ONE, copy)).ok()?;
-    feed.put(rt, Item::Flush).ok()?;
-    feed.put(rt, sample(1, 9, 2000, ONE, labels)).ok()?;
-    feed.end(rt, Kind::Orderly).ok()
 }
 
 /// A status, or no answer for 0.
@@ -144,24 +107,13 @@ fn asks_as_wanted(script: &Script, wanted: &Wanted<'_>) -> bool {
         && notes.iter().all(|note| note.request.as_slice() == request)
 }
 
-/// The first difference from what is wanted.
-fn difference(report: &WorkerReport<Script>, wanted: &Wanted<'_>) -> Option<&'static str> {
-    if !ends_as_wanted(&report.end, wanted) {
-        return Some("end");
-    }
-    if report.stopped.is_some() != wanted.stopped {
-        return Some("stopped");
-    }
-    if report.resolved != wanted.resolved {
-        return Some("resolved");
-    }
-    if !drops_as_wanted(&report.ledger, wanted) {
-        return Some("dropped");
-    }
-    if !asks_as_wanted(&report.transport, wanted) {
-        return Some("exchanges");
-    }
-    None
+/// Whether a report and the pauses are what is wanted.
+fn reports_as_wanted(report: &WorkerReport<Script>, wanted: &Wanted<'_>) -> bool {
+    ends_as_wanted(&report.end, wanted)
+        && report.stopped.is_some() == wanted.stopped
+        && report.resolved == wanted.resolved
+        && drops_as_wanted(&report.ledger, wanted)
+        && asks_as_wanted(&report.transport, wanted)
 }
 
 fn waits_as_wanted(times: &Times, wanted: &Wanted<'_>) -> bool {
@@ -177,80 +129,96 @@ fn fed<R: Wait>(rt: &R, feed: Feed<Open>, labels: Arc<LabelSet>, feeding: Feedin
 {
     match feeding {
         Feeding::Gone => true,
-        Feeding::One(kind) => one(rt, feed, labels, kind).is_some(),
-        Feeding::Two => two(rt, feed, labels).is_some(),
+        Feeding::One(kind) => one(rt, feed, labels, ONE, kind).is_some(),
+        Feeding::Two => two(rt, feed, labels, ONE).is_some(),
     }
 }
 
-/// Runs the worker of this end of a queue. Gives the first difference from what is wanted.
-fn run<R: Wait>(
+/// Whether the worker does as wanted.
+fn works_as_wanted<R: Wait>(
     rt: &R,
     alloc: Global,
-    config: &Config,
-    drain: Drain<Open>,
+    worker: Worker,
     script: Script,
     stop: &StopFlag,
     wanted: &Wanted<'_>,
-) -> Option<&'static str>
-    requires { (drain.queue.epoch ≡ 3) × (drain.queue.shard ≡ 1) × (drain.taken ≡ []) }
-{
-    let Ok(worker) = Worker::new(alloc, config, 3, 1, drain) else {
-        return Some("no memory");
-    };
+) -> bool {
     let mut times = Times {
         milliseconds: Vec::new(alloc),
     };
     let report = worker.run(rt, script, &mut times, stop);
-    if !waits_as_wanted(&times, wanted) {
-        return Some("pauses");
-    }
-    difference(&report, wanted)
+    waits_as_wanted(&times, wanted) && reports_as_wanted(&report, wanted)
 }
 
-/// Feeds a worker, and runs it to its end. Gives the first difference from what is wanted.
+/// Answers by the statuses of a row, and sets this flag as it says.
+fn script_of(alloc: Global, stop: &StopFlag, row: &Row<'_>) -> Result<Script, AllocError> {
+    let stops_at = row.stops_at.unwrap_or(0);
+    if row.stops_at == Some(0) {
+        stop.set();
+    }
+    let share = stop.share()?;
+    Ok(Script::new(alloc, answers(alloc, row.statuses)?, share, stops_at))
+}
+
+/// A worker of a queue that holds so many items, and the end that it is fed by.
+fn worker_of(
+    alloc: Global,
+    config: &Config,
+    capacity: usize,
+) -> Result<(Feed<Open>, Worker), AllocError>
+    requires { 0 < capacity }
+    ensures { IfOk result (λ r. (r.0.queue.epoch ≡ 3) × (r.0.queue.shard ≡ 1) × (r.0.put ≡ [])) }
+{
+    let (feed, drain) = open(alloc, 3, 1, capacity)?;
+    match Worker::new(alloc, config, 3, 1, drain) {
+        Ok(worker) => Ok((feed, worker)),
+        Err((_, refused)) => Err(refused),
+    }
+}
+
+/// Whether a worker that is fed all does as a row wants.
 fn fed_and_run<R: Wait>(
     rt: &R,
     alloc: Global,
     config: &Config,
     labels: Arc<LabelSet>,
-    script: Script,
-    stop: &StopFlag,
     row: &Row<'_>,
-) -> Option<&'static str> {
-    let Ok((feed, drain)) = open(alloc, 3, 1, 4) else {
-        return Some("no memory");
-    };
-    if !fed(rt, feed, labels, row.feeding) {
-        return Some("not fed");
-    }
-    run(rt, alloc, config, drain, script, stop, &row.wanted)
+) -> Result<bool, AllocError> {
+    let stop = StopFlag::new(alloc)?;
+    let script = script_of(alloc, &stop, row)?;
+    let (feed, worker) = worker_of(alloc, config, 4)?;
+    let is_fed = fed(rt, feed, labels, row.feeding);
+    Ok(works_as_wanted(rt, alloc, worker, script, &stop, &row.wanted) && is_fed)
 }
 
-fn config_of(alloc: Global, batch: u64) -> Result<Config, Fail> {
+fn config_of(alloc: Global, batch: u64) -> Result<Option<Config>, AllocError> {
     let mut fields = ConfigFields::standard(alloc)?;
     if let Some(batch) = Bounded::new(batch) {
         fields.batch = batch;
     }
-    match Config::new(fields) {
-        Some(config) => Ok(config),
-        None => Err(Fail::from("no order")),
-    }
+    Ok(Config::new(fields))
 }
 
-/// The first difference from what a row wants.
-fn odd<R: Wait>(rt: &R, alloc: Global, row: &Row<'_>) -> Result<Option<&'static str>, Fail> {
-    let config = config_of(alloc, row.batch)?;
+/// Whether a worker does as a row wants.
+fn does_as_wanted<R: Wait>(rt: &R, alloc: Global, row: &Row<'_>) -> Result<bool, LabelFault> {
     let labels = up(alloc)?;
-    let answers = answers(alloc, row.statuses)?;
-    let stop = StopFlag::new(alloc)?;
-    if row.stops_at == Some(0) {
-        stop.set();
+    match config_of(alloc, row.batch)? {
+        Some(config) => Ok(fed_and_run(rt, alloc, &config, labels, row)?),
+        None => Ok(false),
     }
-    let script = Script::new(alloc, answers, stop.share()?, row.stops_at.unwrap_or(0));
-    Ok(fed_and_run(rt, alloc, &config, labels, script, &stop, row))
 }
 
-const REFUSED: Wanted<'_> = Wanted {
+/// The name of the first row that a worker does not do.
+fn wrong_row<R: Wait>(rt: &R, alloc: Global) -> Result<Option<&'static str>, LabelFault> {
+    for row in &ROWS {
+        if !does_as_wanted(rt, alloc, row)? {
+            return Ok(Some(row.name));
+        }
+    }
+    Ok(None)
+}
+
+const REFUSED: Wanted<'static> = Wanted {
     end: Some(Kind::Orderly),
     stopped: false,
     resolved: 2,
@@ -261,7 +229,7 @@ const REFUSED: Wanted<'_> = Wanted {
 };
 
 /// In batches of one, of two and of 2,000 samples the Flush makes two batches. The pauses of each begin anew.
-const ROWS: [Row<'_>; 9] = [
+static ROWS: [Row<'static>; 9] = [
     Row {
         name: "a batch is sent until the answer is final",
         feeding: Feeding::One(Kind::Orderly),
@@ -385,15 +353,11 @@ const ROWS: [Row<'_>; 9] = [
 ];
 
 #[test]
-fn workers(rt: HostRuntime) -> Result<(), Fail> {
-    for row in &ROWS {
-        let odd = odd(&rt, rt.alloc(), row)?;
-        assert_eq!(rt; odd, None, "{}", row.name);
-    }
-    Ok(())
+fn workers(rt: HostRuntime) {
+    assert_eq!(rt; wrong_row(&rt, rt.alloc()), Ok(None));
 }
 
-const IN_A_THREAD: Wanted<'_> = Wanted {
+static IN_A_THREAD: Wanted<'static> = Wanted {
     end: Some(Kind::Orderly),
     stopped: false,
     resolved: 2,
@@ -403,52 +367,39 @@ const IN_A_THREAD: Wanted<'_> = Wanted {
     milliseconds: None,
 };
 
-/// A standard worker of this end of a queue.
-fn worker(alloc: Global, drain: Drain<Open>) -> Option<Worker>
-    requires { (drain.queue.epoch ≡ 3) × (drain.queue.shard ≡ 1) × (drain.taken ≡ []) }
-    ensures { IfSome result (λ w. w.queue ≡ drain.queue) }
-{
-    let config = Config::standard(alloc).ok()?;
-    Worker::new(alloc, &config, 3, 1, drain).ok()
-}
+/// The answers to a worker in a thread.
+static STATUSES: [u16; 4] = [0, 204, 503, 404];
 
-/// Puts what a worker in its thread takes, and joins it. The queue holds one item, so the two threads wait for one another.
+/// Puts what a worker in its thread takes, and joins it. Whether it did as wanted.
 fn fed_in_a_thread<R: Threads + Wait + Copy + Send + 'static>(
     rt: &R,
     alloc: Global,
+    config: &Config,
     labels: Arc<LabelSet>,
-    script: Script,
-    stop: StopFlag,
-) -> Option<&'static str> {
-    let Ok((feed, drain)) = open(alloc, 3, 1, 1) else {
-        return Some("no memory");
-    };
-    let Some(worker) = worker(alloc, drain) else {
-        return Some("no worker");
-    };
+) -> Result<bool, AllocError> {
+    let stop = StopFlag::new(alloc)?;
+    let script = Script::new(alloc, answers(alloc, &STATUSES)?, stop.share()?, 0);
+    let (feed, worker) = worker_of(alloc, config, 1)?;
     let times = Times {
         milliseconds: Vec::new(alloc),
     };
-    let Ok(handle) = spawn(rt, worker, script, times, stop) else {
-        return Some("not spawned");
-    };
-    let is_fed = two(rt, feed, labels).is_some();
+    let handle = spawn(rt, worker, script, times, stop)?;
+    let is_fed = fed(rt, feed, labels, Feeding::Two);
     let report = handle.join(rt);
-    if is_fed {
-        difference(&report, &IN_A_THREAD)
-    } else {
-        Some("not fed")
-    }
+    Ok(reports_as_wanted(&report, &IN_A_THREAD) && is_fed)
 }
 
-#[test]
-fn a_worker_in_a_thread(rt: HostRuntime) -> Result<(), Fail> {
-    let alloc = rt.alloc();
+fn does_in_a_thread<R: Threads + Wait + Copy + Send + 'static>(
+    rt: &R,
+    alloc: Global,
+) -> Result<bool, LabelFault> {
     let labels = up(alloc)?;
-    let answers = answers(alloc, &[0, 204, 503, 404])?;
-    let stop = StopFlag::new(alloc)?;
-    let script = Script::new(alloc, answers, stop.share()?, 0);
-    let odd = fed_in_a_thread(&rt, alloc, labels, script, stop);
-    assert_eq!(rt; odd, None);
-    Ok(())
+    let config = Config::standard(alloc)?;
+    Ok(fed_in_a_thread(rt, alloc, &config, labels)?)
+}
+
+/// The queue holds one item, so the two threads wait for one another.
+#[test]
+fn a_worker_in_a_thread(rt: HostRuntime) {
+    assert_eq!(rt; does_in_a_thread(&rt, rt.alloc()), Ok(true));
 }

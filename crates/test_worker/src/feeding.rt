@@ -1,0 +1,56 @@
+//! What a queue between threads is fed.
+
+ghost use Rattle.std.specs.Prelude.{◌≡◌, [], IfSome};
+ghost use Rattle.rw_shard_queue.specs.declared.item.Item.TheVariants as item;
+
+use rw_ruled_queue::{Ended, Feed, Item, Kind, Open};
+use rw_types::{LabelSet, Place, Word};
+use std::sync::{Arc, Wait};
+
+/// The sample of this number at this position, of the queue of shard 1 in epoch 3.
+fn sample(seq: u64, pos: u64, t: i64, word: Word, labels: Arc<LabelSet>) -> Item
+    ensures { result ≡ item.Sample (record { epoch = 3; shard = 1; seq = seq; pos = pos; series = 0 }) t word labels }
+{
+    let place = Place {
+        epoch: 3,
+        shard: 1,
+        seq,
+        pos,
+        series: 0,
+    };
+    Item::Sample(place, t, word, labels)
+}
+
+/// Puts a sample of this value, and an End of this kind.
+pub(crate) fn one<R: Wait>(
+    rt: &R,
+    feed: Feed<Open>,
+    labels: Arc<LabelSet>,
+    word: Word,
+    kind: Kind,
+) -> Option<Feed<Ended>>
+    requires { (feed.queue.epoch ≡ 3) × (feed.queue.shard ≡ 1) × (feed.put ≡ []) }
+    ensures { IfSome result (λ f. f.queue ≡ feed.queue) }
+{
+    let mut feed = feed;
+    feed.put(rt, sample(0, 5, 1000, word, labels)).ok()?;
+    feed.end(rt, kind).ok()
+}
+
+/// Puts two samples of this value with a Flush between, and ends.
+pub(crate) fn two<R: Wait>(
+    rt: &R,
+    feed: Feed<Open>,
+    labels: Arc<LabelSet>,
+    word: Word,
+) -> Option<Feed<Ended>>
+    requires { (feed.queue.epoch ≡ 3) × (feed.queue.shard ≡ 1) × (feed.put ≡ []) }
+    ensures { IfSome result (λ f. f.queue ≡ feed.queue) }
+{
+    let copy = Arc::try_clone(&labels).ok()?;
+    let mut feed = feed;
+    feed.put(rt, sample(0, 5, 1000, word, copy)).ok()?;
+    feed.put(rt, Item::Flush).ok()?;
+    feed.put(rt, sample(1, 9, 2000, word, labels)).ok()?;
+    feed.end(rt, Kind::Orderly).ok()
+}
