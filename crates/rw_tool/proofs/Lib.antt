@@ -2,6 +2,5 @@ pub mod FillingLemmas
 pub mod LabelledLemmas
 pub mod LabellingLemmas
 pub mod LogTextLemmas
-pub mod NumberingLemmas
 pub mod PlanRuns
 pub mod TakingLemmas

@@ -1,14 +1,13 @@
 //! The engines of the program `rwship`.
 #![tactic(auto)]
 
-mod body;
 mod fault;
 mod filling;
 mod labelling;
 mod log;
 mod log_text;
-mod numbering;
 mod plan;
+mod reading;
 mod report;
 mod run;
 

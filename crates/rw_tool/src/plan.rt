@@ -1,54 +1,30 @@
 //! The command `plan`, over any reader and writer.
 
-ghost use Rattle.std.specs.Prelude.{◌≡◌, ◌≢◌, ◌⊎◌, ℕ, List, [], ◌∷◌, true, false, Err, None, IfOk, OnOk, IfErr};
-ghost use Rattle.rw_codes.specs.Pieces.{bytes, entries};
+ghost use Rattle.std.specs.Prelude.{◌≡◌, ◌≢◌, ◌⊎◌, ℕ, List, true, false, Err, None, IfOk, OnOk, IfErr};
 ghost use Rattle.rw_codes.specs.declared.tail_fault.TailFault.{TailFault};
 ghost use Rattle.rw_plan.specs.Plan.{plan_of};
 ghost use Rattle.rw_tool.specs.Planning.{WritesPlan, WritesPlanPart};
 ghost use Rattle.rw_tool.specs.Running.{ReadsInput, ReadsFault, ReadsLine, StopsInput};
-ghost use Rattle.rw_tool.specs.Taking.{HasTaken, HasTakenAll, IsFaultOf, ReadsSegment, StopsReading};
+ghost use Rattle.rw_tool.specs.Taking.{ReadsSegment, StopsReading};
 ghost use Rattle.rw_tool.specs.declared.fault.ToolFault.TheVariants.{Log, Line, SegmentFull, Device};
 
-use crate::body::{CHUNK, feed_some, zeros};
 use crate::fault::ToolFault;
+use crate::reading::{Taker, read_segment};
 use crate::run::read_input;
 use rw_plan::Planner;
 use rw_relabel::Rules;
 use rw_settings::Settings;
-use rw_types::{Sink, Source, write_all};
-use rw_wal_tail::Tail;
-use std::alloc::Global;
+use rw_types::{Entry, Sink, Source, write_all};
+use std::alloc::{AllocError, Global};
 
-/// Takes the entries that the reader of the log has left.
-fn take_all(tail: &mut Tail, planner: &mut Planner) -> Result<(), ToolFault>
-    requires { HasTaken tail.old planner.old.entries }
-    ensures ok { OnOk result (HasTakenAll tail.old.pieces tail.new planner.new.entries) }
-    ensures rules { OnOk result (planner.new.rules ≡ planner.old.rules) }
-    ensures err { IfErr result (IsFaultOf tail.old.pieces) }
-{
-    while let Some(entry) = tail.next_entry()? {
-        planner.take(entry)?;
-    }
-    Ok(())
-}
+impl Taker for Planner {
+    ghost taken = { λ p. p.entries };
 
-/// Takes all entries of a segment, as its bytes come.
-fn plan_all<R: Source>(alloc: Global, reader: &mut R, rules: Rules) -> Result<Planner, ToolFault>
-    ensures ok { IfOk result (λ p. (segment : List ℕ) × ReadsSegment None (R.remaining reader.old) (R.remaining reader.new) segment × (p.entries ≡ entries (bytes segment ∷ []))) }
-    ensures rules { IfOk result (λ p. p.rules ≡ rules) }
-    ensures sound { OnOk result (R.has_failed reader.new ≡ false) }
-    ensures err { IfErr result (StopsReading (R.remaining reader.old) (R.remaining reader.new) (R.has_failed reader.new)) }
-{
-    let mut tail = Tail::new(alloc);
-    let mut planner = Planner::new(alloc, rules);
-    let mut chunk = zeros(alloc, CHUNK)?;
-    for _ in 0..u64::MAX {
-        take_all(&mut tail, &mut planner)?;
-        if !feed_some(reader, &mut chunk, &mut tail)? {
-            return Ok(planner);
-        }
+    ghost rules = { λ p. p.rules };
+
+    fn take_next(&mut self, entry: Entry) -> Result<(), AllocError> {
+        self.take(entry)
     }
-    Err(ToolFault::OutOfMemory)
 }
 
 /// Reads a log segment (wal.md) to its end, and answers its plan.
@@ -57,7 +33,8 @@ fn read_plan<R: Source>(alloc: Global, reader: &mut R, rules: Rules) -> Result<V
     ensures sound { OnOk result (R.has_failed reader.new ≡ false) }
     ensures err { IfErr result (StopsReading (R.remaining reader.old) (R.remaining reader.new) (R.has_failed reader.new)) }
 {
-    Ok(plan_all(alloc, reader, rules)?.into_text()?)
+    let planner = read_segment(alloc, reader, Planner::new(alloc, rules))?;
+    Ok(planner.into_text()?)
 }
 
 /// Reads the hexadecimal text of a segment to its end, and answers its plan.

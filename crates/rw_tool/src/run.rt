@@ -5,11 +5,14 @@ ghost use Rattle.std.specs.Io.KnownBytes.{Consumes, IsAtEnd};
 ghost use Rattle.rw_codes.specs.declared.tail_fault.TailFault.{TailFault};
 ghost use Rattle.rw_tool.specs.declared.fault.ToolFault.TheVariants.{OutOfMemory, Log, Line, SegmentFull, Device};
 ghost use Rattle.rw_tool.specs.Body.{body_of};
+ghost use Rattle.rw_tool.specs.Taking.{ReadsSegment, StopsReading};
 ghost use Rattle.rw_tool.specs.Running.{output_of, ReadsInput, WritesBody, WritesPart, ReadsFault, ReadsLine, StopsInput};
 
-use crate::body::read_body;
 use crate::fault::ToolFault;
+use crate::labelling::Labelling;
+use crate::reading::read_segment;
 use rw_types::{Sink, Source, read_to_end, write_all};
+use rw_write_request::encode;
 use std::alloc::{AllocError, Global};
 
 /// Reads to the end.
@@ -22,6 +25,16 @@ pub(crate) fn read_input<R: Source>(alloc: Global, reader: &mut R) -> Result<Vec
     let mut input = Vec::new(alloc);
     read_to_end(alloc, reader, &mut input)?;
     Ok(input)
+}
+
+/// Reads a log segment (wal.md) to its end, and answers the canonical body of its samples that have a label set (Remote-Write 1.0).
+fn read_body<R: Source>(alloc: Global, reader: &mut R) -> Result<Vec<u8>, ToolFault>
+    ensures ok { IfOk result (λ v. (segment : List ℕ) × ReadsSegment None (R.remaining reader.old) (R.remaining reader.new) segment × (v.items ≡ body_of segment)) }
+    ensures sound { OnOk result (R.has_failed reader.new ≡ false) }
+    ensures err { IfErr result (StopsReading (R.remaining reader.old) (R.remaining reader.new) (R.has_failed reader.new)) }
+{
+    let labelling = read_segment(alloc, reader, Labelling::new(alloc))?;
+    Ok(encode(alloc, &labelling.into_message())?)
 }
 
 /// Reads the hexadecimal text of a segment to its end, and answers its body.

@@ -1,12 +1,11 @@
-use Rattle.std.proofs.Common.{arith, Ok, ◌∙◌, ap}
-use Rattle.rw_plan.specs.Planned.{Planned}
+use Rattle.std.proofs.Common.{arith, refl, Ok, ◌∙◌, ap}
 use Rattle.rw_tool.proofs.TakingLemmas.{reads_all, reads_more, reads_nothing, stops_at_fault}
-use Rattle.rw_tool.proofs.plan.plan_all.Goals as goal
+use Rattle.rw_tool.proofs.reading.read_segment.Goals as goal
 
 pub loop-init : goal.loop-init
 loop-init g c = record {
-  has_read = reads_nothing _ _ _ c.new-tail.ensures (ap (λ (p : Planned). p.entries) c.new-planner.ensures);
-  rules = ap (λ (p : Planned). p.rules) c.new-planner.ensures;
+  has_read = reads_nothing _ _ _ c.new-tail.ensures c.requires;
+  rules = refl;
   room = rw c.in_ok-chunk.ensures (omega arith);
 }
 

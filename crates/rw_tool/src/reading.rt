@@ -1,42 +1,55 @@
-//! The body of a log segment.
+//! The entries of a log segment, taken as its bytes come.
 
-ghost use Rattle.std.specs.Prelude.{◌≡◌, ◌⊎◌, ◌<◌, ℕ, List, [], ◌∷◌, true, false, None, Ok, IfOk, IfErr, OnOk, length, vec_len};
+ghost use Rattle.std.specs.Prelude.{◌≡◌, ◌⊎◌, ◌<◌, ℕ, List, [], ◌∷◌, ◌++◌, true, false, None, Ok, IfOk, IfErr, OnOk, length, vec_len};
 ghost use Rattle.std.specs.Io.KnownBytes.{Consumes, IsAtEnd};
+ghost use Rattle.rw_types.specs.declared.entry.Entry.{Entry};
 ghost use Rattle.rw_codes.specs.Pieces.{bytes, entries};
-ghost use Rattle.rw_tool.specs.Body as grammar;
+ghost use Rattle.rw_relabel.specs.Rules.{RuleConfig};
 ghost use Rattle.rw_tool.specs.Taking.{HasTaken, HasTakenAll, IsFaultOf, FeedsMore, ReadsSegment, StopsReading};
 ghost use Rattle.rw_tool.specs.declared.fault.ToolFault.TheVariants.{OutOfMemory, Device};
 
 use crate::fault::ToolFault;
-use crate::labelling::Labelling;
-use rw_types::Source;
+use rw_types::{Entry, Source};
 use rw_wal_tail::Tail;
-use rw_write_request::encode;
 use std::alloc::{AllocError, Global};
 
 /// How many bytes one read asks for.
-pub(crate) const CHUNK: usize = 64 * 1024;
+const CHUNK: usize = 64 * 1024;
 
-pub(crate) fn zeros(alloc: Global, len: usize) -> Result<Vec<u8>, AllocError>
+/// What takes the entries of a log.
+pub(crate) trait Taker {
+    /// The entries so far.
+    ghost taken: { Self → List Entry };
+    /// The rules by which it takes them.
+    ghost rules: { Self → List RuleConfig };
+
+    /// Takes the next entry.
+    fn take_next(&mut self, entry: Entry) -> Result<(), AllocError>
+        ensures taken { OnOk result (taken self.new ≡ taken self.old ++ entry ∷ []) }
+        ensures rules { OnOk result (rules self.new ≡ rules self.old) };
+}
+
+fn zeros(alloc: Global, len: usize) -> Result<Vec<u8>, AllocError>
     ensures { IfOk result (λ v. vec_len v ≡ len) }
 {
     vec![in alloc; 0; len]
 }
 
 /// Takes the entries that the reader of the log has left.
-fn take_all(tail: &mut Tail, labelling: &mut Labelling) -> Result<(), ToolFault>
-    requires { HasTaken tail.old labelling.old }
-    ensures ok { OnOk result (HasTakenAll tail.old.pieces tail.new labelling.new) }
+fn take_all<T: Taker>(tail: &mut Tail, taker: &mut T) -> Result<(), ToolFault>
+    requires { HasTaken tail.old (T.taken taker.old) }
+    ensures ok { OnOk result (HasTakenAll tail.old.pieces tail.new (T.taken taker.new)) }
+    ensures rules { OnOk result (T.rules taker.new ≡ T.rules taker.old) }
     ensures err { IfErr result (IsFaultOf tail.old.pieces) }
 {
     while let Some(entry) = tail.next_entry()? {
-        labelling.take(&entry)?;
+        taker.take_next(entry)?;
     }
     Ok(())
 }
 
 /// Feeds what one read gives. False is the end of the input.
-pub(crate) fn feed_some<R: Source>(
+fn feed_some<R: Source>(
     reader: &mut R,
     chunk: &mut [u8],
     tail: &mut Tail,
@@ -55,30 +68,25 @@ pub(crate) fn feed_some<R: Source>(
     Ok(true)
 }
 
-/// Takes all entries of a segment, as its bytes come.
-fn label_all<R: Source>(alloc: Global, reader: &mut R) -> Result<Labelling, ToolFault>
-    ensures ok { IfOk result (λ l. (segment : List ℕ) × ReadsSegment None (R.remaining reader.old) (R.remaining reader.new) segment × (l ≡ entries (bytes segment ∷ []))) }
+/// Reads a log segment (wal.md) to its end, and lets all its entries be taken, as its bytes come.
+pub(crate) fn read_segment<R: Source, T: Taker + Drop>(
+    alloc: Global,
+    reader: &mut R,
+    mut taker: T,
+) -> Result<T, ToolFault>
+    requires { T.taken taker ≡ [] }
+    ensures ok { IfOk result (λ t. (segment : List ℕ) × ReadsSegment None (R.remaining reader.old) (R.remaining reader.new) segment × (T.taken t ≡ entries (bytes segment ∷ []))) }
+    ensures rules { IfOk result (λ t. T.rules t ≡ T.rules taker) }
     ensures sound { OnOk result (R.has_failed reader.new ≡ false) }
     ensures err { IfErr result (StopsReading (R.remaining reader.old) (R.remaining reader.new) (R.has_failed reader.new)) }
 {
     let mut tail = Tail::new(alloc);
-    let mut labelling = Labelling::new(alloc);
     let mut chunk = zeros(alloc, CHUNK)?;
     for _ in 0..u64::MAX {
-        take_all(&mut tail, &mut labelling)?;
+        take_all(&mut tail, &mut taker)?;
         if !feed_some(reader, &mut chunk, &mut tail)? {
-            return Ok(labelling);
+            return Ok(taker);
         }
     }
     Err(ToolFault::OutOfMemory)
-}
-
-/// Reads a log segment (wal.md) to its end, and answers the canonical body of its samples that have a label set (Remote-Write 1.0).
-pub(crate) fn read_body<R: Source>(alloc: Global, reader: &mut R) -> Result<Vec<u8>, ToolFault>
-    ensures ok { IfOk result (λ v. (segment : List ℕ) × ReadsSegment None (R.remaining reader.old) (R.remaining reader.new) segment × (v.items ≡ grammar.body_of segment)) }
-    ensures sound { OnOk result (R.has_failed reader.new ≡ false) }
-    ensures err { IfErr result (StopsReading (R.remaining reader.old) (R.remaining reader.new) (R.has_failed reader.new)) }
-{
-    let message = label_all(alloc, reader)?.into_message();
-    Ok(encode(alloc, &message)?)
 }

@@ -1,13 +1,14 @@
 use Rattle.std.proofs.Common.{◌≡◌}
 use Rattle.rw_tool.specs.Taking.{HasTaken}
 use Rattle.rw_tool.proofs.TakingLemmas.{entries_left}
-use Rattle.rw_tool.proofs.body.take_all.Given as goal
+use Rattle.rw_tool.proofs.reading.take_all.Given as goal
 
 abbrev pub invariant-loop-entry : goal.invariant-loop-entry
-invariant-loop-entry l = record {
+invariant-loop-entry g l = record {
   fed : l.tail.pieces ≡ l.fn.tail.pieces;
-  has : HasTaken l.tail l.labelling;
+  has : HasTaken l.tail (g.T.Taker.taken l.taker);
+  rules : g.T.Taker.rules l.taker ≡ g.T.Taker.rules l.fn.taker;
 }
 
 abbrev pub decreases-loop-entry : goal.decreases-loop-entry
-decreases-loop-entry l = entries_left l.tail
+decreases-loop-entry g l = entries_left l.tail

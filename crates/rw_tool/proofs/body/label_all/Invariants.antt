@@ -1,9 +1,0 @@
-use Rattle.std.proofs.Common.{◌<◌, vec_len}
-use Rattle.rw_tool.proofs.TakingLemmas.{HasRead}
-use Rattle.rw_tool.proofs.body.label_all.Given as goal
-
-abbrev pub invariant-loop : goal.invariant-loop
-invariant-loop g l = record {
-  has_read : HasRead (g.R.Source.remaining l.fn.reader) (g.R.Source.remaining l.reader) l.tail l.labelling;
-  room : 0 < vec_len l.chunk;
-}

@@ -1,0 +1,10 @@
+use Rattle.std.proofs.Common.{◌≡◌, ◌<◌, vec_len}
+use Rattle.rw_tool.proofs.TakingLemmas.{HasRead}
+use Rattle.rw_tool.proofs.reading.read_segment.Given as goal
+
+abbrev pub invariant-loop : goal.invariant-loop
+invariant-loop g l = record {
+  has_read : HasRead (g.R.Source.remaining l.fn.reader) (g.R.Source.remaining l.reader) l.tail (g.T.Taker.taken l.taker);
+  rules : g.T.Taker.rules l.taker ≡ g.T.Taker.rules l.fn.taker;
+  room : 0 < vec_len l.chunk;
+}
