@@ -12,7 +12,7 @@ use Rattle.rw_codes.specs.Pieces.{Piece, entries, reading}
 use Rattle.rw_codes.specs.Segments.{segment}
 use Rattle.rw_codes.specs.declared.tail_fault.TailFault.{TailFault}
 use Rattle.rw_ledger.specs.declared.ledger.Reason.{Reason}
-use Rattle.rw_relabel.specs.Rules.{RuleConfig}
+use Rattle.rw_relabel.specs.declared.choice.Choice.{Choice}
 use Rattle.rw_router.specs.Fates.{Fate, Drops, Filters, Sends, fate}
 use Rattle.rw_router.specs.Routing.{Routing, Knows, Routes, RoutesAs, IsSentNext}
 use Rattle.rw_router.specs.declared.router.Routed.TheVariants as routed
@@ -24,42 +24,42 @@ use Rattle.rw_feeder.proofs.GatherLemmas.{gather_push}
 use Rattle.rw_feeder.proofs.HeldLemmas.{held_more, held_placed}
 
 -- the entry in hand was placed
-placed_next : (tail : Fed) (router after : Routing) (names now : FinMap nat_cmp Reason) (n m : ℕ) (ps hand : List Entry) (e : Entry) → IsFeeder tail router names n ps hand → hand ≡ e ∷ [] → m ≡ tail.given → after.cache.rules ≡ router.cache.rules
-    → Knows (ps ++ e ∷ []) after.cache → now ≡ fold with_name names (dropped_of router.cache.rules ps e) → ((p : ℕ) → n < p → get now p ≡ None) → after.filtered ≡ router.filtered + length (filtered_of router.cache.rules ps e) → after.filtered ≤ n + 1
+placed_next : (tail : Fed) (router after : Routing) (names now : FinMap nat_cmp Reason) (n m : ℕ) (ps hand : List Entry) (e : Entry) → IsFeeder tail router names n ps hand → hand ≡ e ∷ [] → m ≡ tail.given → after.cache.choice ≡ router.cache.choice
+    → Knows (ps ++ e ∷ []) after.cache → now ≡ fold with_name names (dropped_of router.cache.choice ps e) → ((p : ℕ) → n < p → get now p ≡ None) → after.filtered ≡ router.filtered + length (filtered_of router.cache.choice ps e) → after.filtered ≤ n + 1
     → IsFeeder tail after now m (ps ++ hand) []
-placed_next tail router after names now n m ps hand e h is up rules knows names_are below counted within =
+placed_next tail router after names now n m ps hand e h is up choice knows names_are below counted within =
     let given = h.taken.count in
     let len = length-append ps hand in
     let one = ap length is in
     let count = h.counted in
     let all : ps ++ hand ≡ ps ++ e ∷ [] = ap (λ x. ps ++ x) is in
-    let drops : dropped after.cache.rules (ps ++ hand) ≡ dropped router.cache.rules ps ++ dropped_of router.cache.rules ps e = ap (λ r. dropped r (ps ++ hand)) rules ∙ ap (dropped router.cache.rules) all ∙ gather_push (dropped_of router.cache.rules) ps e in
-    let filters : filtered after.cache.rules (ps ++ hand) ≡ filtered router.cache.rules ps ++ filtered_of router.cache.rules ps e = ap (λ r. filtered r (ps ++ hand)) rules ∙ ap (filtered router.cache.rules) all ∙ gather_push (filtered_of router.cache.rules) ps e in
+    let drops : dropped after.cache.choice (ps ++ hand) ≡ dropped router.cache.choice ps ++ dropped_of router.cache.choice ps e = ap (λ r. dropped r (ps ++ hand)) choice ∙ ap (dropped router.cache.choice) all ∙ gather_push (dropped_of router.cache.choice) ps e in
+    let filters : filtered after.cache.choice (ps ++ hand) ≡ filtered router.cache.choice ps ++ filtered_of router.cache.choice ps e = ap (λ r. filtered r (ps ++ hand)) choice ∙ ap (filtered router.cache.choice) all ∙ gather_push (filtered_of router.cache.choice) ps e in
     record {
       taken = subst (HasTaken tail) (sym (append-nil (ps ++ hand))) h.taken;
       counted = up ∙ given;
       knows = subst (λ es. Knows es after.cache) (sym all) knows;
-      names_are = names_are ∙ ap (λ x. fold with_name x (dropped_of router.cache.rules ps e)) h.names_are ∙ sym (ap named drops ∙ fold-append with_name empty (dropped router.cache.rules ps) (dropped_of router.cache.rules ps e));
+      names_are = names_are ∙ ap (λ x. fold with_name x (dropped_of router.cache.choice ps e)) h.names_are ∙ sym (ap named drops ∙ fold-append with_name empty (dropped router.cache.choice ps) (dropped_of router.cache.choice ps e));
       below = λ p le. below p (omega arith);
-      filter_counted = counted ∙ ap (λ k. k + length (filtered_of router.cache.rules ps e)) h.filter_counted ∙ sym (ap length filters ∙ length-append (filtered router.cache.rules ps) (filtered_of router.cache.rules ps e));
+      filter_counted = counted ∙ ap (λ k. k + length (filtered_of router.cache.choice ps e)) h.filter_counted ∙ sym (ap length filters ∙ length-append (filtered router.cache.choice ps) (filtered_of router.cache.choice ps e));
       filter_within = omega arith;
     }
 
-pub placed_held : (tail : Fed) (router after : Routing) (names now : FinMap nat_cmp Reason) (n m : ℕ) (r : List Entry) (e : Entry) → IsFeeder tail router names n (take n r) (drop n r) → drop n r ≡ e ∷ [] → m ≡ tail.given → after.cache.rules ≡ router.cache.rules
-    → Knows (take n r ++ e ∷ []) after.cache → now ≡ fold with_name names (dropped_of router.cache.rules (take n r) e) → ((p : ℕ) → n < p → get now p ≡ None) → after.filtered ≡ router.filtered + length (filtered_of router.cache.rules (take n r) e) → after.filtered ≤ n + 1
+pub placed_held : (tail : Fed) (router after : Routing) (names now : FinMap nat_cmp Reason) (n m : ℕ) (r : List Entry) (e : Entry) → IsFeeder tail router names n (take n r) (drop n r) → drop n r ≡ e ∷ [] → m ≡ tail.given → after.cache.choice ≡ router.cache.choice
+    → Knows (take n r ++ e ∷ []) after.cache → now ≡ fold with_name names (dropped_of router.cache.choice (take n r) e) → ((p : ℕ) → n < p → get now p ≡ None) → after.filtered ≡ router.filtered + length (filtered_of router.cache.choice (take n r) e) → after.filtered ≤ n + 1
     → IsFeeder tail after now m (take m r) (drop m r)
-placed_held tail router after names now n m r e h is up rules knows names_are below counted within =
+placed_held tail router after names now n m r e h is up choice knows names_are below counted within =
     let q = held_placed n m r (up ∙ h.taken.count) in
-    rw (q.0, q.1) (placed_next tail router after names now n m (take n r) (drop n r) e h is up rules knows names_are below counted within)
+    rw (q.0, q.1) (placed_next tail router after names now n m (take n r) (drop n r) e h is up choice knows names_are below counted within)
 
 -- and is what contracts see
-pub placed_seen : (tail : Fed) (router after : Routing) (names : FinMap nat_cmp Reason) (n m : ℕ) (r : List Entry) (old : Sorting) → IsFeeder tail router names n (take n r) (drop n r) → m ≡ tail.given → after.cache.rules ≡ router.cache.rules
-    → record { rules = router.cache.rules; pieces = tail.pieces; placed = take n r; hand = drop n r } ≡ old
-    → ◌≡◌ {A = Sorting} (record { rules = after.cache.rules; pieces = tail.pieces; placed = take m r; hand = drop m r }) (record old { placed = old.placed ++ old.hand; hand = [] })
-placed_seen tail router after names n m r old h up rules seen =
+pub placed_seen : (tail : Fed) (router after : Routing) (names : FinMap nat_cmp Reason) (n m : ℕ) (r : List Entry) (old : Sorting) → IsFeeder tail router names n (take n r) (drop n r) → m ≡ tail.given → after.cache.choice ≡ router.cache.choice
+    → record { choice = router.cache.choice; pieces = tail.pieces; placed = take n r; hand = drop n r } ≡ old
+    → ◌≡◌ {A = Sorting} (record { choice = after.cache.choice; pieces = tail.pieces; placed = take m r; hand = drop m r }) (record old { placed = old.placed ++ old.hand; hand = [] })
+placed_seen tail router after names n m r old h up choice seen =
     let q = held_placed n m r (up ∙ h.taken.count) in
-    let now : ◌≡◌ {A = Sorting} (record { rules = after.cache.rules; pieces = tail.pieces; placed = take m r; hand = drop m r }) (record { rules = router.cache.rules; pieces = tail.pieces; placed = take n r ++ drop n r; hand = [] }) =
-    λ i. record { rules = rules i; pieces = tail.pieces; placed = q.0 i; hand = q.1 i } in
+    let now : ◌≡◌ {A = Sorting} (record { choice = after.cache.choice; pieces = tail.pieces; placed = take m r; hand = drop m r }) (record { choice = router.cache.choice; pieces = tail.pieces; placed = take n r ++ drop n r; hand = [] }) =
+    λ i. record { choice = choice i; pieces = tail.pieces; placed = q.0 i; hand = q.1 i } in
     now ∙ ap (λ (s : Sorting). record s { placed = s.placed ++ s.hand; hand = [] }) seen
 
 -- another reader, as far with the same entries
@@ -88,46 +88,46 @@ named_below names now n reason h is p lt =
 
 -- an entry that the router placed
 pub router_placed : (router after : Routing) (ps : List Entry) (pos : ℕ) (e : Entry) → Routes router ps pos e after routed.Placed
-    → (after.cache.rules ≡ router.cache.rules) × (dropped_of router.cache.rules ps e ≡ []) × (sent_of router.cache.rules ps e ≡ []) × (after.filtered ≡ router.filtered + length (filtered_of router.cache.rules ps e)) × (after.filtered ≤ router.filtered + 1)
+    → (after.cache.choice ≡ router.cache.choice) × (dropped_of router.cache.choice ps e ≡ []) × (sent_of router.cache.choice ps e ≡ []) × (after.filtered ≡ router.filtered + length (filtered_of router.cache.choice ps e)) × (after.filtered ≤ router.filtered + 1)
 router_placed router after ps pos (Def reference l) is =
     let same = ap (λ (x : Routing). x.filtered) is.1 in
-    (ap (λ (x : Routing). x.cache.rules) is.1, refl, refl, same ∙ sym (add-zero router.filtered), omega arith)
-router_placed router after ps pos (Sample reference t word) is = by_fate (fate router.cache.rules ps reference t) is
+    (ap (λ (x : Routing). x.cache.choice) is.1, refl, refl, same ∙ sym (add-zero router.filtered), omega arith)
+router_placed router after ps pos (Sample reference t word) is = by_fate (fate router.cache.choice ps reference t) is
   where
     by_fate : (f : Fate) → RoutesAs router ps pos t word f after routed.Placed
-        → (after.cache.rules ≡ router.cache.rules) × (dropped_by_fate (length ps) f ≡ []) × (sent_by_fate router.cache.rules ps t word f ≡ []) × (after.filtered ≡ router.filtered + length (filtered_by_fate (length ps) f)) × (after.filtered ≤ router.filtered + 1)
+        → (after.cache.choice ≡ router.cache.choice) × (dropped_by_fate (length ps) f ≡ []) × (sent_by_fate router.cache.choice ps t word f ≡ []) × (after.filtered ≡ router.filtered + length (filtered_by_fate (length ps) f)) × (after.filtered ≤ router.filtered + 1)
     by_fate (Drops reason) is = absurd is
     by_fate Filters is =
         let more = ap (λ (x : Routing). x.filtered) is in
-        (ap (λ (x : Routing). x.cache.rules) is, refl, refl, omega arith, omega arith)
+        (ap (λ (x : Routing). x.cache.choice) is, refl, refl, omega arith, omega arith)
     by_fate (Sends l) is = absurd is
 
 -- a sample that it told to send
 pub router_sends : (router after : Routing) (ps : List Entry) (pos : ℕ) (e : Entry) (s : RoutedSample) → pos ≡ length ps → Routes router ps pos e after (routed.Sample s)
-    → (after ≡ router) × (sent_of router.cache.rules ps e ≡ sent_by s ∷ []) × IsSentNext router.cache.rules ps e s.series s.t
+    → (after ≡ router) × (sent_of router.cache.choice ps e ≡ sent_by s ∷ []) × IsSentNext router.cache.choice ps e s.series s.t
 router_sends router after ps pos (Def reference l) s at is = absurd (cc)
-router_sends router after ps pos (Sample reference t word) s at is = by_fate (fate router.cache.rules ps reference t) refl is
+router_sends router after ps pos (Sample reference t word) s at is = by_fate (fate router.cache.choice ps reference t) refl is
   where
-    by_fate : (f : Fate) → fate router.cache.rules ps reference t ≡ f → RoutesAs router ps pos t word f after (routed.Sample s)
-        → (after ≡ router) × (sent_by_fate router.cache.rules ps t word f ≡ sent_by s ∷ []) × IsSentNext router.cache.rules ps (Sample reference t word) s.series s.t
+    by_fate : (f : Fate) → fate router.cache.choice ps reference t ≡ f → RoutesAs router ps pos t word f after (routed.Sample s)
+        → (after ≡ router) × (sent_by_fate router.cache.choice ps t word f ≡ sent_by s ∷ []) × IsSentNext router.cache.choice ps (Sample reference t word) s.series s.t
     by_fate (Drops why) e is = absurd is
     by_fate Filters e is = absurd is
     by_fate (Sends l) e is =
         let h = is.0 in
-        let same : ◌≡◌ {A = Sent} (kept_sample router.cache.rules ps t word l) (sent_by s) =
+        let same : ◌≡◌ {A = Sent} (kept_sample router.cache.choice ps t word l) (sent_by s) =
         λ i. record { pos = (sym at ∙ sym h.pos_is) i; series = sym h.numbered.numbered i; t = sym h.time i; word = sym h.word_is i; labels = sym h.labels_are i } in
-        (is.1, ap (λ (x : Sent). x ∷ []) same, (sym h.time, (l, ap (fate router.cache.rules ps reference) h.time ∙ e, h.numbered)))
+        (is.1, ap (λ (x : Sent). x ∷ []) same, (sym h.time, (l, ap (fate router.cache.choice ps reference) h.time ∙ e, h.numbered)))
 
 -- a sample that is dropped is named, and not counted
-pub dropped_is : (rules : List RuleConfig) (ps : List Entry) (reference : ℕ) (t : ℤ) (word : ℕ) (reason : Reason) → fate rules ps reference t ≡ Drops reason
-    → (dropped_of rules ps (Sample reference t word) ≡ (length ps, reason) ∷ []) × (filtered_of rules ps (Sample reference t word) ≡ []) × (sent_of rules ps (Sample reference t word) ≡ [])
-dropped_is rules ps reference t word reason is = (ap (dropped_by_fate (length ps)) is, ap (filtered_by_fate (length ps)) is, ap (sent_by_fate rules ps t word) is)
+pub dropped_is : (choice : Choice) (ps : List Entry) (reference : ℕ) (t : ℤ) (word : ℕ) (reason : Reason) → fate choice ps reference t ≡ Drops reason
+    → (dropped_of choice ps (Sample reference t word) ≡ (length ps, reason) ∷ []) × (filtered_of choice ps (Sample reference t word) ≡ []) × (sent_of choice ps (Sample reference t word) ≡ [])
+dropped_is choice ps reference t word reason is = (ap (dropped_by_fate (length ps)) is, ap (filtered_by_fate (length ps)) is, ap (sent_by_fate choice ps t word) is)
 
 -- a sample that is sent is named nowhere
-pub sent_is : (rules : List RuleConfig) (ps : List Entry) (e : Entry) (series : ℕ) (t : ℤ) → IsSentNext rules ps e series t → (dropped_of rules ps e ≡ []) × (filtered_of rules ps e ≡ [])
-sent_is rules ps (Def reference l) series t next = absurd next
-sent_is rules ps (Sample reference u word) series t next =
-    let is = ap (fate rules ps reference) next.0 ∙ next.1.1 in
+pub sent_is : (choice : Choice) (ps : List Entry) (e : Entry) (series : ℕ) (t : ℤ) → IsSentNext choice ps e series t → (dropped_of choice ps e ≡ []) × (filtered_of choice ps e ≡ [])
+sent_is choice ps (Def reference l) series t next = absurd next
+sent_is choice ps (Sample reference u word) series t next =
+    let is = ap (fate choice ps reference) next.0 ∙ next.1.1 in
     (ap (dropped_by_fate (length ps)) is, ap (filtered_by_fate (length ps)) is)
 
 -- an entry was read
@@ -152,23 +152,23 @@ read_next tail after router names n r now e h none is taken =
 
 -- and is what contracts see
 pub next_seen : (tail after : Fed) (router : Routing) (names : FinMap nat_cmp Reason) (n : ℕ) (r now : List Entry) (e : Entry) (old : Sorting) → IsFeeder tail router names n (take n r) (drop n r) → drop n r ≡ [] → now ≡ r ++ e ∷ [] → after.pieces ≡ tail.pieces
-    → record { rules = router.cache.rules; pieces = tail.pieces; placed = take n r; hand = drop n r } ≡ old
-    → ◌≡◌ {A = Sorting} (record { rules = router.cache.rules; pieces = after.pieces; placed = take n now; hand = drop n now }) (record old { hand = e ∷ [] })
+    → record { choice = router.cache.choice; pieces = tail.pieces; placed = take n r; hand = drop n r } ≡ old
+    → ◌≡◌ {A = Sorting} (record { choice = router.cache.choice; pieces = after.pieces; placed = take n now; hand = drop n now }) (record old { hand = e ∷ [] })
 next_seen tail after router names n r now e old h none is pieces seen =
     let q = held_more n r e none h.counted in
     let front = ap (take n) is ∙ q.0 in
     let hand = ap (drop n) is ∙ q.1 in
-    let parts : ◌≡◌ {A = Sorting} (record { rules = router.cache.rules; pieces = after.pieces; placed = take n now; hand = drop n now }) (record { rules = router.cache.rules; pieces = tail.pieces; placed = take n r; hand = e ∷ [] }) =
-    λ i. record { rules = router.cache.rules; pieces = pieces i; placed = front i; hand = hand i } in
+    let parts : ◌≡◌ {A = Sorting} (record { choice = router.cache.choice; pieces = after.pieces; placed = take n now; hand = drop n now }) (record { choice = router.cache.choice; pieces = tail.pieces; placed = take n r; hand = e ∷ [] }) =
+    λ i. record { choice = router.cache.choice; pieces = pieces i; placed = front i; hand = hand i } in
     parts ∙ ap (λ (s : Sorting). record s { hand = e ∷ [] }) seen
 
-pub end_seen : (rules : List RuleConfig) (pieces now : List Piece) (ps hand : List Entry) (old : Sorting) → now ≡ pieces → record { rules = rules; pieces = pieces; placed = ps; hand = hand } ≡ old
-    → ◌≡◌ {A = Sorting} (record { rules = rules; pieces = now; placed = ps; hand = hand }) old
-end_seen rules pieces now ps hand old same seen = ap (λ (p : List Piece). record { rules = rules; pieces = p; placed = ps; hand = hand }) same ∙ seen
+pub end_seen : (choice : Choice) (pieces now : List Piece) (ps hand : List Entry) (old : Sorting) → now ≡ pieces → record { choice = choice; pieces = pieces; placed = ps; hand = hand } ≡ old
+    → ◌≡◌ {A = Sorting} (record { choice = choice; pieces = now; placed = ps; hand = hand }) old
+end_seen choice pieces now ps hand old same seen = ap (λ (p : List Piece). record { choice = choice; pieces = p; placed = ps; hand = hand }) same ∙ seen
 
-pub read_all : (rules : List RuleConfig) (pieces : List Piece) (ps hand : List Entry) (old : Sorting) (found : Option TailFault) → HasRead pieces (ps ++ hand) found → hand ≡ [] → record { rules = rules; pieces = pieces; placed = ps; hand = hand } ≡ old
+pub read_all : (choice : Choice) (pieces : List Piece) (ps hand : List Entry) (old : Sorting) (found : Option TailFault) → HasRead pieces (ps ++ hand) found → hand ≡ [] → record { choice = choice; pieces = pieces; placed = ps; hand = hand } ≡ old
     → HasRead old.pieces old.placed found
-read_all rules pieces ps hand old found h none seen =
+read_all choice pieces ps hand old found h none seen =
     subst (λ (s : Sorting). HasRead s.pieces s.placed found) seen (record { all = sym (ap (λ x. ps ++ x) none ∙ append-nil ps) ∙ h.all; fault_is = h.fault_is })
 
 -- a name for the next position

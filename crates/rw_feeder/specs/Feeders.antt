@@ -8,7 +8,7 @@ use Rattle.rw_types.specs.declared.entry.Entry.TheVariants.{Sample}
 use Rattle.rw_codes.specs.Pieces.{Piece, entries, fault}
 use Rattle.rw_codes.specs.declared.tail_fault.TailFault.{TailFault}
 use Rattle.rw_ledger.specs.declared.ledger.Reason.{Reason}
-use Rattle.rw_relabel.specs.Rules.{RuleConfig}
+use Rattle.rw_relabel.specs.declared.choice.Choice.{Choice}
 use Rattle.rw_router.specs.Fates.{Drops, fate}
 use Rattle.rw_router.specs.Routing.{Routing, Knows, IsSentNext}
 use Rattle.rw_router.specs.declared.sample.RoutedSample.{RoutedSample}
@@ -19,7 +19,7 @@ use Rattle.rw_feeder.specs.declared.feeder.Next.TheVariants as next
 
 -- the rules, the pieces of the log so far, the entries that were placed, and those that were read and are to be placed
 pub record Sorting : Type 0 where
-  pub rules : List RuleConfig
+  pub choice : Choice
   pub pieces : List Piece
   pub placed : List Entry
   pub hand : List Entry
@@ -35,9 +35,9 @@ pub record IsFeeder (tail : Fed) (router : Routing) (names : FinMap nat_cmp Reas
   pub taken : HasTaken tail (placed ++ hand)
   pub counted : count ≡ length placed
   pub knows : Knows placed router.cache
-  pub names_are : names ≡ named (dropped router.cache.rules placed)
+  pub names_are : names ≡ named (dropped router.cache.choice placed)
   pub below : (p : ℕ) → count ≤ p → get names p ≡ None
-  pub filter_counted : router.filtered ≡ length (filtered router.cache.rules placed)
+  pub filter_counted : router.filtered ≡ length (filtered router.cache.choice placed)
   pub filter_within : router.filtered ≤ count
 
 -- what was in hand is placed
@@ -50,13 +50,13 @@ pub record IsDropped (s : Sorting) (reason : Reason) : Type 0 where
   pub t : ℤ
   pub word : ℕ
   pub hand : s.hand ≡ Sample reference t word ∷ []
-  pub fate_is : fate s.rules s.placed reference t ≡ Drops reason
+  pub fate_is : fate s.choice s.placed reference t ≡ Drops reason
 
 -- the next entry is a sample that is sent, in the series of this number, at this time
 pub record IsToBeSent (s : Sorting) (series : ℕ) (t : ℤ) : Type 0 where
   pub entry : Entry
   pub hand : s.hand ≡ entry ∷ []
-  pub next : IsSentNext s.rules s.placed entry series t
+  pub next : IsSentNext s.choice s.placed entry series t
 
 abbrev pub sent_by : RoutedSample → Sent
 sent_by l = record { pos = l.pos; series = l.series; t = l.t; word = l.word; labels = arc_value l.labels }
@@ -74,5 +74,5 @@ Reads old new (next.Damaged f) = (new ≡ old) × HasRead old.pieces old.placed 
 
 -- an entry was placed that is not to be sent, or gives a sample that is
 abbrev pub Judges : Sorting → Sorting → Entry → Option RoutedSample → Type 0
-Judges old new e None = HasPlaced old new × (sent_of old.rules old.placed e ≡ [])
-Judges old new e (Some l) = (new ≡ old) × (sent_of old.rules old.placed e ≡ sent_by l ∷ []) × IsToBeSent old l.series l.t
+Judges old new e None = HasPlaced old new × (sent_of old.choice old.placed e ≡ [])
+Judges old new e (Some l) = (new ≡ old) × (sent_of old.choice old.placed e ≡ sent_by l ∷ []) × IsToBeSent old l.series l.t

@@ -8,7 +8,7 @@ ghost use Rattle.rw_feeder.specs.Feeders.{Reads, IsDropped, IsToBeSent, Judges, 
 
 use rw_history::History;
 use rw_ledger::{Ledger, Reason};
-use rw_relabel::Rules;
+use rw_relabel::Choice;
 use rw_router::{Routed, RoutedSample, Router};
 use rw_types::Entry;
 use rw_wal_tail::{Piece, Tail, TailFault, is_out_of_memory};
@@ -46,19 +46,19 @@ impl Model for Feeder {
 
     ghost Value = { Sorting };
 
-    ghost view = { λ f. record { rules = f.router.cache.rules; pieces = f.tail.pieces; placed = take f.count f.read; hand = drop f.count f.read } };
+    ghost view = { λ f. record { choice = f.router.cache.choice; pieces = f.tail.pieces; placed = take f.count f.read; hand = drop f.count f.read } };
 
     ghost invariant = { λ f. IsFeeder f.tail f.router f.part.names f.count (take f.count f.read) (drop f.count f.read) };
 }
 
 impl Feeder {
     /// Before the first piece of a log. This takes no memory.
-    pub fn new(alloc: Global, rules: Rules) -> Feeder
-        ensures { result ≡ record { rules = rules; pieces = []; placed = []; hand = [] } }
+    pub fn new(alloc: Global, choice: Choice) -> Feeder
+        ensures { result ≡ record { choice = choice; pieces = []; placed = []; hand = [] } }
     {
         Feeder {
             tail: Tail::new(alloc),
-            router: Router::new(alloc, rules),
+            router: Router::new(alloc, choice),
             part: Ledger::new(alloc),
             count: 0,
             read: History::new(),
@@ -144,8 +144,8 @@ impl Feeder {
 
     /// The samples that were dropped, and how many samples were placed whose series the rules drop.
     pub fn finish(self) -> (Ledger, u64)
-        ensures names { result.0.names ≡ named (dropped self.rules self.placed) }
-        ensures filtered { result.1 ≡ length (filtered self.rules self.placed) }
+        ensures names { result.0.names ≡ named (dropped self.choice self.placed) }
+        ensures filtered { result.1 ≡ length (filtered self.choice self.placed) }
     {
         let Feeder { part, router, .. } = self;
         (part, router.filtered())

@@ -5,7 +5,7 @@ use Rattle.std.specs.FinMap.{empty}
 use Rattle.rw_types.specs.Labels.{Labels}
 use Rattle.rw_types.specs.declared.entry.Entry.{Entry}
 use Rattle.rw_types.specs.declared.entry.Entry.TheVariants.{Def, Sample}
-use Rattle.rw_relabel.specs.Rules.{RuleConfig}
+use Rattle.rw_relabel.specs.declared.choice.Choice.{Choice}
 use Rattle.rw_series_cache.specs.Cached.{Taken}
 use Rattle.rw_series_cache.specs.Numbers.{series_of}
 use Rattle.rw_series_cache.specs.Rising.{IsNoted}
@@ -18,22 +18,23 @@ use Rattle.rw_inspect.specs.Troubles.{has_bad_labels, has_no_series, not_rising,
 use Rattle.rw_inspect.specs.declared.counts.Counts.{Counts}
 use Rattle.rw_inspect.specs.declared.sums.Sums.{Sums}
 use Rattle.rw_inspect.specs.declared.troubles.Trouble.{Trouble}
+use Rattle.rw_relabel.specs.Choices.{legacy}
 
 sums_of-push : (es : List Entry) (e : Entry) → sums_of (es ++ e ∷ []) ≡ with_entry (sums_of es) e
 unfolding sums_of
 sums_of-push es e = fold-append with_entry no_sums es (e ∷ [])
 
 -- before the first entry
-pub counter_none : (es here : List Entry) (rules : List RuleConfig) (cache : Taken) (sums hand : Sums) (troubles : List (ℕ × Trouble)) → es ≡ [] → here ≡ [] → rules ≡ []
-    → cache ≡ record { rules = rules; definitions = []; noted = empty } → sums ≡ no_sums → hand ≡ no_sums → troubles ≡ [] → IsCounter es here 0 cache sums hand troubles
+pub counter_none : (es here : List Entry) (choice : Choice) (cache : Taken) (sums hand : Sums) (troubles : List (ℕ × Trouble)) → es ≡ [] → here ≡ [] → choice ≡ legacy
+    → cache ≡ record { choice = choice; definitions = []; noted = empty } → sums ≡ no_sums → hand ≡ no_sums → troubles ≡ [] → IsCounter es here 0 cache sums hand troubles
 unfolding sums_of
-counter_none es here rules cache sums hand troubles e h r c s n t =
+counter_none es here choice cache sums hand troubles e h r c s n t =
     rw (e, h, t) record {
       counted = refl;
       cached = record {
-        rules = ap (λ (k : Taken). k.rules) c ∙ r;
+        choice = ap (λ (k : Taken). k.choice) c ∙ r;
         defined = sym (ap (λ (k : Taken). k.definitions) c);
-        noted = subst (IsNoted [] []) (sym (ap (λ (k : Taken). k.noted) c)) (noted_at_first []);
+        noted = subst (IsNoted legacy []) (sym (ap (λ (k : Taken). k.noted) c)) (noted_at_first legacy);
       };
       all = s;
       hand = n;
@@ -62,9 +63,9 @@ counter_definition es here now hand_now reference l count up cache new sums more
     let k = h.cached in
     counter_more es here now hand_now e count up cache new sums more hand hand_more troubles troubles h is hand_is one all_is here_is
     (record {
-      rules = ap (λ (c : Taken). c.rules) made ∙ k.rules;
+      choice = ap (λ (c : Taken). c.choice) made ∙ k.choice;
       defined = definitions_of-definition es reference l ∙ ap (λ ds. ds ++ e ∷ []) k.defined ∙ sym (ap (λ (c : Taken). c.definitions) made);
-      noted = subst (IsNoted [] (es ++ e ∷ [])) (sym (ap (λ (c : Taken). c.noted) made)) (noted_definition [] es reference l cache.noted k.noted);
+      noted = subst (IsNoted legacy (es ++ e ∷ [])) (sym (ap (λ (c : Taken). c.noted) made)) (noted_definition legacy es reference l cache.noted k.noted);
     })
     (sym (append-nil troubles))
 
@@ -84,13 +85,13 @@ counter_anew es here none count cache sums hand now troubles h e n = rw e record
 
 -- what is counted
 pub counted_all : (es here : List Entry) (count : ℕ) (cache : Taken) (sums hand : Sums) (troubles : List (ℕ × Trouble)) (sets series labels falling : ℕ) → IsCounter es here count cache sums hand troubles
-    → sets ≡ length (series_of cache.rules cache.definitions) → series ≡ count_by has_no_series troubles → labels ≡ count_by has_bad_labels troubles → falling ≡ length (not_rising troubles)
+    → sets ≡ length (series_of cache.choice cache.definitions) → series ≡ count_by has_no_series troubles → labels ≡ count_by has_bad_labels troubles → falling ≡ length (not_rising troubles)
     → ◌≡◌ {A = Counts} (record { sums = sums; label_sets = sets; without_series = series; bad_labels = labels; not_rising = falling }) (counts_of es)
 unfolding counts_of
 counted_all es here count cache sums hand troubles sets series labels falling h s a b c =
     let k = h.cached in
-    let all_sets : sets ≡ length (series_of [] es) =
-    s ∙ ap (λ rs. length (series_of rs cache.definitions)) k.rules ∙ ap (λ ds. length (series_of [] ds)) (sym k.defined) ∙ ap (λ ss. length ss) (series_of-definitions_of [] es) in
+    let all_sets : sets ≡ length (series_of legacy es) =
+    s ∙ ap (λ rs. length (series_of rs cache.definitions)) k.choice ∙ ap (λ ds. length (series_of legacy ds)) (sym k.defined) ∙ ap (λ ss. length ss) (series_of-definitions_of legacy es) in
     let none = a ∙ ap (count_by has_no_series) h.in_trouble in
     let bad = b ∙ ap (count_by has_bad_labels) h.in_trouble in
     let still = c ∙ ap (λ ts. length (not_rising ts)) h.in_trouble in

@@ -15,6 +15,7 @@ use Rattle.rw_inspect.specs.declared.counter.Judged.{Judged}
 use Rattle.rw_inspect.specs.declared.counter.Judged.TheVariants as judged
 use Rattle.rw_inspect.specs.declared.sums.Sums.{Sums}
 use Rattle.rw_inspect.specs.declared.troubles.Trouble.{Trouble}
+use Rattle.rw_relabel.specs.Choices.{legacy}
 
 -- the entries so far, and those of the segment at hand
 pub record Counted : Type 0 where
@@ -25,7 +26,7 @@ pub record Counted : Type 0 where
 unfoldable pub counts_of : List Entry → Counts
 counts_of entries = record {
   sums = sums_of entries;
-  label_sets = length (series_of [] entries);
+  label_sets = length (series_of legacy entries);
   without_series = count_by has_no_series (troubles_of entries);
   bad_labels = count_by has_bad_labels (troubles_of entries);
   not_rising = length (not_rising (troubles_of entries));
@@ -33,9 +34,9 @@ counts_of entries = record {
 
 -- a cache is that of these entries
 pub record IsCacheOf (entries : List Entry) (cache : Taken) : Type 0 where
-  pub rules : cache.rules ≡ []
+  pub choice : cache.choice ≡ legacy
   pub defined : definitions_of entries ≡ cache.definitions
-  pub noted : IsNoted [] entries cache.noted
+  pub noted : IsNoted legacy entries cache.noted
 
 -- the parts of a counter are those of its entries
 pub record IsCounter (entries here : List Entry) (count : ℕ) (cache : Taken) (sums sums_here : Sums) (troubles : List (ℕ × Trouble)) : Type 0 where
@@ -48,19 +49,19 @@ pub record IsCounter (entries here : List Entry) (count : ℕ) (cache : Taken) (
 -- a sample after these entries is one of the series of this number, and rises
 pub record Rises (before : List Entry) (reference : ℕ) (t : ℤ) (number : ℕ) : Type 0 where
   pub labels : Labels
-  pub stands : known [] before reference ≡ Kept labels
-  pub numbered : HasNumber (series_of [] before) labels number
-  pub rising : rises [] before labels t ≡ true
+  pub stands : known legacy before reference ≡ Kept labels
+  pub numbered : HasNumber (series_of legacy before) labels number
+  pub rising : rises legacy before labels t ≡ true
 
 -- a sample after these entries has no label set, or does not rise in it
 abbrev pub IsStill : List Entry → ℤ → Standing → Type 0
-IsStill before t (Kept l) = rises [] before l t ≡ false
+IsStill before t (Kept l) = rises legacy before l t ≡ false
 IsStill before t _ = Unit {0}
 
 -- what becomes of a sample after these entries
 abbrev pub JudgedAs : List Entry → ℕ → ℤ → Judged → Type 0
-JudgedAs before reference t (judged.InTrouble trouble) = (trouble_as before t (known [] before reference) ≡ (length before, trouble) ∷ []) × IsStill before t (known [] before reference)
-JudgedAs before reference t judged.Filtered = known [] before reference ≡ Filtered
+JudgedAs before reference t (judged.InTrouble trouble) = (trouble_as before t (known legacy before reference) ≡ (length before, trouble) ∷ []) × IsStill before t (known legacy before reference)
+JudgedAs before reference t judged.Filtered = known legacy before reference ≡ Filtered
 JudgedAs before reference t (judged.Rising number) = Rises before reference t number
 
 abbrev pub IsJudged : Taken → ℕ → ℤ → Judged → Type 0
@@ -68,7 +69,7 @@ IsJudged cache reference t judged = (before : List Entry) → IsCacheOf before c
 
 -- a sample that rises can be noted
 abbrev pub CanBeNoted : Taken → ℤ → Judged → Type 0
-CanBeNoted cache t (judged.Rising number) = (number < length (series_of cache.rules cache.definitions)) × (is_after (get cache.noted number) t ≡ true)
+CanBeNoted cache t (judged.Rising number) = (number < length (series_of cache.choice cache.definitions)) × (is_after (get cache.noted number) t ≡ true)
 CanBeNoted cache t _ = Unit {0}
 
 -- a sample was placed: a cache of the entries before it is one with it, and a trouble that it has is one more

@@ -7,6 +7,7 @@ use Rattle.rw_series_cache.specs.Rising.{rises}
 use Rattle.rw_feeder.specs.Logs.{gather}
 use Rattle.rw_inspect.specs.declared.troubles.Trouble.{Trouble}
 use Rattle.rw_inspect.specs.declared.troubles.Trouble.TheVariants.{NoSeries, BadLabels, NotRising}
+use Rattle.rw_relabel.specs.Choices.{legacy}
 
 -- A sample after these entries, of whose reference this is known: its reference has no definition before it, or one whose labels are no
 -- label set, or an earlier sample of its label set has the same timestamp or a later one. No rules are asked.
@@ -14,11 +15,11 @@ abbrev pub trouble_as : List Entry → ℤ → Standing → List (ℕ × Trouble
 trouble_as before t Unknown = (length before, NoSeries) ∷ []
 trouble_as before t (Bad f) = (length before, BadLabels) ∷ []
 trouble_as before t Filtered = []
-trouble_as before t (Kept l) = if rises [] before l t then [] else (length before, NotRising) ∷ []
+trouble_as before t (Kept l) = if rises legacy before l t then [] else (length before, NotRising) ∷ []
 
 abbrev pub trouble_of : List Entry → Entry → List (ℕ × Trouble)
 trouble_of before (Def reference labels) = []
-trouble_of before (Sample reference t word) = trouble_as before t (known [] before reference)
+trouble_of before (Sample reference t word) = trouble_as before t (known legacy before reference)
 
 -- the samples in trouble, each with its position
 abbrev pub troubles_of : List Entry → List (ℕ × Trouble)

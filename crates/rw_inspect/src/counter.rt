@@ -9,7 +9,7 @@ use crate::counts::Counts;
 use crate::sums::{Sums, one_more};
 use crate::troubles::{Trouble, Troubles};
 use rw_history::History;
-use rw_relabel::Rules;
+use rw_relabel::Choice;
 use rw_series_cache::{Cache, Known};
 use rw_types::Entry;
 use std::alloc::{AllocError, Global};
@@ -96,7 +96,7 @@ impl Counter {
             taken: History::new(),
             here: History::new(),
             count: 0,
-            cache: Cache::new(alloc, Rules::new(Vec::new(alloc))),
+            cache: Cache::new(alloc, Choice::legacy(alloc)),
             sums: Sums::new(),
             sums_here: Sums::new(),
             troubles: Troubles::new(alloc),

@@ -10,7 +10,8 @@ use Rattle.rw_types.specs.Labels.{Labels, label_fault}
 use Rattle.rw_types.specs.declared.entry.Entry.{Entry}
 use Rattle.rw_types.specs.declared.entry.Entry.TheVariants.{Def, Sample}
 use Rattle.rw_types.specs.declared.label_fault.LabelFault.{LabelFault}
-use Rattle.rw_relabel.specs.Rules.{RuleConfig, keeps}
+use Rattle.rw_relabel.specs.Rules.{keeps}
+use Rattle.rw_relabel.specs.declared.choice.Choice.{Choice}
 use Rattle.rw_series_cache.specs.Cached.{Taken}
 use Rattle.rw_series_cache.specs.Found.{Answers, standing_in, IsOfSeries}
 use Rattle.rw_series_cache.specs.Known.{Standing, Unknown, Bad, Filtered, Kept, standing_of, standing_by, standing_of_set, known, is_definition, definitions_of}
@@ -30,13 +31,13 @@ each_after-push f before (d ∷ es) e =
     ∙ ap (λ b. f before d ++ (each_after f (before ++ d ∷ []) es ++ f b e)) (append_assoc before (d ∷ []) es)
     ∙ sym (append_assoc (f before d) (each_after f (before ++ d ∷ []) es) (f (before ++ d ∷ es) e))
 
-lines-push : (rules : List RuleConfig) (es : List Entry) (e : Entry) → lines rules (es ++ e ∷ []) ≡ lines rules es ++ line_of rules es e
+lines-push : (choice : Choice) (es : List Entry) (e : Entry) → lines choice (es ++ e ∷ []) ≡ lines choice es ++ line_of choice es e
 unfolding lines
-lines-push rules es e = each_after-push (line_of rules) [] es e
+lines-push choice es e = each_after-push (line_of choice) [] es e
 
-standings-push : (rules : List RuleConfig) (es : List Entry) (e : Entry) → standings rules (es ++ e ∷ []) ≡ standings rules es ++ standing_at rules es e
+standings-push : (choice : Choice) (es : List Entry) (e : Entry) → standings choice (es ++ e ∷ []) ≡ standings choice es ++ standing_at choice es e
 unfolding standings
-standings-push rules es e = each_after-push (standing_at rules) [] es e
+standings-push choice es e = each_after-push (standing_at choice) [] es e
 
 count_by-push : {X : Type 0} (p : X → Bool) (xs : List X) (x : X) → count_by p (xs ++ x ∷ []) ≡ cond (p x) (count_by p xs + 1) (count_by p xs)
 count_by-push p xs x = sum_by_push (λ y. cond (p y) 1 0) xs x ∙ plus (p x) (count_by p xs)
@@ -75,18 +76,18 @@ line_as series reference l (found.Kept number labels) true h n =
 line_as series reference l (found.Kept number labels) false h n = absurd cc
 
 -- what is known of a reference after its definition
-known_own : (rules : List RuleConfig) (es : List Entry) (reference : ℕ) (l : Labels) → known rules (es ++ Def reference l ∷ []) reference ≡ standing_of rules (Some l)
-known_own rules es reference l =
-    known-definition rules es reference l reference ∙ ap (λ b. cond b (standing_of rules (Some l)) (known rules es reference)) (eq-eqb reference reference refl)
+known_own : (choice : Choice) (es : List Entry) (reference : ℕ) (l : Labels) → known choice (es ++ Def reference l ∷ []) reference ≡ standing_of choice (Some l)
+known_own choice es reference l =
+    known-definition choice es reference l reference ∙ ap (λ b. cond b (standing_of choice (Some l)) (known choice es reference)) (eq-eqb reference reference refl)
 
-set_stands : (rules : List RuleConfig) (l : Labels) → label_fault l ≡ None → standing_of rules (Some l) ≡ standing_of_set (keeps rules l) l
-set_stands rules l e = ap (standing_by rules l) e
+set_stands : (choice : Choice) (l : Labels) → label_fault choice.names l ≡ None → standing_of choice (Some l) ≡ standing_of_set (keeps choice.rules l) l
+set_stands choice l e = ap (standing_by choice l) e
 
-pub line_found : (rules : List RuleConfig) (es : List Entry) (reference : ℕ) (l : Labels) (answer : Known) → label_fault l ≡ None → Answers rules (es ++ Def reference l ∷ []) reference answer
-    → found_text reference l answer ≡ line_of rules es (Def reference l)
-line_found rules es reference l answer e h =
-    line_as (series_of rules (es ++ Def reference l ∷ [])) reference l answer (keeps rules l) (h.standing ∙ known_own rules es reference l ∙ set_stands rules l e) h.number
-    ∙ ap (definition_text (series_of rules (es ++ Def reference l ∷ [])) reference l) (sym (set_stands rules l e))
+pub line_found : (choice : Choice) (es : List Entry) (reference : ℕ) (l : Labels) (answer : Known) → label_fault choice.names l ≡ None → Answers choice (es ++ Def reference l ∷ []) reference answer
+    → found_text reference l answer ≡ line_of choice es (Def reference l)
+line_found choice es reference l answer e h =
+    line_as (series_of choice (es ++ Def reference l ∷ [])) reference l answer (keeps choice.rules l) (h.standing ∙ known_own choice es reference l ∙ set_stands choice l e) h.number
+    ∙ ap (definition_text (series_of choice (es ++ Def reference l ∷ [])) reference l) (sym (set_stands choice l e))
 
 on_ok : {T E : Type 0} (r : Result T E) (P Q : Type 0) → (P → Q) → OnOk r P → OnOk r Q
 on_ok (Ok x) P Q f h = f h
@@ -94,77 +95,77 @@ on_ok (Err e) P Q f h = tt
 
 -- the line of a label set that was defined and then looked up
 pub set_line : {T E : Type 0} (old new : Taken) (reference : ℕ) (labels set : Labels) (answer : Known) (text now : List ℕ) (r : Result T E)
-    → new ≡ record old { definitions = old.definitions ++ Def reference labels ∷ [] } → set ≡ labels → label_fault labels ≡ None
-    → ((es : List Entry) → definitions_of es ≡ new.definitions → Answers new.rules es reference answer)
+    → new ≡ record old { definitions = old.definitions ++ Def reference labels ∷ [] } → set ≡ labels → label_fault old.choice.names labels ≡ None
+    → ((es : List Entry) → definitions_of es ≡ new.definitions → Answers new.choice es reference answer)
     → OnOk r (now ≡ text ++ found_text reference set answer)
-    → (es : List Entry) → definitions_of es ≡ old.definitions → OnOk r (now ≡ text ++ line_of old.rules es (Def reference labels))
+    → (es : List Entry) → definitions_of es ≡ old.definitions → OnOk r (now ≡ text ++ line_of old.choice es (Def reference labels))
 set_line old new reference labels set answer text now r defined same label_set answers pushed es taken =
     let here : definitions_of (es ++ Def reference labels ∷ []) ≡ new.definitions =
     definitions_of-definition es reference labels ∙ ap (λ ds. ds ++ Def reference labels ∷ []) taken ∙ sym (ap (λ (k : Taken). k.definitions) defined) in
-    let found : Answers old.rules (es ++ Def reference labels ∷ []) reference answer =
-    subst (λ rs. Answers rs (es ++ Def reference labels ∷ []) reference answer) (ap (λ (k : Taken). k.rules) defined) (answers (es ++ Def reference labels ∷ []) here) in
-    let line = line_found old.rules es reference labels answer label_set found in
-    on_ok r (now ≡ text ++ found_text reference set answer) (now ≡ text ++ line_of old.rules es (Def reference labels))
+    let found : Answers old.choice (es ++ Def reference labels ∷ []) reference answer =
+    subst (λ rs. Answers rs (es ++ Def reference labels ∷ []) reference answer) (ap (λ (k : Taken). k.choice) defined) (answers (es ++ Def reference labels ∷ []) here) in
+    let line = line_found old.choice es reference labels answer label_set found in
+    on_ok r (now ≡ text ++ found_text reference set answer) (now ≡ text ++ line_of old.choice es (Def reference labels))
     (λ e. e ∙ ap (λ l. text ++ found_text reference l answer) same ∙ ap (λ x. text ++ x) line) pushed
 
 -- the line of labels that have a fault
-pub line_bad : (rules : List RuleConfig) (es : List Entry) (reference : ℕ) (l : Labels) (f : LabelFault) → label_fault l ≡ Some f → bad_text reference f ≡ line_of rules es (Def reference l)
-line_bad rules es reference l f e = ap (definition_text (series_of rules (es ++ Def reference l ∷ [])) reference l) (sym (bad_labels rules l f e))
+pub line_bad : (choice : Choice) (es : List Entry) (reference : ℕ) (l : Labels) (f : LabelFault) → label_fault choice.names l ≡ Some f → bad_text reference f ≡ line_of choice es (Def reference l)
+line_bad choice es reference l f e = ap (definition_text (series_of choice (es ++ Def reference l ∷ [])) reference l) (sym (bad_labels choice l f e))
 
 -- a planner keeps its part whatever stands for its rules
-same_rules : (rules now : List RuleConfig) (es : List Entry) (cached : Taken) (text : List ℕ) (counts : SampleCounts) → now ≡ rules → IsPlanned rules es cached text counts → IsPlanned now es cached text counts
-same_rules rules now es cached text counts e h = subst (λ rs. IsPlanned rs es cached text counts) (sym e) h
+same_rules : (choice now : Choice) (es : List Entry) (cached : Taken) (text : List ℕ) (counts : SampleCounts) → now ≡ choice → IsPlanned choice es cached text counts → IsPlanned now es cached text counts
+same_rules choice now es cached text counts e h = subst (λ rs. IsPlanned rs es cached text counts) (sym e) h
 
 -- before the first entry
-pub planned_none : (rules : List RuleConfig) (es : List Entry) (cached : Taken) (text : List ℕ) → es ≡ [] → cached ≡ record { rules = rules; definitions = []; noted = empty } → text ≡ []
-    → IsPlanned cached.rules es cached text (record { kept = 0; filtered = 0; bad = 0; noseries = 0 })
+pub planned_none : (choice : Choice) (es : List Entry) (cached : Taken) (text : List ℕ) → es ≡ [] → cached ≡ record { choice = choice; definitions = []; noted = empty } → text ≡ []
+    → IsPlanned cached.choice es cached text (record { kept = 0; filtered = 0; bad = 0; noseries = 0 })
 unfolding lines standings counts_of
-planned_none rules es cached text e c t =
+planned_none choice es cached text e c t =
     rw e
-    (same_rules rules cached.rules [] cached text (record { kept = 0; filtered = 0; bad = 0; noseries = 0 }) (ap (λ (k : Taken). k.rules) c)
+    (same_rules choice cached.choice [] cached text (record { kept = 0; filtered = 0; bad = 0; noseries = 0 }) (ap (λ (k : Taken). k.choice) c)
     (record { cache = c; lines = t; counts = refl }))
 
 -- the definitions in the cache are those of the entries
-definitions_cached : (es : List Entry) (cached : Taken) (text : List ℕ) (counts : SampleCounts) → IsPlanned cached.rules es cached text counts → definitions_of es ≡ cached.definitions
+definitions_cached : (es : List Entry) (cached : Taken) (text : List ℕ) (counts : SampleCounts) → IsPlanned cached.choice es cached text counts → definitions_of es ≡ cached.definitions
 definitions_cached es cached text counts h = sym (ap (λ (k : Taken). k.definitions) h.cache)
 
 -- a definition was taken
 pub planned_definition : (es : List Entry) (cached new : Taken) (text now : List ℕ) (counts : SampleCounts) (reference : ℕ) (l : Labels)
-    → IsPlanned cached.rules es cached text counts → new ≡ record cached { definitions = cached.definitions ++ Def reference l ∷ [] }
-    → ((before : List Entry) → definitions_of before ≡ cached.definitions → now ≡ text ++ line_of cached.rules before (Def reference l))
-    → IsPlanned new.rules (es ++ Def reference l ∷ []) new now counts
+    → IsPlanned cached.choice es cached text counts → new ≡ record cached { definitions = cached.definitions ++ Def reference l ∷ [] }
+    → ((before : List Entry) → definitions_of before ≡ cached.definitions → now ≡ text ++ line_of cached.choice before (Def reference l))
+    → IsPlanned new.choice (es ++ Def reference l ∷ []) new now counts
 planned_definition es cached new text now counts reference l h c line =
-    let rules = cached.rules in
-    same_rules rules new.rules (es ++ Def reference l ∷ []) new now counts (ap (λ (k : Taken). k.rules) c)
+    let choice = cached.choice in
+    same_rules choice new.choice (es ++ Def reference l ∷ []) new now counts (ap (λ (k : Taken). k.choice) c)
     (record {
       cache =
           c ∙ ap (λ (k : Taken). record k { definitions = k.definitions ++ Def reference l ∷ [] }) h.cache
-          ∙ ap (λ ds. record { rules = rules; definitions = ds; noted = empty }) (sym (definitions_of-definition es reference l));
+          ∙ ap (λ ds. record { choice = choice; definitions = ds; noted = empty }) (sym (definitions_of-definition es reference l));
       lines =
-          line es (definitions_cached es cached text counts h) ∙ ap (λ x. x ++ line_of rules es (Def reference l)) h.lines
-          ∙ sym (lines-push rules es (Def reference l));
-      counts = h.counts ∙ ap counts_of (sym (standings-push rules es (Def reference l) ∙ append-nil (standings rules es)));
+          line es (definitions_cached es cached text counts h) ∙ ap (λ x. x ++ line_of choice es (Def reference l)) h.lines
+          ∙ sym (lines-push choice es (Def reference l));
+      counts = h.counts ∙ ap counts_of (sym (standings-push choice es (Def reference l) ∙ append-nil (standings choice es)));
     })
 
 -- a sample was counted
 pub planned_sample : (es : List Entry) (cached : Taken) (text : List ℕ) (counts now : SampleCounts) (reference : ℕ) (t : ℤ) (word : ℕ)
-    → IsPlanned cached.rules es cached text counts
-    → ((before : List Entry) → definitions_of before ≡ cached.definitions → now ≡ with_sample counts (known cached.rules before reference))
-    → IsPlanned cached.rules (es ++ Sample reference t word ∷ []) cached text now
+    → IsPlanned cached.choice es cached text counts
+    → ((before : List Entry) → definitions_of before ≡ cached.definitions → now ≡ with_sample counts (known cached.choice before reference))
+    → IsPlanned cached.choice (es ++ Sample reference t word ∷ []) cached text now
 planned_sample es cached text counts now reference t word h counted =
-    let rules = cached.rules in
+    let choice = cached.choice in
     record {
-      cache = h.cache ∙ ap (λ ds. record { rules = rules; definitions = ds; noted = empty }) (sym (definitions_of-sample es reference t word));
-      lines = h.lines ∙ sym (lines-push rules es (Sample reference t word) ∙ append-nil (lines rules es));
+      cache = h.cache ∙ ap (λ ds. record { choice = choice; definitions = ds; noted = empty }) (sym (definitions_of-sample es reference t word));
+      lines = h.lines ∙ sym (lines-push choice es (Sample reference t word) ∙ append-nil (lines choice es));
       counts =
-          counted es (definitions_cached es cached text counts h) ∙ ap (λ (k : SampleCounts). with_sample k (known rules es reference)) h.counts
-          ∙ sym (counts_of-push (standings rules es) (known rules es reference))
-          ∙ ap counts_of (sym (standings-push rules es (Sample reference t word)));
+          counted es (definitions_cached es cached text counts h) ∙ ap (λ (k : SampleCounts). with_sample k (known choice es reference)) h.counts
+          ∙ sym (counts_of-push (standings choice es) (known choice es reference))
+          ∙ ap counts_of (sym (standings-push choice es (Sample reference t word)));
     }
 
 -- the lines and then the counts are the plan
-pub planned_text : (rules : List RuleConfig) (es : List Entry) (cached : Taken) (text out : List ℕ) (counts : SampleCounts) → IsPlanned rules es cached text counts
-    → out ≡ text ++ counts_text counts → out ≡ plan_text rules es
+pub planned_text : (choice : Choice) (es : List Entry) (cached : Taken) (text out : List ℕ) (counts : SampleCounts) → IsPlanned choice es cached text counts
+    → out ≡ text ++ counts_text counts → out ≡ plan_text choice es
 unfolding plan_text
-planned_text rules es cached text out counts h e =
-    e ∙ ap (λ x. x ++ counts_text counts) h.lines ∙ ap (λ (k : SampleCounts). lines rules es ++ counts_text k) h.counts
+planned_text choice es cached text out counts h e =
+    e ∙ ap (λ x. x ++ counts_text counts) h.lines ∙ ap (λ (k : SampleCounts). lines choice es ++ counts_text k) h.counts

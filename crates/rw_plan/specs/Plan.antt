@@ -5,7 +5,7 @@ use Rattle.rw_types.specs.declared.entry.Entry.{Entry}
 use Rattle.rw_types.specs.declared.entry.Entry.TheVariants.{Def, Sample}
 use Rattle.rw_types.specs.declared.label_fault.LabelFault.{LabelFault}
 use Rattle.rw_codes.specs.Pieces.{bytes, entries}
-use Rattle.rw_relabel.specs.Rules.{RuleConfig}
+use Rattle.rw_relabel.specs.declared.choice.Choice.{Choice}
 use Rattle.rw_series_cache.specs.Known.{Standing, Unknown, Bad, Filtered, Kept, standing_of, known, label_fault_number}
 use Rattle.rw_series_cache.specs.Numbers.{series_of, number_of}
 use Rattle.rw_text.specs.LabelText.{labels_text}
@@ -29,15 +29,15 @@ definition_text series reference labels Filtered = filtered_text reference label
 definition_text series reference labels (Kept l) = kept_text reference (number_of series l) l
 
 -- the line that an entry gives, after those before
-abbrev pub line_of : List RuleConfig → List Entry → Entry → List ℕ
-line_of rules before (Sample reference t word) = []
-line_of rules before (Def reference labels) =
-    definition_text (series_of rules (before ++ Def reference labels ∷ [])) reference labels (standing_of rules (Some labels))
+abbrev pub line_of : Choice → List Entry → Entry → List ℕ
+line_of choice before (Sample reference t word) = []
+line_of choice before (Def reference labels) =
+    definition_text (series_of choice (before ++ Def reference labels ∷ [])) reference labels (standing_of choice (Some labels))
 
 -- what is known of the reference of a sample, after the entries before it
-abbrev pub standing_at : List RuleConfig → List Entry → Entry → List Standing
-standing_at rules before (Sample reference t word) = known rules before reference ∷ []
-standing_at rules before (Def reference labels) = []
+abbrev pub standing_at : Choice → List Entry → Entry → List Standing
+standing_at choice before (Sample reference t word) = known choice before reference ∷ []
+standing_at choice before (Def reference labels) = []
 
 -- what entries give, each after those before
 abbrev pub each_after : {A : Type 0} → (List Entry → Entry → List A) → List Entry → List Entry → List A
@@ -45,12 +45,12 @@ each_after f before [] = []
 each_after f before (e ∷ es) = f before e ++ each_after f (before ++ e ∷ []) es
 
 -- the lines of the definitions
-unfoldable pub lines : List RuleConfig → List Entry → List ℕ
-lines rules es = each_after (line_of rules) [] es
+unfoldable pub lines : Choice → List Entry → List ℕ
+lines choice es = each_after (line_of choice) [] es
 
 -- what is known of the samples, in order
-unfoldable pub standings : List RuleConfig → List Entry → List Standing
-standings rules es = each_after (standing_at rules) [] es
+unfoldable pub standings : Choice → List Entry → List Standing
+standings choice es = each_after (standing_at choice) [] es
 
 abbrev pub is_kept : Standing → Bool
 is_kept (Kept l) = true
@@ -88,9 +88,9 @@ counts_text c =
     ++ count_text (codes " noseries ") c.noseries ++ codes "\n"
 
 -- the plan of some entries
-unfoldable pub plan_text : List RuleConfig → List Entry → List ℕ
-plan_text rules es = lines rules es ++ counts_text (counts_of (standings rules es))
+unfoldable pub plan_text : Choice → List Entry → List ℕ
+plan_text choice es = lines choice es ++ counts_text (counts_of (standings choice es))
 
 -- the plan of a segment
-abbrev pub plan_of : List RuleConfig → List ℕ → List ℕ
-plan_of rules segment = plan_text rules (entries (bytes segment ∷ []))
+abbrev pub plan_of : Choice → List ℕ → List ℕ
+plan_of choice segment = plan_text choice (entries (bytes segment ∷ []))

@@ -2,7 +2,7 @@
 use Rattle.std.specs.Prelude.{◌≡◌, ℕ, ◌+◌, List, Bool}
 use Rattle.std.specs.FinMap.{empty}
 use Rattle.rw_types.specs.declared.entry.Entry.{Entry}
-use Rattle.rw_relabel.specs.Rules.{RuleConfig}
+use Rattle.rw_relabel.specs.declared.choice.Choice.{Choice}
 use Rattle.rw_series_cache.specs.Cached.{Taken}
 use Rattle.rw_series_cache.specs.Known.{Standing, Unknown, Bad, Filtered, Kept, definitions_of}
 use Rattle.rw_series_cache.specs.declared.known.Known.{Known}
@@ -13,15 +13,15 @@ use Rattle.rw_plan.specs.declared.counts.SampleCounts.{SampleCounts}
 
 -- the rules, the entries so far, and whether a call was refused
 pub record Planned : Type 0 where
-  pub rules : List RuleConfig
+  pub choice : Choice
   pub entries : List Entry
   pub has_failed : Bool
 
 -- the cache has the definitions and notes nothing, and lines and counts are those of the entries
-pub record IsPlanned (rules : List RuleConfig) (entries : List Entry) (cached : Taken) (text : List ℕ) (counted : SampleCounts) : Type 0 where
-  pub cache : cached ≡ record { rules = rules; definitions = definitions_of entries; noted = empty }
-  pub lines : text ≡ lines rules entries
-  pub counts : counted ≡ counts_of (standings rules entries)
+pub record IsPlanned (choice : Choice) (entries : List Entry) (cached : Taken) (text : List ℕ) (counted : SampleCounts) : Type 0 where
+  pub cache : cached ≡ record { choice = choice; definitions = definitions_of entries; noted = empty }
+  pub lines : text ≡ lines choice entries
+  pub counts : counted ≡ counts_of (standings choice entries)
 
 -- the counts once a sample stands so
 abbrev pub with_sample : SampleCounts → Standing → SampleCounts

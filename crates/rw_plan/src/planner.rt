@@ -9,7 +9,7 @@ ghost use Rattle.rw_plan.specs.Planned.{with_sample};
 use crate::counts::SampleCounts;
 use crate::lines::{push_bad, push_found};
 use rw_history::History;
-use rw_relabel::Rules;
+use rw_relabel::Choice;
 use rw_series_cache::Cache;
 use rw_types::{Entry, LabelFault, LabelSet, RawLabels};
 use std::alloc::{AllocError, Global};
@@ -32,9 +32,9 @@ impl Model for Planner {
 
     ghost Value = { Planned };
 
-    ghost view = { λ p. record { rules = p.cache.rules; entries = p.taken; has_failed = p.has_failed } };
+    ghost view = { λ p. record { choice = p.cache.choice; entries = p.taken; has_failed = p.has_failed } };
 
-    ghost invariant = { λ p. p.has_failed ≡ false → IsPlanned p.cache.rules p.taken p.cache p.lines.items p.counts };
+    ghost invariant = { λ p. p.has_failed ≡ false → IsPlanned p.cache.choice p.taken p.cache p.lines.items p.counts };
 }
 
 /// Takes a definition, and adds its line.
@@ -47,9 +47,9 @@ fn define(
 ) -> Result<(), AllocError>
     ensures cache { OnOk result (cache.new ≡ record cache.old { definitions = cache.old.definitions ++ Entry.Def reference labels ∷ [] }) }
     ensures lines { (entries : List Entry) → definitions_of entries ≡ cache.old.definitions
-        → OnOk result (lines.new.items ≡ lines.old.items ++ line_of cache.old.rules entries (Entry.Def reference labels)) }
+        → OnOk result (lines.new.items ≡ lines.old.items ++ line_of cache.old.choice entries (Entry.Def reference labels)) }
 {
-    match LabelSet::check(alloc, &labels) {
+    match LabelSet::check_as(alloc, cache.names(), &labels) {
         Ok(set) => {
             cache.define(reference, labels)?;
             push_found(lines, reference, &set, &cache.look(reference))
@@ -65,20 +65,20 @@ fn define(
 /// Counts a sample.
 fn count(cache: &Cache, counts: &mut SampleCounts, reference: u64) -> Result<(), AllocError>
     ensures { (entries : List Entry) → definitions_of entries ≡ cache.now.definitions
-        → OnOk result (counts.new ≡ with_sample counts.old (known cache.now.rules entries reference)) }
+        → OnOk result (counts.new ≡ with_sample counts.old (known cache.now.choice entries reference)) }
 {
     counts.count(&cache.look(reference))
 }
 
 impl Planner {
     /// Before the first entry.
-    pub fn new(alloc: Global, rules: Rules) -> Planner
-        ensures { result ≡ record { rules = rules; entries = []; has_failed = false } }
+    pub fn new(alloc: Global, choice: Choice) -> Planner
+        ensures { result ≡ record { choice = choice; entries = []; has_failed = false } }
     {
         Planner {
             alloc,
             taken: History::new(),
-            cache: Cache::new(alloc, rules),
+            cache: Cache::new(alloc, choice),
             lines: Vec::new(alloc),
             counts: SampleCounts {
                 kept: 0,
@@ -119,7 +119,7 @@ impl Planner {
 
     /// The plan of the entries. A planner of which a call was refused has none.
     pub fn into_text(self) -> Result<Vec<u8>, AllocError>
-        ensures text { IfOk result (λ v. v.items ≡ plan_text self.rules self.entries) }
+        ensures text { IfOk result (λ v. v.items ≡ plan_text self.choice self.entries) }
         ensures sound { OnOk result (self.has_failed ≡ false) }
     {
         let Planner {

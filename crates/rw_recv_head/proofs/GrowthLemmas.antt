@@ -3,17 +3,15 @@ use Rattle.std.proofs.Common.{◌≡◌, ℕ, ◌+◌, ◌≤◌, List, [], ◌�
 use Rattle.std.specs.FinMap.{empty}
 use Rattle.std.proofs.lemmas.List.{append-nil, length_push, length-map}
 use Rattle.std.proofs.lemmas.List.Sums.{sum_by-cons}
-use Rattle.std.specs.Prelude.{is_some}
-use Rattle.rw_types.specs.Labels.{Labels, label_fault}
+use Rattle.rw_types.specs.Labels.{Labels}
 use Rattle.rw_types.specs.LabelOrder.{labels_eq}
 use Rattle.rw_write_request.specs.Message.{TimeSeries, WriteRequest}
 use Rattle.rw_recv_head.specs.declared.verdict.Verdict.{Verdict}
-use Rattle.rw_recv_head.specs.declared.verdict.Verdict.TheVariants.{BadLabels, OverLimit}
 use Rattle.rw_recv_head.specs.Order.{Point, point_of, points, is_later, holds, accept_one, accept}
 use Rattle.rw_recv_head.specs.Store.{Store, list_of, with_list, total, HasNoEmptyList}
-use Rattle.rw_recv_head.specs.Verdicts.{LabelLimits, is_over, refusal, accepted, taken_unless, taken, taken_all}
+use Rattle.rw_recv_head.specs.Verdicts.{LabelLimits, refusal, accepted, taken_unless, taken, taken_all}
 use Rattle.rw_recv_head.specs.Lists.{Rises, Stores, has_samples}
-use Rattle.rw_recv_head.specs.Growth.{sample_count, EachRises, IsReady, HoldsNoneOver}
+use Rattle.rw_recv_head.specs.Growth.{sample_count, EachRises, IsReady, HoldsNoneRefused}
 use Rattle.rw_types.proofs.OrderLemmas.{same_if_equal}
 use Rattle.rw_recv_head.specs.Blocks.{Begins, KeepsBlocks}
 use Rattle.rw_recv_head.proofs.BlockLemmas.{sealed_begins}
@@ -171,40 +169,36 @@ blocks_kept old new n g = λ l. sealed_begins (list_of old l) (list_of new l) (g
 pub blocks_same : (old new : Store) → new ≡ old → KeepsBlocks old new
 blocks_same old new e = λ l. sealed_begins (list_of old l) (list_of new l) (subst (λ s. Begins (list_of old l) (list_of s l)) (sym e) (begins_itself (list_of old l)))
 
--- ---- no label set is larger than the limits
-none_over_empty : (limits : LabelLimits) → HoldsNoneOver limits empty
-none_over_empty limits l e = let none : has_samples (list_of empty l) ≡ false = ap has_samples (list_of-empty l) in absurd cc
+-- ---- no label set that is held is refused
+none_refused_empty : (limits : LabelLimits) → HoldsNoneRefused limits empty
+none_refused_empty limits l e = let none : has_samples (list_of empty l) ≡ false = ap has_samples (list_of-empty l) in absurd cc
 
 -- a head begins so
-pub ready_first : (limits : LabelLimits) (stores : Stores) → stores ≡ record { kept = empty; staged = empty; noted = 0 } → IsReady stores × HoldsNoneOver limits stores.kept
+pub ready_first : (limits : LabelLimits) (stores : Stores) → stores ≡ record { kept = empty; staged = empty; noted = 0 }
+    → IsReady stores × HoldsNoneRefused limits stores.kept
 ready_first limits stores e = (
   subst IsReady (sym e) (record { settled = refl; rises = EachRises-empty; filled = HasNoEmptyList-empty; unnoted = refl }),
-  subst (λ (s : Stores). HoldsNoneOver limits s.kept) (sym e) (none_over_empty limits),
+  subst (λ (s : Stores). HoldsNoneRefused limits s.kept) (sym e) (none_refused_empty limits),
 )
 
-not_over : (limits : LabelLimits) (l : Labels) (fault over : Bool) → is_over limits l ≡ over → cond fault (Some BadLabels) (cond over (Some OverLimit) None) ≡ None → is_over limits l ≡ false
-not_over limits l true over e none = absurd cc
-not_over limits l false true e none = absurd cc
-not_over limits l false false e none = e
-
-put_within : (limits : LabelLimits) (l q : Labels) (xs : List Point) (s : Store) (b : Bool) → HoldsNoneOver limits s → is_over limits l ≡ false → labels_eq q l ≡ b
-    → has_samples (cond b xs (list_of s q)) ≡ true → is_over limits q ≡ false
-put_within limits l q xs s true h within e some = ap (is_over limits) (same_if_equal q l e) ∙ within
+put_within : (limits : LabelLimits) (l q : Labels) (xs : List Point) (s : Store) (b : Bool) → HoldsNoneRefused limits s → refusal limits l ≡ None → labels_eq q l ≡ b
+    → has_samples (cond b xs (list_of s q)) ≡ true → refusal limits q ≡ None
+put_within limits l q xs s true h within e some = ap (refusal limits) (same_if_equal q l e) ∙ within
 put_within limits l q xs s false h within e some = h q some
 
-accepted_within : (limits : LabelLimits) (l : Labels) (s next : Store) (o : Option (List Point)) → HoldsNoneOver limits s → is_over limits l ≡ false → accepted l s o ≡ Ok next → HoldsNoneOver limits next
+accepted_within : (limits : LabelLimits) (l : Labels) (s next : Store) (o : Option (List Point)) → HoldsNoneRefused limits s → refusal limits l ≡ None
+    → accepted l s o ≡ Ok next → HoldsNoneRefused limits next
 accepted_within limits l s next None h within e = absurd cc
 accepted_within limits l s next (Some xs) h within e =
     let same : with_list l xs s ≡ next = cc in
-    subst (HoldsNoneOver limits) same
+    subst (HoldsNoneRefused limits) same
     (λ q some. put_within limits l q xs s (labels_eq q l) h within refl (ap has_samples (sym (list_of-with_list l xs s q)) ∙ some))
 
-unless_within : (limits : LabelLimits) (s next : Store) (x : TimeSeries) (o : Option Verdict) → HoldsNoneOver limits s → refusal limits x.labels ≡ o → taken_unless o s x ≡ Ok next → HoldsNoneOver limits next
+unless_within : (limits : LabelLimits) (s next : Store) (x : TimeSeries) (o : Option Verdict) → HoldsNoneRefused limits s → refusal limits x.labels ≡ o
+    → taken_unless o s x ≡ Ok next → HoldsNoneRefused limits next
 unless_within limits s next x (Some v) h e given = absurd cc
-unless_within limits s next x None h e given =
-    accepted_within limits x.labels s next (accept (Some (list_of s x.labels)) (points x.samples)) h
-    (not_over limits x.labels (is_some (label_fault x.labels)) (is_over limits x.labels) refl e) given
+unless_within limits s next x None h e given = accepted_within limits x.labels s next (accept (Some (list_of s x.labels)) (points x.samples)) h e given
 
 -- a series that is taken is not
-pub taken_within : (limits : LabelLimits) (x : TimeSeries) (s next : Store) → HoldsNoneOver limits s → taken limits s x ≡ Ok next → HoldsNoneOver limits next
+pub taken_within : (limits : LabelLimits) (x : TimeSeries) (s next : Store) → HoldsNoneRefused limits s → taken limits s x ≡ Ok next → HoldsNoneRefused limits next
 taken_within limits x s next h given = unless_within limits s next x (refusal limits x.labels) h refl given

@@ -24,9 +24,9 @@ use Rattle.rw_recv_head.specs.declared.verdict.Verdict.{Verdict}
 use Rattle.rw_recv_head.specs.declared.verdict.Verdict.TheVariants.{NoMemory}
 use Rattle.std.specs.Prelude.{OnOk, IfErr}
 use Rattle.rw_recv_head.specs.Verdicts.{LabelLimits, refusal, accepted, taken_unless, taken}
-use Rattle.rw_recv_head.specs.Growth.{HoldsNoneOver}
+use Rattle.rw_recv_head.specs.Growth.{HoldsNoneRefused}
 use Rattle.rw_recv_head.specs.Lists.{Lists, no_lists, ListGives, StoreGives, IsSound, IsFresh, IsAdded, AllFilled, has_samples, with_samples, AreWithin, listed, store_of_lists, kept_store, staged_store, HasPlaces, Settled}
-use Rattle.rw_recv_head.specs.Names.{below, HasNoneOver}
+use Rattle.rw_recv_head.specs.Names.{below, HasNoneRefused}
 use Rattle.rw_recv_head.proofs.OrderLemmas.{accept-none}
 use Rattle.rw_recv_head.proofs.StoreLemmas.{list_of-empty, list_of-with_list, HasNoEmptyList-empty, HasNoEmptyList-with_list, same_store, with_list-same, total-with_list, total-empty, list_of-few, and_left, is_less, find_below}
 
@@ -156,9 +156,10 @@ staged-added lists index new l x h u =
     ∙ added_at f x lists index q (get labels_cmp index q) (labels_eq l q) (labels_eq q l) h (turned_eq l q _ _ refl refl) refl
     ∙ ap (cond (labels_eq q l) x.staged) (sym (list_of-store f index.entries lists q)) ∙ sym (list_of-with_list l x.staged s q))
 
--- where no label set that has samples is larger than the limits, none is that has a place
-pub none_over : (limits : LabelLimits) (index : Index) (lists : List Lists) → HasPlaces index lists → AllFilled lists → HoldsNoneOver limits (staged_store index.entries lists) → HasNoneOver limits index
-none_over limits index lists places filled h l n e = h l (ap has_samples (staged_at index lists l n e) ∙ filled n (places.within l n e))
+-- where no label set that has samples is refused, none is that has a place
+pub none_refused : (limits : LabelLimits) (index : Index) (lists : List Lists) → HasPlaces index lists → AllFilled lists
+    → HoldsNoneRefused limits (staged_store index.entries lists) → HasNoneRefused limits index
+none_refused limits index lists places filled h l n e = h l (ap has_samples (staged_at index lists l n e) ∙ filled n (places.within l n e))
 
 -- a label set without a place has no samples
 pub staged_nowhere : (index : Index) (lists : List Lists) (l : Labels) → get labels_cmp index l ≡ None → list_of (staged_store index.entries lists) l ≡ []
@@ -416,11 +417,11 @@ pub taken_by : (r : Result (Unit {0}) Verdict) (limits : LabelLimits) (s t : Sto
 taken_by r limits s t x y same none h = subst (λ z. StoreGives r (taken limits s z) t) same (subst (λ o. StoreGives r (taken_unless o s x) t) (sym none) h)
 
 -- a series without samples is judged by its labels alone
-pub judged_alone : (r : Result (Unit {0}) Verdict) (limits : LabelLimits) (s : Store) (x y : TimeSeries) (kept : Labels) → x ≡ y → true ≡ nat_eq (length x.samples) 0
-    → with_list x.labels (list_of s x.labels) s ≡ s → OnOk r ((kept ≡ x.labels) × (refusal limits x.labels ≡ None)) → IfErr r (λ v. v ≢ NoMemory → refusal limits x.labels ≡ Some v)
+pub judged_alone : (r : Result (Unit {0}) Verdict) (limits : LabelLimits) (s : Store) (x y : TimeSeries) → x ≡ y → true ≡ nat_eq (length x.samples) 0
+    → with_list x.labels (list_of s x.labels) s ≡ s → OnOk r (refusal limits x.labels ≡ None) → IfErr r (λ v. v ≢ NoMemory → refusal limits x.labels ≡ Some v)
     → StoreGives r (taken limits s y) s
-judged_alone (Ok u) limits s x y kept same e unchanged ok err = taken_by (Ok u) limits s s x y same ok.1 (no_samples x.labels s x.samples e unchanged)
-judged_alone (Err v) limits s x y kept same e unchanged ok err = λ other. ap (taken limits s) (sym same) ∙ ap (λ o. taken_unless o s x) (err other)
+judged_alone (Ok u) limits s x y same e unchanged ok err = taken_by (Ok u) limits s s x y same ok (no_samples x.labels s x.samples e unchanged)
+judged_alone (Err v) limits s x y same e unchanged ok err = λ other. ap (taken limits s) (sym same) ∙ ap (λ o. taken_unless o s x) (err other)
 
 kept_after : (lists : List Lists) (n m : ℕ) (x : Lists) → n < length lists → x.kept ≡ (get_or lists n no_lists).kept → (get_or (set lists n x) m no_lists).kept ≡ (get_or lists m no_lists).kept
 kept_after lists n m x lt kept = by_test (nat_eq m n) refl

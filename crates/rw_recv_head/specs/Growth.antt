@@ -1,11 +1,11 @@
 -- How a store grows with the messages that it takes.
-use Rattle.std.specs.Prelude.{◌≡◌, ℕ, ◌+◌, ◌≤◌, List, length, sum_by, Ok, true, false}
+use Rattle.std.specs.Prelude.{◌≡◌, ℕ, ◌+◌, ◌≤◌, List, length, sum_by, Ok, None, true}
 use Rattle.rw_types.specs.Labels.{Labels}
 use Rattle.rw_write_request.specs.Message.{WriteRequest}
 use Rattle.rw_write_request.specs.Read.{read}
 use Rattle.rw_recv_head.specs.Lists.{Rises, Stores, has_samples}
 use Rattle.rw_recv_head.specs.Store.{Store, list_of, total, HasNoEmptyList}
-use Rattle.rw_recv_head.specs.Verdicts.{LabelLimits, is_over}
+use Rattle.rw_recv_head.specs.Verdicts.{LabelLimits, refusal}
 
 -- the samples of all series of a message
 abbrev pub sample_count : WriteRequest → ℕ
@@ -26,6 +26,7 @@ pub record IsReady (stores : Stores) : Type 0 where
   pub filled : HasNoEmptyList stores.kept
   pub unnoted : stores.noted ≡ 0
 
--- no label set that has samples is larger than the limits
-abbrev pub HoldsNoneOver : LabelLimits → Store → Type 0
-HoldsNoneOver limits store = (l : Labels) → has_samples (list_of store l) ≡ true → is_over limits l ≡ false
+-- no label set that has samples is refused by these limits
+abbrev pub HoldsNoneRefused : LabelLimits → Store → Type 0
+HoldsNoneRefused limits store =
+    (l : Labels) → has_samples (list_of store l) ≡ true → refusal limits l ≡ None

@@ -1,9 +1,9 @@
 -- Where label sets stand.
-use Rattle.std.specs.Prelude.{◌≡◌, ℕ, ◌<◌, List, [], length, slice_index_or, nat_lt, false, if◌then◌else◌, Option, None, Some}
+use Rattle.std.specs.Prelude.{◌≡◌, ℕ, ◌<◌, List, [], length, slice_index_or, nat_lt, if◌then◌else◌, Option, None, Some}
 use Rattle.std.specs.BTreeMap.{BTreeMap, get}
 use Rattle.rw_types.specs.Labels.{Labels}
 use Rattle.rw_types.specs.LabelOrder.{labels_cmp}
-use Rattle.rw_recv_head.specs.Verdicts.{LabelLimits, is_over}
+use Rattle.rw_recv_head.specs.Verdicts.{LabelLimits, refusal}
 
 -- The label sets by place are those of the map: each has in it the place where it stands.
 pub record AreNamed (index : BTreeMap Labels ℕ) (names : List Labels) : Type 0 where
@@ -15,6 +15,7 @@ abbrev pub below : ℕ → Option ℕ → Option ℕ
 below keep None = None
 below keep (Some n) = if nat_lt n keep then Some n else None
 
--- no label set in the map is larger than the limits
-abbrev pub HasNoneOver : LabelLimits → BTreeMap Labels ℕ → Type 0
-HasNoneOver limits index = (l : Labels) (n : ℕ) → get labels_cmp index l ≡ Some n → is_over limits l ≡ false
+-- no label set in the map is refused by these limits
+abbrev pub HasNoneRefused : LabelLimits → BTreeMap Labels ℕ → Type 0
+HasNoneRefused limits index =
+    (l : Labels) (n : ℕ) → get labels_cmp index l ≡ Some n → refusal limits l ≡ None

@@ -1,14 +1,16 @@
 -- The verdict on a message: it is taken whole, or refused for the first reason that is met (Remote-Write 1.0).
 use Rattle.std.specs.Prelude.{ℕ, ◌-◌, Bool, ◌||◌, if◌then◌else◌, nat_lt, is_some, List, [], ◌∷◌, length, Option, Some, None, Result, Ok, Err}
 use Rattle.rw_types.specs.Labels.{Labels, label_fault, text_len}
+use Rattle.rw_types.specs.declared.names.Names.{Names}
 use Rattle.rw_write_request.specs.Message.{TimeSeries, WriteRequest}
 use Rattle.rw_recv_head.specs.declared.verdict.Verdict.{Verdict}
 use Rattle.rw_recv_head.specs.declared.verdict.Verdict.TheVariants.{Stored, BadLabels, OverLimit, OutOfOrder}
 use Rattle.rw_recv_head.specs.Order.{Point, points, accept}
 use Rattle.rw_recv_head.specs.Store.{Store, list_of, with_list, total}
 
--- how large the label sets may be that a head takes
+-- which label sets a head takes: which names they may have, and how large they may be
 pub record LabelLimits : Type 0 where
+  pub names : Names
   pub max_labels : ℕ
   pub max_label_bytes : ℕ
 
@@ -19,7 +21,7 @@ is_over limits ls = nat_lt limits.max_labels (length ls) || nat_lt limits.max_la
 -- why a head does not take these labels
 abbrev pub refusal : LabelLimits → Labels → Option Verdict
 refusal limits ls =
-    if is_some (label_fault ls) then Some BadLabels
+    if is_some (label_fault limits.names ls) then Some BadLabels
     else (if is_over limits ls then Some OverLimit
     else None)
 

@@ -8,7 +8,7 @@ ghost use Rattle.rw_recv_head.specs.Verdicts.{taken_all, apply};
 ghost use Rattle.rw_recv_head.specs.Head.{status_of, answer, IsStatus};
 ghost use Rattle.rw_recv_head.specs.Lists.{StoreGives};
 ghost use Rattle.rw_recv_head.specs.Blocks.{joined, sealed_of, AreFull, KeepsBlocks};
-ghost use Rattle.rw_recv_head.specs.Growth.{sample_count, EachRises, HasTaken, HoldsNoneOver};
+ghost use Rattle.rw_recv_head.specs.Growth.{sample_count, EachRises, HasTaken, HoldsNoneRefused};
 
 use crate::block::Block;
 use crate::label_bounds::LabelBounds;
@@ -28,10 +28,10 @@ fn stage_all(
     bounds: &LabelBounds,
     message: &[Series],
 ) -> Result<(), Verdict>
-    requires { HoldsNoneOver bounds.now table.old.staged }
+    requires { HoldsNoneRefused bounds.now table.old.staged }
     ensures kept { table.new.kept ≡ table.old.kept }
     ensures staged { StoreGives result (taken_all bounds.now (Ok table.old.staged) message.now) table.new.staged }
-    ensures within { OnOk result (HoldsNoneOver bounds.now table.new.staged) }
+    ensures within { OnOk result (HoldsNoneRefused bounds.now table.new.staged) }
 {
     for series in message {
         table.stage(labels, bounds, series)?;
@@ -61,9 +61,9 @@ impl Model for Head {
 
     ghost view = { λ h. record { store = h.table.kept; limits = h.bounds; busy = h.busy } };
 
-    ghost use Rattle.rw_recv_head.specs.Growth.{IsReady, HoldsNoneOver};
+    ghost use Rattle.rw_recv_head.specs.Growth.{IsReady, HoldsNoneRefused};
 
-    ghost invariant = { λ h. IsReady h.table × HoldsNoneOver h.bounds h.table.kept };
+    ghost invariant = { λ h. IsReady h.table × HoldsNoneRefused h.bounds h.table.kept };
 }
 
 /// The status that tells a verdict.
@@ -81,11 +81,13 @@ impl Head {
     /// A head without samples. This takes no memory.
     pub fn new(alloc: Global, limits: &Limits) -> Head
         ensures store { result.store ≡ empty }
+        ensures names { result.limits.names ≡ limits.now.names }
         ensures max_labels { result.limits.max_labels ≡ limits.now.max_labels }
         ensures max_label_bytes { result.limits.max_label_bytes ≡ limits.now.max_label_bytes }
         ensures busy { result.busy ≡ limits.now.busy_first }
     {
         let bounds = LabelBounds {
+            names: limits.names,
             max_labels: limits.max_labels.get() as usize,
             max_label_bytes: limits.max_label_bytes.get() as usize,
         };

@@ -1,4 +1,4 @@
-//! How large label sets may be.
+//! Which label sets are taken.
 
 ghost use Rattle.std.specs.Prelude.{◌≡◌, ◌≢◌, None, Some, OnOk, IfErr, map};
 ghost use Rattle.rw_types.specs.Labels.{text_label, label_fault};
@@ -6,12 +6,13 @@ ghost use Rattle.rw_recv_head.specs.declared.verdict.Verdict.TheVariants.{NoMemo
 ghost use Rattle.rw_recv_head.specs.Verdicts.{refusal};
 
 use crate::verdict::Verdict;
-use rw_types::{LabelFault, LabelSet};
+use rw_types::{LabelFault, LabelSet, Names};
 use std::marker::Model;
 
-/// How large label sets may be.
+/// Which names label sets may have, and how large they may be.
 #[derive(Debug, Drop)]
 pub(crate) struct LabelBounds {
+    pub(crate) names: Names,
     pub(crate) max_labels: usize,
     pub(crate) max_label_bytes: usize,
 }
@@ -21,7 +22,11 @@ impl Model for LabelBounds {
 
     ghost Value = { LabelLimits };
 
-    ghost view = { λ b. record { max_labels = b.max_labels; max_label_bytes = b.max_label_bytes } };
+    ghost view = { λ b. record {
+      names = b.names;
+      max_labels = b.max_labels;
+      max_label_bytes = b.max_label_bytes;
+    } };
 }
 
 impl LabelBounds {
@@ -31,11 +36,14 @@ impl LabelBounds {
         labels: &mut LabelSet,
         texts: &[(String, String)],
     ) -> Result<(), Verdict>
-        ensures ok { OnOk result ((labels.new ≡ map text_label texts.now) × (refusal self.now (map text_label texts.now) ≡ None)) }
-        ensures err { IfErr result (λ v. v ≢ NoMemory → refusal self.now (map text_label texts.now) ≡ Some v) }
-        ensures memory { IfErr result (λ v. v ≡ NoMemory → label_fault (map text_label texts.now) ≡ None) }
+        ensures ok { OnOk result (labels.new ≡ map text_label texts.now) }
+        ensures taken { OnOk result (refusal self.now (map text_label texts.now) ≡ None) }
+        ensures err { IfErr result (λ v.
+            v ≢ NoMemory → refusal self.now (map text_label texts.now) ≡ Some v) }
+        ensures memory { IfErr result (λ v.
+            v ≡ NoMemory → label_fault self.now.names (map text_label texts.now) ≡ None) }
     {
-        match labels.assign(texts) {
+        match labels.assign(self.names, texts) {
             Ok(()) => {}
             Err(LabelFault::OutOfMemory) => return Err(Verdict::NoMemory),
             Err(_) => return Err(Verdict::BadLabels),

@@ -1,8 +1,9 @@
 //! What a receiving head takes.
 
 ghost use Rattle.std.specs.Prelude.{◌≡◌, codes, IfOk};
+ghost use Rattle.rw_types.specs.declared.names.Names.TheVariants.{Legacy};
 
-use rw_types::{Bounded, RequestPath};
+use rw_types::{Bounded, Names, RequestPath};
 use std::alloc::{AllocError, Global};
 
 /// The limits of a receiving head and of its endpoint.
@@ -12,6 +13,8 @@ pub struct Limits {
     pub path: RequestPath,
     /// The most bytes of a request's body.
     pub max_body_bytes: Bounded<1, 67_108_864>,
+    /// Which names of labels are taken.
+    pub names: Names,
     /// The most labels of a label set.
     pub max_labels: Bounded<1, 64>,
     /// The most bytes of the names and values of a label set together.
@@ -21,11 +24,13 @@ pub struct Limits {
 }
 
 impl Limits {
-    /// The limits of a head that is given none: `/api/v1/write`, 16 MiB, and what a label set may have at most.
+    /// The limits of a head that is given none: `/api/v1/write`, 16 MiB, legacy names, and what a label set may have at
+    /// most.
     pub fn standard(alloc: Global) -> Result<Limits, AllocError>
         ensures { IfOk result (λ l. l ≡ record {
           path = codes "/api/v1/write";
           max_body_bytes = 16777216;
+          names = Legacy;
           max_labels = 64;
           max_label_bytes = 16384;
           busy_first = 0;
@@ -34,6 +39,7 @@ impl Limits {
         Ok(Limits {
             path: RequestPath::api_v1_write(alloc)?,
             max_body_bytes: Bounded::of(16_777_216),
+            names: Names::Legacy,
             max_labels: Bounded::of(64),
             max_label_bytes: Bounded::of(16_384),
             busy_first: Bounded::of(0),

@@ -2,7 +2,7 @@
 
 ghost use Rattle.std.specs.Prelude.{◌≡◌, IfOk};
 
-use rw_types::LabelSet;
+use rw_types::{LabelSet, Names};
 use std::alloc::{AllocError, Global};
 use std::cmp::Ordering;
 use std::marker::Model;
@@ -38,7 +38,7 @@ impl Name {
         ensures { IfOk result (λ n. n ≡ labels.now) }
     {
         let mut copy = LabelSet::empty(alloc);
-        match copy.assign(labels.as_slice()) {
+        match copy.assign(Names::Utf8, labels.as_slice()) {
             Ok(()) => Name::of(alloc, copy),
             Err(_) => Err(AllocError),
         }

@@ -3,11 +3,11 @@
 ghost use Rattle.std.specs.Prelude.{◌≡◌, ◌≢◌, ◌+◌, min, map, ◌<◌, ◌≤◌, length, [], ◌^◌, ◌++◌, ◌∷◌, None, Some, IfOk, IfErr, IfSome, OnOk, OnErr, vec_len, vec_capacity};
 ghost use Rattle.std.specs.List.{All};
 ghost use Rattle.std.specs.BTreeMap.{get, Updates, IsOrdered};
-ghost use Rattle.rw_types.specs.Labels.{Labels, IsLabelSet, text_label};
+ghost use Rattle.rw_types.specs.Labels.{Labels, text_label};
 ghost use Rattle.rw_types.specs.LabelOrder.{labels_cmp};
 ghost use Rattle.rw_recv_head.specs.declared.verdict.Verdict.TheVariants.{NoMemory};
 ghost use Rattle.rw_recv_head.specs.Verdicts.{refusal};
-ghost use Rattle.rw_recv_head.specs.Names.{below, AreNamed, HasNoneOver};
+ghost use Rattle.rw_recv_head.specs.Names.{below, AreNamed, HasNoneRefused};
 ghost use Rattle.rw_recv_head.specs.Finds.{Finds};
 
 use crate::label_bounds::LabelBounds;
@@ -72,8 +72,8 @@ impl Places {
 
     /// The place that is expected next, if the label set of these labels stands there.
     fn expected(&self, texts: &[(String, String)]) -> Option<usize>
-        ensures place { IfSome result (λ n. get labels_cmp self.now.tree (map text_label texts.now) ≡ Some n) }
-        ensures label_set { IfSome result (λ _. IsLabelSet (map text_label texts.now)) }
+        ensures place { IfSome result (λ n.
+            get labels_cmp self.now.tree (map text_label texts.now) ≡ Some n) }
     {
         let place = *self.after.get(self.last)?;
         if place < self.names.len() && self.names[place].labels().as_slice() == texts {
@@ -103,7 +103,7 @@ impl Places {
         bounds: &LabelBounds,
         texts: &[(String, String)],
     ) -> Result<Found, Verdict>
-        requires { HasNoneOver bounds.now self.old.tree }
+        requires { HasNoneRefused bounds.now self.old.tree }
         ensures tree { self.new.tree ≡ self.old.tree }
         ensures names { self.new.names.items ≡ self.old.names.items }
         ensures found { IfOk result (λ f. Finds f (map text_label texts.now) (get labels_cmp self.old.tree (map text_label texts.now))) }

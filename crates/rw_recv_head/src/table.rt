@@ -8,7 +8,7 @@ ghost use Rattle.rw_recv_head.specs.declared.verdict.Verdict.TheVariants.{OutOfO
 ghost use Rattle.rw_recv_head.specs.Order.{points, accept};
 ghost use Rattle.rw_recv_head.specs.Store.{list_of, total, label_sets, HasNoEmptyList};
 ghost use Rattle.rw_recv_head.specs.Verdicts.{taken};
-ghost use Rattle.rw_recv_head.specs.Growth.{HoldsNoneOver};
+ghost use Rattle.rw_recv_head.specs.Growth.{HoldsNoneRefused};
 ghost use Rattle.rw_recv_head.specs.Blocks.{sealed_of, open_of};
 ghost use Rattle.rw_recv_head.specs.Lists.{no_lists, Settled, IsAdded, ListGives, StoreGives};
 
@@ -184,7 +184,7 @@ impl Table {
         bounds: &LabelBounds,
         series: &Series,
     ) -> Result<(), Verdict>
-        requires { HoldsNoneOver bounds.now self.old.staged }
+        requires { HoldsNoneRefused bounds.now self.old.staged }
         ensures kept { self.new.kept ≡ self.old.kept }
         ensures staged { StoreGives result (taken bounds.now self.old.staged series.now) self.new.staged }
     {

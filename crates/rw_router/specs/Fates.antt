@@ -4,7 +4,7 @@ use Rattle.rw_types.specs.Labels.{Labels}
 use Rattle.rw_types.specs.declared.entry.Entry.{Entry}
 use Rattle.rw_ledger.specs.declared.ledger.Reason.{Reason}
 use Rattle.rw_ledger.specs.declared.ledger.Reason.TheVariants.{BadLabels, NoSeries, NotRising}
-use Rattle.rw_relabel.specs.Rules.{RuleConfig}
+use Rattle.rw_relabel.specs.declared.choice.Choice.{Choice}
 use Rattle.rw_series_cache.specs.Known.{Standing, Unknown, Bad, Filtered, Kept, known, label_fault_number}
 use Rattle.rw_series_cache.specs.Rising.{rises}
 
@@ -19,11 +19,11 @@ kept_fate true l = Sends l
 kept_fate false l = Drops NotRising
 
 -- by what is known of its reference after the entries before it
-abbrev pub fate_by : List RuleConfig → List Entry → ℤ → Standing → Fate
-fate_by rules before t Unknown = Drops NoSeries
-fate_by rules before t (Bad f) = Drops (BadLabels (label_fault_number f))
-fate_by rules before t Filtered = Filters
-fate_by rules before t (Kept l) = kept_fate (rises rules before l t) l
+abbrev pub fate_by : Choice → List Entry → ℤ → Standing → Fate
+fate_by choice before t Unknown = Drops NoSeries
+fate_by choice before t (Bad f) = Drops (BadLabels (label_fault_number f))
+fate_by choice before t Filtered = Filters
+fate_by choice before t (Kept l) = kept_fate (rises choice before l t) l
 
-abbrev pub fate : List RuleConfig → List Entry → ℕ → ℤ → Fate
-fate rules before reference t = fate_by rules before t (known rules before reference)
+abbrev pub fate : Choice → List Entry → ℕ → ℤ → Fate
+fate choice before reference t = fate_by choice before t (known choice before reference)

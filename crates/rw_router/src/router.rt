@@ -7,7 +7,7 @@ ghost use Rattle.rw_router.specs.Routing.{Knows, Routes, KnowsMore, IsRising, Is
 
 use crate::sample::RoutedSample;
 use rw_ledger::Reason;
-use rw_relabel::Rules;
+use rw_relabel::Choice;
 use rw_series_cache::{Cache, Known, label_fault_number};
 use rw_types::{Entry, Word};
 use std::alloc::{AllocError, Global};
@@ -49,13 +49,13 @@ impl Model for Router {
 
 impl Router {
     /// Before the first entry. This takes no memory.
-    pub fn new(alloc: Global, rules: Rules) -> Router
-        ensures cache { result.cache ≡ record { rules = rules; definitions = []; noted = map.empty } }
+    pub fn new(alloc: Global, choice: Choice) -> Router
+        ensures cache { result.cache ≡ record { choice = choice; definitions = []; noted = map.empty } }
         ensures filtered { result.filtered ≡ 0 }
         ensures knows { Knows [] result.cache }
     {
         Router {
-            cache: Cache::new(alloc, rules),
+            cache: Cache::new(alloc, choice),
             filtered: 0,
         }
     }
@@ -124,7 +124,7 @@ impl Router {
         requires { IsRising self.old.cache series t }
         ensures noted { self.new ≡ record self.old { cache = record self.old.cache { noted = map.insert self.old.cache.noted series t } } }
         ensures knows { (before : List Entry) (entry : Entry) → Knows before self.old.cache
-            → IsSentNext self.old.cache.rules before entry series t → Knows (before ++ entry ∷ []) self.new.cache }
+            → IsSentNext self.old.cache.choice before entry series t → Knows (before ++ entry ∷ []) self.new.cache }
     {
         self.cache.note(series, t);
     }
@@ -132,9 +132,9 @@ impl Router {
     /// The number of the series of a sample that would be sent, if it would: one of this reference, at this time. This takes no memory.
     pub fn would_send(&self, reference: u64, t: i64) -> Option<u64>
         ensures some { (before : List Entry) → Knows before self.now.cache
-            → IfSome result (WouldSend self.now.cache.rules before reference t) }
+            → IfSome result (WouldSend self.now.cache.choice before reference t) }
         ensures none { (before : List Entry) → Knows before self.now.cache
-            → IfNone result (WouldKeep self.now.cache.rules before reference t) }
+            → IfNone result (WouldKeep self.now.cache.choice before reference t) }
     {
         match self.cache.look(reference) {
             Known::Kept(series, _) if self.cache.rises(series, t) => Some(series),

@@ -307,11 +307,8 @@ module _ (c : Setup) (w : World) (at : Inv c w) (r : Request) (r_ok : RequestOk 
   no_order : is_let_in c r.batch ≡ true → accept_all (Some (list_of w.head.store)) (message r.batch) ≡ None → ⊥
   no_order fits none = let took = let_in_takes fits in let never : None ≡ Some took.0 → ⊥ = λ h. cc in never (sym none ∙ took.1)
 
-  sets : AllOf (λ (x : Placed). label_fault x.labels ≡ None) r.batch
-  sets = all_more (λ (x : Placed). IsKept c x.labels) (λ (x : Placed). label_fault x.labels ≡ None) (λ x k. k.0) r.batch r_ok.kept
-
   pub plain_tells : Tells (endpoint_answer c w.head r.batch).status
-  plain_tells = by_answer (λ a. Tells a.status) c w.head r.batch at.limited sets
+  plain_tells = by_answer (λ a. Tells a.status) c w.head r.batch at.limited
       (refused_tells 413 refl)
       (λ d. let z : Again ≡ Done = d in let never : Again ≡ Done → ⊥ = λ h. cc in absurd (never z), λ d. let z : Again ≡ Refused = d in let never : Again ≡ Refused → ⊥ = λ h. cc in absurd (never z))
       (refused_tells 400 refl)
@@ -338,7 +335,7 @@ module _ (c : Setup) (w : World) (at : Inv c w) (r : Request) (r_ok : RequestOk 
       by_fate (inr h) = by_shard h.0 (slice_get w.shards r.id.shard) refl h.1
 
   pub plain_keeps : Inv c (answered w r.id (endpoint_answer c w.head r.batch))
-  plain_keeps = by_answer (λ a. Inv c (answered w r.id a)) c w.head r.batch at.limited sets
+  plain_keeps = by_answer (λ a. Inv c (answered w r.id a)) c w.head r.batch at.limited
       (refused_keeps 413 refl)
       (again_keeps (record { status = 429; head = record w.head { busy = w.head.busy - 1 } }) refl (λ l. refl) refl)
       (refused_keeps 400 refl)

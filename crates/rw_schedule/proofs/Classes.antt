@@ -47,7 +47,7 @@ KeptKnown rising (Kept l) = rising l ≡ true
 abbrev pub KeptEntry : Setup → List Entry → ℕ → Option Entry → Type 0
 KeptEntry c log p None = ⊥
 KeptEntry c log p (Some (Def r l)) = ⊥
-KeptEntry c log p (Some (Sample r t word)) = KeptKnown (λ l. rises c.rules (take p log) l t) (known c.rules (take p log) r)
+KeptEntry c log p (Some (Sample r t word)) = KeptKnown (λ l. rises c.choice (take p log) l t) (known c.choice (take p log) r)
 
 abbrev pub KeptAt : Setup → ℕ → List Entry → Placed → Type 0
 KeptAt c placed log x = (x.place.pos < placed) × KeptEntry c log x.place.pos (slice_get log x.place.pos)
@@ -56,7 +56,7 @@ KeptAt c placed log x = (x.place.pos < placed) × KeptEntry c log x.place.pos (s
 abbrev pub Says : Setup → List Entry → ℕ → Option Reason → Option Entry → Type 0
 Says c log p named None = named ≡ None
 Says c log p named (Some (Def r l)) = named ≡ None
-Says c log p named (Some (Sample r t word)) = Accounted named (λ l. rises c.rules (take p log) l t) (known c.rules (take p log) r)
+Says c log p named (Some (Sample r t word)) = Accounted named (λ l. rises c.choice (take p log) l t) (known c.choice (take p log) r)
 
 pub record Classes (c : Setup) (w : World) : Type 0 where
   pub placed_in : w.placed ≤ length (log w)
@@ -73,12 +73,12 @@ get_left (x ∷ xs) ys (suc p) lt = get_left xs ys p (omega arith)
 longer_says : (c : Setup) (xs ys : List Entry) (p : ℕ) (named : Option Reason) (o : Option Entry) → p ≤ length xs → Says c xs p named o → Says c (xs ++ ys) p named o
 longer_says c xs ys p named None le h = h
 longer_says c xs ys p named (Some (Def r l)) le h = h
-longer_says c xs ys p named (Some (Sample r t word)) le h = subst (λ es. Accounted named (λ l. rises c.rules es l t) (known c.rules es r)) (sym (take-append-le p xs ys le)) h
+longer_says c xs ys p named (Some (Sample r t word)) le h = subst (λ es. Accounted named (λ l. rises c.choice es l t) (known c.choice es r)) (sym (take-append-le p xs ys le)) h
 
 longer_kept : (c : Setup) (xs ys : List Entry) (p : ℕ) (o : Option Entry) → p ≤ length xs → KeptEntry c xs p o → KeptEntry c (xs ++ ys) p o
 longer_kept c xs ys p None le h = h
 longer_kept c xs ys p (Some (Def r l)) le h = h
-longer_kept c xs ys p (Some (Sample r t word)) le h = subst (λ es. KeptKnown (λ l. rises c.rules es l t) (known c.rules es r)) (sym (take-append-le p xs ys le)) h
+longer_kept c xs ys p (Some (Sample r t word)) le h = subst (λ es. KeptKnown (λ l. rises c.choice es l t) (known c.choice es r)) (sym (take-append-le p xs ys le)) h
 
 classes_grow : (c : Setup) (w : World) (more : List pieces.Piece) → Classes c w → Classes c (record w { pieces = w.pieces ++ more })
 classes_grow c w more at = let grown = entries_grow w.pieces more in record {
@@ -132,12 +132,12 @@ classes_place c w at = either (Classes c) (is_some w.draining) w (place_entry c 
     later i s e = all_more (KeptAt c w.placed (log w)) (KeptAt c (suc w.placed) (log w)) (λ x h. (let lt : x.place.pos < w.placed = h.0 in omega arith, h.1)) (pending s) (at.kept i s e)
 
     rising : ℤ → Labels → Bool
-    rising t l = rises c.rules (take w.placed (log w)) l t
+    rising t l = rises c.choice (take w.placed (log w)) l t
 
     unnamed : get w.names w.placed ≡ None
     unnamed = at.above w.placed (omega arith)
 
-    by_shard : (r : ℕ) (t : ℤ) (word : ℕ) (l : Labels) → slice_get (log w) w.placed ≡ Some (Sample r t word) → known c.rules (take w.placed (log w)) r ≡ Kept l → rising t l ≡ true → (i : ℕ) (o : Option Shard) → Classes c (put_if_room c w i l t word o)
+    by_shard : (r : ℕ) (t : ℤ) (word : ℕ) (l : Labels) → slice_get (log w) w.placed ≡ Some (Sample r t word) → known c.choice (take w.placed (log w)) r ≡ Kept l → rising t l ≡ true → (i : ℕ) (o : Option Shard) → Classes c (put_if_room c w i l t word o)
     by_shard r t word l e stands up i None = at
     by_shard r t word l e stands up i (Some s) = either (Classes c) (has_room c.capacity s) _ w
         (λ _. classes_next c w (Sample r t word) w.names w.series w.filtered (change i (shard_put (next_sample w i l t word s)) w.shards) e (λ p _. refl) (subst (Accounted (get w.names w.placed) (rising t)) (sym stands) (subst (AccountedKept (get w.names w.placed)) (sym up) (inl unnamed)))
@@ -147,20 +147,20 @@ classes_place c w at = either (Classes c) (is_some w.draining) w (place_entry c 
         lt_own : w.placed < suc w.placed
         lt_own = omega arith
 
-    by_rising : (r : ℕ) (t : ℤ) (word : ℕ) (l : Labels) → slice_get (log w) w.placed ≡ Some (Sample r t word) → known c.rules (take w.placed (log w)) r ≡ Kept l → (b : Bool) → rising t l ≡ b → Classes c (place_kept c w l t word b)
+    by_rising : (r : ℕ) (t : ℤ) (word : ℕ) (l : Labels) → slice_get (log w) w.placed ≡ Some (Sample r t word) → known c.choice (take w.placed (log w)) r ≡ Kept l → (b : Bool) → rising t l ≡ b → Classes c (place_kept c w l t word b)
     by_rising r t word l e stands true up = by_shard r t word l e stands up (shard_of w l) (slice_get w.shards (shard_of w l))
     by_rising r t word l e stands false up = classes_next c w (Sample r t word) (insert w.names w.placed NotRising) w.series w.filtered w.shards e (λ p z. named_other w.placed p NotRising w.names z) (subst (Accounted (get (insert w.names w.placed NotRising) w.placed) (rising t)) (sym stands) (subst (AccountedKept (get (insert w.names w.placed NotRising) w.placed)) (sym up) (named_own w.placed NotRising w.names))) later at
 
-    by_known : (r : ℕ) (t : ℤ) (word : ℕ) (k : Standing) → slice_get (log w) w.placed ≡ Some (Sample r t word) → known c.rules (take w.placed (log w)) r ≡ k → Classes c (place_sample c w t word k)
+    by_known : (r : ℕ) (t : ℤ) (word : ℕ) (k : Standing) → slice_get (log w) w.placed ≡ Some (Sample r t word) → known c.choice (take w.placed (log w)) r ≡ k → Classes c (place_sample c w t word k)
     by_known r t word Unknown e stands = classes_next c w (Sample r t word) (insert w.names w.placed NoSeries) w.series w.filtered w.shards e (λ p z. named_other w.placed p NoSeries w.names z) (subst (Accounted (get (insert w.names w.placed NoSeries) w.placed) (rising t)) (sym stands) (named_own w.placed NoSeries w.names)) later at
     by_known r t word (Bad f) e stands = classes_next c w (Sample r t word) (insert w.names w.placed (BadLabels (label_fault_number f))) w.series w.filtered w.shards e (λ p z. named_other w.placed p (BadLabels (label_fault_number f)) w.names z) (subst (Accounted (get (insert w.names w.placed (BadLabels (label_fault_number f))) w.placed) (rising t)) (sym stands) (named_own w.placed (BadLabels (label_fault_number f)) w.names)) later at
     by_known r t word Filtered e stands = classes_next c w (Sample r t word) w.names w.series (suc w.filtered) w.shards e (λ p z. refl) (subst (Accounted (get w.names w.placed) (rising t)) (sym stands) unnamed) later at
-    by_known r t word (Kept l) e stands = by_rising r t word l e stands (rises c.rules (take w.placed (log w)) l t) refl
+    by_known r t word (Kept l) e stands = by_rising r t word l e stands (rises c.choice (take w.placed (log w)) l t) refl
 
     by_entry : (o : Option Entry) → slice_get (log w) w.placed ≡ o → Classes c (place_entry c w o)
     by_entry None e = at
-    by_entry (Some (Def r m)) e = classes_next c w (Def r m) w.names (with_series w.series (standing_of c.rules (Some m))) w.filtered w.shards e (λ p z. refl) unnamed later at
-    by_entry (Some (Sample r t word)) e = by_known r t word (known c.rules (take w.placed (log w)) r) e refl
+    by_entry (Some (Def r m)) e = classes_next c w (Def r m) w.names (with_series w.series (standing_of c.choice (Some m))) w.filtered w.shards e (λ p z. refl) unnamed later at
+    by_entry (Some (Sample r t word)) e = by_known r t word (known c.choice (take w.placed (log w)) r) e refl
 
 -- a name changes only at the batch's samples
 pub named_or_not : (status : ℕ) (P : ℕ → Type 0) (xs : List Placed) (names : FinMap nat_cmp Reason) (p : ℕ) → AllOf (λ (x : Placed). P x.place.pos) xs → (get (name_all status (positions xs) names) p ≡ get names p) ⊎ ((get (name_all status (positions xs) names) p ≡ Some (Status status)) × P p)
@@ -193,7 +193,7 @@ status_known named status rising (Kept l) h e = subst (AccountedKept named) (sym
 status_entry : (c : Setup) (log : List Entry) (p : ℕ) (named : Option Reason) (status : ℕ) (o : Option Entry) → KeptEntry c log p o → named ≡ Some (Status status) → Says c log p named o
 status_entry c log p named status None h e = absurd h
 status_entry c log p named status (Some (Def r l)) h e = absurd h
-status_entry c log p named status (Some (Sample r t word)) h e = status_known named status (λ l. rises c.rules (take p log) l t) (known c.rules (take p log) r) h e
+status_entry c log p named status (Some (Sample r t word)) h e = status_known named status (λ l. rises c.choice (take p log) l t) (known c.choice (take p log) r) h e
 
 classes_change : (c : Setup) (w : World) (j : ℕ) (f : Shard → Shard) → ((s : Shard) → AllOf (KeptAt c w.placed (log w)) (pending s) → AllOf (KeptAt c w.placed (log w)) (pending (f s))) → Classes c w → Classes c (changed w j f)
 classes_change c w j f step at = record { placed_in = at.placed_in; below = at.below; above = at.above; kept = each_change (λ i s. AllOf (KeptAt c w.placed (log w)) (pending s)) f j w.shards at.kept (λ s _ h. step s h) }

@@ -136,12 +136,12 @@ ends_place c w at = by_bool (Ends (place c w)) (is_some w.draining) (λ d. subst
     by_known d x e t word Unknown = record { at_close = at.at_close; shapes = λ i s at_i. let h = at.shapes i s at_i in (h.0, λ p. off (sym p ∙ unput d x e s h.1)) }
     by_known d x e t word (Bad f) = record { at_close = at.at_close; shapes = λ i s at_i. let h = at.shapes i s at_i in (h.0, λ p. off (sym p ∙ unput d x e s h.1)) }
     by_known d x e t word Filtered = record { at_close = at.at_close; shapes = λ i s at_i. let h = at.shapes i s at_i in (h.0, λ p. off (sym p ∙ unput d x e s h.1)) }
-    by_known d x e t word (Kept l) = by_rising d x e l t word (rises c.rules (take w.placed (log w)) l t)
+    by_known d x e t word (Kept l) = by_rising d x e l t word (rises c.choice (take w.placed (log w)) l t)
 
     by_entry : is_some w.draining ≡ false → (o : Option Entry) → slice_get (log w) w.placed ≡ o → Ends (place_entry c w o)
     by_entry d None e = at
     by_entry d (Some (Def r m)) e = record { at_close = at.at_close; shapes = λ i s at_i. let h = at.shapes i s at_i in (h.0, λ p. off (sym p ∙ unput d (Def r m) e s h.1)) }
-    by_entry d (Some (Sample r t word)) e = by_known d (Sample r t word) e t word (known c.rules (take w.placed (log w)) r)
+    by_entry d (Some (Sample r t word)) e = by_known d (Sample r t word) e t word (known c.choice (take w.placed (log w)) r)
 
 ends_flush : (c : Setup) (w : World) (i : ℕ) → Ends w → Ends (changed w i (flush_shard c w))
 ends_flush c w i at = record { at_close = at.at_close; shapes = each_change (λ i s. ShapeOf s × MayEnd w s) (flush_shard c w) i w.shards at.shapes (λ s _ h. either (λ u. ShapeOf u × MayEnd w u) (not s.end_put && has_room c.capacity s) (mark w s) s (λ g. marked s h (not_true s.end_put (and_left (not s.end_put) (has_room c.capacity s) g))) (λ _. h)) }

@@ -38,7 +38,7 @@ same_filter f g (suc n) h =
 longer : (c : Setup) (xs ys : List Entry) (p : ℕ) (o : Option Entry) → p ≤ length xs → is_filtered_entry c (xs ++ ys) p o ≡ is_filtered_entry c xs p o
 longer c xs ys p None le = refl
 longer c xs ys p (Some (Def r l)) le = refl
-longer c xs ys p (Some (Sample r t word)) le = ap (λ es. is_filtered (known c.rules es r)) (take-append-le p xs ys le)
+longer c xs ys p (Some (Sample r t word)) le = ap (λ es. is_filtered (known c.choice es r)) (take-append-le p xs ys le)
 
 count_grow : (c : Setup) (w : World) (more : List pieces.Piece) → Count c w → Count c (record w { pieces = w.pieces ++ more })
 count_grow c w more at = let grown = entries_grow w.pieces more in record {
@@ -85,16 +85,16 @@ count_place c w at = either (Count c) (is_some w.draining) w (place_entry c w (s
     by_rising x e f l t word true = by_shard x e f l t word (shard_of w l) (slice_get w.shards (shard_of w l))
     by_rising x e f l t word false = let h = next c w x false w.filtered e f plus_none at in record { placed_in = h.0; is = h.1 }
 
-    by_known : (r : ℕ) (t : ℤ) (word : ℕ) (k : Standing) → slice_get (log w) w.placed ≡ Some (Sample r t word) → known c.rules (take w.placed (log w)) r ≡ k → Count c (place_sample c w t word k)
+    by_known : (r : ℕ) (t : ℤ) (word : ℕ) (k : Standing) → slice_get (log w) w.placed ≡ Some (Sample r t word) → known c.choice (take w.placed (log w)) r ≡ k → Count c (place_sample c w t word k)
     by_known r t word Unknown e known = let h = next c w (Sample r t word) false w.filtered e (ap is_filtered known) plus_none at in record { placed_in = h.0; is = h.1 }
     by_known r t word (Bad f) e known = let h = next c w (Sample r t word) false w.filtered e (ap is_filtered known) plus_none at in record { placed_in = h.0; is = h.1 }
     by_known r t word Filtered e known = let h = next c w (Sample r t word) true (suc w.filtered) e (ap is_filtered known) plus_one at in record { placed_in = h.0; is = h.1 }
-    by_known r t word (Kept l) e known = by_rising (Sample r t word) e (ap is_filtered known) l t word (rises c.rules (take w.placed (log w)) l t)
+    by_known r t word (Kept l) e known = by_rising (Sample r t word) e (ap is_filtered known) l t word (rises c.choice (take w.placed (log w)) l t)
 
     by_entry : (o : Option Entry) → slice_get (log w) w.placed ≡ o → Count c (place_entry c w o)
     by_entry None e = at
     by_entry (Some (Def r m)) e = let h = next c w (Def r m) false w.filtered e refl plus_none at in record { placed_in = h.0; is = h.1 }
-    by_entry (Some (Sample r t word)) e = by_known r t word (known c.rules (take w.placed (log w)) r) e refl
+    by_entry (Some (Sample r t word)) e = by_known r t word (known c.choice (take w.placed (log w)) r) e refl
 
 count_act : (c : Setup) (w : World) (e : Event) → Count c w → Count c (act c w e)
 count_act c w (event.Feed piece) at = either (Count c) (is_some w.closed) w _ (λ _. at) (λ _. count_grow c w (piece_of piece ∷ []) at)

@@ -32,12 +32,12 @@ place_frame P c w at = either P (is_some w.draining) w (place_entry c w (slice_g
     by_known t word Unknown = at w.shards w.series _ w.filtered _
     by_known t word (Bad f) = at w.shards w.series _ w.filtered _
     by_known t word Filtered = at w.shards w.series w.names _ _
-    by_known t word (Kept l) = by_rising l t word (rises c.rules (take w.placed (log w)) l t)
+    by_known t word (Kept l) = by_rising l t word (rises c.choice (take w.placed (log w)) l t)
 
     by_entry : (o : Option Entry) → P (place_entry c w o)
     by_entry None = same
     by_entry (Some (Def r l)) = at w.shards _ w.names w.filtered _
-    by_entry (Some (Sample r t word)) = by_known t word (known c.rules (take w.placed (log w)) r)
+    by_entry (Some (Sample r t word)) = by_known t word (known c.choice (take w.placed (log w)) r)
 
 -- a reply changes shards and the names alone
 pub reply_frame : (P : World → Type 0) (w : World) (o : Option Reply) → ((shards : List Shard) (names : FinMap nat_cmp Reason) → P (record w { shards = shards; names = names })) → P (take_reply w o)

@@ -23,7 +23,7 @@ use Rattle.rw_schedule.specs.Steps.{endpoint_answer}
 use Rattle.rw_schedule.specs.Worlds.{Setup}
 use Rattle.rw_schedule.proofs.Names.{one_answer}
 use Rattle.rw_schedule.proofs.Steps.{either, AllOf, all_filter, all_map, is_same, same_is, and_left, and_right, and_both, not_true}
-use Rattle.rw_schedule.proofs.Views.{Pairs, Store, Series, of, pairs, series_of, message, is_fit, is_let_in}
+use Rattle.rw_schedule.proofs.Views.{Pairs, Store, Series, of, pairs, series_of, message, is_refused, is_fit, is_let_in}
 
 abbrev pub store_at : Labels → Pairs → Store → Store
 store_at l xs store m = cond (labels_eq l m) xs (store m)
@@ -80,18 +80,23 @@ Gives (Ok s) None = ⊥
 Gives (Err v) (Some f) = ⊥
 Gives (Err v) None = status_of v ≡ 400
 
-none_is : (l : Labels) → label_fault l ≡ None → is_some (label_fault l) ≡ false
-none_is l e = ap is_some e
+not_some : (o : Option Verdict) → is_some o ≡ false → o ≡ None
+not_some None e = refl
+not_some (Some v) e = absurd cc
 
-free : (limits : LabelLimits) (l : Labels) → label_fault l ≡ None → is_over limits l ≡ false → refusal limits l ≡ None
-free limits l e small = ap (λ b. cond b (Some BadLabels) (cond (is_over limits l) (Some OverLimit) None)) (none_is l e) ∙ ap (λ b. cond b (Some OverLimit) None) small
+-- the labels of a series are refused for good, or not at all
+abbrev pub RefusedForGood : Option Verdict → Type 0
+RefusedForGood None = Unit {0}
+RefusedForGood (Some v) = status_of v ≡ 400
 
-over : (limits : LabelLimits) (l : Labels) → label_fault l ≡ None → is_over limits l ≡ true → refusal limits l ≡ Some OverLimit
-over limits l e large = ap (λ b. cond b (Some BadLabels) (cond (is_over limits l) (Some OverLimit) None)) (none_is l e) ∙ ap (λ b. cond b (Some OverLimit) None) large
+pub refused_for_good : (limits : LabelLimits) (l : Labels) → RefusedForGood (refusal limits l)
+refused_for_good limits l =
+    either RefusedForGood (is_some (label_fault limits.names l)) (Some BadLabels) _ (λ _. refl)
+    (λ _. either RefusedForGood (is_over limits l) (Some OverLimit) None (λ _. refl) (λ _. tt))
 
-series_gives : (limits : LabelLimits) (batch : List Placed) (l : Labels) (s : head.Store) (f : Store) → label_fault l ≡ None → is_over limits l ≡ false → list_of s ≡ f → Gives (taken limits s (time_series batch l)) (accept_series (Some f) (series_of batch l))
-series_gives limits batch l s f e small same =
-    subst (λ o. Gives (taken_unless o s (time_series batch l)) (accept_series (Some f) (series_of batch l))) (sym (free limits l e small))
+series_gives : (limits : LabelLimits) (batch : List Placed) (l : Labels) (s : head.Store) (f : Store) → is_refused limits l ≡ false → list_of s ≡ f → Gives (taken limits s (time_series batch l)) (accept_series (Some f) (series_of batch l))
+series_gives limits batch l s f fine same =
+    subst (λ o. Gives (taken_unless o s (time_series batch l)) (accept_series (Some f) (series_of batch l))) (sym (not_some (refusal limits l) fine))
     (subst (λ ps. Gives (accepted l s (accept (Some (list_of s l)) ps)) (accept_series (Some f) (series_of batch l))) (sym (points_are l batch))
     (subst (λ (g : Store). Gives (accepted l s (accept (Some (list_of s l)) (pairs (of l batch)))) (accept_series (Some g) (series_of batch l))) same
     (by_list (accept (Some (list_of s l)) (pairs (of l batch))))))
@@ -100,22 +105,22 @@ series_gives limits batch l s f e small same =
     by_list None = refl
     by_list (Some xs) = store_with_list l xs s
 
-next_gives : (limits : LabelLimits) (batch : List Placed) (l : Labels) (r : Result head.Store Verdict) (o : Option Store) → label_fault l ≡ None → is_over limits l ≡ false → Gives r o → Gives (taken_next limits r (time_series batch l)) (accept_series o (series_of batch l))
-next_gives limits batch l (Ok s) (Some f) e small same = series_gives limits batch l s f e small same
-next_gives limits batch l (Ok s) None e small h = absurd h
-next_gives limits batch l (Err v) (Some f) e small h = absurd h
-next_gives limits batch l (Err v) None e small is = is
+next_gives : (limits : LabelLimits) (batch : List Placed) (l : Labels) (r : Result head.Store Verdict) (o : Option Store) → is_refused limits l ≡ false → Gives r o → Gives (taken_next limits r (time_series batch l)) (accept_series o (series_of batch l))
+next_gives limits batch l (Ok s) (Some f) fine same = series_gives limits batch l s f fine same
+next_gives limits batch l (Ok s) None fine h = absurd h
+next_gives limits batch l (Err v) (Some f) fine h = absurd h
+next_gives limits batch l (Err v) None fine is = is
 
-not_over : (limits : LabelLimits) (l : Labels) (rest : Bool) → (not (is_over limits l) && rest) ≡ true → is_over limits l ≡ false
-not_over limits l rest h = not_true (is_over limits l) (and_left (not (is_over limits l)) rest h)
+not_refused : (limits : LabelLimits) (l : Labels) (rest : Bool) → (not (is_refused limits l) && rest) ≡ true → is_refused limits l ≡ false
+not_refused limits l rest h = not_true (is_refused limits l) (and_left (not (is_refused limits l)) rest h)
 
--- a message whose label sets are all within the limits
-fit_gives : (limits : LabelLimits) (batch : List Placed) (ls : List Labels) (r : Result head.Store Verdict) (o : Option Store) → AllOf (λ l. label_fault l ≡ None) ls → is_fit limits (map (series_of batch) ls) ≡ true → Gives r o → Gives (taken_all limits r (map (time_series batch) ls)) (accept_all o (map (series_of batch) ls))
-fit_gives limits batch [] r o all fit same = same
-fit_gives limits batch (l ∷ ls) r o all fit same =
-    fit_gives limits batch ls (taken_next limits r (time_series batch l)) (accept_series o (series_of batch l)) all.1
-    (and_right (not (is_over limits l)) (is_fit limits (map (series_of batch) ls)) fit)
-    (next_gives limits batch l r o all.0 (not_over limits l (is_fit limits (map (series_of batch) ls)) fit) same)
+-- a message none of whose label sets is refused
+fit_gives : (limits : LabelLimits) (batch : List Placed) (ls : List Labels) (r : Result head.Store Verdict) (o : Option Store) → is_fit limits (map (series_of batch) ls) ≡ true → Gives r o → Gives (taken_all limits r (map (time_series batch) ls)) (accept_all o (map (series_of batch) ls))
+fit_gives limits batch [] r o fit same = same
+fit_gives limits batch (l ∷ ls) r o fit same =
+    fit_gives limits batch ls (taken_next limits r (time_series batch l)) (accept_series o (series_of batch l))
+    (and_right (not (is_refused limits l)) (is_fit limits (map (series_of batch) ls)) fit)
+    (next_gives limits batch l r o (not_refused limits l (is_fit limits (map (series_of batch) ls)) fit) same)
 
 -- refused with this status
 abbrev Refuses : Result head.Store Verdict → Type 0
@@ -127,35 +132,39 @@ abbrev Bad : Result head.Store Verdict → Type 0
 Bad (Ok s) = Unit {0}
 Bad (Err v) = status_of v ≡ 400
 
-next_bad : (limits : LabelLimits) (batch : List Placed) (l : Labels) (r : Result head.Store Verdict) → label_fault l ≡ None → Bad r → Bad (taken_next limits r (time_series batch l))
-next_bad limits batch l (Err v) e is = is
-next_bad limits batch l (Ok s) e is = by_over (is_over limits l) refl
+next_bad : (limits : LabelLimits) (batch : List Placed) (l : Labels) (r : Result head.Store Verdict) → Bad r → Bad (taken_next limits r (time_series batch l))
+next_bad limits batch l (Err v) is = is
+next_bad limits batch l (Ok s) is = by_refusal (refusal limits l) (refused_for_good limits l)
   where
     by_list : (o : Option Pairs) → Bad (accepted l s o)
     by_list None = refl
     by_list (Some xs) = tt
 
-    by_over : (b : Bool) → is_over limits l ≡ b → Bad (taken limits s (time_series batch l))
-    by_over true h = subst (λ o. Bad (taken_unless o s (time_series batch l))) (sym (over limits l e h)) refl
-    by_over false h = subst (λ o. Bad (taken_unless o s (time_series batch l))) (sym (free limits l e h)) (by_list (accept (Some (list_of s l)) (order.points (samples_of l (map labelled batch)))))
+    by_refusal : (o : Option Verdict) → RefusedForGood o → Bad (taken_unless o s (time_series batch l))
+    by_refusal None h = by_list (accept (Some (list_of s l)) (order.points (samples_of l (map labelled batch))))
+    by_refusal (Some v) h = h
 
 refuses_on : (limits : LabelLimits) (ss : WriteRequest) (r : Result head.Store Verdict) → Refuses r → Refuses (taken_all limits r ss)
 refuses_on limits [] r h = h
 refuses_on limits (s ∷ ss) (Ok store) h = absurd h
 refuses_on limits (s ∷ ss) (Err v) h = refuses_on limits ss (Err v) h
 
-next_refuses : (limits : LabelLimits) (batch : List Placed) (l : Labels) (r : Result head.Store Verdict) → label_fault l ≡ None → is_over limits l ≡ true → Bad r → Refuses (taken_next limits r (time_series batch l))
-next_refuses limits batch l (Err v) e large is = is
-next_refuses limits batch l (Ok s) e large is = subst (λ o. Refuses (taken_unless o s (time_series batch l))) (sym (over limits l e large)) refl
-
--- a message with a label set over the limits is refused
-unfit_refuses : (limits : LabelLimits) (batch : List Placed) (ls : List Labels) (r : Result head.Store Verdict) → AllOf (λ l. label_fault l ≡ None) ls → is_fit limits (map (series_of batch) ls) ≡ false → Bad r → Refuses (taken_all limits r (map (time_series batch) ls))
-unfit_refuses limits batch [] r all unfit bad = let never : true ≡ false → ⊥ = λ h. cc in absurd (never unfit)
-unfit_refuses limits batch (l ∷ ls) r all unfit bad = by_over (is_over limits l) refl (unfit_refuses limits batch ls (taken_next limits r (time_series batch l)) all.1)
+next_refuses : (limits : LabelLimits) (batch : List Placed) (l : Labels) (r : Result head.Store Verdict) → is_refused limits l ≡ true → Bad r → Refuses (taken_next limits r (time_series batch l))
+next_refuses limits batch l (Err v) refused is = is
+next_refuses limits batch l (Ok s) refused is = by_refusal (refusal limits l) refused (refused_for_good limits l)
   where
-    by_over : (b : Bool) → is_over limits l ≡ b → (is_fit limits (map (series_of batch) ls) ≡ false → Bad (taken_next limits r (time_series batch l)) → Refuses (taken_all limits (taken_next limits r (time_series batch l)) (map (time_series batch) ls))) → Refuses (taken_all limits (taken_next limits r (time_series batch l)) (map (time_series batch) ls))
-    by_over true h rest = refuses_on limits (map (time_series batch) ls) (taken_next limits r (time_series batch l)) (next_refuses limits batch l r all.0 h bad)
-    by_over false h rest = rest (sym (ap (λ b. not b && is_fit limits (map (series_of batch) ls)) h) ∙ unfit) (next_bad limits batch l r all.0 bad)
+    by_refusal : (o : Option Verdict) → is_some o ≡ true → RefusedForGood o → Refuses (taken_unless o s (time_series batch l))
+    by_refusal None some h = absurd cc
+    by_refusal (Some v) some h = h
+
+-- a message with a label set that is refused
+unfit_refuses : (limits : LabelLimits) (batch : List Placed) (ls : List Labels) (r : Result head.Store Verdict) → is_fit limits (map (series_of batch) ls) ≡ false → Bad r → Refuses (taken_all limits r (map (time_series batch) ls))
+unfit_refuses limits batch [] r unfit bad = let never : true ≡ false → ⊥ = λ h. cc in absurd (never unfit)
+unfit_refuses limits batch (l ∷ ls) r unfit bad = by_refused (is_refused limits l) refl (unfit_refuses limits batch ls (taken_next limits r (time_series batch l)))
+  where
+    by_refused : (b : Bool) → is_refused limits l ≡ b → (is_fit limits (map (series_of batch) ls) ≡ false → Bad (taken_next limits r (time_series batch l)) → Refuses (taken_all limits (taken_next limits r (time_series batch l)) (map (time_series batch) ls))) → Refuses (taken_all limits (taken_next limits r (time_series batch l)) (map (time_series batch) ls))
+    by_refused true h rest = refuses_on limits (map (time_series batch) ls) (taken_next limits r (time_series batch l)) (next_refuses limits batch l r h bad)
+    by_refused false h rest = rest (sym (ap (λ b. not b && is_fit limits (map (series_of batch) ls)) h) ∙ unfit) (next_bad limits batch l r bad)
 
 -- ---- the endpoint
 -- the order rule takes a batch, and this is the store after it
@@ -196,14 +205,14 @@ all_distinct P (l ∷ ls) all = (all.0, all_filter P (λ m. not (labels_eq l m))
 
 -- What the endpoint answers to a batch of label sets: 413 or 400 where its limits do not let it in, 429 while it is busy, else 400 or 204
 -- as the order rule says.
-pub by_answer : (P : Answer → Type 0) (c : Setup) (h : State) (batch : List Placed) → h.limits ≡ c.limits → AllOf (λ (x : Placed). label_fault x.labels ≡ None) batch
+pub by_answer : (P : Answer → Type 0) (c : Setup) (h : State) (batch : List Placed) → h.limits ≡ c.limits
     → (is_let_in c batch ≡ false → P (record { status = 413; head = h }))
     → P (record { status = 429; head = record h { busy = h.busy - 1 } })
     → (is_let_in c batch ≡ false → P (record { status = 400; head = h }))
     → (is_let_in c batch ≡ true → accept_all (Some (list_of h.store)) (message batch) ≡ None → P (record { status = 400; head = h }))
     → (is_let_in c batch ≡ true → (next : head.Store) → Takes h batch next → P (record { status = 204; head = record h { store = next } }))
     → P (endpoint_answer c h batch)
-by_answer P c h batch limited sets large busy unfit refused taken =
+by_answer P c h batch limited large busy unfit refused taken =
     either P (nat_lt c.max_body (length (body_of batch))) (record { status = 413; head = h }) (answer_to h (Ok (grouping.message (map labelled batch))))
     (λ e. large (ap (λ b. b && is_fit c.limits (message batch)) (large_is (length (body_of batch)) c.max_body e)))
     (λ small. either P (nat_lt 0 h.busy) (record { status = 429; head = record h { busy = h.busy - 1 } }) (answered h (verdicts.apply h.limits h.store (grouping.message (map labelled batch))))
@@ -213,11 +222,8 @@ by_answer P c h batch limited sets large busy unfit refused taken =
     ls : List Labels
     ls = distinct (map (λ (x : Placed). x.labels) batch)
 
-    ls_sets : AllOf (λ l. label_fault l ≡ None) ls
-    ls_sets = all_distinct (λ l. label_fault l ≡ None) (map (λ (x : Placed). x.labels) batch) (all_map (λ l. label_fault l ≡ None) (λ (x : Placed). x.labels) batch sets)
-
     by_fit : (b : Bool) → is_fit c.limits (message batch) ≡ b → nat_le (length (body_of batch)) c.max_body ≡ true → P (judged h (taken_all c.limits (Ok h.store) (map (time_series batch) ls)))
     by_fit true fit small =
         let fits : is_let_in c batch ≡ true = and_both (nat_le (length (body_of batch)) c.max_body) (is_fit c.limits (message batch)) small fit in
-        let_in P h batch (refused fits) (taken fits) (taken_all c.limits (Ok h.store) (map (time_series batch) ls)) (accept_all (Some (list_of h.store)) (message batch)) refl (fit_gives c.limits batch ls (Ok h.store) (Some (list_of h.store)) ls_sets fit refl)
-    by_fit false fit small = kept_out P h (unfit (and_off (nat_le (length (body_of batch)) c.max_body) (is_fit c.limits (message batch)) fit)) (taken_all c.limits (Ok h.store) (map (time_series batch) ls)) (unfit_refuses c.limits batch ls (Ok h.store) ls_sets fit tt)
+        let_in P h batch (refused fits) (taken fits) (taken_all c.limits (Ok h.store) (map (time_series batch) ls)) (accept_all (Some (list_of h.store)) (message batch)) refl (fit_gives c.limits batch ls (Ok h.store) (Some (list_of h.store)) fit refl)
+    by_fit false fit small = kept_out P h (unfit (and_off (nat_le (length (body_of batch)) c.max_body) (is_fit c.limits (message batch)) fit)) (taken_all c.limits (Ok h.store) (map (time_series batch) ls)) (unfit_refuses c.limits batch ls (Ok h.store) fit tt)

@@ -112,12 +112,12 @@ place_ids c w at = either Ids (is_some w.draining) w (place_entry c w (slice_get
     by_known t word Unknown = at
     by_known t word (Bad f) = at
     by_known t word Filtered = at
-    by_known t word (Kept l) = by_rising l t word (rises c.rules (take w.placed (log w)) l t)
+    by_known t word (Kept l) = by_rising l t word (rises c.choice (take w.placed (log w)) l t)
 
     by_entry : (o : Option Entry) → Ids (place_entry c w o)
     by_entry None = at
     by_entry (Some (Def r l)) = at
-    by_entry (Some (Sample r t word)) = by_known t word (known c.rules (take w.placed (log w)) r)
+    by_entry (Some (Sample r t word)) = by_known t word (known c.choice (take w.placed (log w)) r)
 
 -- ---- the open batch
 off : {P : Type 0} → true ≡ false → P

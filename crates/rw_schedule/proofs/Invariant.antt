@@ -93,7 +93,7 @@ pub record Inv (c : Setup) (w : World) : Type 0 where
   pub limited : w.head.limits ≡ c.limits
   pub wide : length w.shards ≡ width
   pub placed_in : w.placed ≤ length (log w)
-  pub series_in : (r : ℕ) (l : Labels) → known c.rules (take w.placed (log w)) r ≡ Kept l → list_any (labels_eq l) w.series ≡ true
+  pub series_in : (r : ℕ) (l : Labels) → known c.choice (take w.placed (log w)) r ≡ Kept l → list_any (labels_eq l) w.series ≡ true
   pub shards_ok : Each (ShardOk c w.epoch w.placed width w.series (get w.names) ident) w.shards
   pub got_ok : (i : ℕ) → GotOk c (slice_get w.shards i) (got i)
   pub mine : (l : Labels) → IsKept c l → points c l (take w.placed (log w)) ≡ done l ++ as_points (of l (waits (slice_get w.shards (home width w.series l))))

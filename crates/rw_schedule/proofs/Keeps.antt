@@ -99,7 +99,7 @@ feed_keeps c w piece at = either (Inv c) (is_some w.closed) w (record w { pieces
       limited = at.limited;
       wide = at.wide;
       placed_in = (let e : length (entries (w.pieces ++ piece_of piece ∷ [])) ≡ length (log w) + length grown.0 = ap length grown.1 ∙ length-append (log w) grown.0 in let le : w.placed ≤ length (log w) = at.placed_in in omega arith);
-      series_in = λ r l h. at.series_in r l (ap (λ s. known c.rules s r) (sym same) ∙ h);
+      series_in = λ r l h. at.series_in r l (ap (λ s. known c.choice s r) (sym same) ∙ h);
       shards_ok = at.shards_ok;
       got_ok = at.got_ok;
       mine = λ l k. ap (points c l) same ∙ at.mine l k;
@@ -129,7 +129,7 @@ pub record Moves (c : Setup) (w : World) (e : Entry) (series : List Labels) (led
   pub below : (p : ℕ) → p < w.placed → ledger p ≡ (get w.names) p
   pub above : (p : ℕ) → suc w.placed ≤ p → ledger p ≡ None
   pub no_point : (l : Labels) → IsKept c l → point_of c l (take w.placed (log w)) e ≡ []
-  pub met : (r : ℕ) (l : Labels) → known c.rules (take w.placed (log w) ++ e ∷ []) r ≡ Kept l → list_any (labels_eq l) series ≡ true
+  pub met : (r : ℕ) (l : Labels) → known c.choice (take w.placed (log w) ++ e ∷ []) r ≡ Kept l → list_any (labels_eq l) series ≡ true
 
 pub moves_keeps : (c : Setup) (w : World) (e : Entry) (series : List Labels) (names : FinMap nat_cmp Reason) (filtered : ℕ) → Moves c w e series (get names) → Inv c w → Inv c (record w { series = series; names = names; filtered = filtered; placed = suc w.placed })
 moves_keeps c w e series names filtered m at = record {
@@ -140,7 +140,7 @@ moves_keeps c w e series names filtered m at = record {
   limited = at.limited;
   wide = at.wide;
   placed_in = get_below (log w) w.placed e m.next;
-  series_in = λ r l h. m.met r l (ap (λ s. known c.rules s r) (sym seen) ∙ h);
+  series_in = λ r l h. m.met r l (ap (λ s. known c.choice s r) (sym seen) ∙ h);
   shards_ok = λ i s at_i. let ok = at.shards_ok i s at_i in record { counted = ok.counted; numbered = numbered_more (SampleOk c w.epoch w.placed at.width w.series (get w.names) at.ident i) (SampleOk c w.epoch (suc w.placed) at.width series (get names) at.ident i) (length s.core.resolved) (pending s) (λ k x _ x_ok. sample i k x x_ok) ok.numbered };
   got_ok = at.got_ok;
   mine = λ l k. ap (points c l) seen ∙ points_more c l (take w.placed (log w)) e ∙ ap (λ ps. points c l (take w.placed (log w)) ++ ps) (m.no_point l k) ∙ append-nil (points c l (take w.placed (log w))) ∙ at.mine l k ∙ ap (λ ps. at.done l ++ as_points ps) (same_wait l);
@@ -193,25 +193,25 @@ of_is l Filtered h = off (sym h)
 of_is l (Kept m) h = ap Kept (sym (same_is l m h))
 
 -- no point of a series: another's, or one that does not rise
-no_point_by : (c : Setup) (l : Labels) (seen : List Entry) (r : ℕ) (t : ℤ) (word : ℕ) → (is_of l (known c.rules seen r) ≡ true → rises c.rules seen l t ≡ false) → point_of c l seen (Sample r t word) ≡ []
-no_point_by c l seen r t word h = by_test (is_of l (known c.rules seen r)) h
+no_point_by : (c : Setup) (l : Labels) (seen : List Entry) (r : ℕ) (t : ℤ) (word : ℕ) → (is_of l (known c.choice seen r) ≡ true → rises c.choice seen l t ≡ false) → point_of c l seen (Sample r t word) ≡ []
+no_point_by c l seen r t word h = by_test (is_of l (known c.choice seen r)) h
   where
-    by_test : (b : Bool) → (b ≡ true → rises c.rules seen l t ≡ false) → cond {A = List Point} (b && rises c.rules seen l t) ((length seen, t, word) ∷ []) [] ≡ []
-    by_test true h = cond_false (rises c.rules seen l t) ((length seen, t, word) ∷ []) [] (h refl)
+    by_test : (b : Bool) → (b ≡ true → rises c.choice seen l t ≡ false) → cond {A = List Point} (b && rises c.choice seen l t) ((length seen, t, word) ∷ []) [] ≡ []
+    by_test true h = cond_false (rises c.choice seen l t) ((length seen, t, word) ∷ []) [] (h refl)
     by_test false h = refl
 
-no_point_fallen : (c : Setup) (l m : Labels) (seen : List Entry) (r : ℕ) (t : ℤ) (word : ℕ) → known c.rules seen r ≡ Kept m → rises c.rules seen m t ≡ false → point_of c l seen (Sample r t word) ≡ []
-no_point_fallen c l m seen r t word is_known falls = no_point_by c l seen r t word (λ h. ap (λ (n : Labels). rises c.rules seen n t) (kept_same (sym (of_is l (known c.rules seen r) h) ∙ is_known)) ∙ falls)
+no_point_fallen : (c : Setup) (l m : Labels) (seen : List Entry) (r : ℕ) (t : ℤ) (word : ℕ) → known c.choice seen r ≡ Kept m → rises c.choice seen m t ≡ false → point_of c l seen (Sample r t word) ≡ []
+no_point_fallen c l m seen r t word is_known falls = no_point_by c l seen r t word (λ h. ap (λ (n : Labels). rises c.choice seen n t) (kept_same (sym (of_is l (known c.choice seen r) h) ∙ is_known)) ∙ falls)
   where
     kept_same : Kept l ≡ Kept m → l ≡ m
     kept_same z = cc
 
-no_point_at : (c : Setup) (l : Labels) (seen : List Entry) (r : ℕ) (t : ℤ) (word : ℕ) → (known c.rules seen r ≡ Kept l → ⊥) → point_of c l seen (Sample r t word) ≡ []
-no_point_at c l seen r t word never = no_point_by c l seen r t word (λ h. absurd (never (of_is l (known c.rules seen r) h)))
+no_point_at : (c : Setup) (l : Labels) (seen : List Entry) (r : ℕ) (t : ℤ) (word : ℕ) → (known c.choice seen r ≡ Kept l → ⊥) → point_of c l seen (Sample r t word) ≡ []
+no_point_at c l seen r t word never = no_point_by c l seen r t word (λ h. absurd (never (of_is l (known c.choice seen r) h)))
 
 -- a sample changes nothing of what is known
-pub known_sample : (c : Setup) (seen : List Entry) (q : ℕ) (t : ℤ) (word r : ℕ) → known c.rules (seen ++ Sample q t word ∷ []) r ≡ known c.rules seen r
-known_sample c seen q t word r = sym (known-definitions_of c.rules (seen ++ Sample q t word ∷ []) r) ∙ ap (λ d. known c.rules d r) (definitions_of-sample seen q t word) ∙ known-definitions_of c.rules seen r
+pub known_sample : (c : Setup) (seen : List Entry) (q : ℕ) (t : ℤ) (word r : ℕ) → known c.choice (seen ++ Sample q t word ∷ []) r ≡ known c.choice seen r
+known_sample c seen q t word r = sym (known-definitions_of c.choice (seen ++ Sample q t word ∷ []) r) ∙ ap (λ d. known c.choice d r) (definitions_of-sample seen q t word) ∙ known-definitions_of c.choice seen r
 
 or_more : (b x y : Bool) → (x ≡ true → y ≡ true) → (b || x) ≡ true → (b || y) ≡ true
 or_more true x y more h = refl
@@ -238,22 +238,22 @@ grows Unknown series l h = (h, refl)
 adds : (k : Standing) (series : List Labels) (l : Labels) → k ≡ Kept l → list_any (labels_eq l) (with_series series k) ≡ true
 adds k series l e = subst (λ (k : Standing). list_any (labels_eq l) (with_series series k) ≡ true) (sym e) (either (λ xs. list_any (labels_eq l) xs ≡ true) (list_any (labels_eq l) series) series (series ++ l ∷ []) (λ h. h) (λ _. any_own l series))
 
-def_moves : (c : Setup) (w : World) (q : ℕ) (m : Labels) → slice_get (log w) w.placed ≡ Some (Def q m) → Inv c w → Moves c w (Def q m) (with_series w.series (standing_of c.rules (Some m))) (get w.names)
+def_moves : (c : Setup) (w : World) (q : ℕ) (m : Labels) → slice_get (log w) w.placed ≡ Some (Def q m) → Inv c w → Moves c w (Def q m) (with_series w.series (standing_of c.choice (Some m))) (get w.names)
 def_moves c w q m e at = record {
   next = e;
-  stay = grows (standing_of c.rules (Some m)) w.series;
+  stay = grows (standing_of c.choice (Some m)) w.series;
   below = λ p _. refl;
   above = λ p le. at.fresh p (omega arith);
   no_point = λ l _. refl;
-  met = λ r l h. by_reference r l (nat_eq q r) (sym (known-definition c.rules seen q m r) ∙ h);
+  met = λ r l h. by_reference r l (nat_eq q r) (sym (known-definition c.choice seen q m r) ∙ h);
 }
   where
     seen : List Entry
     seen = take w.placed (log w)
 
-    by_reference : (r : ℕ) (l : Labels) (b : Bool) → cond b (standing_of c.rules (Some m)) (known c.rules seen r) ≡ Kept l → list_any (labels_eq l) (with_series w.series (standing_of c.rules (Some m))) ≡ true
-    by_reference r l true h = adds (standing_of c.rules (Some m)) w.series l h
-    by_reference r l false h = (grows (standing_of c.rules (Some m)) w.series l (at.series_in r l h)).0
+    by_reference : (r : ℕ) (l : Labels) (b : Bool) → cond b (standing_of c.choice (Some m)) (known c.choice seen r) ≡ Kept l → list_any (labels_eq l) (with_series w.series (standing_of c.choice (Some m))) ≡ true
+    by_reference r l true h = adds (standing_of c.choice (Some m)) w.series l h
+    by_reference r l false h = (grows (standing_of c.choice (Some m)) w.series l (at.series_in r l h)).0
 
 sample_moves : (c : Setup) (w : World) (r : ℕ) (t : ℤ) (word : ℕ) (ledger : Ledger) → slice_get (log w) w.placed ≡ Some (Sample r t word) → ((l : Labels) → point_of c l (take w.placed (log w)) (Sample r t word) ≡ []) → ((p : ℕ) → p < w.placed → ledger p ≡ (get w.names) p) → ((p : ℕ) → suc w.placed ≤ p → ledger p ≡ None) → Inv c w → Moves c w (Sample r t word) w.series ledger
 sample_moves c w r t word ledger e none below above at = record {
@@ -272,7 +272,7 @@ named_above : (c : Setup) (w : World) (at : Inv c w) (reason : Reason) (p : ℕ)
 named_above c w at reason p le = ap (λ ledger. ledger p) (ledger_insert w.names w.placed reason) ∙ named_other w.placed p reason (get w.names) (λ e. omega arith) ∙ at.fresh p (omega arith)
 
 -- a kept sample is put
-put_keeps : (c : Setup) (w : World) (r : ℕ) (t : ℤ) (word : ℕ) (l : Labels) (i : ℕ) (s : Shard) → slice_get (log w) w.placed ≡ Some (Sample r t word) → known c.rules (take w.placed (log w)) r ≡ Kept l → rises c.rules (take w.placed (log w)) l t ≡ true → i ≡ shard_of w l → slice_get w.shards i ≡ Some s → Inv c w → Inv c (record w { shards = change i (shard_put (next_sample w i l t word s)) w.shards; placed = suc w.placed })
+put_keeps : (c : Setup) (w : World) (r : ℕ) (t : ℤ) (word : ℕ) (l : Labels) (i : ℕ) (s : Shard) → slice_get (log w) w.placed ≡ Some (Sample r t word) → known c.choice (take w.placed (log w)) r ≡ Kept l → rises c.choice (take w.placed (log w)) l t ≡ true → i ≡ shard_of w l → slice_get w.shards i ≡ Some s → Inv c w → Inv c (record w { shards = change i (shard_put (next_sample w i l t word s)) w.shards; placed = suc w.placed })
 put_keeps c w r t word l i s e is_known up i_is at_i at = record {
   width = at.width;
   ident = ident;
@@ -281,7 +281,7 @@ put_keeps c w r t word l i s e is_known up i_is at_i at = record {
   limited = at.limited;
   wide = length_change i (shard_put x) w.shards ∙ at.wide;
   placed_in = get_below (log w) w.placed (Sample r t word) e;
-  series_in = λ q m h. at.series_in q m (sym (ap (λ es. known c.rules es q) seen_more ∙ known_sample c seen r t word q) ∙ h);
+  series_in = λ q m h. at.series_in q m (sym (ap (λ es. known c.choice es q) seen_more ∙ known_sample c seen r t word q) ∙ h);
   shards_ok = each_change (ShardOk c w.epoch (suc w.placed) at.width w.series (get w.names) ident) (shard_put x) i w.shards (λ j u at_j. older j u (at.shards_ok j u at_j))
       (λ u at_u _. let same : s ≡ u = some_is (sym at_i ∙ at_u) in subst (λ (u : Shard). ShardOk c w.epoch (suc w.placed) at.width w.series (get w.names) ident i (shard_put x u)) same pushed);
   got_ok = λ j. at_change (λ o. GotOk c o (at.got j)) i j (shard_put x) w.shards (λ _ _ _ g. g) (at.got_ok j);
@@ -337,13 +337,13 @@ put_keeps c w r t word l i s e is_known up i_is at_i at = record {
 
     -- the point of the entry is the sample's
     same_point : (m : Labels) → point_of c m seen (Sample r t word) ≡ as_points (of m (x ∷ []))
-    same_point m = ap (λ k. cond (is_of m k && rises c.rules seen m t) ((length seen, t, word) ∷ []) []) is_known ∙ by_test (labels_eq m l) refl
+    same_point m = ap (λ k. cond (is_of m k && rises c.choice seen m t) ((length seen, t, word) ∷ []) []) is_known ∙ by_test (labels_eq m l) refl
       where
         long : length seen ≡ w.placed
         long = length-take-le w.placed (log w) at.placed_in
 
-        by_test : (b : Bool) → labels_eq m l ≡ b → cond (b && rises c.rules seen m t) ((length seen, t, word) ∷ []) [] ≡ as_points (cond b (x ∷ []) [])
-        by_test true same = cond_true (rises c.rules seen m t) ((length seen, t, word) ∷ []) [] (ap (λ (n : Labels). rises c.rules seen n t) (same_is m l same) ∙ up) ∙ ap (λ (n : ℕ). (n, t, word) ∷ []) long
+        by_test : (b : Bool) → labels_eq m l ≡ b → cond (b && rises c.choice seen m t) ((length seen, t, word) ∷ []) [] ≡ as_points (cond b (x ∷ []) [])
+        by_test true same = cond_true (rises c.choice seen m t) ((length seen, t, word) ∷ []) [] (ap (λ (n : Labels). rises c.choice seen n t) (same_is m l same) ∙ up) ∙ ap (λ (n : ℕ). (n, t, word) ∷ []) long
         by_test false differs = refl
 
     by_home : (m : Labels) → IsKept c m → (home at.width w.series m ≡ i) ⊎ (home at.width w.series m ≡ i → ⊥) → points c m seen ++ point_of c m seen (Sample r t word) ≡ at.done m ++ as_points (of m (waits (slice_get (change i (shard_put x) w.shards) (home at.width w.series m))))
@@ -369,24 +369,24 @@ put_keeps c w r t word l i s e is_known up i_is at_i at = record {
 pub place_keeps : (c : Setup) (w : World) → Inv c w → Inv c (place c w)
 place_keeps c w at = either (Inv c) (is_some w.draining) w (place_entry c w (slice_get (log w) w.placed)) (λ _. at) (λ _. by_entry (slice_get (log w) w.placed) refl)
   where
-    by_shard : (r : ℕ) (t : ℤ) (word : ℕ) (l : Labels) (o : Option Shard) → slice_get (log w) w.placed ≡ Some (Sample r t word) → known c.rules (take w.placed (log w)) r ≡ Kept l → rises c.rules (take w.placed (log w)) l t ≡ true → slice_get w.shards (shard_of w l) ≡ o → Inv c (put_if_room c w (shard_of w l) l t word o)
+    by_shard : (r : ℕ) (t : ℤ) (word : ℕ) (l : Labels) (o : Option Shard) → slice_get (log w) w.placed ≡ Some (Sample r t word) → known c.choice (take w.placed (log w)) r ≡ Kept l → rises c.choice (take w.placed (log w)) l t ≡ true → slice_get w.shards (shard_of w l) ≡ o → Inv c (put_if_room c w (shard_of w l) l t word o)
     by_shard r t word l None e is_known up at_i = at
     by_shard r t word l (Some s) e is_known up at_i = either (Inv c) (has_room c.capacity s) _ w (λ _. put_keeps c w r t word l (shard_of w l) s e is_known up refl at_i at) (λ _. at)
 
     named : (r : ℕ) (t : ℤ) (word : ℕ) (reason : Reason) → slice_get (log w) w.placed ≡ Some (Sample r t word) → ((l : Labels) → point_of c l (take w.placed (log w)) (Sample r t word) ≡ []) → Inv c (record w { names = insert w.names w.placed reason; placed = suc w.placed })
     named r t word reason e none = moves_keeps c w (Sample r t word) w.series (insert w.names w.placed reason) w.filtered (sample_moves c w r t word (get (insert w.names w.placed reason)) e none (named_below w reason) (named_above c w at reason) at) at
 
-    by_rising : (r : ℕ) (t : ℤ) (word : ℕ) (l : Labels) → slice_get (log w) w.placed ≡ Some (Sample r t word) → known c.rules (take w.placed (log w)) r ≡ Kept l → (b : Bool) → rises c.rules (take w.placed (log w)) l t ≡ b → Inv c (place_kept c w l t word b)
+    by_rising : (r : ℕ) (t : ℤ) (word : ℕ) (l : Labels) → slice_get (log w) w.placed ≡ Some (Sample r t word) → known c.choice (take w.placed (log w)) r ≡ Kept l → (b : Bool) → rises c.choice (take w.placed (log w)) l t ≡ b → Inv c (place_kept c w l t word b)
     by_rising r t word l e is_known true up = by_shard r t word l (slice_get w.shards (shard_of w l)) e is_known up refl
     by_rising r t word l e is_known false falls = named r t word NotRising e (λ m. no_point_fallen c m l (take w.placed (log w)) r t word is_known falls)
 
-    by_known : (r : ℕ) (t : ℤ) (word : ℕ) (k : Standing) → slice_get (log w) w.placed ≡ Some (Sample r t word) → known c.rules (take w.placed (log w)) r ≡ k → Inv c (place_sample c w t word k)
+    by_known : (r : ℕ) (t : ℤ) (word : ℕ) (k : Standing) → slice_get (log w) w.placed ≡ Some (Sample r t word) → known c.choice (take w.placed (log w)) r ≡ k → Inv c (place_sample c w t word k)
     by_known r t word Unknown e is_known = named r t word NoSeries e (λ l. no_point_at c l (take w.placed (log w)) r t word (λ h. let z : Unknown ≡ Kept l = sym is_known ∙ h in let never : Unknown ≡ Kept l → ⊥ = λ h. cc in never z))
     by_known r t word (Bad f) e is_known = named r t word (BadLabels (label_fault_number f)) e (λ l. no_point_at c l (take w.placed (log w)) r t word (λ h. let z : Bad f ≡ Kept l = sym is_known ∙ h in let never : Bad f ≡ Kept l → ⊥ = λ h. cc in never z))
     by_known r t word Filtered e is_known = moves_keeps c w (Sample r t word) w.series w.names (suc w.filtered) (sample_moves c w r t word (get w.names) e (λ l. no_point_at c l (take w.placed (log w)) r t word (λ h. let z : Filtered ≡ Kept l = sym is_known ∙ h in let never : Filtered ≡ Kept l → ⊥ = λ h. cc in never z)) (λ p _. refl) (λ p le. at.fresh p (omega arith)) at) at
-    by_known r t word (Kept l) e is_known = by_rising r t word l e is_known (rises c.rules (take w.placed (log w)) l t) refl
+    by_known r t word (Kept l) e is_known = by_rising r t word l e is_known (rises c.choice (take w.placed (log w)) l t) refl
 
     by_entry : (o : Option Entry) → slice_get (log w) w.placed ≡ o → Inv c (place_entry c w o)
     by_entry None e = at
-    by_entry (Some (Def q m)) e = moves_keeps c w (Def q m) (with_series w.series (standing_of c.rules (Some m))) w.names w.filtered (def_moves c w q m e at) at
-    by_entry (Some (Sample r t word)) e = by_known r t word (known c.rules (take w.placed (log w)) r) e refl
+    by_entry (Some (Def q m)) e = moves_keeps c w (Def q m) (with_series w.series (standing_of c.choice (Some m))) w.names w.filtered (def_moves c w q m e at) at
+    by_entry (Some (Sample r t word)) e = by_known r t word (known c.choice (take w.placed (log w)) r) e refl

@@ -114,12 +114,12 @@ all_place c w at = either (All c) (is_some w.draining) w (place_entry c w (slice
     by_known t word Unknown = at
     by_known t word (Bad f) = at
     by_known t word Filtered = at
-    by_known t word (Kept l) = by_rising l t word (rises c.rules (take w.placed (log w)) l t)
+    by_known t word (Kept l) = by_rising l t word (rises c.choice (take w.placed (log w)) l t)
 
     by_entry : (o : Option Entry) → All c (place_entry c w o)
     by_entry None = at
     by_entry (Some (Def r l)) = at
-    by_entry (Some (Sample r t word)) = by_known t word (known c.rules (take w.placed (log w)) r)
+    by_entry (Some (Sample r t word)) = by_known t word (known c.choice (take w.placed (log w)) r)
 
 all_change : (c : Setup) (w : World) (i : ℕ) (f : Shard → Shard) → ((s : Shard) → Lists c s → Lists c (f s)) → All c w → All c (changed w i f)
 all_change c w i f step at = each_change (λ i s. Lists c s) f i w.shards at (λ s _ h. step s h)

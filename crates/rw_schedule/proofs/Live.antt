@@ -268,12 +268,12 @@ place_live c w at = either (LiveIf c) (is_some w.draining) w (place_entry c w (s
     by_known x e t word Unknown = λ ends. record { ends = ends; placed_in = moved x e; wide = at.wide; drains = at.drains; going = at.going }
     by_known x e t word (Bad f) = λ ends. record { ends = ends; placed_in = moved x e; wide = at.wide; drains = at.drains; going = at.going }
     by_known x e t word Filtered = λ ends. record { ends = ends; placed_in = moved x e; wide = at.wide; drains = at.drains; going = at.going }
-    by_known x e t word (Kept l) = by_rising x e l t word (rises c.rules (take w.placed (log w)) l t)
+    by_known x e t word (Kept l) = by_rising x e l t word (rises c.choice (take w.placed (log w)) l t)
 
     by_entry : (o : Option Entry) → slice_get (log w) w.placed ≡ o → LiveIf c (place_entry c w o)
     by_entry None e = λ ends. at
     by_entry (Some (Def r m)) e = λ ends. record { ends = ends; placed_in = moved (Def r m) e; wide = at.wide; drains = at.drains; going = at.going }
-    by_entry (Some (Sample r t word)) e = by_known (Sample r t word) e t word (known c.rules (take w.placed (log w)) r)
+    by_entry (Some (Sample r t word)) e = by_known (Sample r t word) e t word (known c.choice (take w.placed (log w)) r)
 
 send_live : (c : Setup) (w : World) (i : ℕ) (o : Option Shard) → slice_get w.shards i ≡ o → Live c w → LiveIf c (send_batch w i o)
 send_live c w i None e at = λ ends. at

@@ -141,12 +141,12 @@ place_names c w p s = either P (is_some w.draining) w (place_entry c w (slice_ge
     by_known t word Unknown = by_name NoSeries (λ h. let z : NoSeries ≡ Status s = some_is h in let never : NoSeries ≡ Status s → ⊥ = λ h. cc in never z)
     by_known t word (Bad f) = by_name (BadLabels (label_fault_number f)) (λ h. let z : BadLabels (label_fault_number f) ≡ Status s = some_is h in let never : BadLabels (label_fault_number f) ≡ Status s → ⊥ = λ h. cc in never z)
     by_known t word Filtered = same
-    by_known t word (Kept l) = by_rising l t word (rises c.rules (take w.placed (log w)) l t)
+    by_known t word (Kept l) = by_rising l t word (rises c.choice (take w.placed (log w)) l t)
 
     by_entry : (o : Option Entry) → NamesBy p s w.names [] (place_entry c w o).names
     by_entry None = same
     by_entry (Some (Def r l)) = same
-    by_entry (Some (Sample r t word)) = by_known t word (known c.rules (take w.placed (log w)) r)
+    by_entry (Some (Sample r t word)) = by_known t word (known c.choice (take w.placed (log w)) r)
 
 arrive_names : (c : Setup) (w : World) (how : How) (o : Option Request) (p s : ℕ) → NamesBy p s w.names [] (arrive c w how o).names
 arrive_names c w how None p s = (λ h. inl h, λ h. none_stands h)
@@ -277,12 +277,12 @@ unnamed_place c w at = either Unnamed (is_some w.draining) w (place_entry c w (s
     by_known t word Unknown = named NoSeries
     by_known t word (Bad f) = named (BadLabels (label_fault_number f))
     by_known t word Filtered = moved w.series (suc w.filtered)
-    by_known t word (Kept l) = by_rising l t word (rises c.rules (take w.placed (log w)) l t)
+    by_known t word (Kept l) = by_rising l t word (rises c.choice (take w.placed (log w)) l t)
 
     by_entry : (o : Option Entry) → Unnamed (place_entry c w o)
     by_entry None = at
     by_entry (Some (Def r l)) = moved _ w.filtered
-    by_entry (Some (Sample r t word)) = by_known t word (known c.rules (take w.placed (log w)) r)
+    by_entry (Some (Sample r t word)) = by_known t word (known c.choice (take w.placed (log w)) r)
 
 -- the samples of the open batch, and those behind it
 batch_numbered : (P : ℕ → Placed → Type 0) (s : Shard) → Numbered P (length s.core.resolved) (pending s) → Numbered P (length s.core.resolved) s.core.batch
@@ -414,12 +414,12 @@ module _ (c : Setup) (p : ℕ) (r : Reason) where
       by_known t word Unknown = named_other w.placed p NoSeries w.names apart ∙ q
       by_known t word (Bad f) = named_other w.placed p (BadLabels (label_fault_number f)) w.names apart ∙ q
       by_known t word Filtered = q
-      by_known t word (Kept l) = by_rising l t word (rises c.rules (take w.placed (log w)) l t)
+      by_known t word (Kept l) = by_rising l t word (rises c.choice (take w.placed (log w)) l t)
 
       by_entry : (o : Option Entry) → Named (place_entry c w o)
       by_entry None = q
       by_entry (Some (Def k l)) = q
-      by_entry (Some (Sample k t word)) = by_known t word (known c.rules (take w.placed (log w)) k)
+      by_entry (Some (Sample k t word)) = by_known t word (known c.choice (take w.placed (log w)) k)
 
   stays_reply : (w : World) (o : Option Reply) → Unnamed w → Named w → Named (take_reply w o)
   stays_reply w None at q = q

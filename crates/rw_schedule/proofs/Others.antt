@@ -44,19 +44,19 @@ use Rattle.rw_schedule.proofs.Steps.{always, either, Each, each_change, each_new
 use Rattle.rw_schedule.proofs.Places.{logged_append, take_next}
 
 -- what `known` keeps is a kept label set
-pub look_kept : (c : Setup) (o : Option Labels) (l : Labels) → standing_of c.rules o ≡ Kept l → IsKept c l
+pub look_kept : (c : Setup) (o : Option Labels) (l : Labels) → standing_of c.choice o ≡ Kept l → IsKept c l
 look_kept c None l e = let no : Unknown ≡ Kept l → ⊥ = λ h. cc in absurd (no e)
-look_kept c (Some m) l e = by_check (label_fault m) refl e
+look_kept c (Some m) l e = by_check (label_fault c.choice.names m) refl e
   where
-    by_keeps : (b : Bool) → keeps c.rules m ≡ b → label_fault m ≡ None → cond b (Kept m) Filtered ≡ Kept l → IsKept c l
+    by_keeps : (b : Bool) → keeps c.choice.rules m ≡ b → label_fault c.choice.names m ≡ None → cond b (Kept m) Filtered ≡ Kept l → IsKept c l
     by_keeps true k n e = let same : m ≡ l = cc in subst (IsKept c) same (n, k)
     by_keeps false k n e = let no : Filtered ≡ Kept l → ⊥ = λ h. cc in absurd (no e)
 
-    by_check : (o : Option LabelFault) → label_fault m ≡ o → standing_by c.rules m o ≡ Kept l → IsKept c l
-    by_check None n e = by_keeps (keeps c.rules m) refl n e
+    by_check : (o : Option LabelFault) → label_fault c.choice.names m ≡ o → standing_by c.choice m o ≡ Kept l → IsKept c l
+    by_check None n e = by_keeps (keeps c.choice.rules m) refl n e
     by_check (Some f) n e = let no : Bad f ≡ Kept l → ⊥ = λ h. cc in absurd (no e)
 
-pub known_kept : (c : Setup) (es : List Entry) (r : ℕ) (l : Labels) → known c.rules es r ≡ Kept l → IsKept c l
+pub known_kept : (c : Setup) (es : List Entry) (r : ℕ) (l : Labels) → known c.choice es r ≡ Kept l → IsKept c l
 unfolding known
 known_kept c es r l e = look_kept c (labels_of es r (length es)) l e
 
@@ -137,8 +137,8 @@ pub logged_less : (c : Setup) (l : Labels) (xs ys : List Entry) → logged_point
 logged_less c l xs ys h = left_nil (logged_points c l xs) (logged_from c l xs ys) (sym (logged_append c l xs ys) ∙ h)
 
 -- a sample of a kept series is one of its samples
-next_logged : (c : Setup) (es : List Entry) (n : ℕ) (l : Labels) (r : ℕ) (t : ℤ) (word : ℕ) → slice_get es n ≡ Some (Sample r t word) → known c.rules (take n es) r ≡ Kept l → HasPoints c es l
-next_logged c es n l r t word e kept h = never (logged_points c l (take n es)) (sym (sample_is_kept c.rules (take n es) l r t word kept) ∙ ap (logged_points c l) (sym (take_next es n (Sample r t word) e)) ∙ before)
+next_logged : (c : Setup) (es : List Entry) (n : ℕ) (l : Labels) (r : ℕ) (t : ℤ) (word : ℕ) → slice_get es n ≡ Some (Sample r t word) → known c.choice (take n es) r ≡ Kept l → HasPoints c es l
+next_logged c es n l r t word e kept h = never (logged_points c l (take n es)) (sym (sample_is_kept c.choice (take n es) l r t word kept) ∙ ap (logged_points c l) (sym (take_next es n (Sample r t word) e)) ∙ before)
   where
     before : logged_points c l (take (suc n) es) ≡ []
     before = logged_less c l (take (suc n) es) (drop (suc n) es) (ap (logged_points c l) (take-append-drop (suc n) es) ∙ h)
@@ -240,16 +240,16 @@ others_place c w at = either (OnlyLogged c) (is_some w.draining) w (place_entry 
     by_rising l t word logged true = by_shard l t word logged (shard_of w l) (slice_get w.shards (shard_of w l))
     by_rising l t word logged false = record { pending_logged = at.pending_logged; requests_logged = at.requests_logged; nothing_else = at.nothing_else }
 
-    by_known : (t : ℤ) (word : ℕ) (r : ℕ) (k : Standing) → slice_get (log w) w.placed ≡ Some (Sample r t word) → known c.rules (take w.placed (log w)) r ≡ k → OnlyLogged c (place_sample c w t word k)
+    by_known : (t : ℤ) (word : ℕ) (r : ℕ) (k : Standing) → slice_get (log w) w.placed ≡ Some (Sample r t word) → known c.choice (take w.placed (log w)) r ≡ k → OnlyLogged c (place_sample c w t word k)
     by_known t word r Unknown h e = record { pending_logged = at.pending_logged; requests_logged = at.requests_logged; nothing_else = at.nothing_else }
     by_known t word r (Bad f) h e = record { pending_logged = at.pending_logged; requests_logged = at.requests_logged; nothing_else = at.nothing_else }
     by_known t word r Filtered h e = record { pending_logged = at.pending_logged; requests_logged = at.requests_logged; nothing_else = at.nothing_else }
-    by_known t word r (Kept l) h e = by_rising l t word (next_logged c (log w) w.placed l r t word h e) (rises c.rules (take w.placed (log w)) l t)
+    by_known t word r (Kept l) h e = by_rising l t word (next_logged c (log w) w.placed l r t word h e) (rises c.choice (take w.placed (log w)) l t)
 
     by_entry : (o : Option Entry) → slice_get (log w) w.placed ≡ o → OnlyLogged c (place_entry c w o)
     by_entry None h = at
     by_entry (Some (Def r l)) h = record { pending_logged = at.pending_logged; requests_logged = at.requests_logged; nothing_else = at.nothing_else }
-    by_entry (Some (Sample r t word)) h = by_known t word r (known c.rules (take w.placed (log w)) r) h refl
+    by_entry (Some (Sample r t word)) h = by_known t word r (known c.choice (take w.placed (log w)) r) h refl
 
 apart_from : (c : Setup) (es : List Entry) (l m : Labels) → logged_points c l es ≡ [] → HasPoints c es m → labels_eq l m ≡ false
 apart_from c es l m none logged = by_test (labels_eq l m) refl

@@ -17,26 +17,26 @@ use Rattle.rw_schedule.proofs.Places.{get_some, logged_more, points_more, take_n
 use Rattle.rw_schedule.proofs.Keeps.{of_is, owed_append, owed_none}
 
 pub no_logged : (c : Setup) (l : Labels) → logged_points c l [] ≡ []
-no_logged c l = either (λ ps. ps ≡ []) (is_kept c.rules l) [] [] (λ _. refl) (λ _. refl)
+no_logged c l = either (λ ps. ps ≡ []) (is_kept c.choice l) [] [] (λ _. refl) (λ _. refl)
 
 -- a sample of a kept series that does not rise is named so
-pub named_fallen : (c : Setup) (w : World) (p r : ℕ) (t : ℤ) (word : ℕ) (l : Labels) → AccountedEntry c w p (Some (Sample r t word)) → known c.rules (take p (log w)) r ≡ Kept l → rises c.rules (take p (log w)) l t ≡ false → get w.names p ≡ Some NotRising
-named_fallen c w p r t word l said is_known falls = subst (AccountedKept (get w.names p)) falls (subst (Accounted (get w.names p) (λ m. rises c.rules (take p (log w)) m t)) is_known said)
+pub named_fallen : (c : Setup) (w : World) (p r : ℕ) (t : ℤ) (word : ℕ) (l : Labels) → AccountedEntry c w p (Some (Sample r t word)) → known c.choice (take p (log w)) r ≡ Kept l → rises c.choice (take p (log w)) l t ≡ false → get w.names p ≡ Some NotRising
+named_fallen c w p r t word l said is_known falls = subst (AccountedKept (get w.names p)) falls (subst (Accounted (get w.names p) (λ m. rises c.choice (take p (log w)) m t)) is_known said)
 
 -- so nothing is owed of it
 same_owed : (c : Setup) (w : World) (l : Labels) (n : ℕ) (x : Entry) → length (take n (log w)) ≡ n → AccountedEntry c w n (Some x) → owed_by (get w.names) (logged_of c l (take n (log w)) x) ≡ owed_by (get w.names) (point_of c l (take n (log w)) x)
 same_owed c w l n (Def r m) long said = refl
-same_owed c w l n (Sample r t word) long said = by_known (is_of l (known c.rules before r)) refl
+same_owed c w l n (Sample r t word) long said = by_known (is_of l (known c.choice before r)) refl
   where
     before : List Entry
     before = take n (log w)
 
-    by_rising : (b : Bool) → rises c.rules before l t ≡ b → known c.rules before r ≡ Kept l → owed_by (get w.names) ((length before, t, word) ∷ []) ≡ owed_by (get w.names) (cond b ((length before, t, word) ∷ []) [])
+    by_rising : (b : Bool) → rises c.choice before l t ≡ b → known c.choice before r ≡ Kept l → owed_by (get w.names) ((length before, t, word) ∷ []) ≡ owed_by (get w.names) (cond b ((length before, t, word) ∷ []) [])
     by_rising true up is_known = refl
     by_rising false falls is_known = owed_none (get w.names) ((length before, t, word) ∷ []) (ap is_none (ap (get w.names) long ∙ named_fallen c w n r t word l said is_known falls), tt)
 
-    by_known : (b : Bool) → is_of l (known c.rules before r) ≡ b → owed_by (get w.names) (cond b ((length before, t, word) ∷ []) []) ≡ owed_by (get w.names) (cond (b && rises c.rules before l t) ((length before, t, word) ∷ []) [])
-    by_known true h = by_rising (rises c.rules before l t) refl (of_is l (known c.rules before r) h)
+    by_known : (b : Bool) → is_of l (known c.choice before r) ≡ b → owed_by (get w.names) (cond b ((length before, t, word) ∷ []) []) ≡ owed_by (get w.names) (cond (b && rises c.choice before l t) ((length before, t, word) ∷ []) [])
+    by_known true h = by_rising (rises c.choice before l t) refl (of_is l (known c.choice before r) h)
     by_known false h = refl
 
 -- what is owed below a position up to which all is placed

@@ -20,20 +20,20 @@ use Rattle.rw_types.specs.declared.entry.Entry.TheVariants.{Def, Sample}
 
 -- one more entry
 pub logged_more : (c : Setup) (l : Labels) (xs : List Entry) (e : Entry) → logged_points c l (xs ++ e ∷ []) ≡ logged_points c l xs ++ logged_of c l xs e
-logged_more c l xs (Def r m) = definition_gives_none c.rules xs l m r ∙ sym (append-nil (logged_points c l xs))
-logged_more c l xs (Sample r t word) = by_standing (known c.rules xs r) refl
+logged_more c l xs (Def r m) = definition_gives_none c.choice xs l m r ∙ sym (append-nil (logged_points c l xs))
+logged_more c l xs (Sample r t word) = by_standing (known c.choice xs r) refl
   where
-    other : (known c.rules xs r ≡ Kept l → ⊥) → is_of l (known c.rules xs r) ≡ false → logged_points c l (xs ++ Sample r t word ∷ []) ≡ logged_points c l xs ++ logged_of c l xs (Sample r t word)
-    other h e = sample_is_other c.rules xs l r t word h ∙ sym (append-nil (logged_points c l xs)) ∙ ap (λ b. logged_points c l xs ++ cond b ((length xs, t, word) ∷ []) []) (sym e)
+    other : (known c.choice xs r ≡ Kept l → ⊥) → is_of l (known c.choice xs r) ≡ false → logged_points c l (xs ++ Sample r t word ∷ []) ≡ logged_points c l xs ++ logged_of c l xs (Sample r t word)
+    other h e = sample_is_other c.choice xs l r t word h ∙ sym (append-nil (logged_points c l xs)) ∙ ap (λ b. logged_points c l xs ++ cond b ((length xs, t, word) ∷ []) []) (sym e)
 
-    by_standing : (k : Standing) → known c.rules xs r ≡ k → logged_points c l (xs ++ Sample r t word ∷ []) ≡ logged_points c l xs ++ logged_of c l xs (Sample r t word)
+    by_standing : (k : Standing) → known c.choice xs r ≡ k → logged_points c l (xs ++ Sample r t word ∷ []) ≡ logged_points c l xs ++ logged_of c l xs (Sample r t word)
     by_standing Unknown e = other (λ h. let no : Unknown ≡ Kept l → ⊥ = λ z. cc in no (sym e ∙ h)) (ap (is_of l) e)
     by_standing (Bad f) e = other (λ h. let no : Bad f ≡ Kept l → ⊥ = λ z. cc in no (sym e ∙ h)) (ap (is_of l) e)
     by_standing Filtered e = other (λ h. let no : Filtered ≡ Kept l → ⊥ = λ z. cc in no (sym e ∙ h)) (ap (is_of l) e)
     by_standing (Kept m) e = by_test (labels_eq l m) refl
       where
         by_test : (b : Bool) → labels_eq l m ≡ b → logged_points c l (xs ++ Sample r t word ∷ []) ≡ logged_points c l xs ++ logged_of c l xs (Sample r t word)
-        by_test true same = sample_is_kept c.rules xs l r t word (e ∙ ap Kept (sym (same_is l m same))) ∙ ap (λ b. logged_points c l xs ++ cond b ((length xs, t, word) ∷ []) []) (sym (ap (is_of l) e ∙ same))
+        by_test true same = sample_is_kept c.choice xs l r t word (e ∙ ap Kept (sym (same_is l m same))) ∙ ap (λ b. logged_points c l xs ++ cond b ((length xs, t, word) ∷ []) []) (sym (ap (is_of l) e ∙ same))
         by_test false differs = other (λ h. let kept_same : Kept l ≡ Kept m → l ≡ m = λ z. cc in let no : true ≡ false → ⊥ = λ z. cc in no (sym (is_same l m (kept_same (sym h ∙ e))) ∙ differs)) (ap (is_of l) e ∙ differs)
 
 -- further entries
@@ -47,14 +47,14 @@ logged_append c l xs (y ∷ ys) =
 
 -- one more entry, and those that rise
 rising_more : (c : Setup) (l : Labels) (xs : List Entry) (t : ℤ) (word : ℕ) (b : Bool)
-    → risen (logged_points c l xs ++ cond b ((length xs, t, word) ∷ []) []) ≡ points c l xs ++ cond (b && rises c.rules xs l t) ((length xs, t, word) ∷ []) []
+    → risen (logged_points c l xs ++ cond b ((length xs, t, word) ∷ []) []) ≡ points c l xs ++ cond (b && rises c.choice xs l t) ((length xs, t, word) ∷ []) []
 unfolding rises
 rising_more c l xs t word true = risen-push (logged_points c l xs) (length xs, t, word)
 rising_more c l xs t word false = ap risen (append-nil (logged_points c l xs)) ∙ sym (append-nil (points c l xs))
 
 pub points_more : (c : Setup) (l : Labels) (xs : List Entry) (e : Entry) → points c l (xs ++ e ∷ []) ≡ points c l xs ++ point_of c l xs e
 points_more c l xs (Def r m) = ap risen (logged_more c l xs (Def r m) ∙ append-nil (logged_points c l xs)) ∙ sym (append-nil (points c l xs))
-points_more c l xs (Sample r t word) = ap risen (logged_more c l xs (Sample r t word)) ∙ rising_more c l xs t word (is_of l (known c.rules xs r))
+points_more c l xs (Sample r t word) = ap risen (logged_more c l xs (Sample r t word)) ∙ rising_more c l xs t word (is_of l (known c.choice xs r))
 
 -- further entries, and those that rise
 pub points_append : (c : Setup) (l : Labels) (xs ys : List Entry) → points c l (xs ++ ys) ≡ points c l xs ++ points_from c l xs ys

@@ -22,10 +22,9 @@ use Rattle.rw_recv_head.specs.Order.{Point, points, accept}
 use Rattle.rw_recv_head.specs.Store.{Store, list_of}
 use Rattle.rw_recv_head.specs.Verdicts.{LabelLimits, accepted, judged, refusal, taken, taken_all, taken_unless}
 use Rattle.rw_recv_head.specs.Verdicts as verdicts
+use Rattle.rw_schedule.proofs.Heads.{RefusedForGood, refused_for_good}
 use Rattle.rw_recv_head.specs.declared.verdict.Verdict.{Verdict}
-use Rattle.rw_recv_head.specs.declared.verdict.Verdict.TheVariants.{BadLabels, OverLimit}
 use Rattle.rw_batch.specs.Grouping.{message}
-use Rattle.rw_types.specs.Labels.{label_fault}
 use Rattle.rw_write_request.specs.Message.{TimeSeries, WriteRequest}
 use Rattle.rw_router.specs.Fates.{kept_fate}
 use Rattle.rw_schedule.specs.Settling.{can_place, can_place_as, can_place_entry, can_place_known, newest_from, room_at}
@@ -115,12 +114,12 @@ place_round c w can = subst (Round w) (sym (cond_false (is_some w.draining) w (p
     by_known x e t word Unknown h = record { lower = left x e; same = record { killed = refl; pieces = refl; closed = refl } }
     by_known x e t word (Bad f) h = record { lower = left x e; same = record { killed = refl; pieces = refl; closed = refl } }
     by_known x e t word Filtered h = record { lower = left x e; same = record { killed = refl; pieces = refl; closed = refl } }
-    by_known x e t word (Kept l) h = by_rising x e l t word (rises c.rules (take w.placed (log w)) l t) h
+    by_known x e t word (Kept l) h = by_rising x e l t word (rises c.choice (take w.placed (log w)) l t) h
 
     by_entry : (o : Option Entry) → slice_get (log w) w.placed ≡ o → can_place_entry c w o ≡ true → Round w (place_entry c w o)
     by_entry None e h = off (sym h)
     by_entry (Some (Def r m)) e h = record { lower = left (Def r m) e; same = record { killed = refl; pieces = refl; closed = refl } }
-    by_entry (Some (Sample r t word)) e h = by_known (Sample r t word) e t word (known c.rules (take w.placed (log w)) r) h
+    by_entry (Some (Sample r t word)) e h = by_known (Sample r t word) e t word (known c.choice (take w.placed (log w)) r) h
 
 -- event.Freeze, event.Take, event.Flush
 empty_batch : (b : List Placed) (v : Bool) → is_empty b ≡ true → batch_work b v ≡ 0
@@ -231,12 +230,8 @@ abbrev ForGood : Result Store Verdict → Type 0
 ForGood (Ok store) = Unit {0}
 ForGood (Err v) = status_of v ≡ 400
 
-abbrev RefusedForGood : Option Verdict → Type 0
-RefusedForGood None = Unit {0}
-RefusedForGood (Some v) = status_of v ≡ 400
-
 taken_for_good : (limits : LabelLimits) (store : Store) (s : TimeSeries) → ForGood (taken limits store s)
-taken_for_good limits store s = by_refusal (refusal limits s.labels) (either RefusedForGood (is_some (label_fault s.labels)) (Some BadLabels) _ (λ _. refl) (λ _. either RefusedForGood (verdicts.is_over limits s.labels) (Some OverLimit) None (λ _. refl) (λ _. tt)))
+taken_for_good limits store s = by_refusal (refusal limits s.labels) (refused_for_good limits s.labels)
   where
     by_samples : (o : Option (List Point)) → ForGood (accepted s.labels store o)
     by_samples None = refl

@@ -73,7 +73,7 @@ begins c = record {
   limited = refl;
   wide = length_new c 0 0 c.shards;
   placed_in = omega arith;
-  series_in = λ r l h. let never : Unknown ≡ Kept l → ⊥ = λ h. cc in absurd (never (sym (known-none c.rules r) ∙ h));
+  series_in = λ r l h. let never : Unknown ≡ Kept l → ⊥ = λ h. cc in absurd (never (sym (known-none c.choice r) ∙ h));
   shards_ok = each_new (ShardOk c 0 0 c.shards [] (get empty) (λ _. id_at 0 0 0)) c 0 0 (λ i. record { counted = refl; numbered = tt }) c.shards;
   got_ok = λ i. nothing i (slice_get (new_shards c 0 0 c.shards) i) refl;
   mine = λ l k. ap risen (no_logged c l) ∙ ap (λ ps. as_points (of l ps)) (sym (waits_none (home c.shards [] l) (slice_get (new_shards c 0 0 c.shards) (home c.shards [] l)) refl));
@@ -161,15 +161,15 @@ beginning c w at one l k = (tail.0 ++ u, whole)
 
 -- labels that are kept, or that have no samples
 kept_or_none : (c : Setup) (l : Labels) → IsKept c l ⊎ ((es : List Entry) → logged_points c l es ≡ [])
-kept_or_none c l = by_fault (label_fault l) refl
+kept_or_none c l = by_fault (label_fault c.choice.names l) refl
   where
-    by_keeps : (b : Bool) → label_fault l ≡ None → keeps c.rules l ≡ b → IsKept c l ⊎ ((es : List Entry) → logged_points c l es ≡ [])
+    by_keeps : (b : Bool) → label_fault c.choice.names l ≡ None → keeps c.choice.rules l ≡ b → IsKept c l ⊎ ((es : List Entry) → logged_points c l es ≡ [])
     by_keeps true n e = inl (n, e)
-    by_keeps false n e = inr (λ es. cond_false (is_kept c.rules l) (samples_after l [] es) [] (ap (λ (o : Option LabelFault). is_none o && keeps c.rules l) n ∙ e))
+    by_keeps false n e = inr (λ es. cond_false (is_kept c.choice l) (samples_after l [] es) [] (ap (λ (o : Option LabelFault). is_none o && keeps c.choice.rules l) n ∙ e))
 
-    by_fault : (o : Option LabelFault) → label_fault l ≡ o → IsKept c l ⊎ ((es : List Entry) → logged_points c l es ≡ [])
-    by_fault None n = by_keeps (keeps c.rules l) n refl
-    by_fault (Some f) n = inr (λ es. cond_false (is_kept c.rules l) (samples_after l [] es) [] (ap (λ (o : Option LabelFault). is_none o && keeps c.rules l) n))
+    by_fault : (o : Option LabelFault) → label_fault c.choice.names l ≡ o → IsKept c l ⊎ ((es : List Entry) → logged_points c l es ≡ [])
+    by_fault None n = by_keeps (keeps c.choice.rules l) n refl
+    by_fault (Some f) n = inr (λ es. cond_false (is_kept c.choice l) (samples_after l [] es) [] (ap (λ (o : Option LabelFault). is_none o && keeps c.choice.rules l) n))
 
 -- where a label set has no samples the head holds none
 nothing_held : (c : Setup) (w : World) → HoldsNothingElse c w → (l : Labels) → ((es : List Entry) → logged_points c l es ≡ []) → HoldsBeginning c w l
@@ -178,7 +178,7 @@ nothing_held c w nothing l none = (map pair_of (owed w.names (logged_points c l 
 all_of_kept : (c : Setup) (w : World) → Inv c w → HasOneClassEach c w → all_drained w ≡ true → (l : Labels) → IsKept c l → HoldsAll c w w.placed l
 all_of_kept c w at one all l k =
     let mine : points c l (take w.placed (log w)) ≡ at.done l = at.mine l k ∙ ap (λ ps. at.done l ++ as_points (of l ps)) (drained c w at all (home at.width w.series l) (slice_get w.shards (home at.width w.series l)) refl) ∙ append-nil (at.done l) in
-    at.stored l k ∙ ap (λ b. map pair_of (owed_by (get w.names) (at.done l)) ++ pairs (of l b)) (drained_got c w at all (home at.width w.series l)) ∙ append-nil (map pair_of (owed_by (get w.names) (at.done l))) ∙ ap (λ ps. map pair_of (owed_by (get w.names) ps)) (sym mine) ∙ ap (map pair_of) (sym (owed_placed c w at one l)) ∙ ap (λ ps. map pair_of (owed_by (get w.names) ps)) (sym (below_a_position c.rules (log w) l w.placed))
+    at.stored l k ∙ ap (λ b. map pair_of (owed_by (get w.names) (at.done l)) ++ pairs (of l b)) (drained_got c w at all (home at.width w.series l)) ∙ append-nil (map pair_of (owed_by (get w.names) (at.done l))) ∙ ap (λ ps. map pair_of (owed_by (get w.names) ps)) (sym mine) ∙ ap (map pair_of) (sym (owed_placed c w at one l)) ∙ ap (λ ps. map pair_of (owed_by (get w.names) ps)) (sym (below_a_position c.choice (log w) l w.placed))
 
 -- once all that was placed is resolved the head holds all of it
 pub all_of_it : (c : Setup) (w : World) → Inv c w → HasOneClassEach c w → HoldsNothingElse c w → all_drained w ≡ true → (l : Labels) → HoldsAll c w w.placed l
@@ -186,7 +186,7 @@ all_of_it c w at one nothing all l = by_kept (kept_or_none c l)
   where
     by_kept : IsKept c l ⊎ ((es : List Entry) → logged_points c l es ≡ []) → HoldsAll c w w.placed l
     by_kept (inl k) = all_of_kept c w at one all l k
-    by_kept (inr none) = nothing l (none (log w)) ∙ ap (λ ps. map pair_of (owed w.names ps)) (sym (below_a_position c.rules (log w) l w.placed ∙ none (take w.placed (log w))))
+    by_kept (inr none) = nothing l (none (log w)) ∙ ap (λ ps. map pair_of (owed w.names ps)) (sym (below_a_position c.choice (log w) l w.placed ∙ none (take w.placed (log w))))
 
 -- a report that is complete is of all that was placed
 pub complete_is : (w : World) (end : ℕ) → report w ≡ Some (Complete end) → (all_drained w ≡ true) × (w.placed ≡ end)

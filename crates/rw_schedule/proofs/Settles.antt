@@ -133,11 +133,11 @@ module _ (c : Setup) (w : World) (can : CanWork c) (at : Live c w) (end : ℕ) (
       by_known t Unknown = refl
       by_known t (Bad f) = refl
       by_known t Filtered = refl
-      by_known t (Kept l) = by_rising l (rises c.rules (take w.placed (log w)) l t)
+      by_known t (Kept l) = by_rising l (rises c.choice (take w.placed (log w)) l t)
 
       by_entry : (e : Entry) → can_place_entry c w (Some e) ≡ true
       by_entry (Def r l) = refl
-      by_entry (Sample r t word) = by_known t (known c.rules (take w.placed (log w)) r)
+      by_entry (Sample r t word) = by_known t (known c.choice (take w.placed (log w)) r)
 
       stuck : is_finished w ≡ false → is_some w.draining ≡ false → ⊥
       stuck f d =

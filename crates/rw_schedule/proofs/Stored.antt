@@ -53,12 +53,12 @@ split_at (x ∷ log) zero (suc n) e h lt = let same : x ≡ e = cc in (take n lo
 split_at (x ∷ log) (suc p) (suc n) e h lt = let r = split_at log p n e h (omega arith) in (r.0, ap (λ es. x ∷ es) r.1)
 
 -- a sample of the series that rises is one of its points
-is_point : (c : Setup) (log : List Entry) (p n r : ℕ) (t : ℤ) (word : ℕ) (l : Labels) → p < n → length (take p log) ≡ p → slice_get log p ≡ Some (Sample r t word) → known c.rules (take p log) r ≡ Kept l → rises c.rules (take p log) l t ≡ true → In (p, t, word) (points c l (take n log))
+is_point : (c : Setup) (log : List Entry) (p n r : ℕ) (t : ℤ) (word : ℕ) (l : Labels) → p < n → length (take p log) ≡ p → slice_get log p ≡ Some (Sample r t word) → known c.choice (take p log) r ≡ Kept l → rises c.choice (take p log) l t ≡ true → In (p, t, word) (points c l (take n log))
 is_point c log p n r t word l lt long e is_known up =
     let split = split_at log p n (Sample r t word) e lt in
     let here : point_of c l (take p log) (Sample r t word) ≡ (p, t, word) ∷ [] =
-    ap (λ k. cond (is_of l k && rises c.rules (take p log) l t) ((length (take p log), t, word) ∷ []) []) is_known
-    ∙ cond_true (labels_eq l l && rises c.rules (take p log) l t) ((length (take p log), t, word) ∷ []) [] (and_both (labels_eq l l) (rises c.rules (take p log) l t) (is_same l l refl) up)
+    ap (λ k. cond (is_of l k && rises c.choice (take p log) l t) ((length (take p log), t, word) ∷ []) []) is_known
+    ∙ cond_true (labels_eq l l && rises c.choice (take p log) l t) ((length (take p log), t, word) ∷ []) [] (and_both (labels_eq l l) (rises c.choice (take p log) l t) (is_same l l refl) up)
     ∙ ap (λ (m : ℕ). (m, t, word) ∷ []) long in
     subst (λ es. In (p, t, word) (points c l es)) (sym split.1)
     (subst (In (p, t, word)) (sym (points_append c l (take p log) (Sample r t word ∷ split.0)))
@@ -116,8 +116,8 @@ resolved_is_stored c events p r t word l lt e is_known gone free = by_place (in_
     long = length-take-le p (log w) (let le : w.placed ≤ length (log w) = at.placed_in in omega arith)
 
     -- one that does not rise is named
-    up : rises c.rules (take p (log w)) l t ≡ true
-    up = by_bool (rises c.rules (take p (log w)) l t ≡ true) (rises c.rules (take p (log w)) l t) (λ h. h)
+    up : rises c.choice (take p (log w)) l t ≡ true
+    up = by_bool (rises c.choice (take p (log w)) l t ≡ true) (rises c.choice (take p (log w)) l t) (λ h. h)
         (λ falls. let named : get w.names p ≡ Some NotRising = named_fallen c w p r t word l (subst (AccountedEntry c w p) e ((classes c events p).0 lt)) is_known falls in let never : None ≡ Some NotRising → ⊥ = λ h. cc in absurd (never (sym free ∙ named)))
 
     by_shard : (o : Option Shard) → slice_get w.shards (home at.width w.series l) ≡ o → In q (as_points (of l (waits o))) → is_pending w p ≡ true

@@ -1,5 +1,5 @@
 -- The words of the proofs: names and stores as functions, and a batch's message as series of points.
-use Rattle.std.specs.Prelude.{◌≡◌, ℕ, ℤ, Bool, true, false, ◌&&◌, if◌then◌else◌, List, [], ◌∷◌, ◌++◌, length, map, filter, not, Option, Some, None, is_none, ◌==◌, nat_le}
+use Rattle.std.specs.Prelude.{◌≡◌, ℕ, ℤ, Bool, true, false, ◌&&◌, if◌then◌else◌, List, [], ◌∷◌, ◌++◌, length, map, filter, not, Option, Some, None, is_some, is_none, ◌==◌, nat_le}
 use Rattle.std.specs.List.{list_all}
 use Rattle.rw_types.specs.Labels.{Labels, label_fault}
 use Rattle.rw_types.specs.LabelOrder.{labels_eq}
@@ -14,7 +14,7 @@ use Rattle.rw_shard_queue.specs.Items.{Placed}
 use Rattle.rw_batch.specs.Grouping.{distinct}
 use Rattle.rw_sender.specs.Shard.{body_of}
 use Rattle.rw_sender.specs.Shard as core
-use Rattle.rw_recv_head.specs.Verdicts.{LabelLimits, is_over}
+use Rattle.rw_recv_head.specs.Verdicts.{LabelLimits, refusal}
 use Rattle.rw_schedule.specs.Shards.{Shard, with_core}
 use Rattle.rw_schedule.specs.Worlds.{Setup}
 use Rattle.rw_schedule.specs.Promises.{Point}
@@ -22,11 +22,11 @@ use Rattle.rw_schedule.proofs.Risen.{risen}
 
 -- a label set that the rules keep
 abbrev pub IsKept : Setup → Labels → Type 0
-IsKept c l = (label_fault l ≡ None) × (keeps c.rules l ≡ true)
+IsKept c l = (label_fault c.choice.names l ≡ None) × (keeps c.choice.rules l ≡ true)
 
 -- its samples in a log
 abbrev pub logged_points : Setup → Labels → List Entry → List Point
-logged_points c l es = kept_points c.rules es l
+logged_points c l es = kept_points c.choice es l
 
 -- those of them that rise
 abbrev pub points : Setup → Labels → List Entry → List Point
@@ -41,7 +41,7 @@ is_of l (Kept m) = labels_eq l m
 -- the sample that an entry adds to its samples, after the entries before it
 abbrev pub logged_of : Setup → Labels → List Entry → Entry → List Point
 logged_of c l before (Def r m) = []
-logged_of c l before (Sample r t word) = if is_of l (known c.rules before r) then (length before, t, word) ∷ [] else []
+logged_of c l before (Sample r t word) = if is_of l (known c.choice before r) then (length before, t, word) ∷ [] else []
 
 -- those that further entries add
 abbrev pub logged_from : Setup → Labels → List Entry → List Entry → List Point
@@ -51,7 +51,7 @@ logged_from c l before (e ∷ es) = logged_of c l before e ++ logged_from c l (b
 -- the sample that an entry adds to those that rise
 abbrev pub point_of : Setup → Labels → List Entry → Entry → List Point
 point_of c l before (Def r m) = []
-point_of c l before (Sample r t word) = if is_of l (known c.rules before r) && rises c.rules before l t then (length before, t, word) ∷ [] else []
+point_of c l before (Sample r t word) = if is_of l (known c.choice before r) && rises c.choice before l t then (length before, t, word) ∷ [] else []
 
 -- those that further entries add
 abbrev pub points_from : Setup → Labels → List Entry → List Entry → List Point
@@ -92,8 +92,12 @@ abbrev pub message : List Placed → List Series
 message batch = map (series_of batch) (distinct (map (λ (x : Placed). x.labels) batch))
 
 -- the receiver's limits let the batch in, at whatever time
+-- the receiver does not take the labels, whatever the samples
+abbrev pub is_refused : LabelLimits → Labels → Bool
+is_refused limits l = is_some (refusal limits l)
+
 abbrev pub is_fit : LabelLimits → List Series → Bool
-is_fit limits m = list_all (λ (s : Series). not (is_over limits s.labels)) m
+is_fit limits m = list_all (λ (s : Series). not (is_refused limits s.labels)) m
 
 abbrev pub is_let_in : Setup → List Placed → Bool
 is_let_in c batch = nat_le (length (body_of batch)) c.max_body && is_fit c.limits (message batch)

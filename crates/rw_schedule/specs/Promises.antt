@@ -43,11 +43,11 @@ IsBeginningOf {X} xs ys = (rest : List X) × (xs ++ rest ≡ ys)
 -- the head holds a beginning of the label set's logged samples, less the named ones. Of a label set that the rules do not keep none are
 -- logged samples: there it holds nothing
 abbrev pub HoldsBeginning : Setup → World → Labels → Type 0
-HoldsBeginning c w l = IsBeginningOf (list_of w.head.store l) (map pair_of (owed w.names (kept_points c.rules (log w) l)))
+HoldsBeginning c w l = IsBeginningOf (list_of w.head.store l) (map pair_of (owed w.names (kept_points c.choice (log w) l)))
 
 -- it holds all of them below a position
 abbrev pub HoldsAll : Setup → World → ℕ → Labels → Type 0
-HoldsAll c w end l = list_of w.head.store l ≡ map pair_of (owed w.names (kept_points_below c.rules (log w) l end))
+HoldsAll c w end l = list_of w.head.store l ≡ map pair_of (owed w.names (kept_points_below c.choice (log w) l end))
 
 -- whatever the schedule and the timestamps: each series in order, each sample once, less the dropped ones
 abbrev pub IsInOrder : Setup → World → Type 0
@@ -63,7 +63,7 @@ IsWholeBeforeDamage c w = (f : TailFault) → report w ≡ Some (Damaged f) → 
 
 -- a label set that the rules do not keep holds nothing
 abbrev pub HoldsNothingElse : Setup → World → Type 0
-HoldsNothingElse c w = (l : Labels) → kept_points c.rules (log w) l ≡ [] → list_of w.head.store l ≡ []
+HoldsNothingElse c w = (l : Labels) → kept_points c.choice (log w) l ≡ [] → list_of w.head.store l ≡ []
 
 -- a queue whose End was taken hands out nothing, nor does any after a kill
 abbrev pub IsClosedForGood : Setup → World → Type 0
@@ -85,7 +85,7 @@ abbrev pub AccountedEntry : Setup → World → ℕ → Option Entry → Type 0
 AccountedEntry c w p None = get w.names p ≡ None
 AccountedEntry c w p (Some (Def r l)) = get w.names p ≡ None
 AccountedEntry c w p (Some (Sample r t word)) =
-    Accounted (get w.names p) (λ l. rises c.rules (take p (log w)) l t) (known c.rules (take p (log w)) r)
+    Accounted (get w.names p) (λ l. rises c.choice (take p (log w)) l t) (known c.choice (take p (log w)) r)
 
 -- each position below `placed` is in one class, and no other is named
 abbrev pub HasOneClassEach : Setup → World → Type 0
@@ -101,7 +101,7 @@ is_filtered (Kept l) = false
 abbrev pub is_filtered_entry : Setup → List Entry → ℕ → Option Entry → Bool
 is_filtered_entry c entries p None = false
 is_filtered_entry c entries p (Some (Def r l)) = false
-is_filtered_entry c entries p (Some (Sample r t word)) = is_filtered (known c.rules (take p entries) r)
+is_filtered_entry c entries p (Some (Sample r t word)) = is_filtered (known c.choice (take p entries) r)
 
 abbrev pub is_filtered_at : Setup → List Entry → ℕ → Bool
 is_filtered_at c entries p = is_filtered_entry c entries p (slice_get entries p)
@@ -124,7 +124,7 @@ NeverTakesAndRefuses c w =
 abbrev pub StoresResolved : Setup → World → Type 0
 StoresResolved c w =
     (p r : ℕ) (t : ℤ) (word : ℕ) (l : Labels) → p < w.placed → slice_get (log w) p ≡ Some (Sample r t word) →
-    known c.rules (take p (log w)) r ≡ Kept l → is_pending w p ≡ false → get w.names p ≡ None → holds (t, word) (list_of w.head.store l) ≡ true
+    known c.choice (take p (log w)) r ≡ Kept l → is_pending w p ≡ false → get w.names p ≡ None → holds (t, word) (list_of w.head.store l) ≡ true
 
 -- a shard's lists: what was put is what was taken and what the queue holds; what was taken is what was resolved, the open batch and the
 -- builder; and the queue is within its capacity

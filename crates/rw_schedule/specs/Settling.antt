@@ -49,12 +49,12 @@ can_place_as c w (Drops reason) = true
 can_place_as c w Filters = true
 
 abbrev pub can_place_known : Setup → World → ℤ → Standing → Bool
-can_place_known c w t standing = can_place_as c w (fate_by c.rules (take w.placed (log w)) t standing)
+can_place_known c w t standing = can_place_as c w (fate_by c.choice (take w.placed (log w)) t standing)
 
 abbrev pub can_place_entry : Setup → World → Option Entry → Bool
 can_place_entry c w None = false
 can_place_entry c w (Some (Def r l)) = true
-can_place_entry c w (Some (Sample r t word)) = can_place_known c w t (known c.rules (take w.placed (log w)) r)
+can_place_entry c w (Some (Sample r t word)) = can_place_known c w t (known c.choice (take w.placed (log w)) r)
 
 -- the guard of Place
 abbrev pub can_place : Setup → World → Bool

@@ -68,12 +68,12 @@ abbrev pub place_kept : Setup → World → Labels → ℤ → ℕ → Bool → 
 place_kept c w l t word is_rising = place_as c w t word (kept_fate is_rising l)
 
 abbrev pub place_sample : Setup → World → ℤ → ℕ → Standing → World
-place_sample c w t word standing = place_as c w t word (fate_by c.rules (take w.placed (log w)) t standing)
+place_sample c w t word standing = place_as c w t word (fate_by c.choice (take w.placed (log w)) t standing)
 
 abbrev pub place_entry : Setup → World → Option Entry → World
 place_entry c w None = w
-place_entry c w (Some (Def r l)) = record w { series = with_series w.series (standing_of c.rules (Some l)); placed = suc w.placed }
-place_entry c w (Some (Sample r t word)) = place_sample c w t word (known c.rules (take w.placed (log w)) r)
+place_entry c w (Some (Def r l)) = record w { series = with_series w.series (standing_of c.choice (Some l)); placed = suc w.placed }
+place_entry c w (Some (Sample r t word)) = place_sample c w t word (known c.choice (take w.placed (log w)) r)
 
 -- Place: the next entry, as its reference stands before it
 abbrev pub place : Setup → World → World

@@ -8,7 +8,7 @@ use Rattle.rw_types.specs.Labels.{Labels}
 use Rattle.rw_types.specs.declared.entry.Entry.{Entry}
 use Rattle.rw_codes.specs.Pieces.{Piece, entries, fault}
 use Rattle.rw_codes.specs.declared.tail_fault.TailFault.{TailFault}
-use Rattle.rw_relabel.specs.Rules.{RuleConfig}
+use Rattle.rw_relabel.specs.declared.choice.Choice.{Choice}
 use Rattle.rw_ledger.specs.declared.ledger.Reason.{Reason}
 use Rattle.rw_shard_queue.specs.Items.{Placed}
 use Rattle.rw_batch.specs.declared.batch.BatchId.{BatchId}
@@ -24,7 +24,7 @@ pub record Setup : Type 0 where
   pub shards : ℕ  -- at the beginning
   pub capacity : ℕ  -- of a queue, in items
   pub batch : ℕ  -- the most samples of a batch
-  pub rules : List RuleConfig
+  pub choice : Choice
   pub limits : LabelLimits
   pub max_body : ℕ  -- the most bytes of a body that the receiver reads
   pub busy : ℕ  -- how many requests it answers as busy, before it judges one

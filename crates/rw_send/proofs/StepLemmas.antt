@@ -15,17 +15,17 @@ use Rattle.rw_send.proofs.PartLemmas.{part_of}
 use Rattle.rw_send.proofs.SegmentLemmas.{feeding_none}
 
 pub stays : {T : Type 0} (s : Shipping T) → StaysOpen s s
-stays s = record { rules = refl; fleet = refl; shards = refl }
+stays s = record { choice = refl; fleet = refl; shards = refl }
 
 pub stays_on : {T : Type 0} (old now new : Shipping T) → StaysOpen old now → StaysOpen now new → StaysOpen old new
 stays_on {T} old now new h more = record {
-  rules = more.rules ∙ h.rules;
+  choice = more.choice ∙ h.choice;
   fleet = more.fleet ∙ ap (λ (f : Shards T). record f { current = new.fleet.current }) h.fleet;
   shards = more.shards ∙ h.shards;
 }
 
 pub stays_kept : {T : Type 0} (old new : Shipping T) → StaysOpen old new → IsKept old new
-stays_kept {T} old new h = (h.rules, ap (λ (f : Shards T). f.config) h.fleet)
+stays_kept {T} old new h = (h.choice, ap (λ (f : Shards T). f.config) h.fleet)
 
 -- what holds between the same numbers
 pub between : (P : ℕ → ℕ → Type 0) {least greatest fewest most : ℕ} → least ≡ fewest → greatest ≡ most → P least greatest → P fewest most

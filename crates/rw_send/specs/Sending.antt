@@ -3,6 +3,7 @@ use Rattle.std.specs.Prelude.{◌≡◌, ℕ, Bool, true, List, [], ◌∷◌, O
 use Rattle.std.specs.Io.KnownBytes.{Appends}
 use Rattle.rw_codes.specs.Pieces.{Piece}
 use Rattle.rw_feeder.specs.Feeders.{HasRead}
+use Rattle.rw_sender.specs.Configs.{choice_of}
 use Rattle.rw_sender.specs.declared.config.ConfigFields.{ConfigFields}
 use Rattle.rw_sender.specs.declared.outcome.Outcome.{Outcome}
 use Rattle.rw_sender.specs.declared.outcome.Outcome.TheVariants as outcome
@@ -23,7 +24,7 @@ use Rattle.rw_send.specs.Steps.{AreShipped, AreShippedPart, HasStarted}
 -- a shipper that was configured so was fed these pieces, and this is the report of its stop
 pub record IsReportOf {T : Type 0} (tells : T → Type 0) (seen : T → List Exchange) (is_for : ℕ → ℕ → T → Type 0) (c : ConfigFields) (pieces : List Piece) (r : Report T) : Type 0 where
   pub shipping : Shipping T
-  pub rules : shipping.log.rules ≡ c.rules
+  pub choice : shipping.log.choice ≡ choice_of c
   pub config : shipping.fleet.config ≡ record c { rules = [] }
   pub pieces_are : shipping.log.pieces ≡ pieces
   pub stopped : HasStopped tells seen is_for shipping r
@@ -81,9 +82,9 @@ pub record IsPrintedPart {T : Type 0} (tells : T → Type 0) (seen : T → List 
   pub sent : IsSent tells seen is_for c lefts sures report answer
   pub part : WritesPart report before after
 
--- the rules and the configuration stay
+-- which series are sent and the configuration stay
 abbrev pub IsKept : {T : Type 0} → Shipping T → Shipping T → Type 0
-IsKept old new = (new.log.rules ≡ old.log.rules) × (new.fleet.config ≡ old.fleet.config)
+IsKept old new = (new.log.choice ≡ old.log.choice) × (new.fleet.config ≡ old.fleet.config)
 
 -- why reading ends
 abbrev pub halt_of : FeedFault → Halt

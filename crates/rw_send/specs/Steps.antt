@@ -13,7 +13,7 @@ use Rattle.rw_send.specs.Segments.{Begins, IsFed, IsFedPart}
 
 -- more may have been put to the same shards
 pub record StaysOpen {T : Type 0} (old new : Shipping T) : Type 0 where
-  pub rules : new.log.rules ≡ old.log.rules
+  pub choice : new.log.choice ≡ old.log.choice
   pub fleet : new.fleet ≡ record old.fleet { current = new.fleet.current }
   pub shards : length new.fleet.current ≡ length old.fleet.current
 

@@ -1,5 +1,7 @@
 -- The configuration of a sender.
 use Rattle.std.specs.Prelude.{Bool, ◌&&◌, nat_le, [], codes}
+use Rattle.rw_types.specs.declared.names.Names.TheVariants.{Legacy}
+use Rattle.rw_relabel.specs.declared.choice.Choice.{Choice}
 use Rattle.rw_sender.specs.declared.config.ConfigFields.{ConfigFields}
 
 -- the shards at the beginning, and the least and the most backoff, are between their bounds
@@ -19,5 +21,10 @@ standard = record {
   min_backoff_ms = 30;
   max_backoff_ms = 5000;
   timeout_ms = 30000;
+  names = Legacy;
   rules = [];
 }
+
+-- which series are sent: by their names and by the rules
+abbrev pub choice_of : ConfigFields → Choice
+choice_of c = record { names = c.names; rules = c.rules }

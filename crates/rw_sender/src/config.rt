@@ -1,10 +1,10 @@
 //! How a sender is set up.
 
 ghost use Rattle.std.specs.Prelude.{◌≡◌, ◌≤◌, Some, None, codes, IfOk, if◌then◌else◌};
-ghost use Rattle.rw_sender.specs.Configs.{is_ordered, standard};
+ghost use Rattle.rw_sender.specs.Configs.{is_ordered, standard, choice_of};
 
-use rw_relabel::Rules;
-use rw_types::{Bounded, HostName, RequestPath};
+use rw_relabel::{Choice, Rules};
+use rw_types::{Bounded, HostName, Names, RequestPath};
 use std::alloc::{AllocError, Global};
 use std::marker::Model;
 
@@ -46,6 +46,8 @@ pub struct ConfigFields {
     pub max_backoff_ms: Bounded<1, 3_600_000>,
     /// How long a read or a write of a connection may take, in milliseconds.
     pub timeout_ms: Bounded<1, 3_600_000>,
+    /// Which names of labels are taken from the log.
+    pub names: Names,
     /// Which series are sent.
     pub rules: Rules,
 }
@@ -83,8 +85,19 @@ impl ConfigFields {
             min_backoff_ms: Bounded::of(30),
             max_backoff_ms: Bounded::of(5_000),
             timeout_ms: Bounded::of(30_000),
+            names: Names::Legacy,
             rules: Rules::new(Vec::new(alloc)),
         })
+    }
+
+    /// Which series are sent, by their names and by the rules.
+    pub fn into_choice(self) -> Choice
+        ensures { result ≡ choice_of self }
+    {
+        Choice {
+            names: self.names,
+            rules: self.rules,
+        }
     }
 
     /// Whether shards and backoff are between their bounds.

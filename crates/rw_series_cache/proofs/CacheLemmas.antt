@@ -5,7 +5,7 @@ use Rattle.rw_types.specs.Labels.{Labels}
 use Rattle.rw_types.specs.LabelOrder.{labels_eq}
 use Rattle.rw_types.specs.declared.entry.Entry.{Entry}
 use Rattle.rw_types.specs.declared.entry.Entry.TheVariants.{Def}
-use Rattle.rw_relabel.specs.Rules.{RuleConfig}
+use Rattle.rw_relabel.specs.declared.choice.Choice.{Choice}
 use Rattle.rw_series_cache.specs.Cached.{Judged, Judges, StandsFor, IsCache}
 use Rattle.rw_series_cache.specs.Found.{Answers, IsOfSeries}
 use Rattle.rw_series_cache.specs.Known.{Standing, Unknown, Bad, Filtered, Kept, known, standing_of, definitions_of}
@@ -17,13 +17,13 @@ use Rattle.rw_series_cache.proofs.KnownLemmas.{known-none, known-definition, kno
 use Rattle.rw_series_cache.proofs.NumberLemmas.{number_stays}
 
 -- before the first definition
-pub nothing_defined : (rules : List RuleConfig) (definitions : List Entry) (verdict_of : ℕ → Option Verdict) (sets : List Labels) → definitions ≡ [] → ((r : ℕ) → verdict_of r ≡ None) → sets ≡ []
-    → IsCache rules definitions verdict_of sets
-nothing_defined rules definitions verdict_of sets e v s = record {
+pub nothing_defined : (choice : Choice) (definitions : List Entry) (verdict_of : ℕ → Option Verdict) (sets : List Labels) → definitions ≡ [] → ((r : ℕ) → verdict_of r ≡ None) → sets ≡ []
+    → IsCache choice definitions verdict_of sets
+nothing_defined choice definitions verdict_of sets e v s = record {
   verdicts = λ r.
-      subst (λ o. StandsFor sets o (known rules definitions r)) (sym (v r))
-      (subst (StandsFor sets None) (sym (ap (λ es. known rules es r) e ∙ known-none rules r)) tt);
-  series = s ∙ sym (ap (series_of rules) e ∙ series_of-none rules);
+      subst (λ o. StandsFor sets o (known choice definitions r)) (sym (v r))
+      (subst (StandsFor sets None) (sym (ap (λ es. known choice es r) e ∙ known-none choice r)) tt);
+  series = s ∙ sym (ap (series_of choice) e ∙ series_of-none choice);
 }
 
 stays_with : (sets : List Labels) (l : Labels) (b : Bool) (v : Option Verdict) (is : Standing) → StandsFor sets v is → StandsFor (cond b sets (sets ++ l ∷ [])) v is
@@ -47,25 +47,25 @@ either_stands sets false v w x y h k = k
 
 -- one more definition
 pub one_defined : (old new : Judged) (definitions now : List Entry) (verdict_of verdict_now : ℕ → Option Verdict) (reference : ℕ) (l : Labels) (v : Verdict)
-    → IsCache old.rules definitions verdict_of old.series → Judges old new l v → now ≡ definitions ++ Def reference l ∷ []
-    → ((r : ℕ) → verdict_now r ≡ cond (nat_eq reference r) (Some v) (verdict_of r)) → IsCache new.rules now verdict_now new.series
+    → IsCache old.choice definitions verdict_of old.series → Judges old new l v → now ≡ definitions ++ Def reference l ∷ []
+    → ((r : ℕ) → verdict_now r ≡ cond (nat_eq reference r) (Some v) (verdict_of r)) → IsCache new.choice now verdict_now new.series
 one_defined old new definitions now verdict_of verdict_now reference l v cache judges e vs =
-    let is = standing_of old.rules (Some l) in
-    let rules : old.rules ≡ new.rules = sym judges.rules in
-    subst (λ rs. IsCache rs now verdict_now new.series) rules (record {
+    let is = standing_of old.choice (Some l) in
+    let choice : old.choice ≡ new.choice = sym judges.choice in
+    subst (λ rs. IsCache rs now verdict_now new.series) choice (record {
       verdicts = λ r.
-          subst (λ o. StandsFor new.series o (known old.rules now r)) (sym (vs r))
-          (subst (StandsFor new.series (cond (nat_eq reference r) (Some v) (verdict_of r))) (sym (ap (λ es. known old.rules es r) e ∙ known-definition old.rules definitions reference l r))
-          (either_stands new.series (nat_eq reference r) (Some v) (verdict_of r) is (known old.rules definitions r) judges.verdict
-          (subst (λ sets. StandsFor sets (verdict_of r) (known old.rules definitions r)) (sym judges.series) (verdict_stays old.series is (verdict_of r) (known old.rules definitions r) (cache.verdicts r)))));
+          subst (λ o. StandsFor new.series o (known old.choice now r)) (sym (vs r))
+          (subst (StandsFor new.series (cond (nat_eq reference r) (Some v) (verdict_of r))) (sym (ap (λ es. known old.choice es r) e ∙ known-definition old.choice definitions reference l r))
+          (either_stands new.series (nat_eq reference r) (Some v) (verdict_of r) is (known old.choice definitions r) judges.verdict
+          (subst (λ sets. StandsFor sets (verdict_of r) (known old.choice definitions r)) (sym judges.series) (verdict_stays old.series is (verdict_of r) (known old.choice definitions r) (cache.verdicts r)))));
       series =
           judges.series ∙ ap (λ sets. with_series sets is) cache.series
-          ∙ sym (ap (series_of old.rules) e ∙ series_of-push old.rules definitions (Def reference l));
+          ∙ sym (ap (series_of old.choice) e ∙ series_of-push old.choice definitions (Def reference l));
     })
 
 -- what is known by the definitions is known after all entries
-pub answers_after : (rules : List RuleConfig) (definitions entries : List Entry) (r : ℕ) (answer : Known) → definitions_of entries ≡ definitions → Answers rules definitions r answer → Answers rules entries r answer
-answers_after rules definitions entries r answer e a = record {
-  standing = a.standing ∙ ap (λ es. known rules es r) (sym e) ∙ known-definitions_of rules entries r;
-  number = subst (λ sets. IsOfSeries sets answer) (ap (series_of rules) (sym e) ∙ series_of-definitions_of rules entries) a.number;
+pub answers_after : (choice : Choice) (definitions entries : List Entry) (r : ℕ) (answer : Known) → definitions_of entries ≡ definitions → Answers choice definitions r answer → Answers choice entries r answer
+answers_after choice definitions entries r answer e a = record {
+  standing = a.standing ∙ ap (λ es. known choice es r) (sym e) ∙ known-definitions_of choice entries r;
+  number = subst (λ sets. IsOfSeries sets answer) (ap (series_of choice) (sym e) ∙ series_of-definitions_of choice entries) a.number;
 }

@@ -4,7 +4,8 @@ use Rattle.std.specs.Arc.{arc_value}
 use Rattle.std.specs.List.{list_any, position, position_or_len}
 use Rattle.rw_types.specs.Labels.{Labels, IsLabelSet}
 use Rattle.rw_types.specs.LabelOrder.{labels_eq, same_if_equal}
-use Rattle.rw_relabel.specs.Rules.{RuleConfig, keeps}
+use Rattle.rw_relabel.specs.Rules.{keeps}
+use Rattle.rw_relabel.specs.declared.choice.Choice.{Choice}
 use Rattle.rw_series_cache.specs.Cached.{Shared, AllJudged, Judged, Judges, StandsFor}
 use Rattle.rw_series_cache.specs.Known.{Standing, Kept, standing_of}
 use Rattle.rw_series_cache.specs.Numbers.{number_of, HasNumber, with_series}
@@ -24,16 +25,16 @@ place_of : (l : Labels) (sets : List Shared) → position_or_len (is_same l) set
 place_of l [] = refl
 place_of l (s ∷ sets) = ap (λ n. cond (not (labels_eq l (arc_value s))) (1 + n) 0) (place_of l sets)
 
-judged_by : (rules : List RuleConfig) (b : Bool) (s set : Shared) (same there : Bool) → labels_eq (arc_value s) (arc_value set) ≡ same → keeps rules (arc_value s) ≡ b
-    → (there ≡ true → keeps rules (arc_value set) ≡ b) → cond same true there ≡ true → keeps rules (arc_value set) ≡ b
-judged_by rules b s set true there e k h c = ap (keeps rules) (sym (same_if_equal (arc_value s) (arc_value set) e)) ∙ k
-judged_by rules b s set false there e k h c = h c
+judged_by : (choice : Choice) (b : Bool) (s set : Shared) (same there : Bool) → labels_eq (arc_value s) (arc_value set) ≡ same → keeps choice.rules (arc_value s) ≡ b
+    → (there ≡ true → keeps choice.rules (arc_value set) ≡ b) → cond same true there ≡ true → keeps choice.rules (arc_value set) ≡ b
+judged_by choice b s set true there e k h c = ap (keeps choice.rules) (sym (same_if_equal (arc_value s) (arc_value set) e)) ∙ k
+judged_by choice b s set false there e k h c = h c
 
 -- one more label set is judged alike
-pub judged_too : (rules : List RuleConfig) (b : Bool) (old new : List Shared) (s : Shared) → AllJudged rules b old → keeps rules (arc_value s) ≡ b
-    → ((q : Shared) → list_any (is_same (arc_value q)) new ≡ cond (labels_eq (arc_value s) (arc_value q)) true (list_any (is_same (arc_value q)) old)) → AllJudged rules b new
-judged_too rules b old new s all k has set e =
-    judged_by rules b s set (labels_eq (arc_value s) (arc_value set)) (list_any (is_same (arc_value set)) old) refl k (all set) (sym (has set) ∙ e)
+pub judged_too : (choice : Choice) (b : Bool) (old new : List Shared) (s : Shared) → AllJudged choice b old → keeps choice.rules (arc_value s) ≡ b
+    → ((q : Shared) → list_any (is_same (arc_value q)) new ≡ cond (labels_eq (arc_value s) (arc_value q)) true (list_any (is_same (arc_value q)) old)) → AllJudged choice b new
+judged_too choice b old new s all k has set e =
+    judged_by choice b s set (labels_eq (arc_value s) (arc_value set)) (list_any (is_same (arc_value set)) old) refl k (all set) (sym (has set) ∙ e)
 
 known_series : (series : List Labels) (l : Labels) (is : Standing) → is ≡ Kept l → list_any (labels_eq l) series ≡ true → series ≡ with_series series is
 known_series series l is e h = ap (λ b. cond b series (series ++ l ∷ [])) (sym h) ∙ ap (with_series series) (sym e)
@@ -45,27 +46,27 @@ stands_as : (series : List Labels) (l : Labels) (n : ℕ) (is : Standing) → is
 stands_as series l n is e h = subst (StandsFor series (Some (verdict.Kept n))) (sym e) h
 
 -- the rules and the series that shared label sets are
-abbrev pub judged_as : List RuleConfig → List Shared → Judged
-judged_as rules sets = record { rules = rules; series = map arc_value sets }
+abbrev pub judged_as : Choice → List Shared → Judged
+judged_as choice sets = record { choice = choice; series = map arc_value sets }
 
 placed : (b : Bool) (p n : ℕ) → Some n ≡ cond b (Some p) None → n ≡ p
 placed true p n e = cc
 placed false p n e = absurd cc
 
 -- a label set that is one of the series
-pub found_again : (rules : List RuleConfig) (sets : List Shared) (s : Shared) (l : Labels) (n : ℕ) → arc_value s ≡ l → IsLabelSet l → AllJudged rules true sets
-    → Some n ≡ position (is_same (arc_value s)) sets → true ≡ list_any (is_same (arc_value s)) sets → Judges (judged_as rules sets) (judged_as rules sets) l (verdict.Kept n)
-found_again rules sets s l n same fine all place there =
+pub found_again : (choice : Choice) (sets : List Shared) (s : Shared) (l : Labels) (n : ℕ) → arc_value s ≡ l → IsLabelSet choice.names l → AllJudged choice true sets
+    → Some n ≡ position (is_same (arc_value s)) sets → true ≡ list_any (is_same (arc_value s)) sets → Judges (judged_as choice sets) (judged_as choice sets) l (verdict.Kept n)
+found_again choice sets s l n same fine all place there =
     let series = map arc_value sets in
     let any : list_any (labels_eq l) series ≡ true = ap (λ k. list_any (labels_eq k) series) (sym same) ∙ sym (any_of (arc_value s) sets) ∙ sym there in
-    let is : standing_of rules (Some l) ≡ Kept l = kept_labels rules l fine (ap (keeps rules) (sym same) ∙ all s (sym there)) in
+    let is : standing_of choice (Some l) ≡ Kept l = kept_labels choice l fine (ap (keeps choice.rules) (sym same) ∙ all s (sym there)) in
     let number : n ≡ number_of series l =
     placed (nat_lt (position_or_len (is_same (arc_value s)) sets) (length sets)) (position_or_len (is_same (arc_value s)) sets) n place
     ∙ place_of (arc_value s) sets ∙ ap (number_of series) same in
     record {
-      rules = refl;
-      series = known_series series l (standing_of rules (Some l)) is any;
-      verdict = stands_as series l n (standing_of rules (Some l)) is (subst (HasNumber series l) (sym number) (has_number series l any));
+      choice = refl;
+      series = known_series series l (standing_of choice (Some l)) is any;
+      verdict = stands_as series l n (standing_of choice (Some l)) is (subst (HasNumber series l) (sym number) (has_number series l any));
     }
 
 push_of : (sets : List Shared) (s : Shared) → map arc_value (sets ++ s ∷ []) ≡ map arc_value sets ++ arc_value s ∷ []
@@ -73,19 +74,19 @@ push_of [] s = refl
 push_of (x ∷ sets) s = ap (λ ls. arc_value x ∷ ls) (push_of sets s)
 
 -- one that becomes the last of them
-pub newly_kept : (rules : List RuleConfig) (sets new : List Shared) (s : Shared) (l : Labels) (n : ℕ) → arc_value s ≡ l → IsLabelSet l → keeps rules (arc_value s) ≡ true
+pub newly_kept : (choice : Choice) (sets new : List Shared) (s : Shared) (l : Labels) (n : ℕ) → arc_value s ≡ l → IsLabelSet choice.names l → keeps choice.rules (arc_value s) ≡ true
     → list_any (is_same (arc_value s)) sets ≡ false → new ≡ cond (list_any (is_same (arc_value s)) sets) sets (sets ++ s ∷ []) → n ≡ position_or_len (is_same (arc_value s)) sets
-    → Judges (judged_as rules sets) (judged_as rules new) l (verdict.Kept n)
-newly_kept rules sets new s l n same fine keep absent pushed place =
+    → Judges (judged_as choice sets) (judged_as choice new) l (verdict.Kept n)
+newly_kept choice sets new s l n same fine keep absent pushed place =
     let series = map arc_value sets in
     let none : list_any (labels_eq l) series ≡ false = ap (λ k. list_any (labels_eq k) series) (sym same) ∙ sym (any_of (arc_value s) sets) ∙ absent in
-    let is : standing_of rules (Some l) ≡ Kept l = kept_labels rules l fine (ap (keeps rules) (sym same) ∙ keep) in
+    let is : standing_of choice (Some l) ≡ Kept l = kept_labels choice l fine (ap (keeps choice.rules) (sym same) ∙ keep) in
     let now : map arc_value new ≡ series ++ l ∷ [] =
     ap (map arc_value) (pushed ∙ ap (λ b. cond b sets (sets ++ s ∷ [])) absent) ∙ push_of sets s ∙ ap (λ k. series ++ k ∷ []) same in
     let number : n ≡ number_of series l = place ∙ place_of (arc_value s) sets ∙ ap (number_of series) same in
     let numbered : HasNumber (series ++ l ∷ []) l n = subst (HasNumber (series ++ l ∷ []) l) (sym number) (new_number series l none) in
     record {
-      rules = refl;
-      series = now ∙ new_series series l (standing_of rules (Some l)) is none;
-      verdict = stands_as (map arc_value new) l n (standing_of rules (Some l)) is (subst (λ ls. HasNumber ls l n) (sym now) numbered);
+      choice = refl;
+      series = now ∙ new_series series l (standing_of choice (Some l)) is none;
+      verdict = stands_as (map arc_value new) l n (standing_of choice (Some l)) is (subst (λ ls. HasNumber ls l n) (sym now) numbered);
     }

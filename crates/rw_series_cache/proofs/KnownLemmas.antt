@@ -10,23 +10,24 @@ use Rattle.rw_types.specs.declared.entry.Entry.{Entry}
 use Rattle.rw_types.specs.declared.entry.Entry.TheVariants.{Def, Sample}
 use Rattle.rw_types.specs.declared.label_fault.LabelFault.{LabelFault}
 use Rattle.rw_codes.specs.Series.{labels_of, defines}
-use Rattle.rw_relabel.specs.Rules.{RuleConfig, keeps}
+use Rattle.rw_relabel.specs.Rules.{keeps}
+use Rattle.rw_relabel.specs.declared.choice.Choice.{Choice}
 use Rattle.rw_series_cache.specs.Known.{Unknown, Bad, Filtered, Kept, known, standing_of, standing_by, standing_of_set, is_definition, definitions_of}
 use Rattle.rw_series_cache.specs.Numbers.{series_of, with_entry}
 
 -- labels that are no label set
-pub bad_labels : (rules : List RuleConfig) (l : Labels) (f : LabelFault) → label_fault l ≡ Some f → standing_of rules (Some l) ≡ Bad f
-bad_labels rules l f e = ap (standing_by rules l) e
+pub bad_labels : (choice : Choice) (l : Labels) (f : LabelFault) → label_fault choice.names l ≡ Some f → standing_of choice (Some l) ≡ Bad f
+bad_labels choice l f e = ap (standing_by choice l) e
 
-by_rules : (rules : List RuleConfig) (l : Labels) (b : Bool) → label_fault l ≡ None → keeps rules l ≡ b → standing_of rules (Some l) ≡ standing_of_set b l
-by_rules rules l b e k = ap (standing_by rules l) e ∙ ap (λ x. standing_of_set x l) k
+by_rules : (choice : Choice) (l : Labels) (b : Bool) → label_fault choice.names l ≡ None → keeps choice.rules l ≡ b → standing_of choice (Some l) ≡ standing_of_set b l
+by_rules choice l b e k = ap (standing_by choice l) e ∙ ap (λ x. standing_of_set x l) k
 
 -- a label set that the rules keep, and one that they drop
-pub kept_labels : (rules : List RuleConfig) (l : Labels) → label_fault l ≡ None → keeps rules l ≡ true → standing_of rules (Some l) ≡ Kept l
-kept_labels rules l e k = by_rules rules l true e k
+pub kept_labels : (choice : Choice) (l : Labels) → label_fault choice.names l ≡ None → keeps choice.rules l ≡ true → standing_of choice (Some l) ≡ Kept l
+kept_labels choice l e k = by_rules choice l true e k
 
-pub filtered_labels : (rules : List RuleConfig) (l : Labels) → label_fault l ≡ None → keeps rules l ≡ false → standing_of rules (Some l) ≡ Filtered
-filtered_labels rules l e k = by_rules rules l false e k
+pub filtered_labels : (choice : Choice) (l : Labels) → label_fault choice.names l ≡ None → keeps choice.rules l ≡ false → standing_of choice (Some l) ≡ Filtered
+filtered_labels choice l e k = by_rules choice l false e k
 
 pub labels_of-all : (es : List Entry) (r : ℕ) → labels_of es r (length es) ≡ fold (defines r) None es
 labels_of-all es r = ap (fold (defines r) None) (take-length es)
@@ -36,27 +37,27 @@ labels_of-push es e r =
     labels_of-all (es ++ e ∷ []) r ∙ fold-append (defines r) None es (e ∷ []) ∙ ap (λ k. defines r k e) (sym (labels_of-all es r))
 
 -- nothing is known before the first entry
-pub known-none : (rules : List RuleConfig) (r : ℕ) → known rules [] r ≡ Unknown
+pub known-none : (choice : Choice) (r : ℕ) → known choice [] r ≡ Unknown
 unfolding known
-known-none rules r = refl
+known-none choice r = refl
 
 -- a definition is the last one of its reference, and of no other
-pub known-definition : (rules : List RuleConfig) (es : List Entry) (reference : ℕ) (l : Labels) (r : ℕ)
-    → known rules (es ++ Def reference l ∷ []) r ≡ cond (nat_eq reference r) (standing_of rules (Some l)) (known rules es r)
+pub known-definition : (choice : Choice) (es : List Entry) (reference : ℕ) (l : Labels) (r : ℕ)
+    → known choice (es ++ Def reference l ∷ []) r ≡ cond (nat_eq reference r) (standing_of choice (Some l)) (known choice es r)
 unfolding known
-known-definition rules es reference l r = ap (standing_of rules) (labels_of-push es (Def reference l) r) ∙ defined (nat_eq reference r)
+known-definition choice es reference l r = ap (standing_of choice) (labels_of-push es (Def reference l) r) ∙ defined (nat_eq reference r)
   where
-    defined : (b : Bool) → standing_of rules (cond b (Some l) (labels_of es r (length es))) ≡ cond b (standing_of rules (Some l)) (standing_of rules (labels_of es r (length es)))
+    defined : (b : Bool) → standing_of choice (cond b (Some l) (labels_of es r (length es))) ≡ cond b (standing_of choice (Some l)) (standing_of choice (labels_of es r (length es)))
     defined true = refl
     defined false = refl
 
-pub series_of-none : (rules : List RuleConfig) → series_of rules [] ≡ []
+pub series_of-none : (choice : Choice) → series_of choice [] ≡ []
 unfolding series_of
-series_of-none rules = refl
+series_of-none choice = refl
 
-pub series_of-push : (rules : List RuleConfig) (es : List Entry) (e : Entry) → series_of rules (es ++ e ∷ []) ≡ with_entry rules (series_of rules es) e
+pub series_of-push : (choice : Choice) (es : List Entry) (e : Entry) → series_of choice (es ++ e ∷ []) ≡ with_entry choice (series_of choice es) e
 unfolding series_of
-series_of-push rules es e = fold-append (with_entry rules) [] es (e ∷ [])
+series_of-push choice es e = fold-append (with_entry choice) [] es (e ∷ [])
 
 -- what passes over samples sees the definitions alone
 fold_definitions : {A : Type 0} (f : A → Entry → A) → ((a : A) (r t w : _) → f a (Sample r t w) ≡ a) → (a : A) (es : List Entry) → fold f a (definitions_of es) ≡ fold f a es
@@ -65,19 +66,19 @@ fold_definitions f h a (Def r l ∷ es) = fold_definitions f h (f a (Def r l)) e
 fold_definitions f h a (Sample r t w ∷ es) = fold_definitions f h a es ∙ ap (λ x. fold f x es) (sym (h a r t w))
 
 -- samples change nothing of what is known, and none of the series
-pub known-definitions_of : (rules : List RuleConfig) (es : List Entry) (r : ℕ) → known rules (definitions_of es) r ≡ known rules es r
+pub known-definitions_of : (choice : Choice) (es : List Entry) (r : ℕ) → known choice (definitions_of es) r ≡ known choice es r
 unfolding known
-known-definitions_of rules es r =
-    ap (standing_of rules) (labels_of-all (definitions_of es) r ∙ fold_definitions (defines r) (λ a q t w. refl) None es ∙ sym (labels_of-all es r))
+known-definitions_of choice es r =
+    ap (standing_of choice) (labels_of-all (definitions_of es) r ∙ fold_definitions (defines r) (λ a q t w. refl) None es ∙ sym (labels_of-all es r))
 
-pub series_of-definitions_of : (rules : List RuleConfig) (es : List Entry) → series_of rules (definitions_of es) ≡ series_of rules es
+pub series_of-definitions_of : (choice : Choice) (es : List Entry) → series_of choice (definitions_of es) ≡ series_of choice es
 unfolding series_of
-series_of-definitions_of rules es = fold_definitions (with_entry rules) (λ a q t w. refl) [] es
+series_of-definitions_of choice es = fold_definitions (with_entry choice) (λ a q t w. refl) [] es
 
 -- what is known below a position is judged by the labels there
-pub known-take : (rules : List RuleConfig) (es : List Entry) (r p : ℕ) → known rules (take p es) r ≡ standing_of rules (labels_of es r p)
+pub known-take : (choice : Choice) (es : List Entry) (r p : ℕ) → known choice (take p es) r ≡ standing_of choice (labels_of es r p)
 unfolding known
-known-take rules es r p = ap (standing_of rules) (labels_of-all (take p es) r)
+known-take choice es r p = ap (standing_of choice) (labels_of-all (take p es) r)
 
 -- a definition is one of the definitions, and a sample is none
 pub definitions_of-definition : (es : List Entry) (r : ℕ) (l : Labels) → definitions_of (es ++ Def r l ∷ []) ≡ definitions_of es ++ Def r l ∷ []

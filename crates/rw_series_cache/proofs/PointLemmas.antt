@@ -9,7 +9,8 @@ use Rattle.rw_types.specs.declared.entry.Entry.{Entry}
 use Rattle.rw_types.specs.declared.entry.Entry.TheVariants.{Def, Sample}
 use Rattle.rw_types.specs.declared.label_fault.LabelFault.{LabelFault}
 use Rattle.rw_codes.specs.Series.{labels_of, has_labels, samples_after}
-use Rattle.rw_relabel.specs.Rules.{RuleConfig, keeps}
+use Rattle.rw_relabel.specs.Rules.{keeps}
+use Rattle.rw_relabel.specs.declared.choice.Choice.{Choice}
 use Rattle.rw_series_cache.specs.Known.{Kept, known, standing_of, standing_by, standing_of_set}
 use Rattle.rw_series_cache.proofs.KnownLemmas.{kept_labels}
 use Rattle.rw_series_cache.specs.Points.{is_kept, kept_points, kept_points_below}
@@ -43,33 +44,33 @@ set_kept : (l m : Labels) (b : Bool) → standing_of_set b m ≡ Kept l → (m �
 set_kept l m true e = (cc, refl)
 set_kept l m false e = absurd cc
 
-judged_kept : (rules : List RuleConfig) (l m : Labels) (f : Option LabelFault) → standing_by rules m f ≡ Kept l → (m ≡ l) × (f ≡ None) × (keeps rules m ≡ true)
-judged_kept rules l m None e = let found = set_kept l m (keeps rules m) e in (found.0, refl, found.1)
-judged_kept rules l m (Some f) e = absurd cc
+judged_kept : (choice : Choice) (l m : Labels) (f : Option LabelFault) → standing_by choice m f ≡ Kept l → (m ≡ l) × (f ≡ None) × (keeps choice.rules m ≡ true)
+judged_kept choice l m None e = let found = set_kept l m (keeps choice.rules m) e in (found.0, refl, found.1)
+judged_kept choice l m (Some f) e = absurd cc
 
-labels_kept : (rules : List RuleConfig) (l : Labels) (o : Option Labels) → standing_of rules o ≡ Kept l → (o ≡ Some l) × (label_fault l ≡ None) × (keeps rules l ≡ true)
-labels_kept rules l None e = absurd cc
-labels_kept rules l (Some m) e =
-    let found = judged_kept rules l m (label_fault m) e in
-    (ap Some found.0, ap label_fault (sym found.0) ∙ found.1, ap (keeps rules) (sym found.0) ∙ found.2)
+labels_kept : (choice : Choice) (l : Labels) (o : Option Labels) → standing_of choice o ≡ Kept l → (o ≡ Some l) × (label_fault choice.names l ≡ None) × (keeps choice.rules l ≡ true)
+labels_kept choice l None e = absurd cc
+labels_kept choice l (Some m) e =
+    let found = judged_kept choice l m (label_fault choice.names m) e in
+    (ap Some found.0, ap (label_fault choice.names) (sym found.0) ∙ found.1, ap (keeps choice.rules) (sym found.0) ∙ found.2)
 
-is_kept-true : (rules : List RuleConfig) (l : Labels) → label_fault l ≡ None → keeps rules l ≡ true → is_kept rules l ≡ true
-is_kept-true rules l e k = ap₂ (λ (f : Option LabelFault) b. is_none f && b) e k
+is_kept-true : (choice : Choice) (l : Labels) → label_fault choice.names l ≡ None → keeps choice.rules l ≡ true → is_kept choice l ≡ true
+is_kept-true choice l e k = ap₂ (λ (f : Option LabelFault) b. is_none f && b) e k
 
 has_labels-own : (l : Labels) (o : Option Labels) → o ≡ Some l → has_labels l o ≡ true
 has_labels-own l o e = ap (has_labels l) e ∙ equal_if_same l l refl
 
 -- a definition gives no sample
-pub definition_gives_none : (rules : List RuleConfig) (es : List Entry) (l m : Labels) (r : ℕ) → kept_points rules (es ++ Def r m ∷ []) l ≡ kept_points rules es l
-definition_gives_none rules es l m r = ap (λ ps. cond (is_kept rules l) ps []) (samples_after-push l [] es (Def r m) ∙ append-nil (samples_after l [] es))
+pub definition_gives_none : (choice : Choice) (es : List Entry) (l m : Labels) (r : ℕ) → kept_points choice (es ++ Def r m ∷ []) l ≡ kept_points choice es l
+definition_gives_none choice es l m r = ap (λ ps. cond (is_kept choice l) ps []) (samples_after-push l [] es (Def r m) ∙ append-nil (samples_after l [] es))
 
 -- a sample of a reference that stands for the series
-pub sample_is_kept : (rules : List RuleConfig) (es : List Entry) (l : Labels) (r : ℕ) (t : ℤ) (w : ℕ) → known rules es r ≡ Kept l
-    → kept_points rules (es ++ Sample r t w ∷ []) l ≡ kept_points rules es l ++ (length es, t, w) ∷ []
+pub sample_is_kept : (choice : Choice) (es : List Entry) (l : Labels) (r : ℕ) (t : ℤ) (w : ℕ) → known choice es r ≡ Kept l
+    → kept_points choice (es ++ Sample r t w ∷ []) l ≡ kept_points choice es l ++ (length es, t, w) ∷ []
 unfolding known
-sample_is_kept rules es l r t w e =
-    let found = labels_kept rules l (labels_of es r (length es)) e in
-    let keep : is_kept rules l ≡ true = is_kept-true rules l found.1 found.2 in
+sample_is_kept choice es l r t w e =
+    let found = labels_kept choice l (labels_of es r (length es)) e in
+    let keep : is_kept choice l ≡ true = is_kept-true choice l found.1 found.2 in
     ap (λ b. cond b (samples_after l [] (es ++ Sample r t w ∷ [])) []) keep
     ∙ samples_after-push l [] es (Sample r t w)
     ∙ ap (λ b. samples_after l [] es ++ cond b ((length es, t, w) ∷ []) []) (has_labels-own l (labels_of es r (length es)) found.0)
@@ -92,15 +93,15 @@ both_kept None b e = (refl, e)
 both_kept (Some f) b e = absurd cc
 
 -- a sample of another reference
-pub sample_is_other : (rules : List RuleConfig) (es : List Entry) (l : Labels) (r : ℕ) (t : ℤ) (w : ℕ) → (known rules es r ≡ Kept l → ⊥)
-    → kept_points rules (es ++ Sample r t w ∷ []) l ≡ kept_points rules es l
+pub sample_is_other : (choice : Choice) (es : List Entry) (l : Labels) (r : ℕ) (t : ℤ) (w : ℕ) → (known choice es r ≡ Kept l → ⊥)
+    → kept_points choice (es ++ Sample r t w ∷ []) l ≡ kept_points choice es l
 unfolding known
-sample_is_other rules es l r t w other =
-    kept_either (is_kept rules l) (samples_after l [] (es ++ Sample r t w ∷ [])) (samples_after l [] es) (λ keep.
-    let fine = both_kept (label_fault l) (keeps rules l) keep in
+sample_is_other choice es l r t w other =
+    kept_either (is_kept choice l) (samples_after l [] (es ++ Sample r t w ∷ [])) (samples_after l [] es) (λ keep.
+    let fine = both_kept (label_fault choice.names l) (keeps choice.rules l) keep in
     samples_after-push l [] es (Sample r t w)
     ∙ ap (λ ps. samples_after l [] es ++ ps) (no_point (has_labels l (labels_of es r (length es))) (length es, t, w) (λ there.
-    other (ap (standing_of rules) (has_labels-only l (labels_of es r (length es)) there) ∙ kept_labels rules l fine.0 fine.1)))
+    other (ap (standing_of choice) (has_labels-only l (labels_of es r (length es)) there) ∙ kept_labels choice l fine.0 fine.1)))
     ∙ append-nil (samples_after l [] es))
 
 -- which samples stand below a position
@@ -138,8 +139,8 @@ below_is_take l before (Sample r t w ∷ es) (suc n) end e =
     (below_is_take l (before ++ Sample r t w ∷ []) es n end (omega (arith, length-append before (Sample r t w ∷ []))))
 
 -- the samples below a position are those of the entries below it
-pub below_a_position : (rules : List RuleConfig) (es : List Entry) (l : Labels) (end : ℕ) → kept_points_below rules es l end ≡ kept_points rules (take end es) l
-below_a_position rules es l end = filter_kept (is_kept rules l) (samples_after l [] es) ∙ ap (λ ps. cond (is_kept rules l) ps []) (below_is_take l [] es end end (omega arith))
+pub below_a_position : (choice : Choice) (es : List Entry) (l : Labels) (end : ℕ) → kept_points_below choice es l end ≡ kept_points choice (take end es) l
+below_a_position choice es l end = filter_kept (is_kept choice l) (samples_after l [] es) ∙ ap (λ ps. cond (is_kept choice l) ps []) (below_is_take l [] es end end (omega arith))
   where
     filter_kept : (b : Bool) (ps : List Point) → filter (is_below end) (cond b ps []) ≡ cond b (filter (is_below end) ps) []
     filter_kept true ps = refl

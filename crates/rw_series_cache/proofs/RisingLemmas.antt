@@ -11,7 +11,8 @@ use Rattle.rw_types.proofs.OrderLemmas.{equal_if_same}
 use Rattle.rw_types.specs.declared.entry.Entry.{Entry}
 use Rattle.rw_types.specs.declared.entry.Entry.TheVariants.{Def, Sample}
 use Rattle.rw_codes.specs.Series.{labels_of, has_labels, samples_after}
-use Rattle.rw_relabel.specs.Rules.{RuleConfig, keeps}
+use Rattle.rw_relabel.specs.Rules.{keeps}
+use Rattle.rw_relabel.specs.declared.choice.Choice.{Choice}
 use Rattle.rw_series_cache.specs.Known.{Standing, Unknown, Bad, Filtered, Kept, known, standing_of}
 use Rattle.rw_series_cache.specs.Numbers.{series_of, with_series, number_of, HasNumber}
 use Rattle.rw_series_cache.specs.Points.{is_kept, kept_points}
@@ -106,58 +107,58 @@ rising_decides ps t s f = by_test (int_lt t s) refl
         never false = refl
 
 -- labels that are none of the series have no kept sample
-unmet_after : (rules : List RuleConfig) (l : Labels) → label_fault l ≡ None → keeps rules l ≡ true → (before es : List Entry) → list_any (labels_eq l) (series_of rules (before ++ es)) ≡ false
+unmet_after : (choice : Choice) (l : Labels) → label_fault choice.names l ≡ None → keeps choice.rules l ≡ true → (before es : List Entry) → list_any (labels_eq l) (series_of choice (before ++ es)) ≡ false
     → samples_after l before es ≡ []
 unfolding known
-unmet_after rules l fine keep before [] none = refl
-unmet_after rules l fine keep before (Def r m ∷ es) none =
-    unmet_after rules l fine keep (before ++ Def r m ∷ []) es (ap (λ b. list_any (labels_eq l) (series_of rules b)) (append_assoc before (Def r m ∷ []) es) ∙ none)
-unmet_after rules l fine keep before (Sample r t w ∷ es) none =
+unmet_after choice l fine keep before [] none = refl
+unmet_after choice l fine keep before (Def r m ∷ es) none =
+    unmet_after choice l fine keep (before ++ Def r m ∷ []) es (ap (λ b. list_any (labels_eq l) (series_of choice b)) (append_assoc before (Def r m ∷ []) es) ∙ none)
+unmet_after choice l fine keep before (Sample r t w ∷ es) none =
     by_test (has_labels l (labels_of before r (length before))) refl
-    (unmet_after rules l fine keep (before ++ Sample r t w ∷ []) es (ap (λ b. list_any (labels_eq l) (series_of rules b)) (append_assoc before (Sample r t w ∷ []) es) ∙ none))
+    (unmet_after choice l fine keep (before ++ Sample r t w ∷ []) es (ap (λ b. list_any (labels_eq l) (series_of choice b)) (append_assoc before (Sample r t w ∷ []) es) ∙ none))
   where
     by_test : (b : Bool) → has_labels l (labels_of before r (length before)) ≡ b → samples_after l (before ++ Sample r t w ∷ []) es ≡ []
         → cond b ((length before, t, w) ∷ samples_after l (before ++ Sample r t w ∷ []) es) (samples_after l (before ++ Sample r t w ∷ []) es) ≡ []
     by_test true e later =
-        let is_known : known rules before r ≡ Kept l = ap (standing_of rules) (has_labels-only l (labels_of before r (length before)) e) ∙ kept_labels rules l fine keep in
-        let number = kept_has_number rules before r l is_known in
-        let stays = number_stays_on rules before (Sample r t w ∷ es) l number.0 number.1 in
-        off (sym (any_at (series_of rules (before ++ Sample r t w ∷ es)) number.0 l stays.stands) ∙ none)
+        let is_known : known choice before r ≡ Kept l = ap (standing_of choice) (has_labels-only l (labels_of before r (length before)) e) ∙ kept_labels choice l fine keep in
+        let number = kept_has_number choice before r l is_known in
+        let stays = number_stays_on choice before (Sample r t w ∷ es) l number.0 number.1 in
+        off (sym (any_at (series_of choice (before ++ Sample r t w ∷ es)) number.0 l stays.stands) ∙ none)
     by_test false e later = later
 
-unmet_has_none : (rules : List RuleConfig) (es : List Entry) (l : Labels) → list_any (labels_eq l) (series_of rules es) ≡ false → kept_points rules es l ≡ []
-unmet_has_none rules es l none = by_test (is_kept rules l) refl
+unmet_has_none : (choice : Choice) (es : List Entry) (l : Labels) → list_any (labels_eq l) (series_of choice es) ≡ false → kept_points choice es l ≡ []
+unmet_has_none choice es l none = by_test (is_kept choice l) refl
   where
-    by_test : (b : Bool) → is_kept rules l ≡ b → cond b (samples_after l [] es) [] ≡ []
-    by_test true e = let fine = both_kept (label_fault l) (keeps rules l) e in unmet_after rules l fine.0 fine.1 [] es none
+    by_test : (b : Bool) → is_kept choice l ≡ b → cond b (samples_after l [] es) [] ≡ []
+    by_test true e = let fine = both_kept (label_fault choice.names l) (keeps choice.rules l) e in unmet_after choice l fine.0 fine.1 [] es none
     by_test false e = refl
 
 -- what rises after one more entry
-rises_by : (rules : List RuleConfig) (es fs : List Entry) (l : Labels) (t : ℤ) → kept_points rules fs l ≡ kept_points rules es l → rises rules fs l t ≡ rises rules es l t
+rises_by : (choice : Choice) (es fs : List Entry) (l : Labels) (t : ℤ) → kept_points choice fs l ≡ kept_points choice es l → rises choice fs l t ≡ rises choice es l t
 unfolding rises
-rises_by rules es fs l t e = ap (is_after_all t) e
+rises_by choice es fs l t e = ap (is_after_all t) e
 
-rises_more : (rules : List RuleConfig) (es : List Entry) (l : Labels) (r : ℕ) (t : ℤ) (w : ℕ) (s : ℤ) → known rules es r ≡ Kept l
-    → rises rules (es ++ Sample r t w ∷ []) l s ≡ (rises rules es l s && int_lt t s)
+rises_more : (choice : Choice) (es : List Entry) (l : Labels) (r : ℕ) (t : ℤ) (w : ℕ) (s : ℤ) → known choice es r ≡ Kept l
+    → rises choice (es ++ Sample r t w ∷ []) l s ≡ (rises choice es l s && int_lt t s)
 unfolding rises
-rises_more rules es l r t w s is = ap (is_after_all s) (sample_is_kept rules es l r t w is) ∙ is_after_all-push s (kept_points rules es l) (length es, t, w)
+rises_more choice es l r t w s is = ap (is_after_all s) (sample_is_kept choice es l r t w is) ∙ is_after_all-push s (kept_points choice es l) (length es, t, w)
 
-falls_alike : (rules : List RuleConfig) (es : List Entry) (l : Labels) (t s : ℤ) → rises rules es l t ≡ false → (rises rules es l s && int_lt t s) ≡ rises rules es l s
+falls_alike : (choice : Choice) (es : List Entry) (l : Labels) (t s : ℤ) → rises choice es l t ≡ false → (rises choice es l s && int_lt t s) ≡ rises choice es l s
 unfolding rises
-falls_alike rules es l t s f = falling_adds_none (kept_points rules es l) t s f
+falls_alike choice es l t s f = falling_adds_none (kept_points choice es l) t s f
 
-rise_decides : (rules : List RuleConfig) (es : List Entry) (l : Labels) (t s : ℤ) → rises rules es l t ≡ true → (rises rules es l s && int_lt t s) ≡ int_lt t s
+rise_decides : (choice : Choice) (es : List Entry) (l : Labels) (t s : ℤ) → rises choice es l t ≡ true → (rises choice es l s && int_lt t s) ≡ int_lt t s
 unfolding rises
-rise_decides rules es l t s f = rising_decides (kept_points rules es l) t s f
+rise_decides choice es l t s f = rising_decides (kept_points choice es l) t s f
 
-first_rises : (rules : List RuleConfig) (es : List Entry) (l : Labels) (t : ℤ) → list_any (labels_eq l) (series_of rules es) ≡ false → rises rules es l t ≡ true
+first_rises : (choice : Choice) (es : List Entry) (l : Labels) (t : ℤ) → list_any (labels_eq l) (series_of choice es) ≡ false → rises choice es l t ≡ true
 unfolding rises
-first_rises rules es l t none = ap (is_after_all t) (unmet_has_none rules es l none)
+first_rises choice es l t none = ap (is_after_all t) (unmet_has_none choice es l none)
 
 -- before the first entry nothing is noted
-pub noted_at_first : (rules : List RuleConfig) → IsNoted rules [] empty
-noted_at_first rules = record {
-  decides = λ l number t h. let no : None ≡ Some l = subst (λ (s : List Labels). slice_get s number ≡ Some l) (series_of-none rules) h.stands in absurd cc;
+pub noted_at_first : (choice : Choice) → IsNoted choice [] empty
+noted_at_first choice = record {
+  decides = λ l number t h. let no : None ≡ Some l = subst (λ (s : List Labels). slice_get s number ≡ Some l) (series_of-none choice) h.stands in absurd cc;
   none = λ number le. get-empty nat_cmp number;
 }
 
@@ -195,81 +196,81 @@ added_last s k l number h = by_place (slice_get s number) refl
         inl (subst (HasNumber s l) equal first)
 
 -- a definition notes nothing
-pub noted_definition : (rules : List RuleConfig) (es : List Entry) (r : ℕ) (m : Labels) (noted : FinMap nat_cmp ℤ) → IsNoted rules es noted → IsNoted rules (es ++ Def r m ∷ []) noted
-noted_definition rules es r m noted at = record {
-  decides = λ l number t h. by_standing (standing_of rules (Some m)) l number t (subst (λ s. HasNumber s l number) (series_of-push rules es (Def r m)) h) ∙ sym (rises_by rules es (es ++ Def r m ∷ []) l t (definition_gives_none rules es l m r));
-  none = λ number le. at.none number (let more = grows (standing_of rules (Some m)) in let same : length (series_of rules (es ++ Def r m ∷ [])) ≡ length (with_series (series_of rules es) (standing_of rules (Some m))) = ap length (series_of-push rules es (Def r m)) in omega arith);
+pub noted_definition : (choice : Choice) (es : List Entry) (r : ℕ) (m : Labels) (noted : FinMap nat_cmp ℤ) → IsNoted choice es noted → IsNoted choice (es ++ Def r m ∷ []) noted
+noted_definition choice es r m noted at = record {
+  decides = λ l number t h. by_standing (standing_of choice (Some m)) l number t (subst (λ s. HasNumber s l number) (series_of-push choice es (Def r m)) h) ∙ sym (rises_by choice es (es ++ Def r m ∷ []) l t (definition_gives_none choice es l m r));
+  none = λ number le. at.none number (let more = grows (standing_of choice (Some m)) in let same : length (series_of choice (es ++ Def r m ∷ [])) ≡ length (with_series (series_of choice es) (standing_of choice (Some m))) = ap length (series_of-push choice es (Def r m)) in omega arith);
 }
   where
-    by_any : (k l : Labels) (number : ℕ) (t : ℤ) (b : Bool) → list_any (labels_eq k) (series_of rules es) ≡ b → HasNumber (cond b (series_of rules es) (series_of rules es ++ k ∷ [])) l number → is_after (get noted number) t ≡ rises rules es l t
+    by_any : (k l : Labels) (number : ℕ) (t : ℤ) (b : Bool) → list_any (labels_eq k) (series_of choice es) ≡ b → HasNumber (cond b (series_of choice es) (series_of choice es ++ k ∷ [])) l number → is_after (get noted number) t ≡ rises choice es l t
     by_any k l number t true e h = at.decides l number t h
-    by_any k l number t false e h = elim (added_last (series_of rules es) k l number h) [
+    by_any k l number t false e h = elim (added_last (series_of choice es) k l number h) [
       | inl old ↦ at.decides l number t old
       | inr new ↦
           ap (λ o. is_after o t) (at.none number (let here = new.0 in omega arith))
-          ∙ sym (first_rises rules es l t (ap (λ n. list_any (labels_eq n) (series_of rules es)) new.1 ∙ e))
+          ∙ sym (first_rises choice es l t (ap (λ n. list_any (labels_eq n) (series_of choice es)) new.1 ∙ e))
     ]
 
-    by_standing : (is : Standing) (l : Labels) (number : ℕ) (t : ℤ) → HasNumber (with_series (series_of rules es) is) l number → is_after (get noted number) t ≡ rises rules es l t
+    by_standing : (is : Standing) (l : Labels) (number : ℕ) (t : ℤ) → HasNumber (with_series (series_of choice es) is) l number → is_after (get noted number) t ≡ rises choice es l t
     by_standing Unknown l number t h = at.decides l number t h
     by_standing (Bad f) l number t h = at.decides l number t h
     by_standing Filtered l number t h = at.decides l number t h
-    by_standing (Kept k) l number t h = by_any k l number t (list_any (labels_eq k) (series_of rules es)) refl h
+    by_standing (Kept k) l number t h = by_any k l number t (list_any (labels_eq k) (series_of choice es)) refl h
 
-    grows : (is : Standing) → length (series_of rules es) ≤ length (with_series (series_of rules es) is)
+    grows : (is : Standing) → length (series_of choice es) ≤ length (with_series (series_of choice es) is)
     grows Unknown = omega arith
     grows (Bad f) = omega arith
     grows Filtered = omega arith
-    grows (Kept k) = by_test (list_any (labels_eq k) (series_of rules es))
+    grows (Kept k) = by_test (list_any (labels_eq k) (series_of choice es))
       where
-        by_test : (b : Bool) → length (series_of rules es) ≤ length (cond b (series_of rules es) (series_of rules es ++ k ∷ []))
+        by_test : (b : Bool) → length (series_of choice es) ≤ length (cond b (series_of choice es) (series_of choice es ++ k ∷ []))
         by_test true = omega arith
-        by_test false = omega (arith, length-append (series_of rules es) (k ∷ []))
+        by_test false = omega (arith, length-append (series_of choice es) (k ∷ []))
 
 -- a sample of no kept series notes nothing
-pub noted_other : (rules : List RuleConfig) (es : List Entry) (r : ℕ) (t : ℤ) (w : ℕ) (noted : FinMap nat_cmp ℤ) → ((l : Labels) → known rules es r ≡ Kept l → ⊥) → IsNoted rules es noted
-    → IsNoted rules (es ++ Sample r t w ∷ []) noted
-noted_other rules es r t w noted other at = record {
+pub noted_other : (choice : Choice) (es : List Entry) (r : ℕ) (t : ℤ) (w : ℕ) (noted : FinMap nat_cmp ℤ) → ((l : Labels) → known choice es r ≡ Kept l → ⊥) → IsNoted choice es noted
+    → IsNoted choice (es ++ Sample r t w ∷ []) noted
+noted_other choice es r t w noted other at = record {
   decides = λ l number s h.
-      at.decides l number s (subst (λ n. HasNumber n l number) (series_of-push rules es (Sample r t w)) h)
-      ∙ sym (rises_by rules es (es ++ Sample r t w ∷ []) l s (sample_is_other rules es l r t w (other l)));
-  none = λ number le. at.none number (subst (λ (n : List Labels). length n ≤ number) (series_of-push rules es (Sample r t w)) le);
+      at.decides l number s (subst (λ n. HasNumber n l number) (series_of-push choice es (Sample r t w)) h)
+      ∙ sym (rises_by choice es (es ++ Sample r t w ∷ []) l s (sample_is_other choice es l r t w (other l)));
+  none = λ number le. at.none number (subst (λ (n : List Labels). length n ≤ number) (series_of-push choice es (Sample r t w)) le);
 }
 
 -- another series than that of a sample
-apart_kept : (rules : List RuleConfig) (es : List Entry) (r : ℕ) (l m : Labels) → known rules es r ≡ Kept l → labels_eq l m ≡ false → known rules es r ≡ Kept m → ⊥
-apart_kept rules es r l m is e other = let same : l ≡ m = let twice : Kept l ≡ Kept m = sym is ∙ other in cc in off (sym (equal_if_same l m same) ∙ e)
+apart_kept : (choice : Choice) (es : List Entry) (r : ℕ) (l m : Labels) → known choice es r ≡ Kept l → labels_eq l m ≡ false → known choice es r ≡ Kept m → ⊥
+apart_kept choice es r l m is e other = let same : l ≡ m = let twice : Kept l ≡ Kept m = sym is ∙ other in cc in off (sym (equal_if_same l m same) ∙ e)
 
 -- nor does one that does not rise
-pub noted_falling : (rules : List RuleConfig) (es : List Entry) (r : ℕ) (t : ℤ) (w : ℕ) (l : Labels) (noted : FinMap nat_cmp ℤ) → known rules es r ≡ Kept l → rises rules es l t ≡ false → IsNoted rules es noted
-    → IsNoted rules (es ++ Sample r t w ∷ []) noted
-noted_falling rules es r t w l noted is falls at = record {
-  decides = λ m number s h. let n = subst (λ (z : List Labels). HasNumber z m number) (series_of-push rules es (Sample r t w)) h in at.decides m number s n ∙ sym (by_test m s (labels_eq l m) refl);
-  none = λ number le. at.none number (subst (λ (n : List Labels). length n ≤ number) (series_of-push rules es (Sample r t w)) le);
+pub noted_falling : (choice : Choice) (es : List Entry) (r : ℕ) (t : ℤ) (w : ℕ) (l : Labels) (noted : FinMap nat_cmp ℤ) → known choice es r ≡ Kept l → rises choice es l t ≡ false → IsNoted choice es noted
+    → IsNoted choice (es ++ Sample r t w ∷ []) noted
+noted_falling choice es r t w l noted is falls at = record {
+  decides = λ m number s h. let n = subst (λ (z : List Labels). HasNumber z m number) (series_of-push choice es (Sample r t w)) h in at.decides m number s n ∙ sym (by_test m s (labels_eq l m) refl);
+  none = λ number le. at.none number (subst (λ (n : List Labels). length n ≤ number) (series_of-push choice es (Sample r t w)) le);
 }
   where
-    by_test : (m : Labels) (s : ℤ) (b : Bool) → labels_eq l m ≡ b → rises rules (es ++ Sample r t w ∷ []) m s ≡ rises rules es m s
-    by_test m s true e = subst (λ n. rises rules (es ++ Sample r t w ∷ []) n s ≡ rises rules es n s) (same_if_equal l m e) (rises_more rules es l r t w s is ∙ falls_alike rules es l t s falls)
-    by_test m s false e = rises_by rules es (es ++ Sample r t w ∷ []) m s (sample_is_other rules es m r t w (apart_kept rules es r l m is e))
+    by_test : (m : Labels) (s : ℤ) (b : Bool) → labels_eq l m ≡ b → rises choice (es ++ Sample r t w ∷ []) m s ≡ rises choice es m s
+    by_test m s true e = subst (λ n. rises choice (es ++ Sample r t w ∷ []) n s ≡ rises choice es n s) (same_if_equal l m e) (rises_more choice es l r t w s is ∙ falls_alike choice es l t s falls)
+    by_test m s false e = rises_by choice es (es ++ Sample r t w ∷ []) m s (sample_is_other choice es m r t w (apart_kept choice es r l m is e))
 
 -- one that rises is noted
-pub noted_rising : (rules : List RuleConfig) (es : List Entry) (r : ℕ) (t : ℤ) (w : ℕ) (l : Labels) (number : ℕ) (noted : FinMap nat_cmp ℤ) → known rules es r ≡ Kept l → HasNumber (series_of rules es) l number
-    → rises rules es l t ≡ true → IsNoted rules es noted → IsNoted rules (es ++ Sample r t w ∷ []) (insert noted number t)
-noted_rising rules es r t w l number noted is numbered up at = record {
-  decides = λ m n s h. by_test m n s (subst (λ (z : List Labels). HasNumber z m n) (series_of-push rules es (Sample r t w)) h) (labels_eq l m) refl;
+pub noted_rising : (choice : Choice) (es : List Entry) (r : ℕ) (t : ℤ) (w : ℕ) (l : Labels) (number : ℕ) (noted : FinMap nat_cmp ℤ) → known choice es r ≡ Kept l → HasNumber (series_of choice es) l number
+    → rises choice es l t ≡ true → IsNoted choice es noted → IsNoted choice (es ++ Sample r t w ∷ []) (insert noted number t)
+noted_rising choice es r t w l number noted is numbered up at = record {
+  decides = λ m n s h. by_test m n s (subst (λ (z : List Labels). HasNumber z m n) (series_of-push choice es (Sample r t w)) h) (labels_eq l m) refl;
   none = λ n le.
-      let past : length (series_of rules es) ≤ n = subst (λ (z : List Labels). length z ≤ n) (series_of-push rules es (Sample r t w)) le in
-      let here = within (series_of rules es) number l numbered.stands in
+      let past : length (series_of choice es) ≤ n = subst (λ (z : List Labels). length z ≤ n) (series_of-push choice es (Sample r t w)) le in
+      let here = within (series_of choice es) number l numbered.stands in
       get_elsewhere noted number t n (λ e. omega arith) ∙ at.none n past;
 }
   where
-    by_test : (m : Labels) (n : ℕ) (s : ℤ) → HasNumber (series_of rules es) m n → (b : Bool) → labels_eq l m ≡ b → is_after (get (insert noted number t) n) s ≡ rises rules (es ++ Sample r t w ∷ []) m s
+    by_test : (m : Labels) (n : ℕ) (s : ℤ) → HasNumber (series_of choice es) m n → (b : Bool) → labels_eq l m ≡ b → is_after (get (insert noted number t) n) s ≡ rises choice (es ++ Sample r t w ∷ []) m s
     by_test m n s h true e =
         let same = same_if_equal l m e in
-        let place = same_number (series_of rules es) l n number (subst (λ k. HasNumber (series_of rules es) k n) (sym same) h) numbered in
+        let place = same_number (series_of choice es) l n number (subst (λ k. HasNumber (series_of choice es) k n) (sym same) h) numbered in
         ap (λ o. is_after o s) (get_here noted number t n place)
-        ∙ sym (rise_decides rules es l t s up) ∙ sym (rises_more rules es l r t w s is) ∙ ap (λ k. rises rules (es ++ Sample r t w ∷ []) k s) same
+        ∙ sym (rise_decides choice es l t s up) ∙ sym (rises_more choice es l r t w s is) ∙ ap (λ k. rises choice (es ++ Sample r t w ∷ []) k s) same
     by_test m n s h false e =
-        ap (λ o. is_after o s) (get_elsewhere noted number t n (λ place. let twice : Some m ≡ Some l = sym h.stands ∙ ap (slice_get (series_of rules es)) place ∙ numbered.stands in let same : l ≡ m = cc in off (sym (equal_if_same l m same) ∙ e)))
+        ap (λ o. is_after o s) (get_elsewhere noted number t n (λ place. let twice : Some m ≡ Some l = sym h.stands ∙ ap (slice_get (series_of choice es)) place ∙ numbered.stands in let same : l ≡ m = cc in off (sym (equal_if_same l m same) ∙ e)))
         ∙ at.decides m n s h
-        ∙ sym (rises_by rules es (es ++ Sample r t w ∷ []) m s (sample_is_other rules es m r t w (apart_kept rules es r l m is e)))
+        ∙ sym (rises_by choice es (es ++ Sample r t w ∷ []) m s (sample_is_other choice es m r t w (apart_kept choice es r l m is e)))

@@ -7,7 +7,7 @@ use Rattle.rw_types.specs.LabelOrder.{labels_eq}
 use Rattle.rw_types.specs.declared.entry.Entry.{Entry}
 use Rattle.rw_types.specs.declared.entry.Entry.TheVariants.{Def, Sample}
 use Rattle.rw_codes.specs.Series.{defines}
-use Rattle.rw_relabel.specs.Rules.{RuleConfig}
+use Rattle.rw_relabel.specs.declared.choice.Choice.{Choice}
 use Rattle.rw_series_cache.specs.Known.{Standing, Unknown, Bad, Filtered, Kept, known, standing_of}
 use Rattle.rw_series_cache.specs.Numbers.{series_of, number_of, HasNumber, with_series, with_entry}
 use Rattle.rw_series_cache.proofs.KnownLemmas.{labels_of-all}
@@ -23,23 +23,23 @@ with_series_keeps s (Bad f) l n h = h
 with_series_keeps s Filtered l n h = h
 with_series_keeps s (Kept m) l n h = either_keeps_number s m l n (list_any (labels_eq m) s) h
 
-with_entry_keeps : (rules : List RuleConfig) (s : List Labels) (e : Entry) (l : Labels) (n : ℕ) → HasNumber s l n → HasNumber (with_entry rules s e) l n
-with_entry_keeps rules s (Def r m) l n h = with_series_keeps s (standing_of rules (Some m)) l n h
-with_entry_keeps rules s (Sample r t w) l n h = h
+with_entry_keeps : (choice : Choice) (s : List Labels) (e : Entry) (l : Labels) (n : ℕ) → HasNumber s l n → HasNumber (with_entry choice s e) l n
+with_entry_keeps choice s (Def r m) l n h = with_series_keeps s (standing_of choice (Some m)) l n h
+with_entry_keeps choice s (Sample r t w) l n h = h
 
-entries_keep : (rules : List RuleConfig) (s : List Labels) (es : List Entry) (l : Labels) (n : ℕ) → HasNumber s l n → HasNumber (fold (with_entry rules) s es) l n
-entries_keep rules s [] l n h = h
-entries_keep rules s (e ∷ es) l n h = entries_keep rules (with_entry rules s e) es l n (with_entry_keeps rules s e l n h)
+entries_keep : (choice : Choice) (s : List Labels) (es : List Entry) (l : Labels) (n : ℕ) → HasNumber s l n → HasNumber (fold (with_entry choice) s es) l n
+entries_keep choice s [] l n h = h
+entries_keep choice s (e ∷ es) l n h = entries_keep choice (with_entry choice s e) es l n (with_entry_keeps choice s e l n h)
 
 -- a series keeps its number as more entries come
-pub number_stays_on : (rules : List RuleConfig) (es more : List Entry) (l : Labels) (n : ℕ) → HasNumber (series_of rules es) l n → HasNumber (series_of rules (es ++ more)) l n
+pub number_stays_on : (choice : Choice) (es more : List Entry) (l : Labels) (n : ℕ) → HasNumber (series_of choice es) l n → HasNumber (series_of choice (es ++ more)) l n
 unfolding series_of
-number_stays_on rules es more l n h =
-    subst (λ s. HasNumber s l n) (sym (fold-append (with_entry rules) [] es more)) (entries_keep rules (fold (with_entry rules) [] es) more l n h)
+number_stays_on choice es more l n h =
+    subst (λ s. HasNumber s l n) (sym (fold-append (with_entry choice) [] es more)) (entries_keep choice (fold (with_entry choice) [] es) more l n h)
 
 -- labels that are kept are among the series
-abbrev IsAmongSeries : List RuleConfig → Option Labels → List Labels → Type 0
-IsAmongSeries rules o s = (l : Labels) → standing_of rules o ≡ Kept l → list_any (labels_eq l) s ≡ true
+abbrev IsAmongSeries : Choice → Option Labels → List Labels → Type 0
+IsAmongSeries choice o s = (l : Labels) → standing_of choice o ≡ Kept l → list_any (labels_eq l) s ≡ true
 
 now_there : (s : List Labels) (l : Labels) (b : Bool) → list_any (labels_eq l) s ≡ b → list_any (labels_eq l) (cond b s (s ++ l ∷ [])) ≡ true
 now_there s l true e = e
@@ -53,20 +53,20 @@ still_there s is l h =
     let was : HasNumber s l (number_of s l) = has_number s l h in
     any_at (with_series s is) (number_of s l) l (with_series_keeps s is l (number_of s l) was).stands
 
-either_there : (rules : List RuleConfig) (m : Labels) (o : Option Labels) (s : List Labels) (b : Bool) → IsAmongSeries rules o s → IsAmongSeries rules (cond b (Some m) o) (with_series s (standing_of rules (Some m)))
-either_there rules m o s true h l e = added_there s l (standing_of rules (Some m)) e
-either_there rules m o s false h l e = still_there s (standing_of rules (Some m)) l (h l e)
+either_there : (choice : Choice) (m : Labels) (o : Option Labels) (s : List Labels) (b : Bool) → IsAmongSeries choice o s → IsAmongSeries choice (cond b (Some m) o) (with_series s (standing_of choice (Some m)))
+either_there choice m o s true h l e = added_there s l (standing_of choice (Some m)) e
+either_there choice m o s false h l e = still_there s (standing_of choice (Some m)) l (h l e)
 
-all_there : (rules : List RuleConfig) (r : ℕ) (o : Option Labels) (s : List Labels) (es : List Entry) → IsAmongSeries rules o s → IsAmongSeries rules (fold (defines r) o es) (fold (with_entry rules) s es)
-all_there rules r o s [] h = h
-all_there rules r o s (Def q m ∷ es) h =
-    all_there rules r (cond (nat_eq q r) (Some m) o) (with_series s (standing_of rules (Some m))) es (either_there rules m o s (nat_eq q r) h)
-all_there rules r o s (Sample q t w ∷ es) h = all_there rules r o s es h
+all_there : (choice : Choice) (r : ℕ) (o : Option Labels) (s : List Labels) (es : List Entry) → IsAmongSeries choice o s → IsAmongSeries choice (fold (defines r) o es) (fold (with_entry choice) s es)
+all_there choice r o s [] h = h
+all_there choice r o s (Def q m ∷ es) h =
+    all_there choice r (cond (nat_eq q r) (Some m) o) (with_series s (standing_of choice (Some m))) es (either_there choice m o s (nat_eq q r) h)
+all_there choice r o s (Sample q t w ∷ es) h = all_there choice r o s es h
 
 -- a kept label set that a reference stands for has a number
-pub kept_has_number : (rules : List RuleConfig) (es : List Entry) (r : ℕ) (l : Labels) → known rules es r ≡ Kept l → (n : ℕ) × HasNumber (series_of rules es) l n
+pub kept_has_number : (choice : Choice) (es : List Entry) (r : ℕ) (l : Labels) → known choice es r ≡ Kept l → (n : ℕ) × HasNumber (series_of choice es) l n
 unfolding known series_of
-kept_has_number rules es r l e =
-    let there : list_any (labels_eq l) (series_of rules es) ≡ true =
-    all_there rules r None [] es (λ m k. absurd cc) l (ap (standing_of rules) (sym (labels_of-all es r)) ∙ e) in
-    (number_of (series_of rules es) l, has_number (series_of rules es) l there)
+kept_has_number choice es r l e =
+    let there : list_any (labels_eq l) (series_of choice es) ≡ true =
+    all_there choice r None [] es (λ m k. absurd cc) l (ap (standing_of choice) (sym (labels_of-all es r)) ∙ e) in
+    (number_of (series_of choice es) l, has_number (series_of choice es) l there)

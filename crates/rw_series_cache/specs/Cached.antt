@@ -9,7 +9,8 @@ use Rattle.std.specs.declared.sync.Arc.{Arc}
 use Rattle.rw_types.specs.Labels.{Labels}
 use Rattle.rw_types.specs.LabelOrder.{labels_eq}
 use Rattle.rw_types.specs.declared.entry.Entry.{Entry}
-use Rattle.rw_relabel.specs.Rules.{RuleConfig, keeps}
+use Rattle.rw_relabel.specs.Rules.{keeps}
+use Rattle.rw_relabel.specs.declared.choice.Choice.{Choice}
 use Rattle.rw_series_cache.specs.Known.{Standing, Unknown, Bad, Filtered, Kept, standing_of, known}
 use Rattle.rw_series_cache.specs.Numbers.{with_series, series_of, HasNumber}
 use Rattle.rw_series_cache.specs.declared.verdict.Verdict.{Verdict}
@@ -17,13 +18,13 @@ use Rattle.rw_series_cache.specs.declared.verdict.Verdict.TheVariants as verdict
 
 -- the rules, the definitions that were taken, and the latest timestamp that was noted of each series, by its number
 pub record Taken : Type 0 where
-  pub rules : List RuleConfig
+  pub choice : Choice
   pub definitions : List Entry
   pub noted : FinMap nat_cmp ℤ
 
 -- the rules, and the label sets that they have kept
 pub record Judged : Type 0 where
-  pub rules : List RuleConfig
+  pub choice : Choice
   pub series : List (List (List ℕ × List ℕ))
 
 -- label sets that are shared
@@ -31,8 +32,8 @@ abbrev pub Shared : Type 0
 Shared = Arc (List (List ℕ × List ℕ)) Global
 
 -- of all these label sets the rules say the same
-abbrev pub AllJudged : List RuleConfig → Bool → List Shared → Type 0
-AllJudged rules is_kept sets = (set : Shared) → list_any (λ (s : Shared). labels_eq (arc_value set) (arc_value s)) sets ≡ true → keeps rules (arc_value set) ≡ is_kept
+abbrev pub AllJudged : Choice → Bool → List Shared → Type 0
+AllJudged choice is_kept sets = (set : Shared) → list_any (λ (s : Shared). labels_eq (arc_value set) (arc_value s)) sets ≡ true → keeps choice.rules (arc_value set) ≡ is_kept
 
 -- a verdict, if there is one, stands for what is known
 abbrev pub StandsFor : List Labels → Option Verdict → Standing → Type 0
@@ -44,11 +45,11 @@ StandsFor series _ _ = ⊥
 
 -- labels are judged, and numbered where they are kept
 pub record Judges (old new : Judged) (labels : Labels) (found : Verdict) : Type 0 where
-  pub rules : new.rules ≡ old.rules
-  pub series : new.series ≡ with_series old.series (standing_of old.rules (Some labels))
-  pub verdict : StandsFor new.series (Some found) (standing_of old.rules (Some labels))
+  pub choice : new.choice ≡ old.choice
+  pub series : new.series ≡ with_series old.series (standing_of old.choice (Some labels))
+  pub verdict : StandsFor new.series (Some found) (standing_of old.choice (Some labels))
 
 -- each reference has its verdict, and the series are those of the definitions
-pub record IsCache (rules : List RuleConfig) (definitions : List Entry) (verdict_of : ℕ → Option Verdict) (sets : List Labels) : Type 0 where
-  pub verdicts : (reference : ℕ) → StandsFor sets (verdict_of reference) (known rules definitions reference)
-  pub series : sets ≡ series_of rules definitions
+pub record IsCache (choice : Choice) (definitions : List Entry) (verdict_of : ℕ → Option Verdict) (sets : List Labels) : Type 0 where
+  pub verdicts : (reference : ℕ) → StandsFor sets (verdict_of reference) (known choice definitions reference)
+  pub series : sets ≡ series_of choice definitions

@@ -3,7 +3,7 @@ use Rattle.std.specs.Prelude.{◌≡◌, ℕ, List}
 use Rattle.std.specs.Arc.{arc_value}
 use Rattle.rw_types.specs.Labels.{Labels}
 use Rattle.rw_types.specs.declared.entry.Entry.{Entry}
-use Rattle.rw_relabel.specs.Rules.{RuleConfig}
+use Rattle.rw_relabel.specs.declared.choice.Choice.{Choice}
 use Rattle.rw_series_cache.specs.Known.{Standing, Unknown, Bad, Filtered, Kept, known}
 use Rattle.rw_series_cache.specs.Numbers.{series_of, HasNumber}
 use Rattle.rw_series_cache.specs.declared.known.Known.{Known}
@@ -24,6 +24,6 @@ IsOfSeries series found.Filtered = Unit {0}
 IsOfSeries series (found.Kept number labels) = HasNumber series (arc_value labels.now) number
 
 -- The answer says what is known of the reference after these entries.
-pub record Answers (rules : List RuleConfig) (entries : List Entry) (reference : ℕ) (answer : Known) : Type 0 where
-  pub standing : standing_in answer ≡ known rules entries reference
-  pub number : IsOfSeries (series_of rules entries) answer
+pub record Answers (choice : Choice) (entries : List Entry) (reference : ℕ) (answer : Known) : Type 0 where
+  pub standing : standing_in answer ≡ known choice entries reference
+  pub number : IsOfSeries (series_of choice entries) answer

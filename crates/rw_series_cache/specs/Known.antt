@@ -6,7 +6,8 @@ use Rattle.rw_types.specs.declared.entry.Entry.TheVariants.{Def, Sample}
 use Rattle.rw_types.specs.declared.label_fault.LabelFault.{LabelFault}
 use Rattle.rw_types.specs.declared.label_fault.LabelFault.TheVariants as fault
 use Rattle.rw_codes.specs.Series.{labels_of}
-use Rattle.rw_relabel.specs.Rules.{RuleConfig, keeps}
+use Rattle.rw_relabel.specs.Rules.{keeps}
+use Rattle.rw_relabel.specs.declared.choice.Choice.{Choice}
 
 -- nothing, labels that are no label set, a label set that the rules drop, or one that they keep
 pub data Standing : Type 0 where
@@ -19,18 +20,18 @@ pub data Standing : Type 0 where
 abbrev pub standing_of_set : Bool → Labels → Standing
 standing_of_set is_kept l = if is_kept then Kept l else Filtered
 
-abbrev pub standing_by : List RuleConfig → Labels → Option LabelFault → Standing
-standing_by rules l None = standing_of_set (keeps rules l) l
-standing_by rules l (Some fault) = Bad fault
+abbrev pub standing_by : Choice → Labels → Option LabelFault → Standing
+standing_by choice l None = standing_of_set (keeps choice.rules l) l
+standing_by choice l (Some fault) = Bad fault
 
 -- the labels are judged before the rules are asked
-abbrev pub standing_of : List RuleConfig → Option Labels → Standing
-standing_of rules None = Unknown
-standing_of rules (Some l) = standing_by rules l (label_fault l)
+abbrev pub standing_of : Choice → Option Labels → Standing
+standing_of choice None = Unknown
+standing_of choice (Some l) = standing_by choice l (label_fault choice.names l)
 
 -- what is known of a reference: the last definition of it among these entries, judged
-unfoldable pub known : List RuleConfig → List Entry → ℕ → Standing
-known rules entries reference = standing_of rules (labels_of entries reference (length entries))
+unfoldable pub known : Choice → List Entry → ℕ → Standing
+known choice entries reference = standing_of choice (labels_of entries reference (length entries))
 
 abbrev pub is_definition : Entry → Bool
 is_definition (Def reference labels) = true

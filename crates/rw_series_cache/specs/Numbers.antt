@@ -5,7 +5,7 @@ use Rattle.rw_types.specs.Labels.{Labels}
 use Rattle.rw_types.specs.LabelOrder.{labels_eq}
 use Rattle.rw_types.specs.declared.entry.Entry.{Entry}
 use Rattle.rw_types.specs.declared.entry.Entry.TheVariants.{Def, Sample}
-use Rattle.rw_relabel.specs.Rules.{RuleConfig}
+use Rattle.rw_relabel.specs.declared.choice.Choice.{Choice}
 use Rattle.rw_series_cache.specs.Known.{Standing, Unknown, Bad, Filtered, Kept, standing_of}
 
 -- a label set that is kept and is none of the series yet becomes the last one
@@ -15,13 +15,13 @@ with_series series (Bad fault) = series
 with_series series Filtered = series
 with_series series (Kept l) = if list_any (labels_eq l) series then series else series ++ l ∷ []
 
-abbrev pub with_entry : List RuleConfig → List Labels → Entry → List Labels
-with_entry rules series (Def reference labels) = with_series series (standing_of rules (Some labels))
-with_entry rules series (Sample reference t word) = series
+abbrev pub with_entry : Choice → List Labels → Entry → List Labels
+with_entry choice series (Def reference labels) = with_series series (standing_of choice (Some labels))
+with_entry choice series (Sample reference t word) = series
 
 -- the kept label sets of entries, in the order in which they were first kept
-unfoldable pub series_of : List RuleConfig → List Entry → List Labels
-series_of rules entries = fold (with_entry rules) [] entries
+unfoldable pub series_of : Choice → List Entry → List Labels
+series_of choice entries = fold (with_entry choice) [] entries
 
 -- a series' number is its place
 abbrev pub number_of : List Labels → Labels → ℕ

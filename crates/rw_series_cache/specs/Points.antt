@@ -3,16 +3,17 @@ use Rattle.std.specs.Prelude.{ℕ, ℤ, List, Bool, ◌&&◌, filter, nat_lt, is
 use Rattle.rw_types.specs.Labels.{Labels, label_fault}
 use Rattle.rw_types.specs.declared.entry.Entry.{Entry}
 use Rattle.rw_codes.specs.Series.{kept}
-use Rattle.rw_relabel.specs.Rules.{RuleConfig, keeps}
+use Rattle.rw_relabel.specs.Rules.{keeps}
+use Rattle.rw_relabel.specs.declared.choice.Choice.{Choice}
 
 -- the labels are a label set that the rules keep
-abbrev pub is_kept : List RuleConfig → Labels → Bool
-is_kept rules l = is_none (label_fault l) && keeps rules l
+abbrev pub is_kept : Choice → Labels → Bool
+is_kept choice l = is_none (label_fault choice.names l) && keeps choice.rules l
 
 -- the samples of a series that the rules keep; other labels have none
-abbrev pub kept_points : List RuleConfig → List Entry → Labels → List (ℕ × ℤ × ℕ)
-kept_points rules entries l = kept (is_kept rules) entries l
+abbrev pub kept_points : Choice → List Entry → Labels → List (ℕ × ℤ × ℕ)
+kept_points choice entries l = kept (is_kept choice) entries l
 
 -- those at positions below `end`
-abbrev pub kept_points_below : List RuleConfig → List Entry → Labels → ℕ → List (ℕ × ℤ × ℕ)
-kept_points_below rules entries l end = filter (λ p. nat_lt p.0 end) (kept_points rules entries l)
+abbrev pub kept_points_below : Choice → List Entry → Labels → ℕ → List (ℕ × ℤ × ℕ)
+kept_points_below choice entries l end = filter (λ p. nat_lt p.0 end) (kept_points choice entries l)

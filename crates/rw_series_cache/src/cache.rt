@@ -13,8 +13,8 @@ use crate::label_sets::LabelSets;
 use crate::timestamps::Timestamps;
 use crate::verdict::Verdict;
 use rw_history::History;
-use rw_relabel::Rules;
-use rw_types::{Entry, RawLabels};
+use rw_relabel::Choice;
+use rw_types::{Entry, Names, RawLabels};
 use std::alloc::{AllocError, Global};
 use std::collections::HashMap;
 use std::marker::Model;
@@ -40,23 +40,30 @@ impl Model for Cache {
 
     ghost coded = { Prim.hlevel (codes, map.code) };
 
-    ghost view = { λ c. record { rules = c.sets.rules; definitions = c.taken; noted = c.latest.times } };
+    ghost view = { λ c. record { choice = c.sets.choice; definitions = c.taken; noted = c.latest.times } };
 
-    ghost invariant = { λ c. IsCache c.sets.rules c.taken (get nat_eq c.verdicts) c.sets.series
+    ghost invariant = { λ c. IsCache c.sets.choice c.taken (get nat_eq c.verdicts) c.sets.series
         × (length c.sets.series ≤ c.latest.places) };
 }
 
 impl Cache {
     /// A cache that has taken no definition. This takes no memory.
-    pub fn new(alloc: Global, rules: Rules) -> Cache
-        ensures { result ≡ record { rules = rules; definitions = []; noted = map.empty } }
+    pub fn new(alloc: Global, choice: Choice) -> Cache
+        ensures { result ≡ record { choice = choice; definitions = []; noted = map.empty } }
     {
         Cache {
             taken: History::new(),
-            sets: LabelSets::new(alloc, rules),
+            sets: LabelSets::new(alloc, choice),
             verdicts: HashMap::new(alloc),
             latest: Timestamps::new(alloc),
         }
+    }
+
+    /// The names that are taken.
+    pub fn names(&self) -> Names
+        ensures { result ≡ self.now.choice.names }
+    {
+        self.sets.names()
     }
 
     /// Takes the next definition of a log. A label set that was defined before is not stored again, and the rules are not
@@ -76,11 +83,11 @@ impl Cache {
 
     /// What is known of a reference.
     pub fn look(&self, reference: u64) -> Known<'_>
-        ensures answer { Answers self.now.rules self.now.definitions reference result }
+        ensures answer { Answers self.now.choice self.now.definitions reference result }
 
         // What is known after some entries of a log is what its definitions say: the samples among them change nothing.
         ensures log { (entries : List Entry) → definitions_of entries ≡ self.now.definitions
-            → Answers self.now.rules entries reference result }
+            → Answers self.now.choice entries reference result }
     {
         match self.verdicts.get(&reference) {
             None => Known::Unknown,
@@ -92,7 +99,7 @@ impl Cache {
 
     /// Whether nothing is noted of a series, or this timestamp, in milliseconds since the Unix epoch, is later. This takes no memory.
     pub fn rises(&self, series: u64, t: i64) -> bool
-        requires within { series < length (series_of self.now.rules self.now.definitions) }
+        requires within { series < length (series_of self.now.choice self.now.definitions) }
         ensures { result ≡ is_after (map.get self.now.noted series) t }
     {
         match self.latest.get(series as usize) {
@@ -103,7 +110,7 @@ impl Cache {
 
     /// Notes this timestamp of a series. This takes no memory.
     pub fn note(&mut self, series: u64, t: i64)
-        requires within { series < length (series_of self.old.rules self.old.definitions) }
+        requires within { series < length (series_of self.old.choice self.old.definitions) }
         requires rising { is_after (map.get self.old.noted series) t ≡ true }
         ensures { self.new ≡ record self.old { noted = map.insert self.old.noted series t } }
     {
@@ -112,7 +119,7 @@ impl Cache {
 
     /// How many series the rules keep.
     pub fn series_count(&self) -> usize
-        ensures { result ≡ length (series_of self.now.rules self.now.definitions) }
+        ensures { result ≡ length (series_of self.now.choice self.now.definitions) }
     {
         self.sets.len()
     }

@@ -7,8 +7,8 @@ ghost use Rattle.rw_series_cache.specs.Cached.{Judges};
 
 use crate::verdict::Verdict;
 use indexmap::IndexSet;
-use rw_relabel::Rules;
-use rw_types::{LabelFault, LabelSet, RawLabels};
+use rw_relabel::Choice;
+use rw_types::{LabelFault, LabelSet, Names, RawLabels};
 use std::alloc::{AllocError, Global};
 use std::collections::HashSet;
 use std::marker::Model;
@@ -19,7 +19,7 @@ use std::sync::Arc;
 #[derive(Drop)]
 pub(crate) struct LabelSets {
     alloc: Global,
-    rules: Rules,
+    choice: Choice,
     kept: IndexSet<Arc<LabelSet>>,
     dropped: HashSet<Arc<LabelSet>>,
 }
@@ -31,30 +31,37 @@ impl Model for LabelSets {
 
     ghost Value = { Judged };
 
-    ghost view = { λ s. record { rules = s.rules; series = map arc_value s.kept.keys } };
+    ghost view = { λ s. record { choice = s.choice; series = map arc_value s.kept.keys } };
 
-    ghost invariant = { λ s. AllJudged s.rules true s.kept.keys × AllJudged s.rules false s.dropped.keys };
+    ghost invariant = { λ s. AllJudged s.choice true s.kept.keys × AllJudged s.choice false s.dropped.keys };
 }
 
 impl LabelSets {
-    pub(crate) fn new(alloc: Global, rules: Rules) -> LabelSets
-        ensures { result ≡ record { rules = rules; series = [] } }
+    pub(crate) fn new(alloc: Global, choice: Choice) -> LabelSets
+        ensures { result ≡ record { choice = choice; series = [] } }
     {
         LabelSets {
             alloc,
-            rules,
+            choice,
             kept: IndexSet::new(alloc),
             dropped: HashSet::new(alloc),
         }
+    }
+
+    /// The names that are taken.
+    pub(crate) fn names(&self) -> Names
+        ensures { result ≡ self.now.choice.names }
+    {
+        self.choice.names
     }
 
     /// What becomes of the labels. A label set that was judged before is not asked of the rules again. Labels with a fault take no memory.
     pub(crate) fn judge(&mut self, labels: &RawLabels) -> Result<Verdict, AllocError>
         ensures ok { IfOk result (λ v. Judges self.old self.new labels.now v) }
         ensures err { OnErr result (self.new ≡ self.old) }
-        ensures sound { OnErr result (label_fault labels.now ≡ None) }
+        ensures sound { OnErr result (label_fault self.old.choice.names labels.now ≡ None) }
     {
-        match LabelSet::check(self.alloc, labels) {
+        match LabelSet::check_as(self.alloc, self.choice.names, labels) {
             Ok(set) => self.judge_set(set),
             Err(LabelFault::OutOfMemory) => Err(AllocError),
             Err(fault) => Ok(Verdict::Bad(fault)),
@@ -62,7 +69,7 @@ impl LabelSets {
     }
 
     fn judge_set(&mut self, set: LabelSet) -> Result<Verdict, AllocError>
-        requires { IsLabelSet set }
+        requires { IsLabelSet self.old.choice.names set }
         ensures ok { IfOk result (λ v. Judges self.old self.new set v) }
         ensures err { OnErr result (self.new ≡ self.old) }
     {
@@ -73,7 +80,7 @@ impl LabelSets {
         if self.dropped.contains(&set) {
             return Ok(Verdict::Filtered);
         }
-        if self.rules.keeps(&set)? {
+        if self.choice.rules.keeps(&set)? {
             let (number, _) = self.kept.insert_full(set)?;
             Ok(Verdict::Kept(number))
         } else {

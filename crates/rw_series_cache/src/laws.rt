@@ -7,7 +7,7 @@ ghost use Rattle.rw_types.specs.Labels.{Labels};
 ghost use Rattle.rw_types.specs.declared.entry.Entry.{Entry};
 ghost use Rattle.rw_types.specs.declared.entry.Entry.TheVariants.{Def, Sample};
 ghost use Rattle.rw_codes.specs.Series.{labels_of};
-ghost use Rattle.rw_relabel.specs.Rules.{RuleConfig};
+ghost use Rattle.rw_relabel.specs.declared.choice.Choice.{Choice};
 ghost use Rattle.rw_series_cache.specs.Known.{Kept, standing_of, known, definitions_of};
 ghost use Rattle.rw_series_cache.specs.Numbers.{series_of, HasNumber};
 ghost use Rattle.rw_series_cache.specs.Points.{kept_points, kept_points_below};
@@ -15,9 +15,9 @@ ghost use Rattle.rw_series_cache.specs.Rising.{rises, IsNoted};
 
 /// Samples change nothing of what is known.
 pub fn samples_define_nothing()
-    ensures known { (rules : List RuleConfig) (entries : List Entry) (reference : ℕ)
-        → known rules (definitions_of entries) reference ≡ known rules entries reference }
-    ensures series { (rules : List RuleConfig) (entries : List Entry) → series_of rules (definitions_of entries) ≡ series_of rules entries }
+    ensures known { (choice : Choice) (entries : List Entry) (reference : ℕ)
+        → known choice (definitions_of entries) reference ≡ known choice entries reference }
+    ensures series { (choice : Choice) (entries : List Entry) → series_of choice (definitions_of entries) ≡ series_of choice entries }
     ensures definition { (entries : List Entry) (reference : ℕ) (labels : Labels)
         → definitions_of (entries ++ Def reference labels ∷ []) ≡ definitions_of entries ++ Def reference labels ∷ [] }
     ensures sample { (entries : List Entry) (reference : ℕ) (t : ℤ) (word : ℕ)
@@ -26,54 +26,54 @@ pub fn samples_define_nothing()
 
 /// What is known below a position goes by the labels there.
 pub fn known_at_a_position()
-    ensures { (rules : List RuleConfig) (entries : List Entry) (reference position : ℕ)
-        → known rules (take position entries) reference ≡ standing_of rules (labels_of entries reference position) }
+    ensures { (choice : Choice) (entries : List Entry) (reference position : ℕ)
+        → known choice (take position entries) reference ≡ standing_of choice (labels_of entries reference position) }
 {}
 
 /// A reference that stands for a kept label set stands for a series, and a series keeps its number as more entries come.
 pub fn numbers_stay()
-    ensures numbered { (rules : List RuleConfig) (entries : List Entry) (reference : ℕ) (labels : Labels)
-        → known rules entries reference ≡ Kept labels → (number : ℕ) × HasNumber (series_of rules entries) labels number }
-    ensures stay { (rules : List RuleConfig) (entries more : List Entry) (labels : Labels) (number : ℕ)
-        → HasNumber (series_of rules entries) labels number → HasNumber (series_of rules (entries ++ more)) labels number }
+    ensures numbered { (choice : Choice) (entries : List Entry) (reference : ℕ) (labels : Labels)
+        → known choice entries reference ≡ Kept labels → (number : ℕ) × HasNumber (series_of choice entries) labels number }
+    ensures stay { (choice : Choice) (entries more : List Entry) (labels : Labels) (number : ℕ)
+        → HasNumber (series_of choice entries) labels number → HasNumber (series_of choice (entries ++ more)) labels number }
 {}
 
 /// A sample is one of the series for which its reference stands, where the rules keep it, and of no other.
 pub fn points_entry_by_entry()
-    ensures definition { (rules : List RuleConfig) (entries : List Entry) (labels other : Labels) (reference : ℕ)
-        → kept_points rules (entries ++ Def reference other ∷ []) labels ≡ kept_points rules entries labels }
-    ensures kept { (rules : List RuleConfig) (entries : List Entry) (labels : Labels) (reference : ℕ) (t : ℤ) (word : ℕ)
-        → known rules entries reference ≡ Kept labels
-        → kept_points rules (entries ++ Sample reference t word ∷ []) labels ≡ kept_points rules entries labels ++ (length entries, t, word) ∷ [] }
-    ensures other { (rules : List RuleConfig) (entries : List Entry) (labels : Labels) (reference : ℕ) (t : ℤ) (word : ℕ)
-        → known rules entries reference ≢ Kept labels
-        → kept_points rules (entries ++ Sample reference t word ∷ []) labels ≡ kept_points rules entries labels }
+    ensures definition { (choice : Choice) (entries : List Entry) (labels other : Labels) (reference : ℕ)
+        → kept_points choice (entries ++ Def reference other ∷ []) labels ≡ kept_points choice entries labels }
+    ensures kept { (choice : Choice) (entries : List Entry) (labels : Labels) (reference : ℕ) (t : ℤ) (word : ℕ)
+        → known choice entries reference ≡ Kept labels
+        → kept_points choice (entries ++ Sample reference t word ∷ []) labels ≡ kept_points choice entries labels ++ (length entries, t, word) ∷ [] }
+    ensures other { (choice : Choice) (entries : List Entry) (labels : Labels) (reference : ℕ) (t : ℤ) (word : ℕ)
+        → known choice entries reference ≢ Kept labels
+        → kept_points choice (entries ++ Sample reference t word ∷ []) labels ≡ kept_points choice entries labels }
 {}
 
 /// The samples of a series below a position are those of the entries below it.
 pub fn points_below_a_position()
-    ensures { (rules : List RuleConfig) (entries : List Entry) (labels : Labels) (end : ℕ)
-        → kept_points_below rules entries labels end ≡ kept_points rules (take end entries) labels }
+    ensures { (choice : Choice) (entries : List Entry) (labels : Labels) (end : ℕ)
+        → kept_points_below choice entries labels end ≡ kept_points choice (take end entries) labels }
 {}
 
 /// What is noted decides which samples rise, entry by entry: a sample that rises is noted, and nothing else.
 pub fn notes_entry_by_entry()
-    ensures first { (rules : List RuleConfig) → IsNoted rules [] empty }
-    ensures definition { (rules : List RuleConfig) (entries : List Entry) (reference : ℕ) (labels : Labels)
+    ensures first { (choice : Choice) → IsNoted choice [] empty }
+    ensures definition { (choice : Choice) (entries : List Entry) (reference : ℕ) (labels : Labels)
         (noted : FinMap nat_cmp ℤ)
-        → IsNoted rules entries noted → IsNoted rules (entries ++ Def reference labels ∷ []) noted }
-    ensures other { (rules : List RuleConfig) (entries : List Entry) (reference : ℕ) (t : ℤ) (word : ℕ)
+        → IsNoted choice entries noted → IsNoted choice (entries ++ Def reference labels ∷ []) noted }
+    ensures other { (choice : Choice) (entries : List Entry) (reference : ℕ) (t : ℤ) (word : ℕ)
         (noted : FinMap nat_cmp ℤ)
-        → ((labels : Labels) → known rules entries reference ≢ Kept labels) → IsNoted rules entries noted
-        → IsNoted rules (entries ++ Sample reference t word ∷ []) noted }
-    ensures falling { (rules : List RuleConfig) (entries : List Entry) (reference : ℕ) (t : ℤ) (word : ℕ)
+        → ((labels : Labels) → known choice entries reference ≢ Kept labels) → IsNoted choice entries noted
+        → IsNoted choice (entries ++ Sample reference t word ∷ []) noted }
+    ensures falling { (choice : Choice) (entries : List Entry) (reference : ℕ) (t : ℤ) (word : ℕ)
         (labels : Labels) (noted : FinMap nat_cmp ℤ)
-        → known rules entries reference ≡ Kept labels → rises rules entries labels t ≡ false
-        → IsNoted rules entries noted
-        → IsNoted rules (entries ++ Sample reference t word ∷ []) noted }
-    ensures rising { (rules : List RuleConfig) (entries : List Entry) (reference : ℕ) (t : ℤ) (word : ℕ)
+        → known choice entries reference ≡ Kept labels → rises choice entries labels t ≡ false
+        → IsNoted choice entries noted
+        → IsNoted choice (entries ++ Sample reference t word ∷ []) noted }
+    ensures rising { (choice : Choice) (entries : List Entry) (reference : ℕ) (t : ℤ) (word : ℕ)
         (labels : Labels) (number : ℕ) (noted : FinMap nat_cmp ℤ)
-        → known rules entries reference ≡ Kept labels → HasNumber (series_of rules entries) labels number
-        → rises rules entries labels t ≡ true → IsNoted rules entries noted
-        → IsNoted rules (entries ++ Sample reference t word ∷ []) (insert noted number t) }
+        → known choice entries reference ≡ Kept labels → HasNumber (series_of choice entries) labels number
+        → rises choice entries labels t ≡ true → IsNoted choice entries noted
+        → IsNoted choice (entries ++ Sample reference t word ∷ []) (insert noted number t) }
 {}

@@ -37,7 +37,7 @@ least_none fs h = (none_among None fs h).1
 -- a table `send` without a fault is in order
 ordered_send : (table : Members) → send_fault table ≡ None → order_fault table ≡ None
 unfolding send_fault
-ordered_send table h = (least_none _ h).1.1.1.1.1.1.1.1.1.1.1.0
+ordered_send table h = (least_none _ h).1.1.1.1.1.1.1.1.1.1.1.1.0
 
 ordered_part : (o : Option Members) → part_fault send_fault o ≡ None → order_fault (part_or no_members o) ≡ None
 ordered_part None h = absurd cc

@@ -3,18 +3,19 @@ use Rattle.std.specs.Prelude.{ℕ, List, [], ◌∷◌, Option, Some, None, code
 use Rattle.std.specs.Result.{result_err}
 use Rattle.toml.specs.Data.{Members, get_member}
 use Rattle.rw_types.specs.Requests.{is_host_name, is_request_path}
+use Rattle.rw_types.specs.declared.names.Names.TheVariants.{Legacy}
 use Rattle.rw_relabel.specs.Rules.{RuleConfig}
 use Rattle.rw_sender.specs.Configs.{is_ordered}
 use Rattle.rw_sender.specs.declared.config.ConfigFields.{ConfigFields}
 use Rattle.rw_settings.specs.Faults.{least}
-use Rattle.rw_settings.specs.Values.{keys_fault, number_at, text_at, found_or}
+use Rattle.rw_settings.specs.Values.{keys_fault, number_at, text_at, names_at, found_or}
 use Rattle.rw_settings.specs.declared.fault.SettingsFault.{SettingsFault}
 use Rattle.rw_settings.specs.declared.fault.SettingsFault.TheVariants.{OutOfRange}
 
 abbrev pub send_keys : List (List ℕ)
 send_keys =
     codes "host" ∷ codes "path" ∷ codes "shards" ∷ codes "min_shards" ∷ codes "max_shards" ∷ codes "capacity" ∷ codes "batch"
-    ∷ codes "min_backoff_ms" ∷ codes "max_backoff_ms" ∷ codes "timeout_ms" ∷ []
+    ∷ codes "min_backoff_ms" ∷ codes "max_backoff_ms" ∷ codes "timeout_ms" ∷ codes "names" ∷ []
 
 -- what the table sets, with the default of each key that it does not have
 unfoldable pub send_fields : Members → List RuleConfig → ConfigFields
@@ -31,6 +32,7 @@ send_fields table rules = record {
   min_backoff_ms = found_or 30 (number_at 1 3600000 (get_member (codes "min_backoff_ms") table));
   max_backoff_ms = found_or 5000 (number_at 1 3600000 (get_member (codes "max_backoff_ms") table));
   timeout_ms = found_or 30000 (number_at 1 3600000 (get_member (codes "timeout_ms") table));
+  names = found_or Legacy (names_at (get_member (codes "names") table));
   rules = rules;
 }
 
@@ -51,6 +53,7 @@ send_fault table = least (
     ∷ result_err (number_at 1 3600000 (get_member (codes "min_backoff_ms") table))
     ∷ result_err (number_at 1 3600000 (get_member (codes "max_backoff_ms") table))
     ∷ result_err (number_at 1 3600000 (get_member (codes "timeout_ms") table))
+    ∷ result_err (names_at (get_member (codes "names") table))
     ∷ order_fault table
     ∷ []
     )

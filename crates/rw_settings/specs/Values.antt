@@ -1,8 +1,10 @@
 -- What stands at a key: nothing, a value of its type and in its range, or a fault.
-use Rattle.std.specs.Prelude.{ℕ, ℤ, pos, negsuc, List, Bool, true, ◌&&◌, nat_le, Option, Some, None, Result, Ok, Err, if◌then◌else◌}
+use Rattle.std.specs.Prelude.{ℕ, ℤ, pos, negsuc, List, Bool, true, ◌&&◌, nat_le, Option, Some, None, Result, Ok, Err, codes, if◌then◌else◌}
 use Rattle.std.specs.List.{list_any}
 use Rattle.std.specs.Str.{bytes_eq}
 use Rattle.toml.specs.Data.{Data, as_integer, as_str, as_table, as_array, Members, no_members, member, Items, no_items}
+use Rattle.rw_types.specs.declared.names.Names.{Names}
+use Rattle.rw_types.specs.declared.names.Names.TheVariants.{Legacy, Utf8}
 use Rattle.rw_settings.specs.declared.fault.SettingsFault.{SettingsFault}
 use Rattle.rw_settings.specs.declared.fault.SettingsFault.TheVariants.{UnknownKey, WrongType, OutOfRange}
 
@@ -39,6 +41,21 @@ text_at test (Some value) = text_if test (as_str value)
 -- any text
 abbrev pub any_text : List ℕ → Bool
 any_text text = true
+
+-- the names that a text says: `legacy` or `utf8`
+abbrev pub names_in : List ℕ → Result (Option Names) SettingsFault
+names_in text =
+    if bytes_eq text (codes "legacy") then Ok (Some Legacy)
+    else if bytes_eq text (codes "utf8") then Ok (Some Utf8)
+    else Err OutOfRange
+
+abbrev pub names_if : Option (List ℕ) → Result (Option Names) SettingsFault
+names_if None = Err WrongType
+names_if (Some text) = names_in text
+
+abbrev pub names_at : Option Data → Result (Option Names) SettingsFault
+names_at None = Ok None
+names_at (Some value) = names_if (as_str value)
 
 -- what was found, or the default where there is nothing that can be taken
 abbrev pub found_or : {A : Type 0} → A → Result (Option A) SettingsFault → A

@@ -12,7 +12,7 @@ ghost use Rattle.rw_settings.specs.Receiving.{receive_fault};
 ghost use Rattle.rw_settings.specs.RuleTables.{action_fault, source_fault, rule_table_fault, rule_fault_of, with_rules_fault};
 ghost use Rattle.rw_settings.specs.Sending.{order_fault, send_fault};
 ghost use Rattle.rw_settings.specs.Settings.{document_fault, settings_if, settings_in};
-ghost use Rattle.rw_settings.specs.Values.{number_at, text_at, any_text, part_fault, section, list_at};
+ghost use Rattle.rw_settings.specs.Values.{number_at, text_at, any_text, names_at, part_fault, section, list_at};
 ghost use Rattle.rw_settings.specs.declared.fault.SettingsFault.TheVariants.{NotToml, WrongType, BadRule};
 
 use crate::fault::SettingsFault;
@@ -21,7 +21,8 @@ use crate::read::text_in;
 use crate::rule_tables::{action_fault, source_fault};
 use crate::sending::order_fault;
 use crate::values::{
-    host_fault, list_at, list_or_none, number_fault, path_fault, section, text_fault, value_at,
+    host_fault, list_at, list_or_none, names_fault, number_fault, path_fault, section, text_fault,
+    value_at,
 };
 use regex::Regex;
 use std::alloc::{AllocError, Global};
@@ -72,6 +73,28 @@ fn note_path(
         value_at(table, key),
         fault,
         takes,
+    )
+}
+
+/// Adds a note on the names at a key, where they have a fault.
+fn note_names(
+    alloc: Global,
+    notes: &mut Vec<SettingsNote>,
+    section: &str,
+    table: &Table,
+) -> Result<(), AllocError>
+    ensures { OnOk result (noted notes.new.items ≡ lesser (noted notes.old.items)
+        (result_err (names_at (get_member (codes "names") (table_view table.now))))) }
+{
+    let fault = names_fault(table, "names");
+    note_value(
+        alloc,
+        notes,
+        section,
+        "names",
+        value_at(table, "names"),
+        fault,
+        "'legacy' or 'utf8'",
     )
 }
 
@@ -140,6 +163,7 @@ fn note_send(alloc: Global, notes: &mut Vec<SettingsNote>, send: &Table) -> Resu
         "min_backoff_ms",
         "max_backoff_ms",
         "timeout_ms",
+        "names",
     ];
     note_keys(alloc, notes, "send.", send, &keys)?;
     note_host(alloc, notes, send)?;
@@ -152,6 +176,7 @@ fn note_send(alloc: Global, notes: &mut Vec<SettingsNote>, send: &Table) -> Resu
     note_number::<1, 3_600_000>(alloc, notes, "send.", send, "min_backoff_ms")?;
     note_number::<1, 3_600_000>(alloc, notes, "send.", send, "max_backoff_ms")?;
     note_number::<1, 3_600_000>(alloc, notes, "send.", send, "timeout_ms")?;
+    note_names(alloc, notes, "send.", send)?;
     note_order(alloc, notes, send)?;
     Ok(())
 }
@@ -170,6 +195,7 @@ fn note_receive(
         "max_labels",
         "max_label_bytes",
         "busy_first",
+        "names",
     ];
     note_keys(alloc, notes, "receive.", receive, &keys)?;
     note_path(alloc, notes, "receive.", receive, "path")?;
@@ -177,6 +203,7 @@ fn note_receive(
     note_number::<1, 64>(alloc, notes, "receive.", receive, "max_labels")?;
     note_number::<1, 16_384>(alloc, notes, "receive.", receive, "max_label_bytes")?;
     note_number::<0, 1_000_000>(alloc, notes, "receive.", receive, "busy_first")?;
+    note_names(alloc, notes, "receive.", receive)?;
     Ok(())
 }
 

@@ -5,7 +5,9 @@ ghost use Rattle.toml.specs.View.{table_view};
 ghost use Rattle.rw_settings.specs.Receiving.{receive_limits, receive_fault};
 
 use crate::fault::{SettingsFault, least};
-use crate::values::{keys_fault, number_fault, number_or, path_fault, path_or_default};
+use crate::values::{
+    keys_fault, names_fault, names_or_legacy, number_fault, number_or, path_fault, path_or_default,
+};
 use rw_recv_head::Limits;
 use rw_types::Bounded;
 use std::alloc::{AllocError, Global};
@@ -22,6 +24,7 @@ pub(crate) fn receive_limits(alloc: Global, receive: &Table) -> Result<Limits, A
         max_labels: number_or(receive, "max_labels", Bounded::of(64)),
         max_label_bytes: number_or(receive, "max_label_bytes", Bounded::of(16_384)),
         busy_first: number_or(receive, "busy_first", Bounded::of(0)),
+        names: names_or_legacy(receive, "names"),
     })
 }
 
@@ -36,6 +39,7 @@ pub(crate) fn receive_fault(receive: &Table) -> Option<SettingsFault>
         "max_labels",
         "max_label_bytes",
         "busy_first",
+        "names",
     ];
     least(&[
         keys_fault(receive, &keys),
@@ -44,5 +48,6 @@ pub(crate) fn receive_fault(receive: &Table) -> Option<SettingsFault>
         number_fault::<1, 64>(receive, "max_labels"),
         number_fault::<1, 16_384>(receive, "max_label_bytes"),
         number_fault::<0, 1_000_000>(receive, "busy_first"),
+        names_fault(receive, "names"),
     ])
 }

@@ -6,7 +6,8 @@ ghost use Rattle.rw_settings.specs.Sending.{send_fields, order_fault, send_fault
 
 use crate::fault::{SettingsFault, least};
 use crate::values::{
-    host_fault, host_or_default, keys_fault, number_fault, number_or, path_fault, path_or_default,
+    host_fault, host_or_default, keys_fault, names_fault, names_or_legacy, number_fault, number_or,
+    path_fault, path_or_default,
 };
 use rw_relabel::Rules;
 use rw_sender::{ConfigFields, Target};
@@ -36,6 +37,7 @@ pub(crate) fn send_fields(
         min_backoff_ms: number_or(send, "min_backoff_ms", Bounded::of(30)),
         max_backoff_ms: number_or(send, "max_backoff_ms", Bounded::of(5_000)),
         timeout_ms: number_or(send, "timeout_ms", Bounded::of(30_000)),
+        names: names_or_legacy(send, "names"),
         rules,
     })
 }
@@ -73,6 +75,7 @@ pub(crate) fn send_fault(send: &Table) -> Option<SettingsFault>
         "min_backoff_ms",
         "max_backoff_ms",
         "timeout_ms",
+        "names",
     ];
     least(&[
         keys_fault(send, &keys),
@@ -86,6 +89,7 @@ pub(crate) fn send_fault(send: &Table) -> Option<SettingsFault>
         number_fault::<1, 3_600_000>(send, "min_backoff_ms"),
         number_fault::<1, 3_600_000>(send, "max_backoff_ms"),
         number_fault::<1, 3_600_000>(send, "timeout_ms"),
+        names_fault(send, "names"),
         order_fault(send),
     ])
 }

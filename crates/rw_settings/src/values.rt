@@ -8,10 +8,11 @@ ghost use Rattle.std.specs.Str.{bytes_eq};
 ghost use Rattle.toml.specs.Data.{get_member, as_table, no_members, no_items};
 ghost use Rattle.toml.specs.View.{view, items_view, table_view};
 ghost use Rattle.rw_types.specs.Requests.{is_host_name, is_request_path};
-ghost use Rattle.rw_settings.specs.Values.{has_only, keys_fault, number_in, number_at, text_at, any_text, found_or, section, list_at, part_or};
+ghost use Rattle.rw_types.specs.declared.names.Names.TheVariants.{Legacy};
+ghost use Rattle.rw_settings.specs.Values.{has_only, keys_fault, number_in, number_at, text_at, any_text, names_in, names_at, found_or, section, list_at, part_or};
 
 use crate::fault::SettingsFault;
-use rw_types::{Bounded, HostName, RequestPath};
+use rw_types::{Bounded, HostName, Names, RequestPath};
 use std::alloc::{AllocError, Global};
 use toml::{Table, Value};
 
@@ -204,6 +205,52 @@ pub(crate) fn path_or_default(
     match RequestPath::check(String::from_str(alloc, text_or(table, key, ""))?) {
         Some(path) => Ok(path),
         None => RequestPath::api_v1_write(alloc),
+    }
+}
+
+/// The names that a text says.
+fn names_in(text: &str) -> Result<Option<Names>, SettingsFault>
+    ensures { result ≡ names_in text.now }
+{
+    if text == "legacy" {
+        Ok(Some(Names::Legacy))
+    } else if text == "utf8" {
+        Ok(Some(Names::Utf8))
+    } else {
+        Err(SettingsFault::OutOfRange)
+    }
+}
+
+/// The names that the text at a key says, if there is one.
+fn names_at(table: &Table, key: &str) -> Result<Option<Names>, SettingsFault>
+    ensures { result ≡ names_at (get_member key.now (table_view table.now)) }
+{
+    match value_at(table, key) {
+        None => Ok(None),
+        Some(value) => match value.as_str() {
+            None => Err(SettingsFault::WrongType),
+            Some(text) => names_in(text),
+        },
+    }
+}
+
+/// What is wrong with the names at a key.
+pub(crate) fn names_fault(table: &Table, key: &str) -> Option<SettingsFault>
+    ensures { result ≡ result_err (names_at (get_member key.now (table_view table.now))) }
+{
+    match names_at(table, key) {
+        Ok(_) => None,
+        Err(fault) => Some(fault),
+    }
+}
+
+/// The names at a key, or legacy ones where none stand there that can be taken.
+pub(crate) fn names_or_legacy(table: &Table, key: &str) -> Names
+    ensures { result ≡ found_or Legacy (names_at (get_member key.now (table_view table.now))) }
+{
+    match names_at(table, key) {
+        Ok(Some(names)) => names,
+        _ => Names::Legacy,
     }
 }
 

@@ -7,7 +7,7 @@ use Rattle.rw_relabel.specs.Rules.{RuleConfig}
 use Rattle.rw_sender.specs.declared.config.ConfigFields.{ConfigFields}
 use Rattle.rw_recv_head.specs.declared.limits.Limits.{Limits}
 use Rattle.rw_settings.specs.declared.settings.Settings.{Settings}
-use Rattle.rw_settings_text.specs.SettingsText.{action_text}
+use Rattle.rw_settings_text.specs.SettingsText.{names_text, action_text}
 use Rattle.rw_settings_text.proofs.Written.{number, text_items, send_expressions, receive_expressions, rule_expressions}
 
 abbrev send_nodes : ConfigFields → Nodes
@@ -19,9 +19,10 @@ send_nodes send =
     (node (codes "max_shards") (value (number send.max_shards))
     (node (codes "min_backoff_ms") (value (number send.min_backoff_ms))
     (node (codes "min_shards") (value (number send.min_shards))
+    (node (codes "names") (value (string (names_text send.names)))
     (node (codes "path") (value (string send.target.path))
     (node (codes "shards") (value (number send.shards))
-    (node (codes "timeout_ms") (value (number send.timeout_ms)) no_nodes)))))))))
+    (node (codes "timeout_ms") (value (number send.timeout_ms)) no_nodes))))))))))
 
 abbrev receive_nodes : Limits → Nodes
 receive_nodes limits =
@@ -29,7 +30,8 @@ receive_nodes limits =
     (node (codes "max_body_bytes") (value (number limits.max_body_bytes))
     (node (codes "max_label_bytes") (value (number limits.max_label_bytes))
     (node (codes "max_labels") (value (number limits.max_labels))
-    (node (codes "path") (value (string limits.path)) no_nodes))))
+    (node (codes "names") (value (string (names_text limits.names)))
+    (node (codes "path") (value (string limits.path)) no_nodes)))))
 
 abbrev rule_nodes : RuleConfig → Nodes
 rule_nodes rule =

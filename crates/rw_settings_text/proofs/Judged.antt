@@ -5,6 +5,8 @@ use Rattle.std.specs.Result.{result_err}
 use Rattle.std.proofs.lemmas.Bool.Decides.{nat_tests}
 use Rattle.toml.specs.Data.{Data, as_integer, as_str, as_table, as_array, table, Items, no_items, item, push_item, Members, no_members, get_member}
 use Rattle.rw_types.specs.Requests.{is_host_name, is_request_path}
+use Rattle.rw_types.specs.declared.names.Names.{Names}
+use Rattle.rw_types.specs.declared.names.Names.TheVariants.{Legacy, Utf8}
 use Rattle.rw_relabel.specs.Rules.{RuleConfig}
 use Rattle.rw_relabel.specs.declared.rule.Action.{Action}
 use Rattle.rw_relabel.specs.declared.rule.Action.TheVariants.{Keep, Drop}
@@ -15,9 +17,10 @@ use Rattle.rw_settings.specs.Faults.{lesser, least}
 use Rattle.rw_settings.specs.Receiving.{receive_limits, receive_fault}
 use Rattle.rw_settings.specs.RuleTables.{are_texts, labels_fault, source_fault, rule_table_fault, rule_fault_of, with_rules_fault, texts_of, rule_config, rules_of}
 use Rattle.rw_settings.specs.Sending.{send_fields, order_fault, send_fault}
-use Rattle.rw_settings.specs.Values.{number_if, number_at, text_if, text_at, found_or, part_or, list_at}
+use Rattle.rw_settings.specs.Values.{number_if, number_at, text_if, text_at, names_in, found_or, part_or, list_at}
 use Rattle.rw_settings.specs.declared.fault.SettingsFault.{SettingsFault}
 use Rattle.rw_settings.proofs.DocumentLemmas.{lesser_none, least_none}
+use Rattle.rw_settings_text.specs.SettingsText.{names_text}
 use Rattle.rw_settings_text.proofs.Written.{text_items, SendFits, LimitsFit}
 use Rattle.rw_settings_text.proofs.Defined.{send_members, receive_members, rule_members, with_rules}
 
@@ -95,7 +98,7 @@ send_taken ms rules h =
       min_backoff_ms = number_taken 1 3600000 30 (get_member (codes "min_backoff_ms") ms) refl all.1.1.1.1.1.1.1.1.0;
       max_backoff_ms = number_taken 1 3600000 5000 (get_member (codes "max_backoff_ms") ms) refl all.1.1.1.1.1.1.1.1.1.0;
       timeout_ms = number_taken 1 3600000 30000 (get_member (codes "timeout_ms") ms) refl all.1.1.1.1.1.1.1.1.1.1.0;
-      ordered = in_order _ all.1.1.1.1.1.1.1.1.1.1.1.0;
+      ordered = in_order _ all.1.1.1.1.1.1.1.1.1.1.1.1.0;
     }
 
 pub limits_taken : (ms : Members) → receive_fault ms ≡ None → LimitsTaken (receive_limits ms)
@@ -134,21 +137,26 @@ limits_fit limits t = record {
   busy_first = fits 0 1000000 limits.busy_first (omega arith) t.busy_first;
 }
 
+-- the names that were written are read again
+names_read : (names : Names) → names_in (names_text names) ≡ Ok (Some names)
+names_read Legacy = refl
+names_read Utf8 = refl
+
 pub send_same : (send : ConfigFields) → SendTaken send → send_fields (send_members send) send.rules ≡ send
 unfolding send_fields
-send_same send t = rw (t.host, t.path, t.shards, t.min_shards, t.max_shards, t.capacity, t.batch, t.min_backoff_ms, t.max_backoff_ms, t.timeout_ms) refl
+send_same send t = rw (t.host, t.path, t.shards, t.min_shards, t.max_shards, t.capacity, t.batch, t.min_backoff_ms, t.max_backoff_ms, t.timeout_ms, names_read send.names) refl
 
 pub send_judged : (send : ConfigFields) → SendTaken send → send_fault (send_members send) ≡ None
 unfolding send_fault order_fault send_fields least
-send_judged send t = rw (t.host, t.path, t.shards, t.min_shards, t.max_shards, t.capacity, t.batch, t.min_backoff_ms, t.max_backoff_ms, t.timeout_ms, t.ordered) refl
+send_judged send t = rw (t.host, t.path, t.shards, t.min_shards, t.max_shards, t.capacity, t.batch, t.min_backoff_ms, t.max_backoff_ms, t.timeout_ms, names_read send.names, t.ordered) refl
 
 pub limits_same : (limits : Limits) → LimitsTaken limits → receive_limits (receive_members limits) ≡ limits
 unfolding receive_limits
-limits_same limits t = rw (t.path, t.max_body_bytes, t.max_labels, t.max_label_bytes, t.busy_first) refl
+limits_same limits t = rw (t.path, t.max_body_bytes, t.max_labels, t.max_label_bytes, t.busy_first, names_read limits.names) refl
 
 pub limits_judged : (limits : Limits) → LimitsTaken limits → receive_fault (receive_members limits) ≡ None
 unfolding receive_fault least
-limits_judged limits t = rw (t.path, t.max_body_bytes, t.max_labels, t.max_label_bytes, t.busy_first) refl
+limits_judged limits t = rw (t.path, t.max_body_bytes, t.max_labels, t.max_label_bytes, t.busy_first, names_read limits.names) refl
 
 -- ---- rules
 

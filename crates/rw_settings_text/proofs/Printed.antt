@@ -18,10 +18,10 @@ scalar : IsScalar
 scalar = (refl, omega arith, refl)
 
 send_printed : (send : ConfigFields) → AllPrinted (send_expressions send)
-send_printed send = (omega arith, (scalar, (scalar, (scalar, (scalar, (scalar, (scalar, (scalar, (scalar, (scalar, (scalar, tt)))))))))))
+send_printed send = (omega arith, (scalar, (scalar, (scalar, (scalar, (scalar, (scalar, (scalar, (scalar, (scalar, (scalar, (scalar, tt))))))))))))
 
 receive_printed : (limits : Limits) → AllPrinted (receive_expressions limits)
-receive_printed limits = (omega arith, (scalar, (scalar, (scalar, (scalar, (scalar, tt))))))
+receive_printed limits = (omega arith, (scalar, (scalar, (scalar, (scalar, (scalar, (scalar, tt)))))))
 
 items_depth-texts : (ts : List (List ℕ)) → items_depth (text_items ts) ≡ 0
 items_depth-texts [] = refl

@@ -8,7 +8,7 @@ use Rattle.toml.specs.Text.{breaks_lines, IsValueText, IsItemsText, IsLineText, 
 use Rattle.rw_relabel.specs.Rules.{RuleConfig}
 use Rattle.rw_sender.specs.declared.config.ConfigFields.{ConfigFields}
 use Rattle.rw_recv_head.specs.declared.limits.Limits.{Limits}
-use Rattle.rw_settings_text.specs.SettingsText.{pair_line, list_text, send_lines, send_text, receive_lines, receive_text, action_text, rule_lines, rule_text}
+use Rattle.rw_settings_text.specs.SettingsText.{pair_line, list_text, send_lines, send_text, receive_lines, receive_text, names_text, action_text, rule_lines, rule_text}
 
 -- a line of a table
 abbrev pub pair : List ℕ → Data → Expression
@@ -35,6 +35,7 @@ send_expressions send =
     ∷ pair (codes "min_backoff_ms") (number send.min_backoff_ms)
     ∷ pair (codes "max_backoff_ms") (number send.max_backoff_ms)
     ∷ pair (codes "timeout_ms") (number send.timeout_ms)
+    ∷ pair (codes "names") (string (names_text send.names))
     ∷ []
 
 abbrev pub receive_expressions : Limits → List Expression
@@ -45,6 +46,7 @@ receive_expressions limits =
     ∷ pair (codes "max_labels") (number limits.max_labels)
     ∷ pair (codes "max_label_bytes") (number limits.max_label_bytes)
     ∷ pair (codes "busy_first") (number limits.busy_first)
+    ∷ pair (codes "names") (string (names_text limits.names))
     ∷ []
 
 abbrev pub rule_expressions : RuleConfig → List Expression
@@ -160,7 +162,7 @@ send_written send fits = lines_text false (send_expressions send) (send_lines se
                     number_written true (codes "max_backoff_ms") send.max_backoff_ms refl fits.max_backoff_ms,
                     (
                       number_written true (codes "timeout_ms") send.timeout_ms refl fits.timeout_ms,
-                      tt,
+                      (text_written true (codes "names") (names_text send.names) refl, tt),
                     ),
                   ),
                 ),
@@ -187,7 +189,7 @@ receive_written limits fit = lines_text true (receive_expressions limits) (recei
           number_written true (codes "max_label_bytes") limits.max_label_bytes refl fit.max_label_bytes,
           (
             number_written true (codes "busy_first") limits.busy_first refl fit.busy_first,
-            tt,
+            (text_written true (codes "names") (names_text limits.names) refl, tt),
           ),
         ),
       ),

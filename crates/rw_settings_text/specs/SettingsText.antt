@@ -2,6 +2,8 @@
 use Rattle.std.specs.Prelude.{ℕ, List, [], ◌∷◌, ◌++◌, flat_map, codes, decimal}
 use Rattle.std.specs.List.{concat, join_by}
 use Rattle.toml_writer.specs.Text.{string_text}
+use Rattle.rw_types.specs.declared.names.Names.{Names}
+use Rattle.rw_types.specs.declared.names.Names.TheVariants.{Legacy, Utf8}
 use Rattle.rw_relabel.specs.Rules.{RuleConfig}
 use Rattle.rw_relabel.specs.declared.rule.Action.{Action}
 use Rattle.rw_relabel.specs.declared.rule.Action.TheVariants.{Keep, Drop}
@@ -23,12 +25,14 @@ text_line key text = pair_line key (string_text text)
 abbrev pub list_text : List (List ℕ) → List ℕ
 list_text texts = codes "[" ++ (join_by string_text (codes ", ") texts ++ codes "]")
 
-abbrev pub send_lines : ConfigFields → List (List ℕ)
-send_lines send =
-    codes "[send]\n"
-    ∷ text_line (codes "host") send.target.host
-    ∷ text_line (codes "path") send.target.path
-    ∷ number_line (codes "shards") send.shards
+abbrev pub names_text : Names → List ℕ
+names_text Legacy = codes "legacy"
+names_text Utf8 = codes "utf8"
+
+-- the numbers of the table `send`
+abbrev pub number_lines : ConfigFields → List (List ℕ)
+number_lines send =
+    number_line (codes "shards") send.shards
     ∷ number_line (codes "min_shards") send.min_shards
     ∷ number_line (codes "max_shards") send.max_shards
     ∷ number_line (codes "capacity") send.capacity
@@ -37,6 +41,16 @@ send_lines send =
     ∷ number_line (codes "max_backoff_ms") send.max_backoff_ms
     ∷ number_line (codes "timeout_ms") send.timeout_ms
     ∷ []
+
+unfoldable pub number_text : ConfigFields → List ℕ
+number_text send = concat (number_lines send)
+
+abbrev pub send_lines : ConfigFields → List (List ℕ)
+send_lines send =
+    codes "[send]\n"
+    ∷ text_line (codes "host") send.target.host
+    ∷ text_line (codes "path") send.target.path
+    ∷ (number_lines send ++ text_line (codes "names") (names_text send.names) ∷ [])
 
 unfoldable pub send_text : ConfigFields → List ℕ
 send_text send = concat (send_lines send)
@@ -49,6 +63,7 @@ receive_lines limits =
     ∷ number_line (codes "max_labels") limits.max_labels
     ∷ number_line (codes "max_label_bytes") limits.max_label_bytes
     ∷ number_line (codes "busy_first") limits.busy_first
+    ∷ text_line (codes "names") (names_text limits.names)
     ∷ []
 
 unfoldable pub receive_text : Limits → List ℕ

@@ -2,14 +2,41 @@
 
 ghost use Rattle.std.specs.Prelude.{◌≡◌, ◌++◌, flat_map, map, string_bytes, OnOk};
 ghost use Rattle.rw_settings.specs.RuleTables.{written_rule};
-ghost use Rattle.rw_settings_text.specs.SettingsText.{send_text, receive_text, action_text, rule_text};
+ghost use Rattle.rw_settings_text.specs.SettingsText.{number_text, send_text, receive_text, names_text, action_text, rule_text};
 
 use crate::values::{push_list, push_number, push_text};
 use rw_recv_head::Limits;
 use rw_relabel::Action;
 use rw_sender::ConfigFields;
 use rw_settings::RuleFields;
+use rw_types::Names;
 use std::alloc::{AllocError, Global};
+
+/// The word of the names that are taken.
+fn names_text(names: Names) -> &'static str
+    ensures { result.now ≡ names_text names }
+{
+    match names {
+        Names::Legacy => "legacy",
+        Names::Utf8 => "utf8",
+    }
+}
+
+/// Adds the numbers of the table `send`.
+#[tactic(auto, unfolding(crate::specs::SettingsText::number_text))]
+fn push_numbers(out: &mut String, send: &ConfigFields) -> Result<(), AllocError>
+    ensures { OnOk result (string_bytes out.new ≡ string_bytes out.old ++ number_text send.now) }
+{
+    push_number(out, "shards", send.shards.get())?;
+    push_number(out, "min_shards", send.min_shards.get())?;
+    push_number(out, "max_shards", send.max_shards.get())?;
+    push_number(out, "capacity", send.capacity.get())?;
+    push_number(out, "batch", send.batch.get())?;
+    push_number(out, "min_backoff_ms", send.min_backoff_ms.get())?;
+    push_number(out, "max_backoff_ms", send.max_backoff_ms.get())?;
+    push_number(out, "timeout_ms", send.timeout_ms.get())?;
+    Ok(())
+}
 
 /// Adds the table `send`.
 #[tactic(auto, unfolding(crate::specs::SettingsText::send_text))]
@@ -23,14 +50,8 @@ pub(crate) fn push_send(
     out.push_str("[send]\n")?;
     push_text(alloc, out, "host", send.target.host.as_str())?;
     push_text(alloc, out, "path", send.target.path.as_str())?;
-    push_number(out, "shards", send.shards.get())?;
-    push_number(out, "min_shards", send.min_shards.get())?;
-    push_number(out, "max_shards", send.max_shards.get())?;
-    push_number(out, "capacity", send.capacity.get())?;
-    push_number(out, "batch", send.batch.get())?;
-    push_number(out, "min_backoff_ms", send.min_backoff_ms.get())?;
-    push_number(out, "max_backoff_ms", send.max_backoff_ms.get())?;
-    push_number(out, "timeout_ms", send.timeout_ms.get())?;
+    push_numbers(out, send)?;
+    push_text(alloc, out, "names", names_text(send.names))?;
     Ok(())
 }
 
@@ -49,6 +70,7 @@ pub(crate) fn push_receive(
     push_number(out, "max_labels", limits.max_labels.get())?;
     push_number(out, "max_label_bytes", limits.max_label_bytes.get())?;
     push_number(out, "busy_first", limits.busy_first.get())?;
+    push_text(alloc, out, "names", names_text(limits.names))?;
     Ok(())
 }
 

@@ -4,7 +4,7 @@ use Rattle.std.specs.Prelude.{◌==◌, filter, slice_get, ⊤}
 use Rattle.rw_types.specs.declared.entry.Entry.{Entry}
 use Rattle.rw_types.specs.declared.entry.Entry.TheVariants as entry
 use Rattle.rw_types.specs.declared.place.Place.{Place}
-use Rattle.rw_relabel.specs.Rules.{RuleConfig}
+use Rattle.rw_relabel.specs.declared.choice.Choice.{Choice}
 use Rattle.rw_shard_queue.specs.Items.{samples_in, places_in}
 use Rattle.rw_shard_queue.specs.declared.item.Item.{Item}
 use Rattle.rw_shard_queue.specs.declared.item.Item.TheVariants as item
@@ -38,25 +38,25 @@ below_filter : (n : ℕ) (p : Sent → Bool) (xs : List Sent) → AllBelow n xs 
 below_filter n p [] h = tt
 below_filter n p (x ∷ xs) h = below_cond n x (filter p xs) (p x) h.0 (below_filter n p xs h.1)
 
-below_fate : (rules : List RuleConfig) (before : List Entry) (t : ℤ) (word : ℕ) (f : Fate) → AllBelow (length before + 1) (sent_by_fate rules before t word f)
-below_fate rules before t word (Sends l) = (omega arith, tt)
-below_fate rules before t word (Drops reason) = tt
-below_fate rules before t word Filters = tt
+below_fate : (choice : Choice) (before : List Entry) (t : ℤ) (word : ℕ) (f : Fate) → AllBelow (length before + 1) (sent_by_fate choice before t word f)
+below_fate choice before t word (Sends l) = (omega arith, tt)
+below_fate choice before t word (Drops reason) = tt
+below_fate choice before t word Filters = tt
 
-below_of : (rules : List RuleConfig) (before : List Entry) (e : Entry) → AllBelow (length before + 1) (sent_of rules before e)
-below_of rules before (entry.Def reference labels) = tt
-below_of rules before (entry.Sample reference t word) = below_fate rules before t word (fate rules before reference t)
+below_of : (choice : Choice) (before : List Entry) (e : Entry) → AllBelow (length before + 1) (sent_of choice before e)
+below_of choice before (entry.Def reference labels) = tt
+below_of choice before (entry.Sample reference t word) = below_fate choice before t word (fate choice before reference t)
 
-below_from : (rules : List RuleConfig) (before es : List Entry) → AllBelow (length before + length es) (gather_from (sent_of rules) before es)
-below_from rules before [] = tt
-below_from rules before (e ∷ es) =
+below_from : (choice : Choice) (before es : List Entry) → AllBelow (length before + length es) (gather_from (sent_of choice) before es)
+below_from choice before [] = tt
+below_from choice before (e ∷ es) =
     let len = length-append before (e ∷ []) in
-    below_append (length before + length (e ∷ es)) (sent_of rules before e) (gather_from (sent_of rules) (before ++ e ∷ []) es)
-    (below_more (length before + 1) (length before + length (e ∷ es)) (sent_of rules before e) (omega arith) (below_of rules before e))
-    (below_more (length (before ++ e ∷ []) + length es) (length before + length (e ∷ es)) (gather_from (sent_of rules) (before ++ e ∷ []) es) (omega arith) (below_from rules (before ++ e ∷ []) es))
+    below_append (length before + length (e ∷ es)) (sent_of choice before e) (gather_from (sent_of choice) (before ++ e ∷ []) es)
+    (below_more (length before + 1) (length before + length (e ∷ es)) (sent_of choice before e) (omega arith) (below_of choice before e))
+    (below_more (length (before ++ e ∷ []) + length es) (length before + length (e ∷ es)) (gather_from (sent_of choice) (before ++ e ∷ []) es) (omega arith) (below_from choice (before ++ e ∷ []) es))
 
-sent_below : (rules : List RuleConfig) (es : List Entry) → AllBelow (length es) (sent rules es)
-sent_below rules es = subst (λ n. AllBelow n (sent rules es)) (zero-add (length es)) (below_from rules [] es)
+sent_below : (choice : Choice) (es : List Entry) → AllBelow (length es) (sent choice es)
+sent_below choice es = subst (λ n. AllBelow n (sent choice es)) (zero-add (length es)) (below_from choice [] es)
 
 below_place : (n : ℕ) (xs : List Item) (k : ℕ) (o : Place) → AllBelow n (map as_sent (samples_in xs)) → slice_get (places_in xs) k ≡ Some o → o.pos < n
 below_place n [] k o h at = absurd (let at' : None ≡ Some o = at in cc)
@@ -69,9 +69,9 @@ below_place n (item.Flush ∷ xs) k o h at = below_place n xs k o h at
 below_place n (item.End kind ∷ xs) k o h at = below_place n xs k o h at
 
 -- what was put so far stands below the next position
-pub placing_below : (e n j : ℕ) (ended current : List Lane) (rules : List RuleConfig) (es : List Entry) (l : Lane) → IsPlacing e ended current (sent rules es) → n ≡ length es → slice_get current j ≡ Some l
+pub placing_below : (e n j : ℕ) (ended current : List Lane) (choice : Choice) (es : List Entry) (l : Lane) → IsPlacing e ended current (sent choice es) → n ≡ length es → slice_get current j ≡ Some l
     → (k : ℕ) (o : Place) → slice_get (places_in l.put) k ≡ Some o → o.pos < n
-placing_below e n j ended current rules es l h count at k o there =
-    let fresh = below_later (length es) h.before h.fresh (subst (AllBelow (length es)) h.all (sent_below rules es)) in
+placing_below e n j ended current choice es l h count at k o there =
+    let fresh = below_later (length es) h.before h.fresh (subst (AllBelow (length es)) h.all (sent_below choice es)) in
     let mine = below_filter (length es) (λ s. shard_of (length current) s.series == j) h.fresh fresh in
     subst (λ m. o.pos < m) (sym count) (below_place (length es) l.put k o (subst (AllBelow (length es)) (sym (h.dealt.each j l at).2) mine) there)

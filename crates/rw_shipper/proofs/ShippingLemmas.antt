@@ -6,7 +6,7 @@ use Rattle.rw_shipper.specs.declared.report.Report.{Report}
 use Rattle.rw_types.specs.declared.entry.Entry.{Entry}
 use Rattle.rw_types.specs.declared.entry.Entry.TheVariants as entry
 use Rattle.rw_types.specs.declared.place.Place.{Place}
-use Rattle.rw_relabel.specs.Rules.{RuleConfig}
+use Rattle.rw_relabel.specs.declared.choice.Choice.{Choice}
 use Rattle.rw_shard_queue.specs.Items.{places_in}
 use Rattle.rw_shard_queue.specs.declared.item.Kind.TheVariants.{Reshard}
 use Rattle.rw_fleet.specs.Lanes.{Lane, AreFresh, AreSame, IsPut, marks_of}
@@ -40,32 +40,32 @@ module _ {A : Type 0} (f : List Entry → Entry → List A) where
       ∙ sym (append_assoc (f before x) (gather_from f (before ++ x ∷ []) xs) (f (before ++ x ∷ xs) e))
 
 -- the samples with those of the entry that was placed
-placed_samples : (old new : Sorting) (e : Entry) (samples : List Sent) → HasPlaced old new → old.hand ≡ e ∷ [] → sent_of old.rules old.placed e ≡ samples → sent new.rules new.placed ≡ sent old.rules old.placed ++ samples
+placed_samples : (old new : Sorting) (e : Entry) (samples : List Sent) → HasPlaced old new → old.hand ≡ e ∷ [] → sent_of old.choice old.placed e ≡ samples → sent new.choice new.placed ≡ sent old.choice old.placed ++ samples
 placed_samples old new e samples placed hand is =
-    ap (λ (s : Sorting). sent s.rules s.placed) placed
-    ∙ ap (λ h. sent old.rules (old.placed ++ h)) hand
-    ∙ from_push (sent_of old.rules) [] old.placed e
-    ∙ ap (λ l. sent old.rules old.placed ++ l) is
+    ap (λ (s : Sorting). sent s.choice s.placed) placed
+    ∙ ap (λ h. sent old.choice (old.placed ++ h)) hand
+    ∙ from_push (sent_of old.choice) [] old.placed e
+    ∙ ap (λ l. sent old.choice old.placed ++ l) is
 
 module _ {T : Type 0} where
   -- an entry was placed that is not sent
-  pub places_none : (old new : Sorting) (fleet : Shards T) (e : Entry) → HasPlaced old new → old.hand ≡ e ∷ [] → sent_of old.rules old.placed e ≡ [] → PlacesAll old fleet → PlacesAll new fleet
+  pub places_none : (old new : Sorting) (fleet : Shards T) (e : Entry) → HasPlaced old new → old.hand ≡ e ∷ [] → sent_of old.choice old.placed e ≡ [] → PlacesAll old fleet → PlacesAll new fleet
   places_none old new fleet e placed hand is h =
-      subst (λ s. IsPlacing fleet.epoch (map lane_of fleet.ended) fleet.current s) (sym (placed_samples old new e [] placed hand is ∙ append-nil (sent old.rules old.placed))) h
+      subst (λ s. IsPlacing fleet.epoch (map lane_of fleet.ended) fleet.current s) (sym (placed_samples old new e [] placed hand is ∙ append-nil (sent old.choice old.placed))) h
 
   -- a sample was put
-  pub places_sent : (old held new : Sorting) (was now : Shards T) (e : Entry) (l : RoutedSample) (k m : ℕ) → held ≡ old → HasPlaced held new → old.hand ≡ e ∷ [] → sent_of old.rules old.placed e ≡ sent_by l ∷ [] → now ≡ record was { current = now.current }
+  pub places_sent : (old held new : Sorting) (was now : Shards T) (e : Entry) (l : RoutedSample) (k m : ℕ) → held ≡ old → HasPlaced held new → old.hand ≡ e ∷ [] → sent_of old.choice old.placed e ≡ sent_by l ∷ [] → now ≡ record was { current = now.current }
       → IsPut k l was.current now.current → k ≡ l.series % m → m ≡ length was.current → PlacesAll old was → PlacesAll new now
   places_sent old held new was now e l k m same placed hand is rest put here len h =
       let after : HasPlaced old new = placed ∙ ap (λ (s : Sorting). record s { placed = s.placed ++ s.hand; hand = [] }) same in
       let at : k ≡ shard_of (length was.current) l.series = here ∙ ap (λ n. l.series % n) len in
-      let next = placing_put was.epoch k (map lane_of was.ended) was.current now.current (sent old.rules old.placed) l (sent_by l) h put refl at in
+      let next = placing_put was.epoch k (map lane_of was.ended) was.current now.current (sent old.choice old.placed) l (sent_by l) h put refl at in
       subst (λ (f : Shards T). PlacesAll new f) (sym rest) (subst (λ s. IsPlacing was.epoch (map lane_of was.ended) now.current s) (sym (placed_samples old new e (sent_by l ∷ []) after hand is)) next)
 
   -- the entries placed so far stay
   pub goes_same : (old new : Sorting) (was : Shards T) → new ≡ old → GoesOn old new was was
   goes_same old new was same = record {
-    rules = ap (λ (s : Sorting). s.rules) same;
+    choice = ap (λ (s : Sorting). s.choice) same;
     pieces = ap (λ (s : Sorting). s.pieces) same;
     more = [];
     grown = ap (λ (s : Sorting). s.placed) same ∙ sym (append-nil old.placed);
@@ -77,7 +77,7 @@ module _ {T : Type 0} where
   pub goes_placed : (old held new : Sorting) (was now : Shards T) → held ≡ old → HasPlaced held new → now ≡ record was { current = now.current } → length now.current ≡ length was.current → map marks_of now.current ≡ map marks_of was.current → GoesOn old new was now
   goes_placed old held new was now same placed rest len marks =
       let after : HasPlaced old new = placed ∙ ap (λ (s : Sorting). record s { placed = s.placed ++ s.hand; hand = [] }) same in record {
-        rules = ap (λ (s : Sorting). s.rules) after;
+        choice = ap (λ (s : Sorting). s.choice) after;
         pieces = ap (λ (s : Sorting). s.pieces) after;
         more = old.hand;
         grown = ap (λ (s : Sorting). s.placed) after;
@@ -88,7 +88,7 @@ module _ {T : Type 0} where
 
   pub goes_on : (a b c : Sorting) (x y z : Shards T) → GoesOn a b x y → GoesOn b c y z → GoesOn a c x z
   goes_on a b c x y z h g = record {
-    rules = g.rules ∙ h.rules;
+    choice = g.choice ∙ h.choice;
     pieces = g.pieces ∙ h.pieces;
     more = h.more ++ g.more;
     grown = g.grown ∙ ap (λ l. l ++ g.more) h.grown ∙ append_assoc a.placed h.more g.more;
@@ -100,7 +100,7 @@ module _ {T : Type 0} where
   -- an entry in hand changes nothing of the rest
   pub goes_read : (old new : Sorting) (e : Entry) (was : Shards T) → new ≡ record old { hand = e ∷ [] } → GoesOn old new was was
   goes_read old new e was is = record {
-    rules = ap (λ (s : Sorting). s.rules) is;
+    choice = ap (λ (s : Sorting). s.choice) is;
     pieces = ap (λ (s : Sorting). s.pieces) is;
     more = [];
     grown = ap (λ (s : Sorting). s.placed) is ∙ sym (append-nil old.placed);
@@ -128,57 +128,57 @@ module _ {T : Type 0} where
   pub put_marks : (k : ℕ) (l : RoutedSample) (was now : Shards T) → IsPut k l was.current now.current → map marks_of now.current ≡ map marks_of was.current
   put_marks k l was now put = ap (map marks_of) put.is ∙ marks_set was.current k put.was put.now put.at put.marks
 
-sent_fate_pos : (rules : List RuleConfig) (before : List Entry) (t : ℤ) (word : ℕ) (f : Fate) (x : Sent) → sent_by_fate rules before t word f ≡ x ∷ [] → length before ≡ x.pos
-sent_fate_pos rules before t word (Sends l) x is = ap (λ (y : Sent). y.pos) (first (kept_sample rules before t word l) x is)
+sent_fate_pos : (choice : Choice) (before : List Entry) (t : ℤ) (word : ℕ) (f : Fate) (x : Sent) → sent_by_fate choice before t word f ≡ x ∷ [] → length before ≡ x.pos
+sent_fate_pos choice before t word (Sends l) x is = ap (λ (y : Sent). y.pos) (first (kept_sample choice before t word l) x is)
   where
     first : (a b : Sent) → a ∷ [] ≡ b ∷ [] → a ≡ b
     first a b e = cc
-sent_fate_pos rules before t word (Drops reason) x is = absurd (cc)
-sent_fate_pos rules before t word Filters x is = absurd (cc)
+sent_fate_pos choice before t word (Drops reason) x is = absurd (cc)
+sent_fate_pos choice before t word Filters x is = absurd (cc)
 
-sent_pos : (rules : List RuleConfig) (before : List Entry) (e : Entry) (x : Sent) → sent_of rules before e ≡ x ∷ [] → length before ≡ x.pos
-sent_pos rules before (entry.Def reference labels) x is = absurd (cc)
-sent_pos rules before (entry.Sample reference t word) x is = sent_fate_pos rules before t word (fate rules before reference t) x is
+sent_pos : (choice : Choice) (before : List Entry) (e : Entry) (x : Sent) → sent_of choice before e ≡ x ∷ [] → length before ≡ x.pos
+sent_pos choice before (entry.Def reference labels) x is = absurd (cc)
+sent_pos choice before (entry.Sample reference t word) x is = sent_fate_pos choice before t word (fate choice before reference t) x is
 
 module _ {T : Type 0} where
   -- a sample stands behind all that were put before it
-  pub stands_behind : (old : Sorting) (was : Shards T) (e : Entry) (l : RoutedSample) (j : ℕ) → PlacesAll old was → sent_of old.rules old.placed e ≡ sent_by l ∷ []
+  pub stands_behind : (old : Sorting) (was : Shards T) (e : Entry) (l : RoutedSample) (j : ℕ) → PlacesAll old was → sent_of old.choice old.placed e ≡ sent_by l ∷ []
       → (lane : Lane) (k : ℕ) (o : Place) → slice_get was.current j ≡ Some lane → slice_get (places_in lane.put) k ≡ Some o → o.pos < l.pos
   stands_behind old was e l j h is lane k o at there =
-      subst (λ n. o.pos < n) (sent_pos old.rules old.placed e (sent_by l) is) (placing_below was.epoch (length old.placed) j (map lane_of was.ended) was.current old.rules old.placed lane h refl at k o there)
+      subst (λ n. o.pos < n) (sent_pos old.choice old.placed e (sent_by l) is) (placing_below was.epoch (length old.placed) j (map lane_of was.ended) was.current old.choice old.placed lane h refl at k o there)
 
 module _ {T : Type 0} where
   -- all shards at work have ended
-  pub places_closed : (log : Sorting) (was : Shards T) (more : ℕ) (all : List (Joined T)) → PlacesAll log was → AreAll was all → more ≡ was.epoch + 1 → IsPlacing more (map lane_of all) [] (sent log.rules log.placed)
+  pub places_closed : (log : Sorting) (was : Shards T) (more : ℕ) (all : List (Joined T)) → PlacesAll log was → AreAll was all → more ≡ was.epoch + 1 → IsPlacing more (map lane_of all) [] (sent log.choice log.placed)
   places_closed log was more all h ended next =
-      placing_closed was.epoch more (map lane_of was.ended) was.current (map lane_of ended.0) (map lane_of all) (sent log.rules log.placed) h ended.2 (ap (map lane_of) ended.1 ∙ lanes_append was.ended ended.0) next
+      placing_closed was.epoch more (map lane_of was.ended) was.current (map lane_of ended.0) (map lane_of all) (sent log.choice log.placed) h ended.2 (ap (map lane_of) ended.1 ∙ lanes_append was.ended ended.0) next
 
-  pub places_whole : (log : Sorting) (was : Shards T) (all : List (Joined T)) → PlacesAll log was → AreAll was all → ArePlaced (map lane_of all) (sent log.rules log.placed)
-  places_whole log was all h ended = placing_whole (was.epoch + 1) (map lane_of all) (sent log.rules log.placed) (places_closed log was (was.epoch + 1) all h ended refl)
+  pub places_whole : (log : Sorting) (was : Shards T) (all : List (Joined T)) → PlacesAll log was → AreAll was all → ArePlaced (map lane_of all) (sent log.choice log.placed)
+  places_whole log was all h ended = placing_whole (was.epoch + 1) (map lane_of all) (sent log.choice log.placed) (places_closed log was (was.epoch + 1) all h ended refl)
 
   pub places_shut : (log : Sorting) (was closed : Shards T) → PlacesAll log was → HasClosed was closed → PlacesAll log closed
   places_shut log was closed h shut =
-      subst (λ ls. IsPlacing closed.epoch (map lane_of closed.ended) ls (sent log.rules log.placed)) (sym shut.2) (places_closed log was closed.epoch closed.ended h shut.3 shut.1)
+      subst (λ ls. IsPlacing closed.epoch (map lane_of closed.ended) ls (sent log.choice log.placed)) (sym shut.2) (places_closed log was closed.epoch closed.ended h shut.3 shut.1)
 
   -- and the next ones are opened
   pub places_opened : (log : Sorting) (closed opened : Shards T) → PlacesAll log closed → closed.current ≡ [] → opened ≡ record closed { current = opened.current } → AreFresh opened.epoch opened.current → PlacesAll log opened
   places_opened log closed opened h none is fresh =
       let epoch : opened.epoch ≡ closed.epoch = ap (λ (s : Shards T). s.epoch) is in
-      let before = subst (λ ls. IsPlacing closed.epoch (map lane_of closed.ended) ls (sent log.rules log.placed)) none h in
+      let before = subst (λ ls. IsPlacing closed.epoch (map lane_of closed.ended) ls (sent log.choice log.placed)) none h in
       let new = subst (λ e. AreFresh e opened.current) epoch fresh in
-      subst (λ (f : Shards T). PlacesAll log f) (sym is) (placing_opened closed.epoch (map lane_of closed.ended) opened.current (sent log.rules log.placed) before new)
+      subst (λ (f : Shards T). PlacesAll log f) (sym is) (placing_opened closed.epoch (map lane_of closed.ended) opened.current (sent log.choice log.placed) before new)
 
   -- nothing was placed yet
   pub places_begun : (log : Sorting) (closed opened : Shards T) → log.placed ≡ [] → closed.epoch ≡ 0 → closed.ended ≡ [] → closed.current ≡ [] → opened ≡ record closed { current = opened.current } → AreFresh opened.epoch opened.current → PlacesAll log opened
   places_begun log closed opened placed epoch ended none is fresh =
       let begun : IsPlacing 0 (map lane_of closed.ended) closed.current [] = placing_begun (map lane_of closed.ended) closed.current (ap (map lane_of) ended) none in
       let at : IsPlacing closed.epoch (map lane_of closed.ended) closed.current [] = subst (λ e. IsPlacing e (map lane_of closed.ended) closed.current []) (sym epoch) begun in
-      places_opened log closed opened (subst (λ es. IsPlacing closed.epoch (map lane_of closed.ended) closed.current (sent log.rules es)) (sym placed) at) none is fresh
+      places_opened log closed opened (subst (λ es. IsPlacing closed.epoch (map lane_of closed.ended) closed.current (sent log.choice es)) (sym placed) at) none is fresh
 
   -- marks leave the samples
   pub places_same : (log : Sorting) (was now : Shards T) → PlacesAll log was → now ≡ record was { current = now.current } → AreSame was.current now.current → PlacesAll log now
   places_same log was now h is same =
-      subst (λ (f : Shards T). PlacesAll log f) (sym is) (placing_same was.epoch (map lane_of was.ended) was.current now.current (sent log.rules log.placed) h same)
+      subst (λ (f : Shards T). PlacesAll log f) (sym is) (placing_same was.epoch (map lane_of was.ended) was.current now.current (sent log.choice log.placed) h same)
 
   -- a shipper that had not failed has not failed with the next shards
   pub ready_next : (log : Sorting) (was now : Shards T) (f : Option Fault) (n : ℕ) → IsReady log was f → length now.current ≡ n → 1 ≤ n → IsReady log now f
@@ -202,9 +202,9 @@ on_ok (Ok x) P e h = h
 on_ok (Err x) P e h = absurd (cc)
 
 -- nothing was fed yet
-pub read_begun : (log : Sorting) (rules : List RuleConfig) → log ≡ record { rules = rules; pieces = []; placed = []; hand = [] } → HasRead log.pieces log.placed None
+pub read_begun : (log : Sorting) (choice : Choice) → log ≡ record { choice = choice; pieces = []; placed = []; hand = [] } → HasRead log.pieces log.placed None
 unfolding reading segment
-read_begun log rules is = subst (λ (l : Sorting). HasRead l.pieces l.placed None) (sym is) (record { all = refl; fault_is = refl })
+read_begun log choice is = subst (λ (l : Sorting). HasRead l.pieces l.placed None) (sym is) (record { all = refl; fault_is = refl })
 
 pub read_of : (log : Sorting) (f : Option Fault) (damage : Option TailFault) → IsRead log f damage → f ≡ None → HasRead log.pieces log.placed damage
 read_of log f damage h is = subst (λ (x : Option Fault). IsRead log x damage) is h

@@ -4,7 +4,7 @@ use Rattle.std.specs.Prelude.{◌==◌, filter, slice_get, ⊤}
 use Rattle.std.proofs.lemmas.Bool.{eq-eqb, eqb-true}
 use Rattle.rw_types.specs.declared.entry.Entry.{Entry}
 use Rattle.rw_types.specs.declared.entry.Entry.TheVariants as entry
-use Rattle.rw_relabel.specs.Rules.{RuleConfig}
+use Rattle.rw_relabel.specs.declared.choice.Choice.{Choice}
 use Rattle.rw_fleet.specs.Lanes.{Lane}
 use Rattle.rw_router.specs.Fates.{Fate, Drops, Filters, Sends, fate}
 use Rattle.rw_feeder.specs.Logs.{Sent, gather_from, sent_by_fate, sent_of, sent}
@@ -212,20 +212,20 @@ at_rise n m [] ys at up h r = (r, from_less n m ys (omega arith) h)
 at_rise n m (x ∷ []) ys at up h r = ((from_above x.pos m ys (omega arith) h, r), (omega arith, from_less n m ys (omega arith) h))
 at_rise n m (x ∷ y ∷ xs) ys at up h r = absurd at
 
-at_fate : (rules : List RuleConfig) (before : List Entry) (t : ℤ) (word : ℕ) (f : Fate) → IsAt (length before) (sent_by_fate rules before t word f)
-at_fate rules before t word (Sends l) = refl
-at_fate rules before t word (Drops reason) = tt
-at_fate rules before t word Filters = tt
+at_fate : (choice : Choice) (before : List Entry) (t : ℤ) (word : ℕ) (f : Fate) → IsAt (length before) (sent_by_fate choice before t word f)
+at_fate choice before t word (Sends l) = refl
+at_fate choice before t word (Drops reason) = tt
+at_fate choice before t word Filters = tt
 
-at_of : (rules : List RuleConfig) (before : List Entry) (e : Entry) → IsAt (length before) (sent_of rules before e)
-at_of rules before (entry.Def reference labels) = tt
-at_of rules before (entry.Sample reference t word) = at_fate rules before t word (fate rules before reference t)
+at_of : (choice : Choice) (before : List Entry) (e : Entry) → IsAt (length before) (sent_of choice before e)
+at_of choice before (entry.Def reference labels) = tt
+at_of choice before (entry.Sample reference t word) = at_fate choice before t word (fate choice before reference t)
 
-from_rise : (rules : List RuleConfig) (before es : List Entry) → Rise (gather_from (sent_of rules) before es) × AllFrom (length before) (gather_from (sent_of rules) before es)
-from_rise rules before [] = (tt, tt)
-from_rise rules before (e ∷ es) =
-    let r = from_rise rules (before ++ e ∷ []) es in
-    at_rise (length before) (length (before ++ e ∷ [])) (sent_of rules before e) (gather_from (sent_of rules) (before ++ e ∷ []) es) (at_of rules before e) (length-append before (e ∷ [])) r.1 r.0
+from_rise : (choice : Choice) (before es : List Entry) → Rise (gather_from (sent_of choice) before es) × AllFrom (length before) (gather_from (sent_of choice) before es)
+from_rise choice before [] = (tt, tt)
+from_rise choice before (e ∷ es) =
+    let r = from_rise choice (before ++ e ∷ []) es in
+    at_rise (length before) (length (before ++ e ∷ [])) (sent_of choice before e) (gather_from (sent_of choice) (before ++ e ∷ []) es) (at_of choice before e) (length-append before (e ∷ [])) r.1 r.0
 
-pub placed_spread : (lanes : List Lane) (rules : List RuleConfig) (es : List Entry) → ArePlaced lanes (sent rules es) → (epochs : List (List Lane)) × (lanes ≡ joined epochs) × IsSpread epochs (sent rules es)
-placed_spread lanes rules es h = (h.0, h.1, spread_of h.0 (sent rules es) h.2 (from_rise rules [] es).0)
+pub placed_spread : (lanes : List Lane) (choice : Choice) (es : List Entry) → ArePlaced lanes (sent choice es) → (epochs : List (List Lane)) × (lanes ≡ joined epochs) × IsSpread epochs (sent choice es)
+placed_spread lanes choice es h = (h.0, h.1, spread_of h.0 (sent choice es) h.2 (from_rise choice [] es).0)

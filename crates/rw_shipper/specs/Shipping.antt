@@ -33,7 +33,7 @@ pub record Shipping (T : Type 0) : Type 0 where
 
 -- the shards of all epochs were put the samples of the entries placed
 abbrev pub PlacesAll : {T : Type 0} → Sorting → Shards T → Type 0
-PlacesAll log fleet = IsPlacing fleet.epoch (map lane_of fleet.ended) fleet.current (sent log.rules log.placed)
+PlacesAll log fleet = IsPlacing fleet.epoch (map lane_of fleet.ended) fleet.current (sent log.choice log.placed)
 
 -- while it has not failed no entry waits, and there is a shard
 abbrev pub IsReady : {T : Type 0} → Sorting → Shards T → Option Fault → Type 0
@@ -51,7 +51,7 @@ HasCompared old new = AreAll old new.ended × EndBy Reshard old (map finished_of
 
 -- more entries may have been placed, and their samples put: the rest is as it was, and no mark was put
 pub record GoesOn {T : Type 0} (old new : Sorting) (was now : Shards T) : Type 0 where
-  pub rules : new.rules ≡ old.rules
+  pub choice : new.choice ≡ old.choice
   pub pieces : new.pieces ≡ old.pieces
   pub more : List Entry
   pub grown : new.placed ≡ old.placed ++ more
@@ -100,10 +100,10 @@ pub record HasStopped {T : Type 0} (tells : T → Type 0) (seen : T → List Exc
   pub own : Named
   pub workers : r.workers.items ≡ map finished_of joined
   pub parts : r.parts.items ≡ own ∷ map part_of joined
-  pub samples : ArePlaced (map lane_of joined) (sent s.log.rules s.log.placed)
+  pub samples : ArePlaced (map lane_of joined) (sent s.log.choice s.log.placed)
   pub worked : AreWorked tells seen is_for joined
   pub setup : AreSetUp s.fleet.config (map lane_of joined)
   pub all : AreAll s.fleet joined
-  pub names : own.names ≡ named (dropped s.log.rules s.log.placed)
-  pub filter_count : r.filtered ≡ length (filtered s.log.rules s.log.placed)
+  pub names : own.names ≡ named (dropped s.log.choice s.log.placed)
+  pub filter_count : r.filtered ≡ length (filtered s.log.choice s.log.placed)
   pub ends : Ends s joined r.outcome

@@ -8,6 +8,7 @@ ghost use Rattle.rw_fleet.specs.Fleets.{EndBy};
 ghost use Rattle.rw_fleet.specs.Loads.{IsLoad};
 ghost use Rattle.rw_types.specs.declared.entry.Entry.{Entry};
 ghost use Rattle.rw_codes.specs.Pieces.{entries};
+ghost use Rattle.rw_sender.specs.Configs.{choice_of};
 ghost use Rattle.rw_shipper.specs.Reports.{IsAbandoned, IsAbandonedAt, ListsCut, end_of, kind_of};
 ghost use Rattle.rw_shipper.specs.Shipping.{answer_to, FailsBy, Feeds, Joins, HasCompared, HasStopped, PlacesAll};
 
@@ -18,7 +19,7 @@ use crate::report::Report;
 use rw_feeder::Feeder;
 use rw_fleet::{Connect, Fault, Load};
 use rw_ledger::Ledger;
-use rw_relabel::Rules;
+use rw_relabel::{Choice, Rules};
 use rw_ruled_queue::Kind;
 use rw_sender::{Config, ConfigFields, Outcome};
 use rw_wal_tail::{Piece, TailFault};
@@ -76,9 +77,9 @@ fn outcome_of(
 }
 
 /// Takes the rules out of a configuration, which the workers do not need.
-fn split_rules(alloc: Global, config: Config) -> (Config, Rules)
+fn split_choice(alloc: Global, config: Config) -> (Config, Choice)
     ensures config { result.0 ≡ record config { rules = [] } }
-    ensures rules { result.1 ≡ config.rules }
+    ensures choice { result.1 ≡ choice_of config }
 {
     let _ = config.fields();
     let ConfigFields {
@@ -91,6 +92,7 @@ fn split_rules(alloc: Global, config: Config) -> (Config, Rules)
         min_backoff_ms,
         max_backoff_ms,
         timeout_ms,
+        names,
         rules,
     } = config.into_fields();
     let fields = ConfigFields {
@@ -103,12 +105,13 @@ fn split_rules(alloc: Global, config: Config) -> (Config, Rules)
         min_backoff_ms,
         max_backoff_ms,
         timeout_ms,
+        names,
         rules: Rules::new(Vec::new(alloc)),
     };
     let Some(config) = Config::new(fields) else {
         unreachable!()
     };
-    (config, rules)
+    (config, Choice { names, rules })
 }
 
 /// Reads a log as it grows, and puts its samples into the queues of their shards, each with a worker in a thread of its own.
@@ -146,20 +149,20 @@ impl<C: Connect + Drop> Shipper<C> {
         config: Config,
         connect: C,
     ) -> Result<Shipper<C>, AllocError>
-        ensures log { IfOk result (λ s. s.log ≡ record { rules = config.rules; pieces = []; placed = []; hand = [] }) }
+        ensures log { IfOk result (λ s. s.log ≡ record { choice = choice_of config; pieces = []; placed = []; hand = [] }) }
         ensures config { IfOk result (λ s. s.fleet.config ≡ record config { rules = [] }) }
         ensures opened { IfOk result (λ s. (s.fleet.epoch ≡ 0) × (s.fleet.ended ≡ []) × (length s.fleet.current ≡ config.shards) × AreFresh 0 s.fleet.current) }
         ensures fault { IfOk result (λ s. s.fault ≡ None) }
     {
         let shards = config.fields().shards.get() as u32;
-        let (config, rules) = split_rules(alloc, config);
+        let (config, choice) = split_choice(alloc, config);
         let mut fleet = ListedFleet::new(alloc, config, connect)?;
         if fleet.open(rt, shards).is_err() {
             let _ = fleet.finish(rt, Kind::Hard, Ledger::new(alloc));
             return Err(AllocError);
         }
         Ok(Shipper {
-            feeder: Feeder::new(alloc, rules),
+            feeder: Feeder::new(alloc, choice),
             fleet,
             fault: None,
             damage: None,
@@ -172,7 +175,7 @@ impl<C: Connect + Drop> Shipper<C> {
         ensures fed { self.old.fault ≡ None → Feeds self.new result }
         ensures pieces { self.old.fault ≡ None → Joins self.old.log self.new.log (piece_of piece) result }
         ensures grown { (more : List Entry) × (self.new.log.placed ≡ self.old.log.placed ++ more) }
-        ensures rules { self.new.log.rules ≡ self.old.log.rules }
+        ensures choice { self.new.log.choice ≡ self.old.log.choice }
         ensures rest { self.new.fleet ≡ record self.old.fleet { current = self.new.fleet.current } }
         ensures len { length self.new.fleet.current ≡ length self.old.fleet.current }
         ensures marks { map marks_of self.new.fleet.current ≡ map marks_of self.old.fleet.current }

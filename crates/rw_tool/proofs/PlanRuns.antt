@@ -1,7 +1,7 @@
 -- Runs of the command `plan`.
 use Rattle.std.proofs.Common.{◌≡◌, ℕ, List, Bool, false, Option, None, refl, ◌∙◌, ap, subst}
 use Rattle.std.specs.Io.KnownBytes.{Appends}
-use Rattle.rw_relabel.specs.Rules.{RuleConfig}
+use Rattle.rw_relabel.specs.declared.choice.Choice.{Choice}
 use Rattle.rw_plan.specs.Plan.{plan_of}
 use Rattle.rw_tool.specs.Running.{ReadsInput}
 use Rattle.rw_tool.specs.Taking.{ReadsSegment}
@@ -17,8 +17,8 @@ bytes_read left_before left_after segment h = record {
 }
 
 -- what was made of an input was written
-pub plan_written : (rules given : List RuleConfig) (hex : Bool) (left_before left_after before after : Option (List ℕ)) (segment written made : List ℕ)
-    → given ≡ rules → ReadsInput hex None left_before left_after segment → made ≡ plan_of given segment → written ≡ made → Appends before after written
-    → (s : List ℕ) × ReadsInput hex None left_before left_after s × Appends before after (plan_of rules s)
-plan_written rules given hex left_before left_after before after segment written made same read is out a =
+pub plan_written : (choice given : Choice) (hex : Bool) (left_before left_after before after : Option (List ℕ)) (segment written made : List ℕ)
+    → given ≡ choice → ReadsInput hex None left_before left_after segment → made ≡ plan_of given segment → written ≡ made → Appends before after written
+    → (s : List ℕ) × ReadsInput hex None left_before left_after s × Appends before after (plan_of choice s)
+plan_written choice given hex left_before left_after before after segment written made same read is out a =
     (segment, read, subst (Appends before after) (out ∙ is ∙ ap (λ rs. plan_of rs segment) same) a)

@@ -1,6 +1,7 @@
 -- The body of a log segment: the message of its samples that have a label set, in its canonical spelling.
 use Rattle.std.specs.Prelude.{ℕ, List, [], ◌∷◌, ◌++◌, length, Option, Some, None}
 use Rattle.rw_types.specs.Labels.{Labels, label_fault}
+use Rattle.rw_types.specs.declared.names.Names.TheVariants.{Legacy}
 use Rattle.rw_types.specs.declared.label_fault.LabelFault.{LabelFault}
 use Rattle.rw_types.specs.declared.entry.Entry.{Entry}
 use Rattle.rw_types.specs.declared.entry.Entry.TheVariants.{Def, Sample}
@@ -15,10 +16,10 @@ abbrev pub unless_faulty : Option LabelFault → Labels → Option Labels
 unless_faulty None l = Some l
 unless_faulty (Some f) l = None
 
--- labels, where they are a label set
+-- labels, where they are a label set with legacy names
 abbrev pub if_label_set : Option Labels → Option Labels
 if_label_set None = None
-if_label_set (Some l) = unless_faulty (label_fault l) l
+if_label_set (Some l) = unless_faulty (label_fault Legacy l) l
 
 -- the label set that the last definition of a reference gives, after some entries
 unfoldable pub label_set_of : List Entry → ℕ → Option Labels

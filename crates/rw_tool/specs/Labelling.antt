@@ -8,6 +8,7 @@ use Rattle.rw_batch.specs.Groups.{Groups}
 use Rattle.rw_series_cache.specs.Cached.{Taken}
 use Rattle.rw_series_cache.specs.Known.{definitions_of}
 use Rattle.rw_series_cache.specs.Numbers.{series_of, HasNumber}
+use Rattle.rw_relabel.specs.Choices.{legacy}
 use Rattle.rw_tool.specs.Body.{labelled}
 
 -- the labels of a number
@@ -25,7 +26,7 @@ pub record IsNumbered (sets : List Labels) (g : Groups) : Type 0 where
 
 -- The cache has the definitions, and no rules. The samples are grouped, by the numbers of the cache.
 pub record IsLabelling (es : List Entry) (cached : Taken) (g : Groups) : Type 0 where
-  pub rules : cached.rules ≡ []
+  pub choice : cached.choice ≡ legacy
   pub definitions : definitions_of es ≡ cached.definitions
   pub grouped : g.series ≡ message (labelled es)
-  pub numbered : IsNumbered (series_of [] es) g
+  pub numbered : IsNumbered (series_of legacy es) g

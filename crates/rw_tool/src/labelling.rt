@@ -7,7 +7,7 @@ ghost use Rattle.rw_tool.specs.Body.{labelled};
 use crate::reading::Taker;
 use rw_batch::Grouping;
 use rw_history::History;
-use rw_relabel::Rules;
+use rw_relabel::Choice;
 use rw_series_cache::{Cache, Known};
 use rw_types::Entry;
 use rw_write_request::Message;
@@ -18,7 +18,7 @@ use std::marker::Model;
 #[derive(Drop)]
 pub(crate) struct Labelling {
     taken: History<Entry>,
-    /// It has no rules, and so keeps every label set.
+    /// It has no rules, and so keeps every label set with legacy names.
     cache: Cache,
     grouping: Grouping,
 }
@@ -42,7 +42,7 @@ impl Labelling {
     {
         Labelling {
             taken: History::new(),
-            cache: Cache::new(alloc, Rules::new(Vec::new(alloc))),
+            cache: Cache::new(alloc, Choice::legacy(alloc)),
             grouping: Grouping::new(alloc),
         }
     }
@@ -61,9 +61,11 @@ impl Labelling {
 }
 
 impl Taker for Labelling {
+    ghost use Rattle.rw_relabel.specs.Choices.{legacy};
+
     ghost taken = { λ l. l };
 
-    ghost rules = { λ _. [] };
+    ghost choice = { λ _. legacy };
 
     fn take_next(&mut self, entry: Entry) -> Result<(), AllocError> {
         let mut taken = self.taken.again();

@@ -3,6 +3,7 @@
 ghost use Rattle.std.specs.Prelude.{◌≡◌, ◌≢◌, ◌⊎◌, ℕ, List, true, false, Err, None, IfOk, OnOk, IfErr};
 ghost use Rattle.rw_codes.specs.declared.tail_fault.TailFault.{TailFault};
 ghost use Rattle.rw_plan.specs.Plan.{plan_of};
+ghost use Rattle.rw_sender.specs.Configs.{choice_of};
 ghost use Rattle.rw_tool.specs.Planning.{WritesPlan, WritesPlanPart};
 ghost use Rattle.rw_tool.specs.Running.{ReadsInput, ReadsFault, ReadsLine, StopsInput};
 ghost use Rattle.rw_tool.specs.Taking.{ReadsSegment, StopsReading};
@@ -12,7 +13,7 @@ use crate::fault::ToolFault;
 use crate::reading::{Taker, read_segment};
 use crate::run::read_input;
 use rw_plan::Planner;
-use rw_relabel::Rules;
+use rw_relabel::Choice;
 use rw_settings::Settings;
 use rw_types::{Entry, Sink, Source, write_all};
 use std::alloc::{AllocError, Global};
@@ -20,7 +21,7 @@ use std::alloc::{AllocError, Global};
 impl Taker for Planner {
     ghost taken = { λ p. p.entries };
 
-    ghost rules = { λ p. p.rules };
+    ghost choice = { λ p. p.choice };
 
     fn take_next(&mut self, entry: Entry) -> Result<(), AllocError> {
         self.take(entry)
@@ -28,12 +29,12 @@ impl Taker for Planner {
 }
 
 /// Reads a log segment (wal.md) to its end, and answers its plan.
-fn read_plan<R: Source>(alloc: Global, reader: &mut R, rules: Rules) -> Result<Vec<u8>, ToolFault>
-    ensures ok { IfOk result (λ v. (segment : List ℕ) × ReadsSegment None (R.remaining reader.old) (R.remaining reader.new) segment × (v.items ≡ plan_of rules segment)) }
+fn read_plan<R: Source>(alloc: Global, reader: &mut R, choice: Choice) -> Result<Vec<u8>, ToolFault>
+    ensures ok { IfOk result (λ v. (segment : List ℕ) × ReadsSegment None (R.remaining reader.old) (R.remaining reader.new) segment × (v.items ≡ plan_of choice segment)) }
     ensures sound { OnOk result (R.has_failed reader.new ≡ false) }
     ensures err { IfErr result (StopsReading (R.remaining reader.old) (R.remaining reader.new) (R.has_failed reader.new)) }
 {
-    let planner = read_segment(alloc, reader, Planner::new(alloc, rules))?;
+    let planner = read_segment(alloc, reader, Planner::new(alloc, choice))?;
     Ok(planner.into_text()?)
 }
 
@@ -41,23 +42,23 @@ fn read_plan<R: Source>(alloc: Global, reader: &mut R, rules: Rules) -> Result<V
 fn read_hex_plan<R: Source>(
     alloc: Global,
     reader: &mut R,
-    rules: Rules,
+    choice: Choice,
 ) -> Result<Vec<u8>, ToolFault>
-    ensures ok { IfOk result (λ v. (segment : List ℕ) × ReadsInput true None (R.remaining reader.old) (R.remaining reader.new) segment × (v.items ≡ plan_of rules segment)) }
+    ensures ok { IfOk result (λ v. (segment : List ℕ) × ReadsInput true None (R.remaining reader.old) (R.remaining reader.new) segment × (v.items ≡ plan_of choice segment)) }
     ensures sound { OnOk result (R.has_failed reader.new ≡ false) }
     ensures err { IfErr result (StopsInput true (R.remaining reader.old) (R.remaining reader.new) (R.has_failed reader.new)) }
 {
     let text = read_input(alloc, reader)?;
     let segment = rw_hex::read(alloc, &text)?;
     drop(text);
-    read_plan(alloc, &mut segment.as_slice(), rules)
+    read_plan(alloc, &mut segment.as_slice(), choice)
 }
 
-/// The rules of the settings.
-fn rules_in(settings: Settings) -> Rules
-    ensures { result ≡ settings.config.rules }
+/// Which series the settings send.
+fn choice_in(settings: Settings) -> Choice
+    ensures { result ≡ choice_of settings.config }
 {
-    settings.config.into_fields().rules
+    settings.config.into_fields().into_choice()
 }
 
 /// Reads a log segment (wal.md) and writes what the rules make of it: for each definition in log order `REF kept NUMBER LABELS`,
@@ -70,7 +71,7 @@ pub fn run_plan<R: Source, W: Sink>(
     settings: Settings,
     hex: bool,
 ) -> Result<(), ToolFault>
-    ensures ok { OnOk result (WritesPlan settings.config.rules hex (R.remaining reader.old) (R.remaining reader.new) (W.contents writer.old) (W.contents writer.new)) }
+    ensures ok { OnOk result (WritesPlan (choice_of settings.config) hex (R.remaining reader.old) (R.remaining reader.new) (W.contents writer.old) (W.contents writer.new)) }
     ensures reader_sound { OnOk result (R.has_failed reader.new ≡ false) }
     ensures writer_sound { OnOk result (W.has_failed writer.old ≡ false → W.has_failed writer.new ≡ false) }
 
@@ -82,13 +83,13 @@ pub fn run_plan<R: Source, W: Sink>(
 
     // Where a device fails, the writer holds a beginning of the plan.
     ensures device { result ≡ Err Device → ((R.has_failed reader.new ≡ true) × (writer.new ≡ writer.old))
-        ⊎ ((W.has_failed writer.new ≡ true) × WritesPlanPart settings.config.rules hex (R.remaining reader.old) (R.remaining reader.new) (W.contents writer.old) (W.contents writer.new)) }
+        ⊎ ((W.has_failed writer.new ≡ true) × WritesPlanPart (choice_of settings.config) hex (R.remaining reader.old) (R.remaining reader.new) (W.contents writer.old) (W.contents writer.new)) }
 {
-    let rules = rules_in(settings);
+    let choice = choice_in(settings);
     let plan = if hex {
-        read_hex_plan(alloc, reader, rules)?
+        read_hex_plan(alloc, reader, choice)?
     } else {
-        read_plan(alloc, reader, rules)?
+        read_plan(alloc, reader, choice)?
     };
     write_all(writer, &plan)?;
     Ok(())

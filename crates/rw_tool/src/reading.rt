@@ -4,7 +4,7 @@ ghost use Rattle.std.specs.Prelude.{◌≡◌, ◌⊎◌, ◌<◌, ℕ, List, []
 ghost use Rattle.std.specs.Io.KnownBytes.{Consumes, IsAtEnd};
 ghost use Rattle.rw_types.specs.declared.entry.Entry.{Entry};
 ghost use Rattle.rw_codes.specs.Pieces.{bytes, entries};
-ghost use Rattle.rw_relabel.specs.Rules.{RuleConfig};
+ghost use Rattle.rw_relabel.specs.declared.choice.Choice.{Choice};
 ghost use Rattle.rw_tool.specs.Taking.{HasTaken, HasTakenAll, IsFaultOf, FeedsMore, ReadsSegment, StopsReading};
 ghost use Rattle.rw_tool.specs.declared.fault.ToolFault.TheVariants.{OutOfMemory, Device};
 
@@ -21,12 +21,12 @@ pub(crate) trait Taker {
     /// The entries so far.
     ghost taken: { Self → List Entry };
     /// The rules by which it takes them.
-    ghost rules: { Self → List RuleConfig };
+    ghost choice: { Self → Choice };
 
     /// Takes the next entry.
     fn take_next(&mut self, entry: Entry) -> Result<(), AllocError>
         ensures taken { OnOk result (taken self.new ≡ taken self.old ++ entry ∷ []) }
-        ensures rules { OnOk result (rules self.new ≡ rules self.old) };
+        ensures choice { OnOk result (choice self.new ≡ choice self.old) };
 }
 
 fn zeros(alloc: Global, len: usize) -> Result<Vec<u8>, AllocError>
@@ -39,7 +39,7 @@ fn zeros(alloc: Global, len: usize) -> Result<Vec<u8>, AllocError>
 fn take_all<T: Taker>(tail: &mut Tail, taker: &mut T) -> Result<(), ToolFault>
     requires { HasTaken tail.old (T.taken taker.old) }
     ensures ok { OnOk result (HasTakenAll tail.old.pieces tail.new (T.taken taker.new)) }
-    ensures rules { OnOk result (T.rules taker.new ≡ T.rules taker.old) }
+    ensures choice { OnOk result (T.choice taker.new ≡ T.choice taker.old) }
     ensures err { IfErr result (IsFaultOf tail.old.pieces) }
 {
     while let Some(entry) = tail.next_entry()? {
@@ -76,7 +76,7 @@ pub(crate) fn read_segment<R: Source, T: Taker + Drop>(
 ) -> Result<T, ToolFault>
     requires { T.taken taker ≡ [] }
     ensures ok { IfOk result (λ t. (segment : List ℕ) × ReadsSegment None (R.remaining reader.old) (R.remaining reader.new) segment × (T.taken t ≡ entries (bytes segment ∷ []))) }
-    ensures rules { IfOk result (λ t. T.rules t ≡ T.rules taker) }
+    ensures choice { IfOk result (λ t. T.choice t ≡ T.choice taker) }
     ensures sound { OnOk result (R.has_failed reader.new ≡ false) }
     ensures err { IfErr result (StopsReading (R.remaining reader.old) (R.remaining reader.new) (R.has_failed reader.new)) }
 {

@@ -7,6 +7,7 @@ use Rattle.std.proofs.lemmas.List.Folds.{list_all-map}
 use Rattle.std.proofs.lemmas.List.Sums.{sum_by_more_le, sum_by-cons}
 use Rattle.std.specs.List.{list_all}
 use Rattle.rw_types.specs.Labels.{Label, Labels, is_text, is_well_named, is_filled, rise, is_sorted, label_len, label_fault}
+use Rattle.rw_types.specs.declared.names.Names.{Names}
 use Rattle.rw_types.specs.declared.label_fault.LabelFault.{LabelFault}
 use Rattle.rw_types.specs.declared.label_fault.LabelFault.TheVariants.{NotUtf8, EmptyName, BadName, EmptyValue, NotSorted, TooMany, TooLong}
 
@@ -73,23 +74,23 @@ too_long f xs i x left most h here e long =
     sym (lt-ltb _ _ (omega (arith, some, same, e, long)))
 
 -- the first fault, in the tests of the labels that a program holds
-abbrev pub pairs_fault : {A : Type 0} (f : A → Label) → List A → Option LabelFault
-pairs_fault f xs =
+abbrev pub pairs_fault : {A : Type 0} (names : Names) (f : A → Label) → List A → Option LabelFault
+pairs_fault names f xs =
     if not (list_all (λ l. is_text (f l)) xs) then Some NotUtf8
     else if not (list_all (λ l. is_filled (f l).0) xs) then Some EmptyName
-    else if not (list_all (λ l. is_well_named (f l)) xs) then Some BadName
+    else if not (list_all (λ l. is_well_named names (f l)) xs) then Some BadName
     else if not (list_all (λ l. is_filled (f l).1) xs) then Some EmptyValue
     else if not (is_sorted (map f xs)) then Some NotSorted
     else if nat_lt 64 (length xs) then Some TooMany
     else if nat_lt 16384 (sum_by (λ l. label_len (f l)) xs) then Some TooLong
     else None
 
-pub pairs_fault-is : {A : Type 0} (f : A → Label) (xs : List A) → pairs_fault f xs ≡ label_fault (map f xs)
-pairs_fault-is f xs =
+pub pairs_fault-is : {A : Type 0} (names : Names) (f : A → Label) (xs : List A) → pairs_fault names f xs ≡ label_fault names (map f xs)
+pairs_fault-is names f xs =
     rw (
       list_all-map is_text f xs,
       list_all-map (λ l. is_filled l.0) f xs,
-      list_all-map is_well_named f xs,
+      list_all-map (is_well_named names) f xs,
       list_all-map (λ l. is_filled l.1) f xs,
       length-map xs f,
       sum_by-map label_len f xs,
@@ -100,5 +101,5 @@ text_first true rest e = refl
 text_first false rest e = absurd cc
 
 -- labels with no fault are texts
-pub all_texts : {A : Type 0} (f : A → Label) (xs : List A) → label_fault (map f xs) ≡ None → list_all (λ l. is_text (f l)) xs ≡ true
-all_texts f xs e = text_first _ _ (pairs_fault-is f xs ∙ e)
+pub all_texts : {A : Type 0} (names : Names) (f : A → Label) (xs : List A) → label_fault names (map f xs) ≡ None → list_all (λ l. is_text (f l)) xs ≡ true
+all_texts names f xs e = text_first _ _ (pairs_fault-is names f xs ∙ e)

@@ -6,6 +6,8 @@ use Rattle.std.specs.List.{list_all}
 use Rattle.std.specs.Ordering.{nat_cmp, is_lt}
 use Rattle.std.specs.Str.{bytes_eq, is_utf8}
 use Rattle.std.specs.declared.alloc.Global.{Global}
+use Rattle.rw_types.specs.declared.names.Names.{Names}
+use Rattle.rw_types.specs.declared.names.Names.TheVariants.{Legacy, Utf8}
 use Rattle.rw_types.specs.declared.label_fault.LabelFault.{LabelFault}
 use Rattle.rw_types.specs.declared.label_fault.LabelFault.TheVariants.{NotUtf8, EmptyName, BadName, EmptyValue, NotSorted, TooMany, TooLong}
 
@@ -55,8 +57,13 @@ abbrev pub is_text : Label → Bool
 is_text l = is_utf8 l.0 && is_utf8 l.1
 
 -- the name is a label name, and the value of `__name__` a metric name
-abbrev pub is_well_named : Label → Bool
-is_well_named l = is_label_name l.0 && (not (bytes_eq l.0 (codes "__name__")) || is_metric_name l.1)
+abbrev pub has_legacy_names : Label → Bool
+has_legacy_names l = is_label_name l.0 && (not (bytes_eq l.0 (codes "__name__")) || is_metric_name l.1)
+
+-- the names are such as are taken: any text will do where all are
+abbrev pub is_well_named : Names → Label → Bool
+is_well_named Legacy l = has_legacy_names l
+is_well_named Utf8 l = true
 
 abbrev pub is_filled : List ℕ → Bool
 is_filled [] = false
@@ -79,17 +86,17 @@ label_len l = length l.0 + length l.1
 abbrev pub text_len : Labels → ℕ
 text_len ls = sum_by label_len ls
 
--- the first of these that is wrong with the labels; they are a label set where nothing is
-abbrev pub label_fault : Labels → Option LabelFault
-label_fault ls =
+-- the first of these that is wrong with the labels, where such names are taken; they are a label set where nothing is
+abbrev pub label_fault : Names → Labels → Option LabelFault
+label_fault names ls =
     if not (list_all is_text ls) then Some NotUtf8
     else if not (list_all (λ l. is_filled l.0) ls) then Some EmptyName
-    else if not (list_all is_well_named ls) then Some BadName
+    else if not (list_all (is_well_named names) ls) then Some BadName
     else if not (list_all (λ l. is_filled l.1) ls) then Some EmptyValue
     else if not (is_sorted ls) then Some NotSorted
     else if nat_lt 64 (length ls) then Some TooMany
     else if nat_lt 16384 (text_len ls) then Some TooLong
     else None
 
-abbrev pub IsLabelSet : Labels → Type 0
-IsLabelSet ls = label_fault ls ≡ None
+abbrev pub IsLabelSet : Names → Labels → Type 0
+IsLabelSet names ls = label_fault names ls ≡ None

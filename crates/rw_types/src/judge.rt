@@ -2,10 +2,11 @@
 
 ghost use Rattle.std.specs.Prelude.{◌≡◌, map, nat_lt, sum_by};
 ghost use Rattle.std.specs.List.{list_all};
-ghost use Rattle.rw_types.specs.Labels.{begins_label_name, continues_label_name, begins_metric_name, continues_metric_name, is_label_name, is_metric_name, is_text, is_well_named, is_filled, rise, is_sorted, label_len, label_fault};
+ghost use Rattle.rw_types.specs.Labels.{begins_label_name, continues_label_name, begins_metric_name, continues_metric_name, is_label_name, is_metric_name, is_text, has_legacy_names, is_well_named, is_filled, rise, is_sorted, label_len, label_fault};
 
 use crate::label_bytes::LabelBytes;
 use crate::label_fault::{LabelFault, MAX_LABEL_BYTES, MAX_LABELS};
+use crate::names::Names;
 
 fn is_filled(bytes: &[u8]) -> bool
     ensures { result ≡ is_filled bytes.now }
@@ -68,8 +69,8 @@ pub fn is_metric_name(name: &[u8]) -> bool
     }
 }
 
-fn is_well_named<L: LabelBytes>(label: &L) -> bool
-    ensures { result ≡ is_well_named (L.shown label.now) }
+fn has_legacy_names<L: LabelBytes>(label: &L) -> bool
+    ensures { result ≡ has_legacy_names (L.shown label.now) }
 {
     is_label_name(label.name())
         && (label.name() != b"__name__".as_slice() || is_metric_name(label.value()))
@@ -87,10 +88,19 @@ fn have_names<L: LabelBytes>(labels: &[L]) -> bool
     labels.iter().all(|l| is_filled(l.name()))
 }
 
-fn are_well_named<L: LabelBytes>(labels: &[L]) -> bool
-    ensures { result ≡ list_all (λ l. is_well_named (L.shown l)) labels.now }
+fn have_legacy_names<L: LabelBytes>(labels: &[L]) -> bool
+    ensures { result ≡ list_all (λ l. has_legacy_names (L.shown l)) labels.now }
 {
-    labels.iter().all(|l| is_well_named(l))
+    labels.iter().all(|l| has_legacy_names(l))
+}
+
+fn are_well_named<L: LabelBytes>(names: Names, labels: &[L]) -> bool
+    ensures { result ≡ list_all (λ l. is_well_named names (L.shown l)) labels.now }
+{
+    match names {
+        Names::Legacy => have_legacy_names(labels),
+        Names::Utf8 => true,
+    }
 }
 
 fn have_values<L: LabelBytes>(labels: &[L]) -> bool
@@ -132,9 +142,9 @@ pub(crate) fn are_longer_than<L: LabelBytes>(labels: &[L], most: usize) -> bool
     false
 }
 
-/// What is wrong with the labels, if anything is.
-pub(crate) fn fault_of<L: LabelBytes>(labels: &[L]) -> Option<LabelFault>
-    ensures { result ≡ label_fault (map L.shown labels.now) }
+/// What is wrong with the labels, if anything is, where such names are taken.
+pub(crate) fn fault_of<L: LabelBytes>(names: Names, labels: &[L]) -> Option<LabelFault>
+    ensures { result ≡ label_fault names (map L.shown labels.now) }
 {
     if !are_texts(labels) {
         return Some(LabelFault::NotUtf8);
@@ -142,7 +152,7 @@ pub(crate) fn fault_of<L: LabelBytes>(labels: &[L]) -> Option<LabelFault>
     if !have_names(labels) {
         return Some(LabelFault::EmptyName);
     }
-    if !are_well_named(labels) {
+    if !are_well_named(names, labels) {
         return Some(LabelFault::BadName);
     }
     if !have_values(labels) {

@@ -3,7 +3,6 @@
 ghost use Rattle.std.specs.Prelude.{◌≡◌, ◌+◌, ◌<◌, length, map, codes, not, ◌||◌, nat_lt};
 ghost use Rattle.std.specs.List.{list_all};
 ghost use Rattle.std.specs.Str.{is_utf8};
-ghost use Rattle.rw_types.specs.Labels.{bytes_label, is_label_name, is_metric_name, is_text, is_well_named, is_filled, is_sorted, text_len, label_fault};
 
 use std::alloc::AllocError;
 

@@ -1,23 +1,26 @@
 //! Label sets, which are what a series is.
 
-ghost use Rattle.std.specs.Prelude.{◌≡◌, ◌↔◌, IfOk, IfErr, IfSome, MatchOption, OnOk, map, take, true, string_bytes, length, vec_len, nat_lt, ◌||◌, ◌++◌, ◌≤◌, []};
+ghost use Rattle.std.specs.Prelude.{◌≡◌, ◌≢◌, ◌↔◌, Some, IfOk, IfErr, IfSome, MatchOption, OnOk, map, take, true, string_bytes, length, vec_len, nat_lt, ◌||◌, ◌++◌, ◌≤◌, []};
 ghost use Rattle.std.specs.Str.{is_utf8};
 ghost use Rattle.std.specs.List.{list_all};
 ghost use Rattle.std.specs.Ordering.{is_eq};
 ghost use Rattle.rw_types.specs.LabelOrder.{labels_cmp};
 ghost use Rattle.rw_types.specs.Labels.{Labels, IsLabelSet, bytes_label, text_label, is_text, text_len, label_fault};
-ghost use Rattle.rw_types.specs.declared.label_fault.LabelFault.TheVariants.{OutOfMemory};
+ghost use Rattle.rw_types.specs.declared.label_fault.LabelFault.TheVariants.{OutOfMemory, BadName};
+ghost use Rattle.rw_types.specs.declared.names.Names.TheVariants.{Legacy, Utf8};
 
 use crate::judge::{are_longer_than, fault_of};
 use crate::label_fault::LabelFault;
+use crate::names::Names;
 use crate::raw_labels::RawLabels;
 use std::alloc::{AllocError, Global};
 use std::cmp::Ordering;
 use std::hash::{Hash, Hasher};
 use std::marker::Model;
 
-/// Labels that name one series: sorted by name, none twice, none empty, well named and within the limits.
-/// Contracts see the list of (name, value), and two label sets are equal where these lists are.
+/// Labels that name one series: sorted by name, none twice, none empty, and within the limits. Their names are such as
+/// were taken when it was made, and any text of UTF-8 at most. Contracts see the list of (name, value), and two label
+/// sets are equal where these lists are.
 #[derive(Debug, Drop)]
 pub struct LabelSet {
     labels: Vec<(String, String)>,
@@ -26,12 +29,13 @@ pub struct LabelSet {
 impl Model for LabelSet {
     ghost use Rattle.std.specs.Prelude.{ℕ, List, map};
     ghost use Rattle.rw_types.specs.Labels.{IsLabelSet, text_label};
+    ghost use Rattle.rw_types.specs.declared.names.Names.TheVariants.{Utf8};
 
     ghost Value = { List (List ℕ × List ℕ) };
 
     ghost view = { λ s. map text_label s.labels.items };
 
-    ghost invariant = { λ s. IsLabelSet (map text_label s.labels.items) };
+    ghost invariant = { λ s. IsLabelSet Utf8 (map text_label s.labels.items) };
 }
 
 /// The bytes as a text.
@@ -142,13 +146,16 @@ impl LabelSet {
         }
     }
 
-    /// Becomes the label set of these labels, in the room that it has as far as it goes. It stays where the labels have a fault, which is
-    /// found before memory is taken, and it is empty after memory ran out.
-    pub fn assign(&mut self, labels: &[(String, String)]) -> Result<(), LabelFault>
-        ensures ok { OnOk result ((self.new ≡ map text_label labels.now) × IsLabelSet (map text_label labels.now)) }
-        ensures err { IfErr result (λ f. MatchOption (label_fault (map text_label labels.now)) ((f ≡ OutOfMemory) × (self.new ≡ [])) (λ fault. (f ≡ fault) × (self.new ≡ self.old))) }
+    /// Becomes the label set of these labels, where such names are taken, in the room that it has as far as it goes. It stays
+    /// where the labels have a fault, which is found before memory is taken, and it is empty after memory ran out.
+    pub fn assign(&mut self, names: Names, labels: &[(String, String)]) -> Result<(), LabelFault>
+        ensures ok { OnOk result (self.new ≡ map text_label labels.now) }
+        ensures label_set { OnOk result (IsLabelSet names (map text_label labels.now)) }
+        ensures err { IfErr result (λ f. MatchOption (label_fault names (map text_label labels.now))
+            ((f ≡ OutOfMemory) × (self.new ≡ []))
+            (λ fault. (f ≡ fault) × (self.new ≡ self.old))) }
     {
-        if let Some(fault) = fault_of(labels) {
+        if let Some(fault) = fault_of(names, labels) {
             return Err(fault);
         }
         if replace_all(&mut self.labels, labels).is_err() {
@@ -165,13 +172,25 @@ impl LabelSet {
         self.labels.len() > max_labels || are_longer_than(self.labels.as_slice(), max_bytes)
     }
 
-    /// The label set of these labels, or the first fault that keeps them from being one. A fault of the labels is found before memory is taken.
+    /// The label set of these labels with legacy names, or the first fault that keeps them from being one. A fault of the
+    /// labels is found before memory is taken.
     pub fn check(alloc: Global, labels: &RawLabels) -> Result<LabelSet, LabelFault>
-        ensures ok { IfOk result (λ s. (s ≡ labels.now) × IsLabelSet labels.now) }
-        ensures err { IfErr result (λ f. MatchOption (label_fault labels.now) (f ≡ OutOfMemory) (λ fault. f ≡ fault)) }
+        ensures ok { IfOk result (λ s. s ≡ labels.now) }
+        ensures label_set { IfOk result (λ _. IsLabelSet Legacy labels.now) }
+        ensures err { IfErr result (λ f. MatchOption (label_fault Legacy labels.now) (f ≡ OutOfMemory) (λ fault. f ≡ fault)) }
+    {
+        LabelSet::check_as(alloc, Names::Legacy, labels)
+    }
+
+    /// The label set of these labels, where such names are taken, or the first fault that keeps them from being one. A fault
+    /// of the labels is found before memory is taken.
+    pub fn check_as(alloc: Global, names: Names, labels: &RawLabels) -> Result<LabelSet, LabelFault>
+        ensures ok { IfOk result (λ s. s ≡ labels.now) }
+        ensures label_set { IfOk result (λ _. IsLabelSet names labels.now) }
+        ensures err { IfErr result (λ f. MatchOption (label_fault names labels.now) (f ≡ OutOfMemory) (λ fault. f ≡ fault)) }
     {
         let labels = labels.as_slice();
-        if let Some(fault) = fault_of(labels) {
+        if let Some(fault) = fault_of(names, labels) {
             return Err(fault);
         }
         Ok(LabelSet {
@@ -182,7 +201,7 @@ impl LabelSet {
     /// The labels as (name, value), in the order of their names.
     pub fn as_slice(&self) -> &[(String, String)]
         ensures labels { map text_label result.now ≡ self.now }
-        ensures label_set { IsLabelSet self.now }
+        ensures label_set { IsLabelSet Utf8 self.now }
     {
         self.labels.as_slice()
     }
@@ -260,4 +279,10 @@ impl Hash for LabelSet {
 /// Two lists of labels are the same exactly where the order of label sets does not tell them apart.
 pub fn equal_where_same()
     ensures { (a b : Labels) → (is_eq (labels_cmp a b) ≡ true) ↔ (a ≡ b) }
+{}
+
+/// Where any name is taken, no name is a bad one, and labels with legacy names are a label set as before.
+pub fn utf8_takes_any_name()
+    ensures no_bad_name { (labels : Labels) → label_fault Utf8 labels ≢ Some BadName }
+    ensures legacy { (labels : Labels) → IsLabelSet Legacy labels → IsLabelSet Utf8 labels }
 {}

@@ -136,12 +136,12 @@ entry_defined c w (Some (Sample r t word)) e = absurd (cc)
 same_sample : (r s : ℕ) (t u : ℤ) → ahead.Sample r t ≡ ahead.Sample s u → (r ≡ s) × (t ≡ u)
 same_sample r s t u e = (cc, cc)
 
-entry_sampled : (c : Setup) (w : World) (o : Option Entry) (r : ℕ) (t : ℤ) → ahead_of o ≡ ahead.Sample r t → can_place_entry c w o ≡ can_place_known c w t (known c.rules (take w.placed (log w)) r)
+entry_sampled : (c : Setup) (w : World) (o : Option Entry) (r : ℕ) (t : ℤ) → ahead_of o ≡ ahead.Sample r t → can_place_entry c w o ≡ can_place_known c w t (known c.choice (take w.placed (log w)) r)
 entry_sampled c w None r t e = absurd (cc)
 entry_sampled c w (Some (Def s l)) r t e = absurd (cc)
 entry_sampled c w (Some (Sample s u word)) r t e =
     let same = same_sample s r u t e in
-    ap (λ k. can_place_known c w u (known c.rules (take w.placed (log w)) k)) same.0 ∙ ap (λ k. can_place_known c w k (known c.rules (take w.placed (log w)) r)) same.1
+    ap (λ k. can_place_known c w u (known c.choice (take w.placed (log w)) k)) same.0 ∙ ap (λ k. can_place_known c w k (known c.choice (take w.placed (log w)) r)) same.1
 
 stops : (a b : Bool) → a ≡ true → false ≡ (not a && b)
 stops true b e = refl
@@ -164,7 +164,7 @@ place_none c w d e = sym (entry_none c w (slice_get (log w) w.placed) e) ∙ pla
 pub place_defined : (c : Setup) (w : World) → is_some w.draining ≡ false → ahead_of (slice_get (log w) w.placed) ≡ ahead.Definition → true ≡ can_place c w
 place_defined c w d e = sym (entry_defined c w (slice_get (log w) w.placed) e) ∙ place_goes c w d
 
-pub place_sampled : (c : Setup) (w : World) (r : ℕ) (t : ℤ) → is_some w.draining ≡ false → ahead_of (slice_get (log w) w.placed) ≡ ahead.Sample r t → can_place_known c w t (known c.rules (take w.placed (log w)) r) ≡ can_place c w
+pub place_sampled : (c : Setup) (w : World) (r : ℕ) (t : ℤ) → is_some w.draining ≡ false → ahead_of (slice_get (log w) w.placed) ≡ ahead.Sample r t → can_place_known c w t (known c.choice (take w.placed (log w)) r) ≡ can_place c w
 place_sampled c w r t d e = sym (entry_sampled c w (slice_get (log w) w.placed) r t e) ∙ place_goes c w d
 
 -- what is left where nothing may be placed, no batch is open, no builder is due and nothing may be taken

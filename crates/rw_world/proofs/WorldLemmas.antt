@@ -8,7 +8,7 @@ use Rattle.rw_types.specs.declared.entry.Entry.{Entry}
 use Rattle.rw_types.specs.declared.entry.Entry.TheVariants.{Def}
 use Rattle.rw_codes.specs.Laws.{Extends}
 use Rattle.rw_codes.specs.Pieces.{Piece, entries, reading, page_size}
-use Rattle.rw_relabel.specs.Rules.{RuleConfig}
+use Rattle.rw_relabel.specs.declared.choice.Choice.{Choice}
 use Rattle.rw_series_cache.specs.Known.{standing_of}
 use Rattle.rw_series_cache.specs.Numbers.{with_series, with_entry, series_of}
 use Rattle.rw_series_cache.specs.Cached.{Taken}
@@ -22,6 +22,7 @@ use Rattle.rw_schedule.specs.Steps.{change, send_batch, restart}
 use Rattle.std.specs.FinMap.{empty}
 use Rattle.rw_recv_head.specs.Head.{State}
 use Rattle.rw_recv_head.specs.declared.limits.Limits.{Limits}
+use Rattle.rw_sender.specs.Configs.{choice_of}
 use Rattle.rw_sender.specs.declared.config.ConfigFields.{ConfigFields}
 use Rattle.rw_world.specs.Held.{Held, SentBatch}
 use Rattle.rw_world.specs.Sending.{Sending, new_held, sent_at}
@@ -33,17 +34,17 @@ fold_snoc f z [] x = refl
 fold_snoc f z (y ∷ ys) x = fold_snoc f (f z y) ys x
 
 -- one more definition
-pub series_defined : (rules : List RuleConfig) (definitions : List Entry) (r : ℕ) (l : Labels) → series_of rules (definitions ++ Def r l ∷ []) ≡ with_series (series_of rules definitions) (standing_of rules (Some l))
+pub series_defined : (choice : Choice) (definitions : List Entry) (r : ℕ) (l : Labels) → series_of choice (definitions ++ Def r l ∷ []) ≡ with_series (series_of choice definitions) (standing_of choice (Some l))
 unfolding series_of
-series_defined rules definitions r l = fold_snoc (with_entry rules) [] definitions (Def r l)
+series_defined choice definitions r l = fold_snoc (with_entry choice) [] definitions (Def r l)
 
-pub no_series : (rules : List RuleConfig) → series_of rules [] ≡ []
+pub no_series : (choice : Choice) → series_of choice [] ≡ []
 unfolding series_of
-no_series rules = refl
+no_series choice = refl
 
 -- the series of the definitions
-pub same_series : (before : List Entry) (cache : Taken) → Knows before cache → series_of cache.rules before ≡ series_of cache.rules cache.definitions
-same_series before cache k = sym (series_of-definitions_of cache.rules before) ∙ ap (series_of cache.rules) k.defined
+pub same_series : (before : List Entry) (cache : Taken) → Knows before cache → series_of cache.choice before ≡ series_of cache.choice cache.definitions
+same_series before cache k = sym (series_of-definitions_of cache.choice before) ∙ ap (series_of cache.choice) k.defined
 
 -- one entry more was placed
 pub world_more : (next next' placed : ℕ) (pieces : List Piece) (router after : Routing) (draining : Option ℕ) (e : Entry) → IsWorld next placed pieces router draining →
@@ -114,7 +115,7 @@ pub started : (cfg : ConfigFields) (l : Limits) (v : Sending) (pieces : List Pie
       shards = map (λ (h : Held). h.shard) (new_held cfg.target cfg.capacity cfg.batch 0 0 cfg.shards);
       next = 0;
       names = empty;
-    } → pieces ≡ [] → router.cache ≡ record { rules = cfg.rules; definitions = []; noted = empty } → router.filtered ≡ 0 → requests ≡ [] → replies ≡ [] →
+    } → pieces ≡ [] → router.cache ≡ record { choice = choice_of cfg; definitions = []; noted = empty } → router.filtered ≡ 0 → requests ≡ [] → replies ≡ [] →
     head ≡ record { store = empty; limits = label_limits l; busy = l.busy_first } →
     ◌≡◌ {A = Machine}
     (record {
@@ -123,7 +124,7 @@ pub started : (cfg : ConfigFields) (l : Limits) (v : Sending) (pieces : List Pie
         shards = cfg.shards;
         capacity = v.capacity;
         batch = v.batch;
-        rules = router.cache.rules;
+        choice = router.cache.choice;
         limits = label_limits l;
         max_body = l.max_body_bytes;
         busy = l.busy_first;
@@ -131,7 +132,7 @@ pub started : (cfg : ConfigFields) (l : Limits) (v : Sending) (pieces : List Pie
       world = record {
         pieces = pieces;
         placed = 0;
-        series = series_of router.cache.rules router.cache.definitions;
+        series = series_of router.cache.choice router.cache.definitions;
         epoch = v.epoch;
         shards = v.shards;
         requests = requests_seen requests;
@@ -147,7 +148,7 @@ pub started : (cfg : ConfigFields) (l : Limits) (v : Sending) (pieces : List Pie
     (record { setup = setup_of cfg l; world = start (setup_of cfg l) })
 started cfg l v pieces router requests replies head a b d z e f g =
     let seen = new_seen (setup_of cfg l) cfg.target cfg.capacity cfg.batch 0 0 cfg.shards refl refl in
-    rw (a, b, d, z, e, f, g) (rw (seen, no_series cfg.rules) refl)
+    rw (a, b, d, z, e, f, g) (rw (seen, no_series (choice_of cfg)) refl)
 
 pub parts : (f a : Bool) → (not f && a) ≡ true → (f ≡ false) × (a ≡ true)
 parts true a e = absurd (cc)
@@ -169,8 +170,8 @@ restarted u v v' n d f a t b ep nm e =
     let row : restart u.setup u.world ≡ next = rw (d, f, a) refl in
     ap (λ (w : World). record u { world = w }) (made ∙ sym row)
 
-pub head_is : (h : State) (l : Limits) → h.store ≡ empty → h.limits.max_labels ≡ l.max_labels → h.limits.max_label_bytes ≡ l.max_label_bytes → h.busy ≡ l.busy_first →
+pub head_is : (h : State) (l : Limits) → h.store ≡ empty → h.limits.names ≡ l.names → h.limits.max_labels ≡ l.max_labels → h.limits.max_label_bytes ≡ l.max_label_bytes → h.busy ≡ l.busy_first →
     h ≡ record { store = empty; limits = label_limits l; busy = l.busy_first }
-head_is h l a b d e =
-    let made : ◌≡◌ {A = State} (record { store = h.store; limits = record { max_labels = h.limits.max_labels; max_label_bytes = h.limits.max_label_bytes }; busy = h.busy }) (record { store = empty; limits = label_limits l; busy = l.busy_first }) = rw (a, b, d, e) refl in
+head_is h l a n b d e =
+    let made : ◌≡◌ {A = State} (record { store = h.store; limits = record { names = h.limits.names; max_labels = h.limits.max_labels; max_label_bytes = h.limits.max_label_bytes }; busy = h.busy }) (record { store = empty; limits = label_limits l; busy = l.busy_first }) = rw (a, n, b, d, e) refl in
     made

@@ -11,6 +11,7 @@ use Rattle.rw_router.specs.Routing.{Routing, Knows}
 use Rattle.rw_router.specs.declared.sample.RoutedSample.{RoutedSample}
 use Rattle.rw_shard_queue.specs.declared.item.Kind.{Kind}
 use Rattle.rw_shard_queue.specs.declared.item.Kind.TheVariants as kind
+use Rattle.rw_sender.specs.Configs.{choice_of}
 use Rattle.rw_sender.specs.declared.config.ConfigFields.{ConfigFields}
 use Rattle.rw_recv_head.specs.declared.limits.Limits.{Limits}
 use Rattle.rw_recv_head.specs.Verdicts.{LabelLimits}
@@ -27,7 +28,7 @@ pub record Machine : Type 0 where
 
 -- the label sets that a receiver takes
 abbrev pub label_limits : Limits → LabelLimits
-label_limits l = record { max_labels = l.max_labels; max_label_bytes = l.max_label_bytes }
+label_limits l = record { names = l.names; max_labels = l.max_labels; max_label_bytes = l.max_label_bytes }
 
 -- a sender's configuration and a receiver's limits
 abbrev pub setup_of : ConfigFields → Limits → Setup
@@ -36,7 +37,7 @@ setup_of c l = record {
   shards = c.shards;
   capacity = c.capacity;
   batch = c.batch;
-  rules = c.rules;
+  choice = choice_of c;
   limits = label_limits l;
   max_body = l.max_body_bytes;
   busy = l.busy_first;
@@ -91,14 +92,14 @@ pub record IsDroppedNext (m : Machine) (reason : Reason) : Type 0 where
   pub t : ℤ
   pub word : ℕ
   pub at : next_entry m ≡ Some (Sample reference t word)
-  pub fate_is : fate m.setup.rules (placed_entries m) reference t ≡ Drops reason
+  pub fate_is : fate m.setup.choice (placed_entries m) reference t ≡ Drops reason
 
 -- the next entry is this sample, which is sent
 pub record IsSampleNext (m : Machine) (s : RoutedSample) : Type 0 where
   pub reference : ℕ
   pub at : next_entry m ≡ Some (Sample reference s.t s.word)
-  pub fate_is : fate m.setup.rules (placed_entries m) reference s.t ≡ Sends (arc_value s.labels)
-  pub numbered : HasNumber (series_of m.setup.rules (placed_entries m)) (arc_value s.labels) s.series
+  pub fate_is : fate m.setup.choice (placed_entries m) reference s.t ≡ Sends (arc_value s.labels)
+  pub numbered : HasNumber (series_of m.setup.choice (placed_entries m)) (arc_value s.labels) s.series
   pub pos_is : s.pos ≡ m.world.placed
 
 -- it is put, where there is room

@@ -12,6 +12,7 @@ use crate::sending::Senders;
 use crate::sent::{Answer, Sent};
 use rw_ledger::Ledger;
 use rw_recv_head::{Head, LabelSets, Limits};
+use rw_relabel::Choice;
 use rw_router::Router;
 use rw_sender::{Config, ConfigFields};
 use rw_types::{Bounded, HostName, LabelSet, Word};
@@ -57,7 +58,7 @@ impl Model for Engine {
         shards = w.shards;
         capacity = w.senders.capacity;
         batch = w.senders.batch;
-        rules = w.router.cache.rules;
+        choice = w.router.cache.choice;
         limits = label_limits w.limits;
         max_body = w.limits.max_body_bytes;
         busy = w.limits.busy_first;
@@ -65,7 +66,7 @@ impl Model for Engine {
       world = record {
         pieces = w.log;
         placed = w.placed;
-        series = series_of w.router.cache.rules w.router.cache.definitions;
+        series = series_of w.router.cache.choice w.router.cache.definitions;
         epoch = w.senders.epoch;
         shards = w.senders.shards;
         requests = requests_seen w.requests.items;
@@ -99,6 +100,7 @@ impl Engine {
             min_backoff_ms: _,
             max_backoff_ms: _,
             timeout_ms: _,
+            names,
             rules,
         } = config.into_fields();
         let host = copy_of(alloc, &target.host)?;
@@ -116,7 +118,7 @@ impl Engine {
             host,
             log: Log::new(alloc),
             placed: 0,
-            router: Router::new(alloc, rules),
+            router: Router::new(alloc, Choice { names, rules }),
             senders,
             requests: Vec::new(alloc),
             replies: Vec::new(alloc),

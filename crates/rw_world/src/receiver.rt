@@ -28,6 +28,7 @@ pub(crate) fn limits_at(
             max_labels: limits.max_labels,
             max_label_bytes: limits.max_label_bytes,
             busy_first: limits.busy_first,
+            names: limits.names,
         }),
         None => unreachable!(),
     }

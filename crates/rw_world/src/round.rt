@@ -56,7 +56,7 @@ fn newest(requests: &[Sent], id: BatchId) -> u64
 impl Engine {
     /// Whether a sample of this reference and timestamp may be placed: only one that is sent needs room.
     fn can_place_known(&self, reference: u64, t: i64) -> bool
-        ensures { result ≡ can_place_known self.now.setup self.now.world t (known self.now.setup.rules (placed_entries self.now) reference) }
+        ensures { result ≡ can_place_known self.now.setup self.now.world t (known self.now.setup.choice (placed_entries self.now) reference) }
     {
         match self.router.would_send(reference, t) {
             Some(series) => {

@@ -1,7 +1,7 @@
 //! Which labels are a label set, and the order of label sets.
 
 use crate::rows::none_is_wrong;
-use rw_types::{LabelFault, LabelSet, MAX_LABEL_BYTES, MAX_LABELS, RawLabels};
+use rw_types::{LabelFault, LabelSet, MAX_LABEL_BYTES, MAX_LABELS, Names, RawLabels};
 use std::alloc::{AllocError, Global};
 use std::test::Fail;
 
@@ -31,6 +31,21 @@ static FAULTS: [(Labels<'static>, LabelFault); 12] = [
     (&[("b", ""), ("a", "1")], LabelFault::EmptyValue),
 ];
 
+/// Labels, and the first fault of them where any name is taken, if there is one.
+static UTF8_FAULTS: [(Labels<'static>, Option<LabelFault>); 11] = [
+    (&[("", "1")], Some(LabelFault::EmptyName)),
+    (&[("9a", "1")], None),
+    (&[("a:b", "1")], None),
+    (&[("säge", "1")], None),
+    (&[("\"\\\n", "1")], None),
+    (&[("__name__", "http.rate")], None),
+    (&[("__name__", "")], Some(LabelFault::EmptyValue)),
+    (&[("a.b", "")], Some(LabelFault::EmptyValue)),
+    (&[("b.", "1"), ("a.", "1")], Some(LabelFault::NotSorted)),
+    (&[(".", "1"), (".", "2")], Some(LabelFault::NotSorted)),
+    (&[("", "1"), ("9", "")], Some(LabelFault::EmptyName)),
+];
+
 static SETS: [Labels<'static>; 4] = [
     &[],
     &[("Z_9", "säge\n")],
@@ -50,6 +65,29 @@ static RISING: [Labels<'static>; 6] = [
 
 fn fault(alloc: Global, labels: &RawLabels) -> Option<LabelFault> {
     LabelSet::check(alloc, labels).err()
+}
+
+/// The fault of labels where any name is taken. Want of memory is one too.
+fn utf8_fault(alloc: Global, labels: Labels<'_>) -> Option<LabelFault> {
+    let mut raw = RawLabels::new(alloc);
+    match push_all(&mut raw, labels) {
+        Ok(()) => LabelSet::check_as(alloc, Names::Utf8, &raw).err(),
+        Err(_) => Some(LabelFault::OutOfMemory),
+    }
+}
+
+fn wrong_utf8_fault(alloc: Global) -> Option<usize> {
+    for (i, (labels, first)) in UTF8_FAULTS.iter().enumerate() {
+        if utf8_fault(alloc, labels) != *first {
+            return Some(i);
+        }
+    }
+    None
+}
+
+#[test]
+fn names_of_any_text(rt: HostRuntime) {
+    none_is_wrong(&rt, wrong_utf8_fault(rt.alloc()));
 }
 
 /// The fault of labels once these are added to them. Want of memory is one too.

@@ -1,7 +1,7 @@
 //! Messages as rows give them, and what a head makes of them.
 
 use rw_recv_head::{Head, Limits, Verdict};
-use rw_types::{Bounded, LabelFault, LabelSet, Word};
+use rw_types::{Bounded, LabelFault, LabelSet, Names, Word};
 use rw_write_request::{Message, Series};
 use std::alloc::{AllocError, Global};
 
@@ -56,11 +56,11 @@ pub(crate) fn message(alloc: Global, parts: Parts<'_>) -> Result<Message, AllocE
     Ok(Message { series })
 }
 
-/// The label set of these labels.
+/// The label set of these labels, whatever their names.
 pub(crate) fn label_set(alloc: Global, labels: Labels<'_>) -> Result<LabelSet, LabelFault> {
     let texts = texts(alloc, labels)?;
     let mut set = LabelSet::empty(alloc);
-    set.assign(&texts)?;
+    set.assign(Names::Utf8, &texts)?;
     Ok(set)
 }
 

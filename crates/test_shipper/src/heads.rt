@@ -10,7 +10,7 @@ use Call::{Feed, Flush, NextSegment, Reshard};
 use rw_ledger::Reason;
 use rw_recv_head::{Head, Limits};
 use rw_shared_head::{Seat, SharedHead};
-use rw_types::{Bounded, LabelFault, LabelSet, Word};
+use rw_types::{Bounded, LabelFault, LabelSet, Names, Word};
 use std::alloc::{AllocError, Global};
 use std::marker::Brand;
 use std::sync::ledger::{Blank, Ledger};
@@ -115,7 +115,7 @@ fn texts(alloc: Global, name: &str) -> Result<Vec<(String, String)>, AllocError>
 fn labels(alloc: Global, name: &str) -> Result<LabelSet, LabelFault> {
     let texts = texts(alloc, name)?;
     let mut labels = LabelSet::empty(alloc);
-    labels.assign(&texts)?;
+    labels.assign(Names::Legacy, &texts)?;
     Ok(labels)
 }
 

@@ -22,7 +22,7 @@ fn written(
 }
 
 /// Lines of log text, and the records that they stand for.
-static GOOD: [(&str, &str); 13] = [
+static GOOD: [(&str, &str); 14] = [
     (
         r#"series 1 {__name__="up"}"#,
         "01 0000000000000001 01 08 5f5f6e616d655f5f 02 7570",
@@ -36,6 +36,10 @@ static GOOD: [(&str, &str); 13] = [
     (
         r#"series 5 {b="{ä= ,}",a="1",a="1"}"#,
         "01 0000000000000005 03 01 62 07 7bc3a43d202c7d 01 61 01 31 01 61 01 31",
+    ),
+    (
+        r#"series 6 {"9\"\\\n"="1",__name__="http.rate","säge"="2"}"#,
+        "01 0000000000000006 03 04 39225c0a 01 31 08 5f5f6e616d655f5f 09 687474702e72617465 05 73c3a46765 01 32",
     ),
     (
         "sample 1 1000 1",

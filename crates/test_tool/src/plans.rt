@@ -1,5 +1,6 @@
 //! The plans of log segments.
 
+use crate::rows::none_is_wrong;
 use crate::rule_making::raw_labels;
 use rw_codes::TailFault;
 use rw_settings::{SettingsFault, read_settings};
@@ -132,6 +133,55 @@ samples kept 3 filtered 1 bad 2 noseries 2
 #[test]
 fn redefinitions(rt: HostRuntime) -> Result<(), Fail> {
     assert!(rt; is_planned(rt.alloc(), &REDEFINED, PLAN_OF_REDEFINED)?);
+    Ok(())
+}
+
+/// Two series whose names are no legacy ones, an empty name, and an empty name of a metric.
+static NAMES: [Logged; 6] = [
+    (1, Some(&[("__name__", "http.rate"), ("säge", "1")])),
+    (2, Some(&[("9x", "1")])),
+    (3, Some(&[("", "1")])),
+    (4, Some(&[("__name__", "")])),
+    (1, None),
+    (2, None),
+];
+
+const LEGACY_PLAN: &str = "1 bad 3
+2 bad 3
+3 bad 2
+4 bad 3
+samples kept 0 filtered 0 bad 2 noseries 0
+";
+
+const UTF8_PLAN: &str = "1 kept 0 {__name__=\"http.rate\",\"säge\"=\"1\"}
+2 kept 1 {\"9x\"=\"1\"}
+3 bad 2
+4 bad 4
+samples kept 2 filtered 0 bad 0 noseries 0
+";
+
+/// Settings, and the plan of the names under them.
+static NAMES_PLANS: [(&[u8], &str); 4] = [
+    (b"", LEGACY_PLAN),
+    (b"[send]\nnames = 'legacy'", LEGACY_PLAN),
+    (b"[receive]\nnames = 'utf8'", LEGACY_PLAN),
+    (b"[send]\nnames = 'utf8'", UTF8_PLAN),
+];
+
+/// The first settings under which a segment has another plan.
+fn wrong_plan(alloc: Global, segment: &[u8]) -> Result<Option<usize>, SettingsFault> {
+    for (i, (settings, plan)) in NAMES_PLANS.iter().enumerate() {
+        if !plans(alloc, settings, segment, false, Ok(()), plan.as_bytes())? {
+            return Ok(Some(i));
+        }
+    }
+    Ok(None)
+}
+
+#[test]
+fn names_by_setting(rt: HostRuntime) -> Result<(), Fail> {
+    let segment = segment_of(rt.alloc(), &NAMES)?;
+    none_is_wrong(&rt, wrong_plan(rt.alloc(), &segment)?);
     Ok(())
 }
 

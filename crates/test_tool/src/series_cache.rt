@@ -3,9 +3,9 @@
 
 use crate::rows::none_is_wrong;
 use crate::rule_making::{Config, raw_labels, rules};
-use rw_relabel::{Action, RuleFault, Rules};
+use rw_relabel::{Action, Choice, RuleFault, Rules};
 use rw_series_cache::{Cache, Known};
-use rw_types::{LabelFault, RawLabels};
+use rw_types::{LabelFault, Names, RawLabels};
 use std::alloc::{AllocError, Global};
 use std::test::Fail;
 
@@ -126,7 +126,14 @@ fn cache_of_rules(alloc: Global) -> Result<Cache, RuleFault> {
         (Action::Keep, (&["job"], ";", "a|b|c")),
         (Action::Drop, (&["env"], ";", "x")),
     ];
-    Ok(Cache::new(alloc, rules_again(alloc, &configs)?))
+    let rules = rules_again(alloc, &configs)?;
+    Ok(Cache::new(
+        alloc,
+        Choice {
+            names: Names::Legacy,
+            rules,
+        },
+    ))
 }
 
 /// Whether the cache knows what it should after the definitions.
@@ -165,7 +172,22 @@ fn last_definitions(rt: HostRuntime) -> Result<(), Fail> {
 
 /// A cache that keeps each label set.
 fn cache_of_no_rules(alloc: Global) -> Cache {
-    Cache::new(alloc, Rules::new(Vec::new(alloc)))
+    Cache::new(alloc, Choice::legacy(alloc))
+}
+
+/// Whether a cache that takes any name keeps a label set that another one calls a bad name.
+fn takes_names(alloc: Global, names: Names, wanted: Shape) -> Result<bool, AllocError> {
+    let rules = Rules::new(Vec::new(alloc));
+    let mut cache = Cache::new(alloc, Choice { names, rules });
+    cache.define(1, raw_labels(alloc, &[("http.rate", "1")])?)?;
+    Ok(shape_of(&cache, 1) == wanted)
+}
+
+#[test]
+fn names_by_choice(rt: HostRuntime) -> Result<(), Fail> {
+    assert!(rt; takes_names(rt.alloc(), Names::Utf8, Shape::Kept(0))?);
+    assert!(rt; takes_names(rt.alloc(), Names::Legacy, Shape::Bad(LabelFault::BadName))?);
+    Ok(())
 }
 
 /// A label set with this number as its only value.

@@ -3,6 +3,7 @@
 use crate::rows::none_is_wrong;
 use crate::rule_making::label_set;
 use rw_settings::{Settings, SettingsFault, read_settings};
+use rw_types::Names;
 use std::alloc::Global;
 use std::test::Fail;
 
@@ -79,7 +80,7 @@ fn single_faults(rt: HostRuntime) -> Result<(), Fail> {
 }
 
 /// Texts with the faults 4 and 5 or with two at once, and the number that is answered, or 9.
-static LATER_FAULTS: [(&str, u8); 30] = [
+static LATER_FAULTS: [(&str, u8); 37] = [
     // numbers that are not between their bounds, with the defaults filled in
     ("[send]\nmin_shards = 5\nmax_shards = 4", 4),
     ("[send]\nmin_shards = 5", 4),
@@ -105,6 +106,14 @@ static LATER_FAULTS: [(&str, u8); 30] = [
         5,
     ),
     ("rule = [{ action = 'keep', source_labels = [''] }]", 9),
+    // names
+    ("[send]\nnames = 'legacy'\n[receive]\nnames = 'utf8'", 9),
+    ("[send]\nnames = 'utf8'\n[receive]\nnames = 'legacy'", 9),
+    ("[send]\nnames = 'UTF8'", 4),
+    ("[receive]\nnames = ''", 4),
+    ("[send]\nnames = true", 3),
+    ("[receive]\nnames = ['utf8']", 3),
+    ("names = 'utf8'", 2),
     // two at once, in either order
     ("[send]\nshards = 0\n[receive]\nlabels = 1", 2),
     ("[receive]\nlabels = 1\n[send]\nshards = 0", 2),
@@ -166,12 +175,22 @@ fn texts(s: &Settings) -> [&str; 3] {
     ]
 }
 
+/// The names that are sent and received.
+fn names(s: &Settings) -> [Names; 2] {
+    [s.config.fields().names, s.limits.names]
+}
+
 /// What a text sets.
-type Read = ([u64; 8], [u64; 4], [&'static str; 3]);
+type Read = ([u64; 8], [u64; 4], [&'static str; 3], [Names; 2]);
 
 fn reads_as(alloc: Global, text: &[u8], want: Read) -> Result<bool, Fail> {
     let s = read_settings(alloc, text)?;
-    Ok(sending(&s) == want.0 && receiving(&s) == want.1 && texts(&s) == want.2)
+    Ok(
+        sending(&s) == want.0
+            && receiving(&s) == want.1
+            && texts(&s) == want.2
+            && names(&s) == want.3,
+    )
 }
 
 #[test]
@@ -180,6 +199,7 @@ fn defaults(rt: HostRuntime) -> Result<(), Fail> {
         [1, 1, 50, 10_000, 2_000, 30, 5_000, 30_000],
         [16_777_216, 64, 16_384, 0],
         ["localhost:9090", "/api/v1/write", "/api/v1/write"],
+        [Names::Legacy, Names::Legacy],
     );
     assert!(rt; reads_as(rt.alloc(), b"", want)?);
     Ok(())
@@ -187,12 +207,17 @@ fn defaults(rt: HostRuntime) -> Result<(), Fail> {
 
 const EVERY_KEY: &[u8] =
     b"[send]\nhost = 'a'\npath = '/b'\nshards = 2\nmin_shards = 1\nmax_shards = 3\ncapacity = 4\nbatch = 5\n
-          min_backoff_ms = 6\nmax_backoff_ms = 7\ntimeout_ms = 8\n
-          [receive]\npath = '/c'\nmax_body_bytes = 9\nmax_labels = 10\nmax_label_bytes = 11\nbusy_first = 12";
+          min_backoff_ms = 6\nmax_backoff_ms = 7\ntimeout_ms = 8\nnames = 'utf8'\n
+          [receive]\npath = '/c'\nmax_body_bytes = 9\nmax_labels = 10\nmax_label_bytes = 11\nbusy_first = 12\nnames = 'utf8'";
 
 #[test]
 fn every_key(rt: HostRuntime) -> Result<(), Fail> {
-    let want = ([2, 1, 3, 4, 5, 6, 7, 8], [9, 10, 11, 12], ["a", "/b", "/c"]);
+    let want = (
+        [2, 1, 3, 4, 5, 6, 7, 8],
+        [9, 10, 11, 12],
+        ["a", "/b", "/c"],
+        [Names::Utf8, Names::Utf8],
+    );
     assert!(rt; reads_as(rt.alloc(), EVERY_KEY, want)?);
     Ok(())
 }
@@ -264,6 +289,7 @@ fn example(rt: HostRuntime) -> Result<(), Fail> {
         [2, 1, 8, 10_000, 500, 100, 10_000, 30_000],
         [1_048_576, 64, 16_384, 0],
         ["metrics.example:9090", "/api/v1/write", "/api/v1/write"],
+        [Names::Legacy, Names::Legacy],
     );
     assert!(rt; reads_as(rt.alloc(), EXAMPLE, want)?);
     none_is_wrong(&rt, wrongly_kept(rt.alloc())?);

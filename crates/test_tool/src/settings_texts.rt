@@ -19,6 +19,7 @@ batch = 2000
 min_backoff_ms = 30
 max_backoff_ms = 5000
 timeout_ms = 30000
+names = \"legacy\"
 
 [receive]
 path = \"/api/v1/write\"
@@ -26,6 +27,7 @@ max_body_bytes = 16777216
 max_labels = 64
 max_label_bytes = 16384
 busy_first = 0
+names = \"legacy\"
 ";
 
 /// Each number at its greatest, and two rules.
@@ -41,6 +43,7 @@ batch = 10000
 min_backoff_ms = 3600000
 max_backoff_ms = 3600000
 timeout_ms = 3600000
+names = \"utf8\"
 
 [receive]
 path = \"/\"
@@ -48,6 +51,7 @@ max_body_bytes = 67108864
 max_labels = 64
 max_label_bytes = 16384
 busy_first = 1000000
+names = \"utf8\"
 
 [[rule]]
 action = \"keep\"
@@ -75,6 +79,7 @@ batch = 1
 min_backoff_ms = 1
 max_backoff_ms = 1
 timeout_ms = 1
+names = \"utf8\"
 
 [receive]
 path = \"/api/v1/write\"
@@ -82,6 +87,7 @@ max_body_bytes = 1
 max_labels = 1
 max_label_bytes = 1
 busy_first = 0
+names = \"legacy\"
 ";
 
 /// Settings in another spelling, and how they are printed.
@@ -93,8 +99,10 @@ static PRINTED: [(&str, &str); 4] = [
                  { action = 'drop', source_labels = ['env', 'region'], separator = '/' }]
          receive.path = '/'
          receive.busy_first = 1_000_000
+         receive.names = 'utf8'
          receive.max_body_bytes = 0x4000000
          [send]
+         names = '''utf8'''
          timeout_ms = 3_600_000
          max_backoff_ms = 3_600_000
          min_backoff_ms = 3_600_000
@@ -169,7 +177,7 @@ fn patterns(rt: HostRuntime) -> Result<(), Fail> {
 }
 
 /// Texts, and what is told of them.
-static EXPLAINED: [(&str, &str); 13] = [
+static EXPLAINED: [(&str, &str); 14] = [
     (DEFAULTS, ""),
     (
         "[send]\nshard = 1",
@@ -186,6 +194,12 @@ static EXPLAINED: [(&str, &str); 13] = [
         "send.host: is refused; it takes 1 to 255 bytes, each '!' to '~'
 send.shards: is of type string; it takes a whole number from 1 to 1000
 send.batch: 0 is refused; it takes a whole number from 1 to 10000
+",
+    ),
+    (
+        "[send]\nnames = 'UTF8'\n[receive]\nnames = 8",
+        "send.names: is refused; it takes 'legacy' or 'utf8'
+receive.names: is of type integer; it takes 'legacy' or 'utf8'
 ",
     ),
     (

@@ -1,12 +1,12 @@
 //! Values and labels as text.
 
 use crate::rows::none_is_wrong;
-use crate::rule_making::label_set;
+use crate::rule_making::{label_set, raw_labels};
 use rw_text::{
     TextFault, push_integer, push_labels, push_number, push_value, read_integer, read_labels,
     read_number, read_value,
 };
-use rw_types::{LabelFault, LabelSet, RawLabels, Word};
+use rw_types::{LabelFault, LabelSet, Names, RawLabels, Word};
 use std::alloc::{AllocError, Global};
 use std::test::Fail;
 
@@ -98,7 +98,21 @@ static LABELS: [Labelled; 5] = [
     (&[("job", "säge")], r#"{job="säge"}"#),
 ];
 
-/// Names that no label set has.
+/// Label sets whose names are any text.
+static UTF8_LABELS: [Labelled; 7] = [
+    (&[("a\"b", "1")], r#"{"a\"b"="1"}"#),
+    (&[("a\\b", "1")], r#"{"a\\b"="1"}"#),
+    (&[("a\nb", "1")], r#"{"a\nb"="1"}"#),
+    (&[("a.b", "1")], r#"{"a.b"="1"}"#),
+    (&[("9x", "1")], r#"{"9x"="1"}"#),
+    (&[("säge", "1")], r#"{"säge"="1"}"#),
+    (
+        &[("__name__", "http.rate"), ("säge", "1")],
+        r#"{__name__="http.rate","säge"="1"}"#,
+    ),
+];
+
+/// Labels that are no label set, whatever names are taken.
 static OTHER_LABELS: [Labelled; 3] = [
     (&[("", "")], r#"{""=""}"#),
     (&[("a:b", "1"), ("a-b", "2")], r#"{a:b="1","a-b"="2"}"#),
@@ -122,14 +136,15 @@ fn reads_as(alloc: Global, text: &str, labels: &[(&str, &str)]) -> Result<bool, 
 
 /// Whether the text is printed of these labels.
 fn is_printed(alloc: Global, labels: &[(&str, &str)], text: &str) -> Result<bool, LabelFault> {
-    let set = label_set(alloc, labels)?;
+    let set = LabelSet::check_as(alloc, Names::Utf8, &raw_labels(alloc, labels)?)?;
     let mut out = Vec::new(alloc);
     push_labels(&mut out, &set)?;
     Ok(out.as_slice() == text.as_bytes())
 }
 
-fn wrong_print(alloc: Global) -> Result<Option<usize>, LabelFault> {
-    for (i, (labels, text)) in LABELS.iter().enumerate() {
+/// The first of these texts that is printed otherwise.
+fn wrong_print(alloc: Global, rows: &[Labelled]) -> Result<Option<usize>, LabelFault> {
+    for (i, (labels, text)) in rows.iter().enumerate() {
         if !is_printed(alloc, labels, text)? {
             return Ok(Some(i));
         }
@@ -149,9 +164,31 @@ fn wrong_reading(alloc: Global, rows: &[Labelled]) -> Result<Option<usize>, Text
 
 #[test]
 fn labels_there_and_back(rt: HostRuntime) -> Result<(), Fail> {
-    none_is_wrong(&rt, wrong_print(rt.alloc())?);
+    none_is_wrong(&rt, wrong_print(rt.alloc(), &LABELS)?);
+    none_is_wrong(&rt, wrong_print(rt.alloc(), &UTF8_LABELS)?);
     none_is_wrong(&rt, wrong_reading(rt.alloc(), &LABELS)?);
+    none_is_wrong(&rt, wrong_reading(rt.alloc(), &UTF8_LABELS)?);
     none_is_wrong(&rt, wrong_reading(rt.alloc(), &OTHER_LABELS)?);
+    Ok(())
+}
+
+/// Whether a name of the most bytes that a label set may have beside its value is printed and read again.
+fn is_long_name_kept(alloc: Global) -> Result<bool, Fail> {
+    let mut name = String::from_str(alloc, ".")?;
+    for _ in 1..16_383 {
+        name.push_str("a")?;
+    }
+    let labels = [(name.as_str(), "1")];
+    let set = LabelSet::check_as(alloc, Names::Utf8, &raw_labels(alloc, &labels)?)?;
+    let mut out = Vec::new(alloc);
+    push_labels(&mut out, &set)?;
+    let read = read_labels(alloc, out.as_slice())?;
+    Ok(out.len() == 16_383 + 8 && are_labels(&read, &labels))
+}
+
+#[test]
+fn long_names(rt: HostRuntime) -> Result<(), Fail> {
+    assert!(rt; is_long_name_kept(rt.alloc())?);
     Ok(())
 }
 

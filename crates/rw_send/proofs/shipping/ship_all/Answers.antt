@@ -22,7 +22,7 @@ loop-segment-preserved g c =
     (c.in_ok-sharding.ensures.put c.in_ok-ship_segment.ensures.sound) stays
     (subst (λ (b : Bool). IsSet b c.args.sharding.fewest c.args.sharding.most c.ship_segment.new.shipper c.resharded.new.shipper) (sym (some_more g.S.Source.remaining (into_iter_items c.next.new.self) (c.loop-segment.left - 1) left)) set) in
     record {
-      kept = (ap (λ (l : Sorting). l.rules) c.in_ok-sharding.ensures.log ∙ kept.0 ∙ was.0, c.in_ok-sharding.ensures.config ∙ kept.1 ∙ was.1);
+      kept = (ap (λ (l : Sorting). l.choice) c.in_ok-sharding.ensures.log ∙ kept.0 ∙ was.0, c.in_ok-sharding.ensures.config ∙ kept.1 ∙ was.1);
       short = subst AreShort (sym (ap (λ (l : Sorting). l.pieces) c.in_ok-sharding.ensures.log)) (c.in_ok-ship_segment.ensures.short (c.in_ok-begin_segment.ensures.short c.loop-segment.invariant.short));
       shards = sym c.in_ok-sharding.ensures.shards;
       range = (c.in_ok-sharding.ensures.range.0 ∙ c.loop-segment.invariant.range.0, c.in_ok-sharding.ensures.range.1 ∙ c.loop-segment.invariant.range.1);

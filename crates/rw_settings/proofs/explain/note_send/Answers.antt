@@ -4,7 +4,7 @@ use Rattle.toml.specs.Data.{get_member}
 use Rattle.toml.specs.View.{table_view}
 use Rattle.rw_types.specs.Requests.{is_host_name, is_request_path}
 use Rattle.rw_settings.specs.Sending.{send_keys, order_fault, send_fault}
-use Rattle.rw_settings.specs.Values.{keys_fault, number_at, text_at}
+use Rattle.rw_settings.specs.Values.{keys_fault, number_at, text_at, names_at}
 use Rattle.rw_settings.proofs.NoteLemmas.{least_from}
 use Rattle.rw_settings.specs.Notes.{noted}
 use Rattle.rw_settings.proofs.explain.note_send.Goals as goal
@@ -15,6 +15,7 @@ returns c =
     let table = table_view c.args.send.now in
     rw (
       c.in_ok-note_order.ensures,
+      c.in_ok-note_names.ensures,
       c.in_ok-note_number-8.ensures,
       c.in_ok-note_number-7.ensures,
       c.in_ok-note_number-6.ensures,
@@ -38,6 +39,7 @@ returns c =
     ∷ result_err (number_at 1 3600000 (get_member (codes "min_backoff_ms") table))
     ∷ result_err (number_at 1 3600000 (get_member (codes "max_backoff_ms") table))
     ∷ result_err (number_at 1 3600000 (get_member (codes "timeout_ms") table))
+    ∷ result_err (names_at (get_member (codes "names") table))
     ∷ order_fault table
     ∷ []
     ))

@@ -17,5 +17,6 @@ returns c =
       c.number_fault-6.ensures,
       c.number_fault-7.ensures,
       c.number_fault-8.ensures,
+      c.names_fault.ensures,
       c.order_fault.ensures,
     )

@@ -6,6 +6,8 @@ pub returns : goal.returns
 unfolding receive_text
 returns c =
     rw (
+      c.in_ok-push_text-2.ensures,
+      c.names_text.ensures,
       c.in_ok-push_number-4.ensures,
       c.in_ok-push_number-3.ensures,
       c.in_ok-push_number-2.ensures,

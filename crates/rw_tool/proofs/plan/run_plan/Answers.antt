@@ -8,11 +8,11 @@ returns-clause-ok g c = elim c.if-hex.branch [
   | then-hex+in_ok-plan w ↦
       let made = w.in_ok-plan.ensures.ok in
       rw (w.if-hex.true, w.reader-is)
-      (plan_written _ _ _ _ _ _ _ _ _ _ c.rules_in-rules.ensures made.1 made.2
+      (plan_written _ _ _ _ _ _ _ _ _ _ c.choice_in-choice.ensures made.1 made.2
       (c.deref.ensures.value ∙ ap (λ (v : Vec ℕ Global). v.items) w.plan-is) c.in_ok-write_all.ensures.ok)
   | else-hex+in_ok-plan-2 w ↦
       let made = w.in_ok-plan-2.ensures.ok in
       rw (w.if-hex.false, w.reader-is)
-      (plan_written _ _ _ _ _ _ _ _ _ _ c.rules_in-rules.ensures (bytes_read _ _ _ made.1) made.2
+      (plan_written _ _ _ _ _ _ _ _ _ _ c.choice_in-choice.ensures (bytes_read _ _ _ made.1) made.2
       (c.deref.ensures.value ∙ ap (λ (v : Vec ℕ Global). v.items) w.plan-is) c.in_ok-write_all.ensures.ok)
 ]

@@ -5,7 +5,7 @@ use Rattle.rw_tool.proofs.reading.read_segment.Goals as goal
 pub loop-init : goal.loop-init
 loop-init g c = record {
   has_read = reads_nothing _ _ _ c.new-tail.ensures c.requires;
-  rules = refl;
+  choice = refl;
   room = rw c.in_ok-chunk.ensures (omega arith);
 }
 
@@ -21,6 +21,6 @@ returns-then-not-branch-clause-ok g c =
 pub loop-preserved : goal.loop-preserved
 loop-preserved g c = record {
   has_read = reads_more _ _ _ _ _ _ _ _ c.loop.invariant.has_read c.in_ok-take_all.ensures.ok (c.in_ok-feed_some.ensures.more (ap Ok c.if-not-branch.false));
-  rules = c.in_ok-take_all.ensures.rules ∙ c.loop.invariant.rules;
+  choice = c.in_ok-take_all.ensures.choice ∙ c.loop.invariant.choice;
   room = c.loop.invariant.room;
 }

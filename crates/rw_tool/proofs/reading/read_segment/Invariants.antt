@@ -5,6 +5,6 @@ use Rattle.rw_tool.proofs.reading.read_segment.Given as goal
 abbrev pub invariant-loop : goal.invariant-loop
 invariant-loop g l = record {
   has_read : HasRead (g.R.Source.remaining l.fn.reader) (g.R.Source.remaining l.reader) l.tail (g.T.Taker.taken l.taker);
-  rules : g.T.Taker.rules l.taker ≡ g.T.Taker.rules l.fn.taker;
+  choice : g.T.Taker.choice l.taker ≡ g.T.Taker.choice l.fn.taker;
   room : 0 < vec_len l.chunk;
 }

@@ -13,7 +13,7 @@ loop-entry-smaller g c =
 pub loop-entry-preserved : goal.loop-entry-preserved
 loop-entry-preserved g c =
     let one = one_more_taken _ _ _ _ _ _ c.loop-entry.invariant.has c.in_ok-entry.ensures.answer c.in_ok-entry.ensures.after (ap Ok c.in-Some.is) c.in_ok-take_next.ensures.taken in
-    record { fed = one.fed ∙ c.loop-entry.invariant.fed; has = one.has; rules = c.in_ok-take_next.ensures.rules ∙ c.loop-entry.invariant.rules }
+    record { fed = one.fed ∙ c.loop-entry.invariant.fed; has = one.has; choice = c.in_ok-take_next.ensures.choice ∙ c.loop-entry.invariant.choice }
 
 pub returns-clause-ok : goal.returns-clause-ok
 returns-clause-ok g c =

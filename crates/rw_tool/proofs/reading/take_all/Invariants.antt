@@ -7,7 +7,7 @@ abbrev pub invariant-loop-entry : goal.invariant-loop-entry
 invariant-loop-entry g l = record {
   fed : l.tail.pieces ≡ l.fn.tail.pieces;
   has : HasTaken l.tail (g.T.Taker.taken l.taker);
-  rules : g.T.Taker.rules l.taker ≡ g.T.Taker.rules l.fn.taker;
+  choice : g.T.Taker.choice l.taker ≡ g.T.Taker.choice l.fn.taker;
 }
 
 abbrev pub decreases-loop-entry : goal.decreases-loop-entry

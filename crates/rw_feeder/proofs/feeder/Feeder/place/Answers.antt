@@ -30,7 +30,7 @@ returns-in-Placed-clause-ok c =
     let routes = subst (Routes s.router ps s.count c.args.entry c.place.new.self) c.in-Placed.is (c.in_ok-place.ensures.ok ps i.knows) in
     let p = router_placed s.router c.place.new.self ps s.count c.args.entry routes in (
       placed_seen s.tail s.router c.place.new.self s.part.names s.count c.entries_read-read.result s.read c.args.self.now i c.entries_read-read.ensures.count p.0 c.self.view_is,
-      subst (λ (x : Sorting). sent_of x.rules x.placed c.args.entry ≡ []) c.self.view_is p.2,
+      subst (λ (x : Sorting). sent_of x.choice x.placed c.args.entry ≡ []) c.self.view_is p.2,
     )
 
 pub name-requires : goal.name-requires
@@ -46,7 +46,7 @@ name-requires c =
       t = d.1.1;
       word = d.1.2;
       hand = hand ∙ ap (λ e. e ∷ []) d.1.3;
-      fate_is = ap (λ (x : Routing). fate x.cache.rules ps d.1.0 d.1.1) d.0 ∙ d.1.4;
+      fate_is = ap (λ (x : Routing). fate x.cache.choice ps d.1.0 d.1.1) d.0 ∙ d.1.4;
     }
 
 pub invariant_of-self-in-Sample : goal.invariant_of-self-in-Sample
@@ -66,7 +66,7 @@ returns-in-Sample-clause-ok c =
     let hand = ap (λ (x : Sorting). x.hand) c.self.view_is ∙ c.requires in
     let routes = subst (Routes s.router ps s.count c.args.entry c.place.new.self) c.in-Sample.is (c.in_ok-place.ensures.ok ps i.knows) in
     let sends = router_sends s.router c.place.new.self ps s.count c.args.entry c.in-Sample.sample i.counted routes in (
-      ap (λ (r : Routing). record { rules = r.cache.rules; pieces = s.tail.pieces; placed = ps; hand = drop s.count s.read }) sends.0 ∙ c.self.view_is,
-      subst (λ (x : Sorting). sent_of x.rules x.placed c.args.entry ≡ sent_by c.in-Sample.sample ∷ []) c.self.view_is sends.1,
+      ap (λ (r : Routing). record { choice = r.cache.choice; pieces = s.tail.pieces; placed = ps; hand = drop s.count s.read }) sends.0 ∙ c.self.view_is,
+      subst (λ (x : Sorting). sent_of x.choice x.placed c.args.entry ≡ sent_by c.in-Sample.sample ∷ []) c.self.view_is sends.1,
       subst (λ (x : Sorting). IsToBeSent x c.in-Sample.sample.series c.in-Sample.sample.t) c.self.view_is (record { entry = c.args.entry; hand = hand; next = sends.2 }),
     )

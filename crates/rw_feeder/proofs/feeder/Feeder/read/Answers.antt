@@ -34,7 +34,7 @@ returns-in-Ok-None-clause-ok c =
     let i = c.self.invariant in
     let none = ap (λ (x : Sorting). x.hand) c.self.view_is ∙ c.requires in
     let took = took_none s.tail c.next_entry.new.self (take s.count s.read ++ drop s.count s.read) c.next_entry.result i.taken (c.in-Ok-None.is ∙ ap Ok c.in-Ok-None.field-0-is) c.next_entry.ensures.answer c.next_entry.ensures.after in
-    (end_seen s.router.cache.rules s.tail.pieces c.next_entry.new.self.pieces (take s.count s.read) (drop s.count s.read) _ took.1 c.self.view_is, read_all s.router.cache.rules s.tail.pieces (take s.count s.read) (drop s.count s.read) _ _ took.0 none c.self.view_is)
+    (end_seen s.router.cache.choice s.tail.pieces c.next_entry.new.self.pieces (take s.count s.read) (drop s.count s.read) _ took.1 c.self.view_is, read_all s.router.cache.choice s.tail.pieces (take s.count s.read) (drop s.count s.read) _ _ took.0 none c.self.view_is)
 
 pub invariant_of-self-then-is_out_of_memory : goal.invariant_of-self-then-is_out_of_memory
 invariant_of-self-then-is_out_of_memory c =
@@ -45,7 +45,7 @@ pub returns-then-is_out_of_memory-clause-err : goal.returns-then-is_out_of_memor
 returns-then-is_out_of_memory-clause-err c =
     let s = c.self.inside in
     let took = took_fault s.tail c.next_entry.new.self c.next_entry.result c.in-Err.fault c.in-Err.is c.next_entry.ensures.after in
-    end_seen s.router.cache.rules s.tail.pieces c.next_entry.new.self.pieces (take s.count s.read) (drop s.count s.read) _ took.0 c.self.view_is
+    end_seen s.router.cache.choice s.tail.pieces c.next_entry.new.self.pieces (take s.count s.read) (drop s.count s.read) _ took.0 c.self.view_is
 
 pub invariant_of-self-in-Err : goal.invariant_of-self-in-Err
 invariant_of-self-in-Err c =
@@ -59,4 +59,4 @@ returns-else-is_out_of_memory-clause-ok c =
     let none = ap (λ (x : Sorting). x.hand) c.self.view_is ∙ c.requires in
     let took = took_fault s.tail c.next_entry.new.self c.next_entry.result c.in-Err.fault c.in-Err.is c.next_entry.ensures.after in
     let found = read_fault s.tail (take s.count s.read ++ drop s.count s.read) c.next_entry.result c.in-Err.fault i.taken c.in-Err.is (sym c.is_out_of_memory.ensures ∙ c.if-is_out_of_memory.false) c.next_entry.ensures.answer in
-    (end_seen s.router.cache.rules s.tail.pieces c.next_entry.new.self.pieces (take s.count s.read) (drop s.count s.read) _ took.0 c.self.view_is, read_all s.router.cache.rules s.tail.pieces (take s.count s.read) (drop s.count s.read) _ _ found none c.self.view_is)
+    (end_seen s.router.cache.choice s.tail.pieces c.next_entry.new.self.pieces (take s.count s.read) (drop s.count s.read) _ took.0 c.self.view_is, read_all s.router.cache.choice s.tail.pieces (take s.count s.read) (drop s.count s.read) _ _ found none c.self.view_is)

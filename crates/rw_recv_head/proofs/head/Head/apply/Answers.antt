@@ -1,5 +1,5 @@
 use Rattle.std.proofs.Common.{subst, sym, ◌∙◌}
-use Rattle.rw_recv_head.specs.Growth.{sample_count, HoldsNoneOver}
+use Rattle.rw_recv_head.specs.Growth.{sample_count, HoldsNoneRefused}
 use Rattle.rw_recv_head.proofs.GrowthLemmas.{Grown, kept_grown, ready_again, blocks_kept}
 use Rattle.rw_recv_head.proofs.head.Head.apply.Goals as goal
 
@@ -15,7 +15,7 @@ grown c =
 pub invariant_of-self : goal.invariant_of-self
 invariant_of-self c = (
   ready_again c.self.inside.table.kept (sample_count c.deref.result.now) c.commit.new.self (grown_inside c) (c.commit.ensures.staged ∙ sym c.commit.ensures.kept) c.commit.ensures.noted,
-  subst (HoldsNoneOver c.self.inside.bounds) (sym c.commit.ensures.kept) c.in-Ok.ensures.within,
+  subst (HoldsNoneRefused c.self.inside.bounds) (sym c.commit.ensures.kept) c.in-Ok.ensures.within,
 )
 
 pub returns-in-Ok-clause-more : goal.returns-in-Ok-clause-more

@@ -9,9 +9,9 @@ use Rattle.rw_recv_head.specs.Finds.{Finds}
 use Rattle.rw_recv_head.specs.Order.{points, accept}
 use Rattle.rw_recv_head.specs.Store.{list_of, with_list}
 use Rattle.rw_recv_head.specs.Verdicts.{accepted, taken_unless, taken}
-use Rattle.rw_recv_head.specs.Growth.{HoldsNoneOver}
+use Rattle.rw_recv_head.specs.Growth.{HoldsNoneRefused}
 use Rattle.rw_recv_head.specs.Lists.{no_lists, kept_store, staged_store, ListGives, IsSound, IsAdded}
-use Rattle.rw_recv_head.proofs.PlaceLemmas.{IsSound-set, IsSound-added, IsSound-same, StoreGives-list, taken_by, judged_alone, none_over, staged-same, staged_len, staged_at, staged_few, staged_nowhere, staged-set, kept-set, kept-added, staged-added, accepted_has}
+use Rattle.rw_recv_head.proofs.PlaceLemmas.{IsSound-set, IsSound-added, IsSound-same, StoreGives-list, taken_by, judged_alone, none_refused, staged-same, staged_len, staged_at, staged_few, staged_nowhere, staged-set, kept-set, kept-added, staged-added, accepted_has}
 use Rattle.rw_recv_head.proofs.table.Table.stage.Goals as goal
 
 pub returns-then-is_empty-clause-staged : goal.returns-then-is_empty-clause-staged
@@ -19,14 +19,14 @@ returns-then-is_empty-clause-staged c =
     let l = map text_label c.deref.result.now in
     let ss = c.as_slice-samples.result.now in
     let shown = ap (λ ts. series_of ts ss) c.deref.ensures.value ∙ ap (series_of c.series.inside.labels.items) c.as_slice-samples.ensures.value ∙ c.series.view_is in
-    judged_alone c.take.result c.args.bounds.now c.args.self.now.staged (series_of c.deref.result.now ss) c.args.series.now c.take.new.labels shown c.if-is_empty.ensures
+    judged_alone c.take.result c.args.bounds.now c.args.self.now.staged (series_of c.deref.result.now ss) c.args.series.now shown c.if-is_empty.ensures
     (subst (λ s. with_list l (list_of s l) s ≡ s) (ap (λ s. s.staged) c.self.view_is) (staged-same c.self.inside.places.tree c.self.inside.lists.items l))
-    c.take.ensures.ok c.take.ensures.err
+    c.take.ensures.taken c.take.ensures.err
 
 pub find-requires : goal.find-requires
 find-requires c =
-    none_over c.args.bounds.now c.self.inside.places.tree c.self.inside.lists.items c.self.invariant.0.places c.self.invariant.0.filled
-    (subst (HoldsNoneOver c.args.bounds.now) (ap (λ s. s.staged) (sym c.self.view_is)) c.requires)
+    none_refused c.args.bounds.now c.self.inside.places.tree c.self.inside.lists.items c.self.invariant.0.places c.self.invariant.0.filled
+    (subst (HoldsNoneRefused c.args.bounds.now) (ap (λ s. s.staged) (sym c.self.view_is)) c.requires)
 
 pub stage_at-outcome-requires-clause-room : goal.stage_at-outcome-requires-clause-room
 stage_at-outcome-requires-clause-room c =

@@ -34,7 +34,7 @@ returns-then-not-rises-clause-knows c before knows =
     let k = subst (λ (x : Routing). Knows before x.cache) (sym c.self.view_is) knows in
     let a = c.in-Kept.ensures.log before k.defined in
     let l = arc_value c.in-Kept.labels.now in
-    let falls : rises s.cache.rules before l c.args.t ≡ false =
+    let falls : rises s.cache.choice before l c.args.t ≡ false =
     sym (k.noted.decides l c.in-Kept.series c.args.t a.number) ∙ sym (ap (is_after (get s.cache.noted c.in-Kept.series)) (to_z-of_z c.ranges.t)) ∙ sym c.rises.ensures ∙ c.if-not-rises.true in
     subst (λ (x : Routing). Knows (before ++ Sample c.args.reference c.args.t c.args.word ∷ []) x.cache) c.self.view_is
     (knows_falling before s.cache c.args.reference c.args.t c.args.word l a.standing falls k)

@@ -17,4 +17,4 @@ returns-clause-knows c before entry knows next =
     let same = ap (λ (x : Routing). x.cache) c.self.view_is in
     let noted = c.note.ensures ∙ ap (λ (z : ℤ). record s.cache { noted = insert s.cache.noted c.args.series z }) (to_z-of_z c.ranges.t) in
     knows_sent before entry s.cache c.note.new.self c.args.series c.args.t (subst (Knows before) (sym same) knows)
-    (subst (λ x. IsSentNext x.rules before entry c.args.series c.args.t) (sym same) next) noted
+    (subst (λ x. IsSentNext x.choice before entry c.args.series c.args.t) (sym same) next) noted

@@ -11,8 +11,8 @@ invariant_of-self-2 c = (
   one_defined c.self.inside.sets c.judge.new.self c.self.inside.taken c.push.new.self (get nat_eq c.self.inside.verdicts) (get nat_eq c.insert.new.self) c.args.reference c.args.labels
       c.in_ok-verdict.verdict c.self.invariant.0 c.in_ok-verdict.ensures.ok c.push.ensures
       (λ r. c.in_ok-insert.ensures.updates.0 r ∙ ap (λ o. cond (nat_eq c.args.reference r) (Some c.in_ok-verdict.verdict) o) (c.in_ok-reserve.ensures.entries.2 r)),
-  let series : length c.judge.new.self.series ≡ length (with_series c.self.inside.sets.series (standing_of c.self.inside.sets.rules (Some c.args.labels))) = ap length c.in_ok-verdict.ensures.ok.series in
-      let few = one_more_at_most c.self.inside.sets.series (standing_of c.self.inside.sets.rules (Some c.args.labels)) in
+  let series : length c.judge.new.self.series ≡ length (with_series c.self.inside.sets.series (standing_of c.self.inside.sets.choice (Some c.args.labels))) = ap length c.in_ok-verdict.ensures.ok.series in
+      let few = one_more_at_most c.self.inside.sets.series (standing_of c.self.inside.sets.choice (Some c.args.labels)) in
       let room : length c.self.inside.sets.series < c.make_place.new.self.places = subst (λ n. n < c.make_place.new.self.places) c.len.ensures c.in_ok-make_place.ensures.ok in
       omega (arith, series, few, room),
 )

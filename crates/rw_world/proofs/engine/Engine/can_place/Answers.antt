@@ -39,5 +39,5 @@ returns-in-Sample c =
     let e : ahead_of (slice_get (entries m.world.pieces) m.world.placed) ≡ ahead.Sample c.in-Sample.reference c.in-Sample.t = ap (λ (x : Machine). ahead_of (slice_get (entries x.world.pieces) x.world.placed)) (sym c.self.view_is) ∙ sym c.in-Sample.ensures in
     let fits : FitsSigned w64 c.in-Sample.t = search rules in
     c.can_place_known.ensures
-    ∙ ap (λ (z : ℤ). can_place_known m.setup m.world z (known m.setup.rules (take m.world.placed (entries m.world.pieces)) c.in-Sample.reference)) (to_z-of_z w64 c.in-Sample.t fits)
+    ∙ ap (λ (z : ℤ). can_place_known m.setup m.world z (known m.setup.choice (take m.world.placed (entries m.world.pieces)) c.in-Sample.reference)) (to_z-of_z w64 c.in-Sample.t fits)
     ∙ place_sampled m.setup m.world c.in-Sample.reference c.in-Sample.t d e

@@ -18,7 +18,7 @@ returns-in-Some c =
     let u : Machine = the_view s in
     let before = take s.placed (entries s.log) in
     let knows = c.self.invariant.0.knows in
-    let sends = subst (λ t. WouldSend s.router.cache.rules before c.args.reference t c.in-Some.series) (to_z-of_z c.ranges.t) (c.in-Some.ensures.some before knows) in
+    let sends = subst (λ t. WouldSend s.router.cache.choice before c.args.reference t c.in-Some.series) (to_z-of_z c.ranges.t) (c.in-Some.ensures.some before knows) in
     let number = sends.2.numbered ∙ ap (λ xs. number_of xs sends.0) (same_series before s.router.cache knows) in
-    sent_placed u.setup u.world (fate s.router.cache.rules before c.args.reference c.args.t) sends.0 c.in-Some.series c.len.result c.has_room.result sends.1 number c.len.ensures.len c.has_room.ensures
-    ∙ ap (λ (m : Machine). can_place_known m.setup m.world c.args.t (known m.setup.rules (placed_entries m) c.args.reference)) c.self.view_is
+    sent_placed u.setup u.world (fate s.router.cache.choice before c.args.reference c.args.t) sends.0 c.in-Some.series c.len.result c.has_room.result sends.1 number c.len.ensures.len c.has_room.ensures
+    ∙ ap (λ (m : Machine). can_place_known m.setup m.world c.args.t (known m.setup.choice (placed_entries m) c.args.reference)) c.self.view_is

@@ -13,7 +13,7 @@ returns-clause-start c =
     let l = c.in_ok-limits.limits in
     let v = c.in_ok-senders.senders in
     let made = rw (c.get.ensures.number, c.get-2.ensures.number, c.get-3.ensures.number) at c.in_ok-senders.ensures in
-    let head = head_is c.new-6.result l c.new-6.ensures.store c.new-6.ensures.max_labels c.new-6.ensures.max_label_bytes c.new-6.ensures.busy in
+    let head = head_is c.new-6.result l c.new-6.ensures.store c.new-6.ensures.names c.new-6.ensures.max_labels c.new-6.ensures.max_label_bytes c.new-6.ensures.busy in
     started cfg l v c.new-2.result c.new-3.result c.new-4.result.items c.new-5.result.items c.new-6.result made c.new-2.ensures c.new-3.ensures.cache c.new-3.ensures.filtered c.new-4.ensures.items c.new-5.ensures.items head
     ∙ ap (λ (x : Limits). record { setup = setup_of cfg x; world = start (setup_of cfg x) }) c.in_ok-limits.ensures
     ∙ ap (λ (f : ConfigFields). record { setup = setup_of f c.args.limits; world = start (setup_of f c.args.limits) }) c.into_fields-target.ensures

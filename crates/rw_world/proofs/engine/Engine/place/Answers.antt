@@ -39,7 +39,7 @@ name_next-requires-clause-next c =
       t = d.1.1;
       word = d.1.2;
       at = at ∙ ap Some d.1.3;
-      fate_is = ap (λ (x : Routing). fate x.cache.rules before d.1.0 d.1.1) d.0 ∙ d.1.4;
+      fate_is = ap (λ (x : Routing). fate x.cache.choice before d.1.0 d.1.1) d.0 ∙ d.1.4;
     }
 
 pub invariant_of-self-in-Sample : goal.invariant_of-self-in-Sample
@@ -63,7 +63,7 @@ returns-in-Placed-clause-ok c =
     ∙ sym (place_is u e draining at)
     ∙ ap (λ (m : Machine). record m { world = place m.setup m.world }) c.self.view_is
   where
-    by_fate : (reference : ℕ) (t : ℤ) (word : ℕ) (after : Routing) (f : Fate) → fate c.self.inside.router.cache.rules (take c.self.inside.placed (entries c.self.inside.log)) reference t ≡ f
+    by_fate : (reference : ℕ) (t : ℤ) (word : ℕ) (after : Routing) (f : Fate) → fate c.self.inside.router.cache.choice (take c.self.inside.placed (entries c.self.inside.log)) reference t ≡ f
         → RoutesAs c.self.inside.router (take c.self.inside.placed (entries c.self.inside.log)) c.self.inside.placed t word f after routed.Placed
         → the_view (record c.self.inside { router = after; placed = c.self.inside.placed + 1 })
         ≡ record (the_view c.self.inside) { world = place_entry (the_view c.self.inside).setup (the_view c.self.inside).world (Some (Sample reference t word)) }
@@ -83,7 +83,7 @@ returns-in-Placed-clause-ok c =
         let s = c.self.inside in
         let u : Machine = the_view s in
         ap (λ (r : Routing). the_view (record s { router = r; placed = s.placed + 1 })) is.1
-        ∙ ap (λ xs. record u { world = record u.world { series = xs; placed = s.placed + 1 } }) (series_defined s.router.cache.rules s.router.cache.definitions reference l)
+        ∙ ap (λ xs. record u { world = record u.world { series = xs; placed = s.placed + 1 } }) (series_defined s.router.cache.choice s.router.cache.definitions reference l)
         ∙ ap (λ k. record u { world = record (place_entry u.setup u.world (Some (Def reference l))) { placed = k } }) (add-one s.placed)
     by_entry (Sample reference t word) after is =
-        by_fate reference t word after (fate c.self.inside.router.cache.rules (take c.self.inside.placed (entries c.self.inside.log)) reference t) refl is
+        by_fate reference t word after (fate c.self.inside.router.cache.choice (take c.self.inside.placed (entries c.self.inside.log)) reference t) refl is

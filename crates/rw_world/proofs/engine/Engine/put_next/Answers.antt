@@ -28,7 +28,7 @@ sent-requires c =
       before = before;
       entry = entry;
       knows = c.self.invariant.0.knows;
-      next = subst (IsSentNext s.router.cache.rules before entry x.series) (sym (to_z-of_z w64 x.t fits)) (refl, (arc_value x.labels, next.fate_is, next.numbered));
+      next = subst (IsSentNext s.router.cache.choice before entry x.series) (sym (to_z-of_z w64 x.t fits)) (refl, (arc_value x.labels, next.fate_is, next.numbered));
     }
 
 pub invariant_of-self-2 : goal.invariant_of-self-2
@@ -47,7 +47,7 @@ invariant_of-self-2 c =
     let n : c.put.new.self.next ≡ x.pos + 1 = ap (λ (v : Sending). v.next) put ∙ put_next_is s.senders at x.pos x.series x.t x.word l (slice_get s.senders.shards at) room in
     let target = ap (λ (v : Sending). v.target) put ∙ put_target s.senders at x.pos x.series x.t x.word l (slice_get s.senders.shards at) in
     let served = same_target s.senders.target c.put.new.self.target s.host s.limits.path s.requests.items target c.self.invariant.1 in
-    let sent = subst (IsSentNext s.router.cache.rules before entry x.series) (sym (to_z-of_z w64 x.t fits)) (refl, (l, next.fate_is, next.numbered)) in
+    let sent = subst (IsSentNext s.router.cache.choice before entry x.series) (sym (to_z-of_z w64 x.t fits)) (refl, (l, next.fate_is, next.numbered)) in
     let same = ap (λ (r : Routing). r.filtered) c.sent.ensures.noted in
     (world_more s.senders.next c.put.new.self.next s.placed s.log s.router c.sent.new.self s.draining entry i next.at (c.sent.ensures.knows before entry i.knows sent) (omega (arith, same, i.filtered_within)) (omega (arith, n, next.pos_is)), served)
 

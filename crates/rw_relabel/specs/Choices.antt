@@ -1,0 +1,8 @@
+-- Which series are sent.
+use Rattle.std.specs.Prelude.{[]}
+use Rattle.rw_types.specs.declared.names.Names.TheVariants.{Legacy}
+use Rattle.rw_relabel.specs.declared.choice.Choice.{Choice}
+
+-- those with legacy names, all of them
+abbrev pub legacy : Choice
+legacy = record { names = Legacy; rules = [] }

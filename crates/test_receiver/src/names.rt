@@ -1,0 +1,75 @@
+//! Names of labels, which a head takes by its setting.
+
+use crate::messages::{FALLING, Labels, Row, Samples, UP, first_wrong};
+use rw_recv_head::{Head, Limits, Verdict};
+use rw_types::Names;
+use std::alloc::{AllocError, Global};
+
+const RATE: Labels<'static> = &[("__name__", "http.rate"), ("säge", "1")];
+
+const DIGIT: Labels<'static> = &[("9x", "1")];
+
+const UNNAMED: Labels<'static> = &[("", "1")];
+
+/// A name of a metric that is empty.
+const NO_METRIC: Labels<'static> = &[("__name__", "")];
+
+/// What the heads hold at last of these, or less.
+static LAST: [(Labels<'static>, Samples<'static>); 3] = [
+    (UP, &[(10, 1)]),
+    (RATE, &[(10, 1)]),
+    (DIGIT, &[(10, 2), (20, 3)]),
+];
+
+/// Messages to a head that takes any name.
+static UTF8: [Row; 6] = [
+    (
+        &[(RATE, &[(10, 1)]), (DIGIT, &[(10, 2)])],
+        Verdict::Stored(2),
+        &[0, 1, 1],
+    ),
+    (
+        &[(DIGIT, &[(10, 2), (20, 3)])],
+        Verdict::Stored(1),
+        &[0, 1, 2],
+    ),
+    (&[(UNNAMED, &[(20, 1)])], Verdict::BadLabels, &[0, 1, 2]),
+    (&[(NO_METRIC, &[(20, 1)])], Verdict::BadLabels, &[0, 1, 2]),
+    (&[(FALLING, &[(20, 1)])], Verdict::BadLabels, &[0, 1, 2]),
+    (&[(UP, &[(10, 1)])], Verdict::Stored(1), &[1, 1, 2]),
+];
+
+/// Messages to a head that takes legacy names.
+static LEGACY: [Row; 4] = [
+    (&[(RATE, &[(10, 1)])], Verdict::BadLabels, &[0, 0, 0]),
+    (&[(DIGIT, &[(10, 2)])], Verdict::BadLabels, &[0, 0, 0]),
+    (
+        &[(UP, &[(10, 1)]), (DIGIT, &[(10, 2)])],
+        Verdict::BadLabels,
+        &[0, 0, 0],
+    ),
+    (&[(UP, &[(10, 1)])], Verdict::Stored(1), &[1, 0, 0]),
+];
+
+/// A head that takes these names.
+fn head_of(alloc: Global, names: Names) -> Result<Head, AllocError> {
+    let mut limits = Limits::standard(alloc)?;
+    limits.names = names;
+    Ok(Head::new(alloc, &limits))
+}
+
+/// The first row that a head does not answer so which takes these names.
+fn wrong_message(alloc: Global, names: Names, rows: &[Row]) -> Result<Option<usize>, AllocError> {
+    let mut head = head_of(alloc, names)?;
+    Ok(first_wrong(alloc, &mut head, rows, &LAST))
+}
+
+#[test]
+fn any_name_is_taken(rt: HostRuntime) {
+    assert_eq!(rt; wrong_message(rt.alloc(), Names::Utf8, &UTF8), Ok(None));
+}
+
+#[test]
+fn legacy_names_are_taken(rt: HostRuntime) {
+    assert_eq!(rt; wrong_message(rt.alloc(), Names::Legacy, &LEGACY), Ok(None));
+}
