@@ -1,12 +1,9 @@
 //! The schedules of docs/REPLAY.md.
 
-use crate::played::played;
-use std::test::Fail;
-
-/// The settings, the script and the state at its end.
-type Schedule<'a> = (&'a str, &'a str, &'a str);
+use crate::played::{Schedule, first_wrong};
 
 const LOST_REPLY: Schedule<'_> = (
+    "a lost reply",
     "",
     r#"log series 1 {__name__="up"}
 log sample 1 1000 1
@@ -32,6 +29,7 @@ report complete 3
 );
 
 const RESHARD: Schedule<'_> = (
+    "a reshard",
     "[send]\nshards = 2\nbatch = 1\n",
     r#"log series 1 {__name__="a"}
 log series 2 {__name__="b"}
@@ -71,6 +69,7 @@ report complete 4
 );
 
 const KILL: Schedule<'_> = (
+    "a kill",
     "[send]\nbatch = 1\n",
     r#"log series 1 {__name__="up"}
 log sample 1 1000 1
@@ -99,12 +98,53 @@ report abandoned 4
 "#,
 );
 
+static ROWS: [Schedule<'static>; 3] = [LOST_REPLY, RESHARD, KILL];
+
+/// Two series whose names are legacy ones at neither end.
+const NAMES: &str = r#"log series 1 {__name__="http.rate","säge"="1"}
+log series 2 {"9x"="1"}
+log sample 1 10 1
+log sample 2 10 2
+settle
+"#;
+
+const NOT_SENT: &str = "dropped 2 labels 3\ndropped 3 labels 3\nfiltered 0\nreport complete 4\n";
+
+/// Each end takes any name, or legacy ones alone.
+static NAMES_ROWS: [Schedule<'static>; 5] = [
+    (
+        "both take any name",
+        "[send]\nnames = 'utf8'\n[receive]\nnames = 'utf8'\n",
+        NAMES,
+        "received {\"9x\"=\"1\"} 10=2\nreceived {__name__=\"http.rate\",\"säge\"=\"1\"} 10=1\nfiltered 0\nreport complete 4\n",
+    ),
+    (
+        "the sender alone takes any name",
+        "[send]\nnames = 'utf8'\n",
+        NAMES,
+        "dropped 2 status 400\ndropped 3 status 400\nfiltered 0\nreport complete 4\n",
+    ),
+    ("no names are set", "", NAMES, NOT_SENT),
+    (
+        "the receiver alone takes any name",
+        "[receive]\nnames = 'utf8'\n",
+        NAMES,
+        NOT_SENT,
+    ),
+    (
+        "both take legacy names",
+        "[send]\nnames = 'legacy'\n[receive]\nnames = 'legacy'\n",
+        NAMES,
+        NOT_SENT,
+    ),
+];
+
 #[test]
-fn states(rt: HostRuntime) -> Result<(), Fail> {
-    for (settings, script, state) in [LOST_REPLY, RESHARD, KILL] {
-        let (outcome, text) = played(rt.alloc(), settings, script.as_bytes())?;
-        assert_eq!(rt; outcome, Ok(()));
-        assert_eq!(rt; text.as_slice(), state.as_bytes());
-    }
-    Ok(())
+fn names_of_any_text(rt: HostRuntime) {
+    assert_eq!(rt; first_wrong(rt.alloc(), &NAMES_ROWS), None);
+}
+
+#[test]
+fn states(rt: HostRuntime) {
+    assert_eq!(rt; first_wrong(rt.alloc(), &ROWS), None);
 }

@@ -1,11 +1,12 @@
 //! A kill after each line of a schedule.
 
-use crate::played::played;
+use crate::played::{plays, run};
+use crate::rows::none_is_wrong;
 use std::alloc::{AllocError, Global};
 use std::test::Fail;
 
 /// Two samples are sent, the reply is lost, and they are sent again.
-const LINES: [&str; 15] = [
+static LINES: [&str; 15] = [
     r#"log series 1 {__name__="up"}"#,
     "log sample 1 10 1",
     "log sample 1 20 2",
@@ -43,20 +44,19 @@ fn push_line(script: &mut Vec<u8>, line: &str) -> Result<(), AllocError> {
 }
 
 /// The lines, with a kill behind so many of them; the later ones follow or do not.
-fn killed_after(alloc: Global, count: usize, goes_on: bool) -> Result<Vec<u8>, AllocError> {
-    let mut script = Vec::new(alloc);
+fn put_killed(script: &mut Vec<u8>, count: usize, goes_on: bool) -> Result<(), AllocError> {
     for (i, line) in LINES.iter().enumerate() {
         if i == count {
-            push_line(&mut script, "kill")?;
+            push_line(script, "kill")?;
         }
         if i < count || goes_on {
-            push_line(&mut script, line)?;
+            push_line(script, line)?;
         }
     }
     if count >= LINES.len() {
-        push_line(&mut script, "kill")?;
+        push_line(script, "kill")?;
     }
-    Ok(script)
+    Ok(())
 }
 
 /// What is received before the report is a beginning of the two samples.
@@ -68,26 +68,56 @@ fn received_a_beginning(text: &[u8]) -> bool {
     rest.starts_with(b"\nfiltered 0\n")
 }
 
+/// Whether a script ends well, and a beginning is received.
+fn is_survived(alloc: Global, script: &[u8]) -> bool {
+    let mut input = script;
+    match run(alloc, b"", &mut input, 4096) {
+        Some((Ok(()), text)) => received_a_beginning(&text),
+        _ => false,
+    }
+}
+
+/// The first number of lines behind which a kill leads to something else.
+fn wrong_count(
+    alloc: Global,
+    script: &mut Vec<u8>,
+    goes_on: bool,
+) -> Result<Option<usize>, AllocError> {
+    for count in 0..=LINES.len() {
+        script.clear();
+        put_killed(script, count, goes_on)?;
+        if !is_survived(alloc, script) {
+            return Ok(Some(count));
+        }
+    }
+    Ok(None)
+}
+
 #[test]
 fn a_kill_anywhere(rt: HostRuntime) -> Result<(), Fail> {
-    for count in 0..=LINES.len() {
-        for goes_on in [false, true] {
-            let script = killed_after(rt.alloc(), count, goes_on)?;
-            let (outcome, text) = played(rt.alloc(), "", &script)?;
-            assert_eq!(rt; outcome, Ok(()), "{count}");
-            assert!(rt; received_a_beginning(&text), "{count}");
-        }
+    for goes_on in [false, true] {
+        let mut script = Vec::new(rt.alloc());
+        none_is_wrong(&rt, wrong_count(rt.alloc(), &mut script, goes_on)?);
     }
     Ok(())
 }
 
+/// How many lines stand before the kill, and the state then.
+static STATES: [(usize, &str); 3] = [(9, FROZEN), (11, ARRIVED), (15, RESOLVED)];
+
+fn wrong_state(alloc: Global, script: &mut Vec<u8>) -> Result<Option<usize>, AllocError> {
+    for (i, (count, state)) in STATES.iter().enumerate() {
+        script.clear();
+        put_killed(script, *count, false)?;
+        if !plays(alloc, "", script, Ok(()), state.as_bytes()) {
+            return Ok(Some(i));
+        }
+    }
+    Ok(None)
+}
+
 #[test]
 fn states_of_killed_schedules(rt: HostRuntime) -> Result<(), Fail> {
-    for (count, state) in [(9, FROZEN), (11, ARRIVED), (15, RESOLVED)] {
-        let script = killed_after(rt.alloc(), count, false)?;
-        let (outcome, text) = played(rt.alloc(), "", &script)?;
-        assert_eq!(rt; outcome, Ok(()), "{count}");
-        assert_eq!(rt; text.as_slice(), state.as_bytes(), "{count}");
-    }
+    none_is_wrong(&rt, wrong_state(rt.alloc(), &mut Vec::new(rt.alloc()))?);
     Ok(())
 }

@@ -12,6 +12,8 @@ mod lines;
 #[cfg(test)]
 mod played;
 #[cfg(test)]
+mod rows;
+#[cfg(test)]
 mod schedules;
 #[cfg(test)]
 mod worlds;

@@ -1,12 +1,13 @@
 //! Lines that are no script lines.
 
-use crate::played::played;
+use crate::played::plays;
+use crate::rows::none_is_wrong;
 use rw_tool::ToolFault;
 use std::alloc::{AllocError, Global};
 use std::test::Fail;
 
 /// Lines that are bad wherever they stand.
-const BAD: [&[u8]; 46] = [
+static BAD: [&[u8]; 46] = [
     b" place",
     b"place ",
     b"place 0",
@@ -55,22 +56,32 @@ const BAD: [&[u8]; 46] = [
     b"log series 1 {a=\"\xff\"}",
 ];
 
+/// A script whose fourth line is this one.
+fn put_script(script: &mut Vec<u8>, line: &[u8]) -> Result<(), AllocError> {
+    script.extend_from_slice(b"place\n\nclose\n")?;
+    script.extend_from_slice(line)?;
+    script.extend_from_slice(b"\nplace\nno line\n")
+}
+
+fn wrong_line(alloc: Global, script: &mut Vec<u8>) -> Result<Option<usize>, AllocError> {
+    for (i, line) in BAD.iter().enumerate() {
+        script.clear();
+        put_script(script, line)?;
+        if !plays(alloc, "", script, Err(ToolFault::Line(4)), b"") {
+            return Ok(Some(i));
+        }
+    }
+    Ok(None)
+}
+
 #[test]
 fn bad_lines(rt: HostRuntime) -> Result<(), Fail> {
-    for (i, line) in BAD.iter().enumerate() {
-        let mut script = Vec::new(rt.alloc());
-        script.extend_from_slice(b"place\n\nclose\n")?;
-        script.extend_from_slice(line)?;
-        script.extend_from_slice(b"\nplace\nno line\n")?;
-        let (outcome, text) = played(rt.alloc(), "", &script)?;
-        assert_eq!(rt; outcome, Err(ToolFault::Line(4)), "row {i}");
-        assert_eq!(rt; text.len(), 0);
-    }
+    none_is_wrong(&rt, wrong_line(rt.alloc(), &mut Vec::new(rt.alloc()))?);
     Ok(())
 }
 
 /// Scripts in which the log grows in both ways, and the line that makes them so.
-const MIXED: [(&str, u64); 6] = [
+static MIXED: [(&str, u64); 6] = [
     ("log raw 03\nfeed 00\n", 2),
     ("feed 00\nlog raw 03\n", 2),
     ("log raw 03\nplace\n\nsegment\n", 4),
@@ -79,70 +90,79 @@ const MIXED: [(&str, u64); 6] = [
     ("log raw 03\nlog raw 03\nno line\nfeed 00\n", 3),
 ];
 
-#[test]
-fn logs_that_grow_in_both_ways(rt: HostRuntime) -> Result<(), Fail> {
-    for (script, number) in MIXED {
-        let (outcome, text) = played(rt.alloc(), "", script.as_bytes())?;
-        assert_eq!(rt; outcome, Err(ToolFault::Line(number)), "{script}");
-        assert_eq!(rt; text.len(), 0);
+fn wrong_mixed(alloc: Global) -> Option<usize> {
+    for (i, (script, number)) in MIXED.iter().enumerate() {
+        if !plays(
+            alloc,
+            "",
+            script.as_bytes(),
+            Err(ToolFault::Line(*number)),
+            b"",
+        ) {
+            return Some(i);
+        }
     }
-    Ok(())
+    None
+}
+
+#[test]
+fn logs_that_grow_in_both_ways(rt: HostRuntime) {
+    none_is_wrong(&rt, wrong_mixed(rt.alloc()));
 }
 
 /// Numbers may have leading zeros, and the last line may lack its LF.
-#[test]
-fn odd_lines(rt: HostRuntime) -> Result<(), Fail> {
-    for script in [
-        "take 007\n\n\nsettle",
-        "flush 18446744073709551615\nsettle\n",
-        "feed \nfeed 00\nsegment\nsettle",
-        "reshard 0\nreshard 1001\nrestart\nsettle",
-    ] {
-        let (outcome, text) = played(rt.alloc(), "", script.as_bytes())?;
-        assert_eq!(rt; outcome, Ok(()), "{script}");
-        assert_eq!(rt;
-            text.as_slice(),
-            b"filtered 0\nreport complete 0\n".as_slice(),
-            "{script}"
-        );
+static ODD: [&str; 4] = [
+    "take 007\n\n\nsettle",
+    "flush 18446744073709551615\nsettle\n",
+    "feed \nfeed 00\nsegment\nsettle",
+    "reshard 0\nreshard 1001\nrestart\nsettle",
+];
+
+/// The state where there is no entry.
+const NOTHING: &[u8] = b"filtered 0\nreport complete 0\n";
+
+fn wrong_odd(alloc: Global) -> Option<usize> {
+    for (i, script) in ODD.iter().enumerate() {
+        if !plays(alloc, "", script.as_bytes(), Ok(()), NOTHING) {
+            return Some(i);
+        }
     }
-    Ok(())
+    None
 }
 
-/// A `log raw` line of so many times 32 KiB of byte 3, and one more.
+#[test]
+fn odd_lines(rt: HostRuntime) {
+    none_is_wrong(&rt, wrong_odd(rt.alloc()));
+}
+
+/// A `log raw` line of so many times 32 KiB of byte 3, and these digits.
 fn push_raw(
     script: &mut Vec<u8>,
-    alloc: Global,
+    digits: &[u8],
     chunks: usize,
-    more: bool,
+    more: &[u8],
 ) -> Result<(), AllocError> {
-    let digits: Vec<u8> = vec![in alloc; b'3'; 64 * 1024]?;
     script.extend_from_slice(b"log raw ")?;
     for _ in 0..chunks {
-        script.extend_from_slice(&digits)?;
+        script.extend_from_slice(digits)?;
     }
-    if more {
-        script.extend_from_slice(b"33")?;
-    }
+    script.extend_from_slice(more)?;
     script.extend_from_slice(b"\n")
+}
+
+/// Whether a record of 16 MiB is read, and a longer one behind it is not.
+fn reads_most(alloc: Global, script: &mut Vec<u8>) -> Result<bool, AllocError> {
+    let digits: Vec<u8> = vec![in alloc; b'3'; 64 * 1024]?;
+    let is_longest = push_raw(script, &digits, 512, b"").is_ok()
+        && script.extend_from_slice(b"settle\n").is_ok()
+        && plays(alloc, "", script, Ok(()), NOTHING);
+    let is_longer = push_raw(script, &digits, 512, b"33").is_ok()
+        && plays(alloc, "", script, Err(ToolFault::Line(3)), b"");
+    Ok(is_longest && is_longer)
 }
 
 /// A record has 16 MiB at most.
 #[test]
-fn long_records(rt: HostRuntime) -> Result<(), Fail> {
-    let mut script = Vec::new(rt.alloc());
-    push_raw(&mut script, rt.alloc(), 512, false)?;
-    script.extend_from_slice(b"settle\n")?;
-    let (outcome, text) = played(rt.alloc(), "", &script)?;
-    assert_eq!(rt; outcome, Ok(()));
-    assert_eq!(rt;
-        text.as_slice(),
-        b"filtered 0\nreport complete 0\n".as_slice()
-    );
-
-    push_raw(&mut script, rt.alloc(), 512, true)?;
-    let (outcome, text) = played(rt.alloc(), "", &script)?;
-    assert_eq!(rt; outcome, Err(ToolFault::Line(3)));
-    assert_eq!(rt; text.len(), 0);
-    Ok(())
+fn long_records(rt: HostRuntime) {
+    assert_eq!(rt; reads_most(rt.alloc(), &mut Vec::new(rt.alloc())), Ok(true));
 }

@@ -175,8 +175,8 @@ fn read_by<N: Net<Stream = TcpStream, Listener = TcpListener> + Clock + Copy>(
     statuses(alloc, &mut transport, count, request)
 }
 
-/// Receives while a client does its work in a thread of its own. Gives the first difference from what a row says.
-fn difference<
+/// Whether a receiver and its client do as a row says, in two threads.
+fn are_served<
     R: Net<Stream = TcpStream, Listener = TcpListener>
         + Threads
         + Wait
@@ -189,29 +189,25 @@ fn difference<
     alloc: Global,
     row: &Row<'_>,
     settings: &Settings,
-    connections: Bounded<1, 1_000>,
-    listener: TcpListener,
-    address: SocketAddr,
     request: &[u8],
     printed: &mut Room,
-) -> Option<&'static str> {
+) -> io::Result<bool> {
+    let Some(connections) = Bounded::new(row.connections) else {
+        return Ok(false);
+    };
+    let listener = TcpListener::bind(rt, "127.0.0.1:0")?;
+    let address = listener.local_addr()?;
     let client = row.client;
     let (read, ended) = thread::join(
         rt,
         || read_by(rt, alloc, client, address, request),
         || run_receive(rt, alloc, settings, connections, listener, printed),
     );
-    if ended != row.ended {
-        return Some("ended");
-    }
-    match read {
-        Ok(read) if read.as_slice() == row.read => None,
-        _ => Some("read"),
-    }
+    Ok(ended == row.ended && read?.as_slice() == row.read)
 }
 
-/// The first difference from what a row says.
-fn odd<
+/// Whether a receiver that is set so and its client do as a row says.
+fn does_with<
     R: Net<Stream = TcpStream, Listener = TcpListener>
         + Threads
         + Wait
@@ -219,31 +215,46 @@ fn odd<
         + Copy
         + Send
         + Sync,
->(rt: &R, alloc: Global, row: &Row<'_>) -> Result<Option<&'static str>, Fail> {
+>(rt: &R, alloc: Global, row: &Row<'_>, settings: &Settings) -> io::Result<bool> {
     let request = request_of(alloc, row.body)?;
     let mut printed = Room::new(alloc, row.room)?;
-    let listener = TcpListener::bind(rt, "127.0.0.1:0")?;
-    let address = listener.local_addr()?;
-    let connections = Bounded::new(row.connections).ok_or("no number of connections")?;
-    let settings = read_settings(alloc, row.settings)?;
-    let odd = difference(
-        rt,
-        alloc,
-        row,
-        &settings,
-        connections,
-        listener,
-        address,
-        &request,
-        &mut printed,
-    );
-    if row.ended.is_ok() && printed.as_slice() != row.printed {
-        return Ok(Some("printed"));
-    }
-    Ok(odd)
+    let is_so = are_served(rt, alloc, row, settings, &request, &mut printed)?;
+    Ok(is_so && (row.ended.is_err() || printed.as_slice() == row.printed))
 }
 
-const ROWS: [Row<'_>; 6] = [
+/// Whether all is as a row says.
+fn does<
+    R: Net<Stream = TcpStream, Listener = TcpListener>
+        + Threads
+        + Wait
+        + Clock
+        + Copy
+        + Send
+        + Sync,
+>(rt: &R, alloc: Global, row: &Row<'_>) -> Result<bool, Fail> {
+    let settings = read_settings(alloc, row.settings)?;
+    Ok(does_with(rt, alloc, row, &settings)?)
+}
+
+/// The name of the first row that goes otherwise.
+fn wrong_row<
+    R: Net<Stream = TcpStream, Listener = TcpListener>
+        + Threads
+        + Wait
+        + Clock
+        + Copy
+        + Send
+        + Sync,
+>(rt: &R, alloc: Global) -> Result<Option<&'static str>, Fail> {
+    for row in &ROWS {
+        if !does(rt, alloc, row)? {
+            return Ok(Some(row.name));
+        }
+    }
+    Ok(None)
+}
+
+static ROWS: [Row<'static>; 6] = [
     Row {
         name: "connections do not wait for one another",
         settings: b"",
@@ -318,37 +329,40 @@ const ROWS: [Row<'_>; 6] = [
 
 #[test]
 fn what_is_sent_is_received(rt: HostRuntime) -> Result<(), Fail> {
-    for row in &ROWS {
-        let odd = odd(&rt, rt.alloc(), row)?;
-        assert_eq!(rt; odd, None, "{}", row.name);
-    }
+    let wrong = wrong_row(&rt, rt.alloc())?;
+    assert_eq!(rt; wrong, None);
     Ok(())
 }
 
 const TOO_LARGE: &[u8] =
     b"HTTP/1.1 413 Content Too Large\r\nContent-Length: 0\r\nConnection: close\r\n\r\n";
 
+/// What a client reads whose body is over the limit.
+fn refused<'a>(client: Client, body: &'a [u8], read: &'a [u8]) -> Row<'a> {
+    Row {
+        name: "a body over the limit",
+        settings: b"[receive]\nmax_body_bytes = 1000\n",
+        connections: 1,
+        room: 4096,
+        client,
+        body,
+        read,
+        ended: Ok(()),
+        printed: b"",
+    }
+}
+
 /// The body is refused by its length alone, while most of it is still to be written. A client that writes all of it first sees the reply too.
 #[test]
 fn a_body_over_the_limit_is_refused(rt: HostRuntime) -> Result<(), Fail> {
     let body: Vec<u8> = vec![in rt.alloc(); 0; 1 << 24]?;
-    for (client, read) in [
-        (Client::Asks(1), b" 413".as_slice()),
-        (Client::WritesFirst, TOO_LARGE),
-    ] {
-        let row = Row {
-            name: "a body over the limit",
-            settings: b"[receive]\nmax_body_bytes = 1000\n",
-            connections: 1,
-            room: 4096,
-            client,
-            body: &body,
-            read,
-            ended: Ok(()),
-            printed: b"",
-        };
-        assert_eq!(rt; odd(&rt, rt.alloc(), &row)?, None);
-    }
+    let asks = does(&rt, rt.alloc(), &refused(Client::Asks(1), &body, b" 413"))?;
+    let writes = does(
+        &rt,
+        rt.alloc(),
+        &refused(Client::WritesFirst, &body, TOO_LARGE),
+    )?;
+    assert!(rt; asks && writes);
     Ok(())
 }
 
@@ -358,58 +372,62 @@ fn a_pause_lasts_so_many_milliseconds(rt: HostRuntime) -> Result<(), Fail> {
     let start = Instant::now(&rt)?;
     Sleep::new(rt).pause(10);
     let gone = start.elapsed(&rt)?;
-    assert!(rt; gone >= Duration::from_millis(10));
-    assert!(rt; gone < Duration::from_secs(10));
+    assert!(rt; gone >= Duration::from_millis(10) && gone < Duration::from_secs(10));
     Ok(())
 }
 
-/// What a receiver answers and prints whose listener does not wait for a connection.
-fn received_without_waiting<
+/// Whether a receiver whose listener does not wait for a connection fails, and prints nothing.
+fn fails_without_waiting<
     R: Net<Stream = TcpStream, Listener = TcpListener> + Threads + Wait + Clock + Sync,
->(rt: &R, alloc: Global) -> Result<(Result<(), ToolFault>, Room), Fail> {
+>(rt: &R, alloc: Global, settings: &Settings) -> io::Result<bool> {
+    let mut printed = Room::new(alloc, 4096)?;
     let listener = TcpListener::bind(rt, "127.0.0.1:0")?;
     listener.set_nonblocking(true)?;
-    let mut printed = Room::new(alloc, 4096)?;
-    let settings = read_settings(alloc, b"")?;
-    let ended = run_receive(
-        rt,
-        alloc,
-        &settings,
-        Bounded::of(1_000),
-        listener,
-        &mut printed,
-    );
-    Ok((ended, printed))
+    let most = Bounded::of(1_000);
+    let ended = run_receive(rt, alloc, settings, most, listener, &mut printed);
+    Ok(ended == Err(ToolFault::Device) && printed.as_slice().is_empty())
 }
 
 /// A listener that does not wait fails where no connection has come.
 #[test]
 fn a_failed_accept_is_a_device_fault(rt: HostRuntime) -> Result<(), Fail> {
-    let (ended, printed) = received_without_waiting(&rt, rt.alloc())?;
-    assert_eq!(rt; ended, Err(ToolFault::Device));
-    assert!(rt; printed.as_slice().is_empty());
+    let settings = read_settings(rt.alloc(), b"")?;
+    assert!(rt; fails_without_waiting(&rt, rt.alloc(), &settings)?);
     Ok(())
 }
 
-/// The statuses of a request that nobody answers within the timeout, and of one where nobody listens any more.
-fn unanswered<N: Net<Stream = TcpStream, Listener = TcpListener> + Clock + Copy>(
+/// A transport to one address, with a timeout of so many milliseconds.
+fn transport_to<N: Net<Stream = TcpStream> + Clock + Copy>(
     net: &N,
     alloc: Global,
-) -> io::Result<(Vec<u8>, Vec<u8>)> {
+    address: SocketAddr,
+    timeout: Bounded<1, 3_600_000>,
+) -> Result<TcpTransport<N>, AllocError> {
+    let addresses = vec![in alloc; address]?;
+    Ok(TcpTransport::new(alloc, *net, addresses, timeout))
+}
+
+/// Whether a request has no reply.
+fn is_lost<N: Net<Stream = TcpStream> + Clock + Copy>(transport: &mut TcpTransport<N>) -> bool {
+    matches!(transport.exchange(b"POST"), Err(Lost))
+}
+
+/// Whether a request is lost that nobody answers within the timeout, and one where nobody listens any more.
+fn are_lost<N: Net<Stream = TcpStream, Listener = TcpListener> + Clock + Copy>(
+    net: &N,
+    alloc: Global,
+) -> io::Result<bool> {
     let listener = TcpListener::bind(net, "127.0.0.1:0")?;
-    let addresses = vec![in alloc; listener.local_addr()?]?;
-    let mut transport = TcpTransport::new(alloc, *net, addresses, Bounded::of(50));
-    let first = statuses(alloc, &mut transport, 1, b"POST")?;
+    let address = listener.local_addr()?;
+    let mut transport = transport_to(net, alloc, address, Bounded::of(50))?;
+    let first = is_lost(&mut transport);
     drop(listener);
-    let then = statuses(alloc, &mut transport, 1, b"POST")?;
-    Ok((first, then))
+    Ok(first && is_lost(&mut transport))
 }
 
 #[test]
 fn no_reply_is_lost(rt: HostRuntime) -> Result<(), Fail> {
-    let (first, then) = unanswered(&rt, rt.alloc())?;
-    assert_eq!(rt; first.as_slice(), b" 0".as_slice());
-    assert_eq!(rt; then.as_slice(), b" 0".as_slice());
+    assert!(rt; are_lost(&rt, rt.alloc())?);
     Ok(())
 }
 
@@ -424,27 +442,23 @@ fn drip<R: Clock>(clock: &R, listener: &TcpListener) -> io::Result<()> {
     Ok(())
 }
 
-/// The status of a request whose reply comes byte by byte, and how long it took, with a timeout of 200 ms.
+/// How long a request takes whose reply comes byte by byte, with a timeout of 200 ms; none where it has a reply.
 fn dripped<
     R: Net<Stream = TcpStream, Listener = TcpListener> + Threads + Clock + Copy + Send + Sync,
->(rt: &R, alloc: Global) -> io::Result<(Vec<u8>, Duration)> {
+>(rt: &R, alloc: Global) -> io::Result<Option<Duration>> {
     let listener = TcpListener::bind(rt, "127.0.0.1:0")?;
-    let addresses = vec![in alloc; listener.local_addr()?]?;
-    let mut transport = TcpTransport::new(alloc, *rt, addresses, Bounded::of(200));
+    let address = listener.local_addr()?;
+    let mut transport = transport_to(rt, alloc, address, Bounded::of(200))?;
     let start = Instant::now(rt)?;
-    let (statuses, _) = thread::join(
-        rt,
-        || statuses(alloc, &mut transport, 1, b"POST"),
-        || drip(rt, &listener),
-    );
-    Ok((statuses?, start.elapsed(rt)?))
+    let (is_lost, _) = thread::join(rt, || is_lost(&mut transport), || drip(rt, &listener));
+    let took = start.elapsed(rt)?;
+    Ok(is_lost.then_some(took))
 }
 
 /// The timeout holds for the attempt, and not for each read of it.
 #[test]
 fn a_reply_that_drips_is_lost(rt: HostRuntime) -> Result<(), Fail> {
-    let (statuses, took) = dripped(&rt, rt.alloc())?;
-    assert_eq!(rt; statuses.as_slice(), b" 0".as_slice());
-    assert!(rt; took < Duration::from_secs(10));
+    let took = dripped(&rt, rt.alloc())?;
+    assert!(rt; matches!(took, Some(took) if took < Duration::from_secs(10)));
     Ok(())
 }

@@ -2,105 +2,112 @@
 
 use rw_send::{Opened, SegmentFile, segment_files};
 use rw_types::{Source, read_to_end};
-use std::alloc::Global;
+use std::alloc::{AllocError, Global};
 use std::fs::File;
-use std::path::Path;
+use std::path::{Path, PathBuf};
 use std::rt::Files;
 use std::test::Fail;
 use std::{env, fs};
 
-/// What the segments hold, one after the other; none where one cannot be read.
-fn texts<R: Files<File = File> + Drop>(
+/// Adds what the segments hold, one after the other. No, where one cannot be read.
+fn are_read<R: Files<File = File> + Drop>(
     alloc: Global,
     segments: Vec<Opened<SegmentFile<R>>>,
-) -> Option<Vec<u8>> {
-    let mut text = Vec::new(alloc);
+    text: &mut Vec<u8>,
+) -> bool {
     for segment in segments {
         let mut segment = segment;
-        read_to_end(alloc, &mut segment, &mut text).ok()?;
+        if read_to_end(alloc, &mut segment, text).is_err() {
+            return false;
+        }
     }
-    Some(text)
+    true
+}
+
+/// Whether the segments of a folder hold this.
+fn holds(rt: &HostRuntime, dir: &str, wanted: &[u8]) -> Result<bool, AllocError> {
+    let mut text = Vec::new(rt.alloc());
+    let segments = segment_files(rt, dir)?;
+    Ok(are_read(rt.alloc(), segments, &mut text) && text.as_slice() == wanted)
+}
+
+/// A new folder of this name.
+fn new_folder(rt: &HostRuntime, name: &str) -> Result<PathBuf, Fail> {
+    let temp = env::temp_dir(rt)?;
+    let dir = temp.as_path().join(rt.alloc(), name)?;
+    let _ = fs::remove_dir_all(rt, dir.as_path());
+    fs::create_dir(rt, dir.as_path())?;
+    Ok(dir)
+}
+
+static NAMES: [&str; 10] = [
+    "00000010",
+    "2",
+    "x1",
+    "1",
+    "00000001",
+    "123456789",
+    "01",
+    "1.tmp",
+    "-1",
+    "00000000",
+];
+
+fn write_name(rt: &HostRuntime, dir: &str, name: &str) -> Result<(), Fail> {
+    let path = Path::new(dir).join(rt.alloc(), name)?;
+    let text = format!(in rt.alloc(); "{name} ")?;
+    fs::write(rt, path, text)?;
+    Ok(())
+}
+
+fn write_names(rt: &HostRuntime, dir: &str) -> Result<(), Fail> {
+    for name in &NAMES {
+        write_name(rt, dir, name)?;
+    }
+    Ok(())
 }
 
 /// Each file holds its name and a space.
 #[test]
 fn segments_come_by_number(rt: HostRuntime) -> Result<(), Fail> {
-    let alloc = rt.alloc();
-    let names = [
-        "00000010",
-        "2",
-        "x1",
-        "1",
-        "00000001",
-        "123456789",
-        "01",
-        "1.tmp",
-        "-1",
-        "00000000",
-    ];
-    let dir = env::temp_dir(&rt)?
-        .as_path()
-        .join(alloc, "rwship-segments-come-by-number")?;
-    let dir = dir.as_path();
-    let _ = fs::remove_dir_all(&rt, dir);
-    fs::create_dir(&rt, dir)?;
-    for name in names {
-        let path = dir.join(alloc, name)?;
-        fs::write(&rt, path, format!(in alloc; "{name} ")?)?;
-    }
-    let Some(folder) = dir.to_str() else {
-        return Err(Fail::from("no text"));
-    };
-    let segments = segment_files(&rt, folder)?;
-    let read = texts(alloc, segments);
-    fs::remove_dir_all(&rt, dir)?;
-    let Some(read) = read else {
-        return Err(Fail::from("unread"));
-    };
-    assert_eq!(rt;
-        read.as_slice(),
-        b"00000000 1 01 00000001 2 00000010 ".as_slice()
-    );
+    let dir = new_folder(&rt, "rwship-segments-come-by-number")?;
+    write_names(&rt, dir.as_str())?;
+    let is_so = holds(&rt, dir.as_str(), b"00000000 1 01 00000001 2 00000010 ")?;
+    fs::remove_dir_all(&rt, dir.as_path())?;
+    assert!(rt; is_so);
     Ok(())
 }
 
 /// Bytes that no single read gives.
-fn long_text(alloc: Global) -> Result<Vec<u8>, Fail> {
-    let mut text = Vec::with_capacity(alloc, 300_000)?;
+fn put_long(text: &mut Vec<u8>) -> Result<(), AllocError> {
     for k in 0..300_000_u32 {
         text.push((k % 251) as u8)?;
     }
-    Ok(text)
+    Ok(())
+}
+
+/// Whether a file of the folder is read as it was written.
+fn is_read_back(rt: &HostRuntime, dir: &str, text: &[u8]) -> Result<bool, Fail> {
+    fs::write(rt, Path::new(dir).join(rt.alloc(), "00000000")?, text)?;
+    Ok(holds(rt, dir, text)?)
 }
 
 #[test]
 fn a_long_file_is_read_to_its_end(rt: HostRuntime) -> Result<(), Fail> {
-    let alloc = rt.alloc();
-    let text = long_text(alloc)?;
-    let dir = env::temp_dir(&rt)?
-        .as_path()
-        .join(alloc, "rwship-a-long-file-is-read-to-its-end")?;
-    let dir = dir.as_path();
-    let _ = fs::remove_dir_all(&rt, dir);
-    fs::create_dir(&rt, dir)?;
-    fs::write(&rt, dir.join(alloc, "00000000")?, text.as_slice())?;
-    let Some(folder) = dir.to_str() else {
-        return Err(Fail::from("no text"));
-    };
-    let segments = segment_files(&rt, folder)?;
-    let read = texts(alloc, segments);
-    fs::remove_dir_all(&rt, dir)?;
-    let Some(read) = read else {
-        return Err(Fail::from("unread"));
-    };
-    assert!(rt; read.as_slice() == text.as_slice());
+    let mut text = Vec::new(rt.alloc());
+    put_long(&mut text)?;
+    let dir = new_folder(&rt, "rwship-a-long-file-is-read-to-its-end")?;
+    let is_so = is_read_back(&rt, dir.as_str(), &text)?;
+    fs::remove_dir_all(&rt, dir.as_path())?;
+    assert!(rt; is_so);
     Ok(())
 }
 
 #[test]
 fn a_missing_folder_cannot_be_read(rt: HostRuntime) -> Result<(), Fail> {
     let segments = segment_files(&rt, "/no such folder")?;
-    assert_eq!(rt; segments.len(), 1);
-    assert!(rt; texts(rt.alloc(), segments).is_none());
+    let is_one = segments.len() == 1;
+    let mut text = Vec::new(rt.alloc());
+    assert!(rt; !are_read(rt.alloc(), segments, &mut text) && is_one);
     Ok(())
 }

@@ -16,4 +16,4 @@ mod memory;
 #[cfg(test)]
 mod receivers;
 #[cfg(test)]
-mod runs;
+mod rows;

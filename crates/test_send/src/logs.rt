@@ -2,8 +2,7 @@
 
 use rw_tool::run_log;
 use rw_types::{Failed, Room, Source};
-use std::alloc::Global;
-use std::test::Fail;
+use std::alloc::{AllocError, Global};
 
 /// One sample, the value 1 at 1000 of `{__name__="up"}`.
 pub(crate) const UP: &[u8] = b"series 1 {__name__=\"up\"}\nsample 1 1000 1\n";
@@ -16,24 +15,31 @@ pub(crate) const FALLS: &[u8] =
 pub(crate) const BEHIND: &[u8] =
     b"series 1 {__name__=\"up\"}\nseries 2 {__name__=\"up\"}\nsample 1 20 1\nsample 2 10 2\n";
 
+/// Two series with names that are no legacy ones.
+pub(crate) const NAMES: &[u8] =
+    b"series 1 {__name__=\"http.rate\",\"s\xc3\xa4ge\"=\"1\"}\nseries 2 {\"9x\"=\"1\"}\nsample 1 10 1\nsample 2 10 2\n";
+
 /// The segment of log text.
-pub(crate) fn segment(alloc: Global, text: &[u8]) -> Result<Vec<u8>, Fail> {
+pub(crate) fn segment(alloc: Global, text: &[u8]) -> Result<Vec<u8>, AllocError> {
     let mut reader = text;
     let mut writer = Room::new(alloc, 32_768)?;
     match run_log(alloc, &mut reader, &mut writer, false, 1) {
         Ok(()) => Ok(writer.into_bytes()),
-        Err(_) => Err(Fail::from("no log text")),
+        Err(_) => Err(AllocError),
     }
 }
 
-/// A reader that gives a text and then fails.
+/// A reader that gives a text, and then fails if it is to fail.
 #[derive(Drop)]
-pub(crate) struct Torn<'a> {
-    pub(crate) text: &'a [u8],
+pub(crate) struct Torn {
+    pub(crate) text: Vec<u8>,
+    /// How much was given.
+    pub(crate) at: usize,
+    pub(crate) fails: bool,
     pub(crate) failed: bool,
 }
 
-impl<'a> Source for Torn<'a> {
+impl Source for Torn {
     ghost use Rattle.std.specs.Prelude.{None, false};
 
     ghost remaining = { λ _. None };
@@ -43,13 +49,14 @@ impl<'a> Source for Torn<'a> {
     ghost is_sure = { λ _. false };
 
     fn read(&mut self, buf: &mut [u8]) -> Result<usize, Failed> {
-        if self.failed || self.text.is_empty() {
+        let at = self.at.min(self.text.len());
+        if self.failed || (self.fails && at == self.text.len()) {
             self.failed = true;
             return Err(Failed);
         }
-        let count = self.text.len().min(buf.len());
-        buf[..count].copy_from_slice(&self.text[..count]);
-        self.text = &self.text[count..];
+        let count = (self.text.len() - at).min(buf.len());
+        buf[..count].copy_from_slice(&self.text[at..at + count]);
+        self.at = at + count;
         Ok(count)
     }
 }

@@ -1,20 +1,71 @@
 //! A sender and a receiver in one process, over the loopback interface.
 
-use crate::logs::{BEHIND, FALLS, UP, segment};
-use crate::runs::sent;
+use crate::logs::{BEHIND, FALLS, NAMES, UP, segment};
 use rw_receive::run_receive;
-use rw_send::TcpConnect;
+use rw_send::{TcpConnect, run_send};
 use rw_settings::read_settings;
+use rw_shipper::Connect;
 use rw_tcp::look_up;
-use rw_tool::ToolFault;
 use rw_types::{Bounded, Room};
 use std::alloc::Global;
-use std::net::{Net, TcpListener, TcpStream};
+use std::net::{Net, SocketAddr, TcpListener, TcpStream};
 use std::sync::Wait;
 use std::test::Fail;
 use std::thread;
 use std::thread::Threads;
 use std::time::Clock;
+
+/// The settings of both, the connections that the sender makes, the log, and what the sender and the receiver print.
+type Row<'a> = (&'a [u8], u64, &'a [u8], &'a [u8], &'a [u8]);
+
+const COMPLETE: &[u8] = b"filtered 0\nreport complete 2\n";
+
+const HELD: &[u8] = b"received {__name__=\"up\"} 1000=1\n";
+
+/// What is printed of names that are not sent.
+const NOT_SENT: &[u8] = b"dropped 2 labels 3\ndropped 3 labels 3\nfiltered 0\nreport complete 4\n";
+
+static ROWS: [Row<'static>; 9] = [
+    (b"", 1, UP, COMPLETE, HELD),
+    (b"[receive]\nbusy_first = 1\n", 2, UP, COMPLETE, HELD),
+    (
+        b"",
+        1,
+        FALLS,
+        b"dropped 2 notrising\ndropped 3 notrising\nfiltered 0\nreport complete 5\n",
+        b"received {__name__=\"up\"} 10=1 20=3\n",
+    ),
+    (
+        b"[send]\nshards = 3\n",
+        1,
+        BEHIND,
+        b"dropped 3 notrising\nfiltered 0\nreport complete 4\n",
+        b"received {__name__=\"up\"} 20=1\n",
+    ),
+    (
+        b"[send]\nnames = 'utf8'\n[receive]\nnames = 'utf8'\n",
+        1,
+        NAMES,
+        b"filtered 0\nreport complete 4\n",
+        b"received {\"9x\"=\"1\"} 10=2\nreceived {__name__=\"http.rate\",\"s\xc3\xa4ge\"=\"1\"} 10=1\n",
+    ),
+    (
+        b"[send]\nnames = 'utf8'\n",
+        1,
+        NAMES,
+        b"dropped 2 status 400\ndropped 3 status 400\nfiltered 0\nreport complete 4\n",
+        b"",
+    ),
+    (b"", 0, NAMES, NOT_SENT, b""),
+    (b"[receive]\nnames = 'utf8'\n", 0, NAMES, NOT_SENT, b""),
+    (
+        b"[send]\nnames = 'legacy'\n[receive]\nnames = 'legacy'\n",
+        0,
+        NAMES,
+        NOT_SENT,
+        b"",
+    ),
+];
 
 /// Connections to a receiver.
 fn connect_to<N: Net<Stream = TcpStream> + Drop>(
@@ -27,72 +78,65 @@ fn connect_to<N: Net<Stream = TcpStream> + Drop>(
     Ok(TcpConnect::new(alloc, net, addresses, Bounded::of(10_000)))
 }
 
-/// What a receiver prints that is set to this.
-fn received<R: Threads + Wait + Clock + Sync>(
+/// Whether a receiver takes the connections of a sender, or one where there are none, and ends well.
+fn receives<R: Threads + Wait + Clock + Sync>(
     rt: &R,
     alloc: Global,
-    settings: &[u8],
-    connections: Bounded<1, 1_000>,
+    row: &Row<'_>,
     listener: TcpListener,
-) -> Result<Vec<u8>, ToolFault> {
-    let Ok(settings) = read_settings(alloc, settings) else {
-        return Err(ToolFault::OutOfMemory);
+    held: &mut Room,
+) -> bool {
+    let Some(connections) = Bounded::new(row.1.max(1)) else {
+        return false;
     };
-    let mut writer = Room::new(alloc, 4096)?;
-    run_receive(rt, alloc, &settings, connections, listener, &mut writer)?;
-    Ok(writer.into_bytes())
+    match read_settings(alloc, row.0) {
+        Ok(settings) => run_receive(rt, alloc, &settings, connections, listener, held).is_ok(),
+        Err(_) => false,
+    }
 }
 
-/// The settings of both, the connections, the log, and what the sender and the receiver print.
-type Row<'a> = (&'a [u8], Bounded<1, 1_000>, &'a [u8], &'a [u8], &'a [u8]);
+/// Whether a sender ships a log and ends well.
+fn sends<R: Threads + Wait + Clock + Copy + Send + 'static, C: Connect + Drop>(
+    rt: &R,
+    alloc: Global,
+    row: &Row<'_>,
+    log: &[u8],
+    connect: C,
+    printed: &mut Room,
+) -> bool {
+    let Ok(segments) = vec![in alloc; log] else {
+        return false;
+    };
+    match read_settings(alloc, row.0) {
+        Ok(settings) => run_send(rt, alloc, settings, segments, connect, printed).is_ok(),
+        Err(_) => false,
+    }
+}
 
-/// A receiver that is busy for the first connection takes the sample of the second one. Samples that do not rise are named and not sent.
+/// Whether somebody else connects and says nothing, once a sender that does not connect has ended. A receiver ends after one connection.
+fn passes_by<N: Net<Stream = TcpStream>>(net: &N, row: &Row<'_>, address: SocketAddr) -> bool {
+    row.1 > 0 || TcpStream::connect(net, address).is_ok()
+}
+
+/// A receiver that is busy for the first connection takes the sample of the second one. Samples that do not rise are named and not sent, and
+/// so are names that the sender does not take.
 #[test]
 fn what_is_sent_is_received(rt: HostRuntime) -> Result<(), Fail> {
     let alloc = rt.alloc();
-    let complete: &[u8] = b"filtered 0\nreport complete 2\n";
-    let up: &[u8] = b"received {__name__=\"up\"} 1000=1\n";
-    let rows: [Row<'_>; 4] = [
-        (b"", Bounded::of(1), UP, complete, up),
-        (
-            b"[receive]\nbusy_first = 1\n",
-            Bounded::of(2),
-            UP,
-            complete,
-            up,
-        ),
-        (
-            b"",
-            Bounded::of(1),
-            FALLS,
-            b"dropped 2 notrising\ndropped 3 notrising\nfiltered 0\nreport complete 5\n",
-            b"received {__name__=\"up\"} 10=1 20=3\n",
-        ),
-        (
-            b"[send]\nshards = 3\n",
-            Bounded::of(1),
-            BEHIND,
-            b"dropped 3 notrising\nfiltered 0\nreport complete 4\n",
-            b"received {__name__=\"up\"} 20=1\n",
-        ),
-    ];
-    for (settings, connections, text, printed, held) in rows {
+    for (i, row) in ROWS.iter().enumerate() {
+        let log = segment(alloc, row.2)?;
+        let mut printed = Room::new(alloc, 4096)?;
+        let mut held = Room::new(alloc, 4096)?;
         let listener = TcpListener::bind(&rt, "127.0.0.1:0")?;
+        let address = listener.local_addr()?;
         let connect = connect_to(rt, alloc, &listener)?;
-        let log = segment(alloc, text)?;
-        let segments = vec![in alloc; log.as_slice()]?;
-        let configured = read_settings(alloc, settings)?;
-        let (received, run) = thread::join(
+        let (received, sent) = thread::join(
             &rt,
-            || received(&rt, alloc, settings, connections, listener),
-            || sent(&rt, alloc, configured, segments, connect, 4096),
+            || receives(&rt, alloc, row, listener, &mut held),
+            || sends(&rt, alloc, row, &log, connect, &mut printed) & passes_by(&rt, row, address),
         );
-        let (Ok(received), Ok(run)) = (received, run) else {
-            return Err(Fail::from("not received"));
-        };
-        assert_eq!(rt; run.answer, Ok(()));
-        assert_eq!(rt; run.printed.as_slice(), printed);
-        assert_eq!(rt; received.as_slice(), held);
+        let is_right = printed.as_slice() == row.3 && held.as_slice() == row.4;
+        assert!(rt; received && sent && is_right, "row {i}");
     }
     Ok(())
 }

@@ -2,223 +2,336 @@
 
 use crate::logs::{BEHIND, FALLS, Torn, UP, segment};
 use crate::receivers::Receivers;
-use crate::runs::{Run, sent};
+use crate::rows::none_is_wrong;
+use Part::{Changed, Cut, Fails, Whole};
 use http::StatusCode;
 use rw_codes::TailFault;
+use rw_send::run_send;
 use rw_settings::read_settings;
 use rw_tool::ToolFault;
-use std::alloc::Global;
+use rw_types::Room;
+use std::alloc::{AllocError, Global};
 use std::sync::Wait;
 use std::test::Fail;
 use std::thread::Threads;
 use std::time::{Clock, Duration};
 
-/// Receivers that answer by this status at once; for the shards of a later epoch there is no memory.
-fn at_first<R>(clock: R, status: StatusCode) -> Receivers<R> {
-    Receivers {
-        clock,
-        status,
-        takes: Duration::ZERO,
-        epochs: 1,
+/// A segment of a log, written as log text.
+#[derive(Clone, Copy)]
+enum Part<'a> {
+    Whole(&'a [u8]),
+    /// Its last byte is changed.
+    Changed(&'a [u8]),
+    /// It ends behind 34 bytes, inside a record.
+    Cut(&'a [u8]),
+    /// Its reader fails behind it.
+    Fails(&'a [u8]),
+}
+
+/// How receivers answer: by which status, and after how many milliseconds. For the shards of the epochs from this one on there is no memory.
+#[derive(Clone, Copy)]
+struct Answers {
+    status: u16,
+    takes: u64,
+    epochs: u64,
+}
+
+const TAKEN: Answers = Answers {
+    status: 204,
+    takes: 0,
+    epochs: 1,
+};
+
+const REFUSED: Answers = Answers {
+    status: 400,
+    takes: 0,
+    epochs: 1,
+};
+
+const BUSY: Answers = Answers {
+    status: 503,
+    takes: 0,
+    epochs: 1,
+};
+
+/// The settings, the log, its receivers, how much may be printed, the answer, and what is printed.
+type Row<'a> = (
+    &'a [u8],
+    &'a [Part<'a>],
+    Answers,
+    usize,
+    Result<(), ToolFault>,
+    &'a [u8],
+);
+
+fn bytes_of(alloc: Global, part: Part<'_>) -> Result<Vec<u8>, AllocError> {
+    match part {
+        Whole(text) | Fails(text) => segment(alloc, text),
+        Changed(text) => {
+            let mut bytes = segment(alloc, text)?;
+            if let Some(last) = bytes.last_mut() {
+                *last ^= 1;
+            }
+            Ok(bytes)
+        }
+        Cut(text) => {
+            let mut bytes = segment(alloc, text)?;
+            bytes.truncate(34);
+            Ok(bytes)
+        }
     }
 }
 
-/// Receivers that take all, for so many epochs.
-fn for_epochs<R>(clock: R, takes: Duration, epochs: u64) -> Receivers<R> {
-    Receivers {
-        clock,
-        status: StatusCode::NO_CONTENT,
-        takes,
-        epochs,
-    }
-}
-
-/// Ships segments to receivers, with room for so many bytes of print.
-fn shipped<R: Threads + Wait + Clock + Copy + Send + 'static>(
-    rt: &R,
-    alloc: Global,
-    settings: &[u8],
-    segments: Vec<&[u8]>,
-    receivers: Receivers<R>,
-    room: usize,
-) -> Result<Run, Fail> {
-    let settings = read_settings(alloc, settings)?;
-    Ok(sent(rt, alloc, settings, segments, receivers, room)?)
-}
-
-#[test]
-fn logs_of_one_segment(rt: HostRuntime) -> Result<(), Fail> {
-    let alloc = rt.alloc();
-    let rows: [(&[u8], &[u8], StatusCode, &[u8]); 9] = [
-        (
-            b"",
-            UP,
-            StatusCode::NO_CONTENT,
-            b"filtered 0\nreport complete 2\n",
-        ),
-        (
-            b"",
-            b"",
-            StatusCode::NO_CONTENT,
-            b"filtered 0\nreport complete 0\n",
-        ),
-        (
-            b"",
-            UP,
-            StatusCode::BAD_REQUEST,
-            b"dropped 1 status 400\nfiltered 0\nreport complete 2\n",
-        ),
-        (
-            b"",
-            b"sample 7 10 1\n",
-            StatusCode::NO_CONTENT,
-            b"dropped 0 noseries\nfiltered 0\nreport complete 1\n",
-        ),
-        (
-            b"",
-            b"series 5 {__name__=\"9\"}\nsample 5 10 1\n",
-            StatusCode::NO_CONTENT,
-            b"dropped 1 labels 3\nfiltered 0\nreport complete 2\n",
-        ),
-        (
-            b"[[rule]]\naction = \"drop\"\nsource_labels = [\"__name__\"]\nregex = \"up\"\n",
-            UP,
-            StatusCode::NO_CONTENT,
-            b"filtered 1\nreport complete 2\n",
-        ),
-        (
-            b"[send]\nshards = 2\n",
-            b"series 1 {__name__=\"a\"}\nseries 2 {__name__=\"b\"}\nsample 2 10 1\nsample 1 10 1\nsample 3 10 1\nsample 2 20 1\nsample 1 20 1\n",
-            StatusCode::BAD_REQUEST,
-            b"dropped 2 status 400\ndropped 3 status 400\ndropped 4 noseries\ndropped 5 status 400\ndropped 6 status 400\nfiltered 0\nreport complete 7\n",
-        ),
-        (
-            b"",
-            FALLS,
-            StatusCode::NO_CONTENT,
-            b"dropped 2 notrising\ndropped 3 notrising\nfiltered 0\nreport complete 5\n",
-        ),
-        (
-            b"[send]\nshards = 3\n",
-            BEHIND,
-            StatusCode::NO_CONTENT,
-            b"dropped 3 notrising\nfiltered 0\nreport complete 4\n",
-        ),
-    ];
-    for (settings, text, status, printed) in rows {
-        let log = segment(alloc, text)?;
-        let segments = vec![in alloc; log.as_slice()]?;
-        let run = shipped(&rt, alloc, settings, segments, at_first(rt, status), 4096)?;
-        assert_eq!(rt; run.answer, Ok(()));
-        assert_eq!(rt; run.printed.as_slice(), printed);
+fn put_readers(alloc: Global, readers: &mut Vec<Torn>, log: &[Part<'_>]) -> Result<(), AllocError> {
+    for part in log {
+        let reader = Torn {
+            text: bytes_of(alloc, *part)?,
+            at: 0,
+            fails: matches!(part, Fails(_)),
+            failed: false,
+        };
+        readers.push(reader)?;
     }
     Ok(())
 }
 
-/// Ships a first and a second segment, where they are there.
-fn shipped_in_turn<R: Threads + Wait + Clock + Copy + Send + 'static>(
+/// Receivers that answer so.
+fn receivers_of<R: Copy>(clock: &R, answers: Answers) -> Result<Receivers<R>, AllocError> {
+    match StatusCode::from_u16(answers.status) {
+        Ok(status) => Ok(Receivers {
+            clock: *clock,
+            status,
+            takes: Duration::from_millis(answers.takes),
+            epochs: answers.epochs,
+        }),
+        Err(_) => Err(AllocError),
+    }
+}
+
+/// Ships the log of a row.
+fn shipped<R: Threads + Wait + Clock + Copy + Send + 'static>(
     rt: &R,
     alloc: Global,
-    settings: &[u8],
-    log: (Option<&[u8]>, Option<&[u8]>),
-    receivers: Receivers<R>,
-) -> Result<Run, Fail> {
-    let mut segments = Vec::new(alloc);
-    if let Some(first) = log.0 {
-        segments.push(first)?;
+    row: &Row<'_>,
+    printed: &mut Room,
+) -> Result<Result<(), ToolFault>, AllocError> {
+    let mut readers = Vec::new(alloc);
+    put_readers(alloc, &mut readers, row.1)?;
+    let receivers = receivers_of(rt, row.2)?;
+    match read_settings(alloc, row.0) {
+        Ok(settings) => Ok(run_send(rt, alloc, settings, readers, receivers, printed)),
+        Err(_) => Err(AllocError),
     }
-    if let Some(second) = log.1 {
-        segments.push(second)?;
-    }
-    shipped(rt, alloc, settings, segments, receivers, 4096)
 }
+
+/// Whether a run does as a row says.
+fn does<R: Threads + Wait + Clock + Copy + Send + 'static>(
+    rt: &R,
+    alloc: Global,
+    row: &Row<'_>,
+) -> Result<bool, AllocError> {
+    let mut printed = Room::new(alloc, row.3)?;
+    let answer = shipped(rt, alloc, row, &mut printed)?;
+    Ok(answer == row.4 && printed.as_slice() == row.5)
+}
+
+fn wrong_row<R: Threads + Wait + Clock + Copy + Send + 'static>(
+    rt: &R,
+    alloc: Global,
+    rows: &[Row<'_>],
+) -> Result<Option<usize>, AllocError> {
+    for (i, row) in rows.iter().enumerate() {
+        if !does(rt, alloc, row)? {
+            return Ok(Some(i));
+        }
+    }
+    Ok(None)
+}
+
+static ONE_SEGMENT: [Row<'static>; 9] = [
+    (
+        b"",
+        &[Whole(UP)],
+        TAKEN,
+        4096,
+        Ok(()),
+        b"filtered 0\nreport complete 2\n",
+    ),
+    (
+        b"",
+        &[Whole(b"")],
+        TAKEN,
+        4096,
+        Ok(()),
+        b"filtered 0\nreport complete 0\n",
+    ),
+    (
+        b"",
+        &[Whole(UP)],
+        REFUSED,
+        4096,
+        Ok(()),
+        b"dropped 1 status 400\nfiltered 0\nreport complete 2\n",
+    ),
+    (
+        b"",
+        &[Whole(b"sample 7 10 1\n")],
+        TAKEN,
+        4096,
+        Ok(()),
+        b"dropped 0 noseries\nfiltered 0\nreport complete 1\n",
+    ),
+    (
+        b"",
+        &[Whole(b"series 5 {__name__=\"9\"}\nsample 5 10 1\n")],
+        TAKEN,
+        4096,
+        Ok(()),
+        b"dropped 1 labels 3\nfiltered 0\nreport complete 2\n",
+    ),
+    (
+        b"[[rule]]\naction = \"drop\"\nsource_labels = [\"__name__\"]\nregex = \"up\"\n",
+        &[Whole(UP)],
+        TAKEN,
+        4096,
+        Ok(()),
+        b"filtered 1\nreport complete 2\n",
+    ),
+    (
+        b"[send]\nshards = 2\n",
+        &[Whole(
+            b"series 1 {__name__=\"a\"}\nseries 2 {__name__=\"b\"}\nsample 2 10 1\nsample 1 10 1\nsample 3 10 1\nsample 2 20 1\nsample 1 20 1\n",
+        )],
+        REFUSED,
+        4096,
+        Ok(()),
+        b"dropped 2 status 400\ndropped 3 status 400\ndropped 4 noseries\ndropped 5 status 400\ndropped 6 status 400\nfiltered 0\nreport complete 7\n",
+    ),
+    (
+        b"",
+        &[Whole(FALLS)],
+        TAKEN,
+        4096,
+        Ok(()),
+        b"dropped 2 notrising\ndropped 3 notrising\nfiltered 0\nreport complete 5\n",
+    ),
+    (
+        b"[send]\nshards = 3\n",
+        &[Whole(BEHIND)],
+        TAKEN,
+        4096,
+        Ok(()),
+        b"dropped 3 notrising\nfiltered 0\nreport complete 4\n",
+    ),
+];
+
+#[test]
+fn logs_of_one_segment(rt: HostRuntime) -> Result<(), Fail> {
+    none_is_wrong(&rt, wrong_row(&rt, rt.alloc(), &ONE_SEGMENT)?);
+    Ok(())
+}
+
+const NEXT: &[u8] = b"sample 1 2000 2\n";
+
+static SEVERAL_SEGMENTS: [Row<'static>; 5] = [
+    (
+        b"",
+        &[],
+        TAKEN,
+        4096,
+        Ok(()),
+        b"filtered 0\nreport complete 0\n",
+    ),
+    (
+        b"",
+        &[Whole(UP), Whole(NEXT)],
+        TAKEN,
+        4096,
+        Ok(()),
+        b"filtered 0\nreport complete 3\n",
+    ),
+    (
+        b"",
+        &[Changed(UP), Whole(NEXT)],
+        TAKEN,
+        4096,
+        Err(ToolFault::Log(TailFault::BadCrc)),
+        b"filtered 0\nreport damaged 3\n",
+    ),
+    (
+        b"",
+        &[Cut(UP)],
+        TAKEN,
+        4096,
+        Ok(()),
+        b"filtered 0\nreport complete 1\n",
+    ),
+    (
+        b"",
+        &[Cut(UP), Cut(UP)],
+        TAKEN,
+        4096,
+        Err(ToolFault::Log(TailFault::TornSegment)),
+        b"filtered 0\nreport damaged 8\n",
+    ),
+];
 
 /// A sample in a later segment may be one of a series of an earlier one. A segment that ends inside a record is no fault where it is the
 /// last one; behind a fault nothing is read.
 #[test]
 fn logs_of_several_segments(rt: HostRuntime) -> Result<(), Fail> {
-    let alloc = rt.alloc();
-    let up = segment(alloc, UP)?;
-    let next = segment(alloc, b"sample 1 2000 2\n")?;
-    let mut changed = segment(alloc, UP)?;
-    if let Some(last) = changed.last_mut() {
-        *last ^= 1;
-    }
-    let (up, next, changed) = (up.as_slice(), next.as_slice(), changed.as_slice());
-    let (torn, _) = up.split_at(up.len().min(34));
-    let bad = Err(ToolFault::Log(TailFault::BadCrc));
-    let cut = Err(ToolFault::Log(TailFault::TornSegment));
-    let rows: [(Option<&[u8]>, Option<&[u8]>, Result<(), ToolFault>, &[u8]); 5] = [
-        (None, None, Ok(()), b"filtered 0\nreport complete 0\n"),
-        (
-            Some(up),
-            Some(next),
-            Ok(()),
-            b"filtered 0\nreport complete 3\n",
-        ),
-        (
-            Some(changed),
-            Some(next),
-            bad,
-            b"filtered 0\nreport damaged 3\n",
-        ),
-        (Some(torn), None, Ok(()), b"filtered 0\nreport complete 1\n"),
-        (
-            Some(torn),
-            Some(torn),
-            cut,
-            b"filtered 0\nreport damaged 8\n",
-        ),
-    ];
-    for (first, second, answer, printed) in rows {
-        let receivers = for_epochs(rt, Duration::ZERO, 1);
-        let run = shipped_in_turn(&rt, alloc, b"", (first, second), receivers)?;
-        assert_eq!(rt; run.answer, answer);
-        assert_eq!(rt; run.printed.as_slice(), printed);
-    }
+    none_is_wrong(&rt, wrong_row(&rt, rt.alloc(), &SEVERAL_SEGMENTS)?);
     Ok(())
 }
+
+const NO_RECEIVER: Answers = Answers {
+    status: 204,
+    takes: 0,
+    epochs: 0,
+};
+
+static NOT_PRINTED: [Row<'static>; 2] = [
+    (b"", &[Whole(UP)], TAKEN, 20, Err(ToolFault::Device), b""),
+    (
+        b"",
+        &[Whole(UP)],
+        NO_RECEIVER,
+        4096,
+        Err(ToolFault::OutOfMemory),
+        b"",
+    ),
+];
 
 /// There is no room for the report, or no memory for the first receiver.
 #[test]
 fn nothing_is_printed(rt: HostRuntime) -> Result<(), Fail> {
-    let alloc = rt.alloc();
-    let rows = [
-        (1, 20, ToolFault::Device),
-        (0, 4096, ToolFault::OutOfMemory),
-    ];
-    for (epochs, room, fault) in rows {
-        let log = segment(alloc, UP)?;
-        let segments = vec![in alloc; log.as_slice()]?;
-        let receivers = for_epochs(rt, Duration::ZERO, epochs);
-        let run = shipped(&rt, alloc, b"", segments, receivers, room)?;
-        assert_eq!(rt; run.answer, Err(fault));
-        assert!(rt; run.printed.is_empty());
-    }
+    none_is_wrong(&rt, wrong_row(&rt, rt.alloc(), &NOT_PRINTED)?);
     Ok(())
 }
+
+static FAILING: [Row<'static>; 2] = [
+    (
+        b"",
+        &[Fails(b"")],
+        BUSY,
+        4096,
+        Err(ToolFault::Device),
+        b"filtered 0\nreport abandoned 0\n",
+    ),
+    (
+        b"",
+        &[Fails(UP)],
+        BUSY,
+        4096,
+        Err(ToolFault::Device),
+        b"filtered 0\nabandoned 1\nreport abandoned 2\n",
+    ),
+];
 
 /// The receivers are always busy, so that a sample that was read is not resolved when the work is stopped.
 #[test]
 fn a_reader_that_fails(rt: HostRuntime) -> Result<(), Fail> {
-    let alloc = rt.alloc();
-    let rows: [(&[u8], &[u8]); 2] = [
-        (b"", b"filtered 0\nreport abandoned 0\n"),
-        (UP, b"filtered 0\nabandoned 1\nreport abandoned 2\n"),
-    ];
-    for (text, printed) in rows {
-        let log = segment(alloc, text)?;
-        let torn = Torn {
-            text: log.as_slice(),
-            failed: false,
-        };
-        let segments = vec![in alloc; torn]?;
-        let settings = read_settings(alloc, b"")?;
-        let busy = at_first(rt, StatusCode::SERVICE_UNAVAILABLE);
-        let run = sent(&rt, alloc, settings, segments, busy, 4096)?;
-        assert_eq!(rt; run.answer, Err(ToolFault::Device));
-        assert_eq!(rt; run.printed.as_slice(), printed);
-    }
+    none_is_wrong(&rt, wrong_row(&rt, rt.alloc(), &FAILING)?);
     Ok(())
 }
 
@@ -228,65 +341,69 @@ const FOUR: &[u8] =
 
 const ONE_MORE: &[u8] = b"sample 1 50 1\n";
 
+const NARROW: &[u8] = b"[send]\ncapacity = 1\nbatch = 1\n";
+
+const FIXED: &[u8] = b"[send]\ncapacity = 1\nbatch = 1\nmax_shards = 1\n";
+
+const SLOW: Answers = Answers {
+    status: 204,
+    takes: 300,
+    epochs: 1,
+};
+
+const SLOW_FOR_TWO: Answers = Answers {
+    status: 204,
+    takes: 300,
+    epochs: 2,
+};
+
+static SHARDS: [Row<'static>; 5] = [
+    (
+        NARROW,
+        &[Whole(FOUR), Whole(ONE_MORE)],
+        SLOW,
+        4096,
+        Err(ToolFault::OutOfMemory),
+        b"filtered 0\nreport abandoned 5\n",
+    ),
+    (
+        NARROW,
+        &[Whole(FOUR), Whole(ONE_MORE)],
+        SLOW_FOR_TWO,
+        4096,
+        Ok(()),
+        b"filtered 0\nreport complete 6\n",
+    ),
+    (
+        NARROW,
+        &[Whole(FOUR), Whole(ONE_MORE)],
+        TAKEN,
+        4096,
+        Ok(()),
+        b"filtered 0\nreport complete 6\n",
+    ),
+    (
+        NARROW,
+        &[Whole(FOUR)],
+        SLOW,
+        4096,
+        Ok(()),
+        b"filtered 0\nreport complete 5\n",
+    ),
+    (
+        FIXED,
+        &[Whole(FOUR), Whole(ONE_MORE)],
+        SLOW,
+        4096,
+        Ok(()),
+        b"filtered 0\nreport complete 6\n",
+    ),
+];
+
 /// A queue and a batch of one sample each: where the receiver is slow, two of four samples may wait, so one shard is to become three. Where
 /// that is refused the work ends. Nothing changes where the receiver keeps up, and behind the last segment.
 #[test]
 fn the_number_of_shards_follows_the_load(rt: HostRuntime) -> Result<(), Fail> {
-    let alloc = rt.alloc();
-    let narrow: &[u8] = b"[send]\ncapacity = 1\nbatch = 1\n";
-    let fixed: &[u8] = b"[send]\ncapacity = 1\nbatch = 1\nmax_shards = 1\n";
-    let (slow, quick) = (Duration::from_millis(300), Duration::ZERO);
-    let refused = Err(ToolFault::OutOfMemory);
-    let rows: [(&[u8], bool, Duration, u64, Result<(), ToolFault>, &[u8]); 5] = [
-        (
-            narrow,
-            true,
-            slow,
-            1,
-            refused,
-            b"filtered 0\nreport abandoned 5\n",
-        ),
-        (
-            narrow,
-            true,
-            slow,
-            2,
-            Ok(()),
-            b"filtered 0\nreport complete 6\n",
-        ),
-        (
-            narrow,
-            true,
-            quick,
-            1,
-            Ok(()),
-            b"filtered 0\nreport complete 6\n",
-        ),
-        (
-            narrow,
-            false,
-            slow,
-            1,
-            Ok(()),
-            b"filtered 0\nreport complete 5\n",
-        ),
-        (
-            fixed,
-            true,
-            slow,
-            1,
-            Ok(()),
-            b"filtered 0\nreport complete 6\n",
-        ),
-    ];
-    let first = segment(alloc, FOUR)?;
-    let second = segment(alloc, ONE_MORE)?;
-    for (settings, is_more, takes, epochs, answer, printed) in rows {
-        let log = (Some(first.as_slice()), is_more.then_some(second.as_slice()));
-        let receivers = for_epochs(rt, takes, epochs);
-        let run = shipped_in_turn(&rt, alloc, settings, log, receivers)?;
-        assert_eq!(rt; run.answer, answer);
-        assert_eq!(rt; run.printed.as_slice(), printed);
-    }
+    none_is_wrong(&rt, wrong_row(&rt, rt.alloc(), &SHARDS)?);
     Ok(())
 }
