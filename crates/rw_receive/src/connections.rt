@@ -4,12 +4,10 @@ ghost use Rattle.std.specs.Prelude.{◌≡◌, ◌+◌, ◌<◌, ◌⊎◌, IfOk
 ghost use Rattle.rw_recv_head.specs.Growth.{EachRises};
 ghost use Rattle.rw_tool.specs.declared.fault.ToolFault.TheVariants.{OutOfMemory, Device};
 
-use crate::parting::part;
-use rw_recv_head::{Head, Limits};
-use rw_recv_http::serve;
-use rw_shared_head::{Asking, Seat, SharedHead};
+use crate::serving::{Post, served};
+use rw_recv_head::Head;
+use rw_shared_head::{Seat, SharedHead};
 use rw_tool::ToolFault;
-use rw_types::Std;
 use std::alloc::{AllocError, Global};
 use std::net::{TcpListener, TcpStream};
 use std::sync::Wait;
@@ -17,28 +15,6 @@ use std::sync::ledger::{Blank, Ledger};
 use std::thread;
 use std::thread::{JoinHandle, Scope, Threads};
 use std::time::Clock;
-
-/// Serves a connection to its end, however it ends, parts from the client, and gives the seat back.
-fn served<L: Ledger, R: Wait + Clock>(
-    rt: &R,
-    alloc: Global,
-    shared: &SharedHead<L>,
-    limits: &Limits,
-    stream: TcpStream,
-    seat: Seat<L>,
-) -> Seat<L> {
-    let mut seat = seat;
-    let mut reader = Std::new(&stream);
-    let mut writer = Std::new(&stream);
-    let mut asking = Asking {
-        rt,
-        shared,
-        seat: &mut seat,
-    };
-    serve(alloc, &mut reader, &mut writer, &mut asking, limits);
-    part(rt, &stream);
-    seat
-}
 
 /// The next connection.
 fn accepted(listener: &TcpListener) -> Result<TcpStream, ToolFault>
@@ -54,15 +30,14 @@ fn accepted(listener: &TcpListener) -> Result<TcpStream, ToolFault>
 fn begun<'s, E, L: Ledger + Send + Sync + 's, R: Wait + Clock + Sync>(
     scope: &Scope<'s, E>,
     rt: &'s R,
-    alloc: Global,
+    post: &'s Post<'s>,
     shared: &'s SharedHead<L>,
-    limits: &'s Limits,
     stream: TcpStream,
     seat: Seat<L>,
 ) -> Result<JoinHandle<Seat<L>>, ToolFault>
     ensures { IfErr result (λ e. e ≡ OutOfMemory) }
 {
-    match scope.spawn(move || served(rt, alloc, shared, limits, stream, seat)) {
+    match scope.spawn(move || served(rt, post, shared, stream, seat)) {
         Ok(handle) => Ok(handle),
         Err(_) => Err(ToolFault::OutOfMemory),
     }
@@ -72,19 +47,18 @@ fn begun<'s, E, L: Ledger + Send + Sync + 's, R: Wait + Clock + Sync>(
 fn start_each<'s, E, L: Ledger + Send + Sync + 's, R: Wait + Clock + Sync>(
     scope: &Scope<'s, E>,
     rt: &'s R,
-    alloc: Global,
     listener: &TcpListener,
+    post: &'s Post<'s>,
     shared: &'s SharedHead<L>,
-    limits: &'s Limits,
     seats: Vec<Seat<L>>,
 ) -> Result<Vec<JoinHandle<Seat<L>>>, ToolFault>
     ensures all { IfOk result (λ handles. vec_len handles ≡ vec_len seats) }
     ensures faults { IfErr result (λ e. (e ≡ OutOfMemory) ⊎ (e ≡ Device)) }
 {
-    let mut handles = Vec::with_capacity(alloc, seats.len())?;
+    let mut handles = Vec::with_capacity(post.alloc, seats.len())?;
     for seat in seats {
         let stream = accepted(listener)?;
-        handles.push_reserved(begun(scope, rt, alloc, shared, limits, stream, seat)?);
+        handles.push_reserved(begun(scope, rt, post, shared, stream, seat)?);
     }
     Ok(handles)
 }
@@ -108,10 +82,9 @@ fn join_each<L: Ledger, R: Threads>(
 /// has come, or none can be served any more: whoever comes then is refused at once, and does not wait for those in work.
 fn serve_each<L: Ledger + Send + Sync, R: Threads + Wait + Clock + Sync>(
     rt: &R,
-    alloc: Global,
     listener: TcpListener,
+    post: &Post<'_>,
     shared: &SharedHead<L>,
-    limits: &Limits,
     seats: Vec<Seat<L>>,
 ) -> Result<Vec<Seat<L>>, ToolFault>
     ensures all { IfOk result (λ back. vec_len back ≡ vec_len seats) }
@@ -123,9 +96,9 @@ fn serve_each<L: Ledger + Send + Sync, R: Threads + Wait + Clock + Sync>(
         move |scope| -> Result<Vec<Seat<L>>, ToolFault>
             ensures { IfOk result (λ back. vec_len back ≡ vec_len seats) × IfErr result (λ e. (e ≡ OutOfMemory) ⊎ (e ≡ Device)) }
         {
-            let started = start_each(scope, rt, alloc, &listener, shared, limits, seats);
+            let started = start_each(scope, rt, &listener, post, shared, seats);
             drop(listener);
-            Ok(join_each(rt, alloc, started?)?)
+            Ok(join_each(rt, post.alloc, started?)?)
         },
     )
 }
@@ -133,9 +106,8 @@ fn serve_each<L: Ledger + Send + Sync, R: Threads + Wait + Clock + Sync>(
 /// Serves so many connections over one head, which had nothing. Gives the head that they leave.
 pub(crate) fn receive_all<L: Ledger + Send + Sync, R: Threads + Wait + Clock + Sync>(
     rt: &R,
-    alloc: Global,
+    post: &Post<'_>,
     blank: Blank,
-    limits: &Limits,
     connections: usize,
     listener: TcpListener,
 ) -> Result<Head, ToolFault>
@@ -145,10 +117,10 @@ pub(crate) fn receive_all<L: Ledger + Send + Sync, R: Threads + Wait + Clock + S
     ensures rises { IfOk result (λ head. EachRises head.store) }
     ensures faults { IfErr result (λ e. (e ≡ OutOfMemory) ⊎ (e ≡ Device)) }
 {
-    let head = Head::new(alloc, limits);
-    let Ok((shared, seats)) = SharedHead::<L>::seats(alloc, blank, head, connections) else {
+    let head = Head::new(post.alloc, post.limits);
+    let Ok((shared, seats)) = SharedHead::<L>::seats(post.alloc, blank, head, connections) else {
         return Err(ToolFault::OutOfMemory);
     };
-    let seats = serve_each(rt, alloc, listener, &shared, limits, seats)?;
+    let seats = serve_each(rt, listener, post, &shared, seats)?;
     Ok(shared.gather(seats))
 }

@@ -2,7 +2,12 @@
 #![tactic(auto)]
 
 mod connections;
+mod door;
 mod parting;
+mod patient;
+mod places;
 mod receive;
+mod service;
+mod serving;
 
-pub use receive::run_receive;
+pub use receive::{Service, run_receive, run_receive_until};

@@ -7,9 +7,12 @@ ghost use Rattle.rw_receive.specs.Receiving.{AppendsPart, WritesHeld, WritesHeld
 ghost use Rattle.rw_tool.specs.declared.fault.ToolFault.TheVariants.{OutOfMemory, Device};
 
 use crate::connections::receive_all;
+use crate::service::receive_until;
+use crate::serving::Post;
 use rw_recv_head::Head;
 use rw_script::push_store;
 use rw_settings::Settings;
+use rw_stop::Sign;
 use rw_tool::ToolFault;
 use rw_types::{Bounded, Sink, write_all};
 use std::alloc::Global;
@@ -34,6 +37,15 @@ fn print_held<W: Sink>(alloc: Global, head: &Head, writer: &mut W) -> Result<(),
     Ok(())
 }
 
+/// Bounds of a service.
+#[derive(Clone, Copy, Debug)]
+pub struct Service {
+    /// How many connections are served at once. One more waits to be accepted.
+    pub most: Bounded<1, 1_000>,
+    /// For how many milliseconds a connection may be silent.
+    pub idle_ms: Bounded<10, 3_600_000>,
+}
+
 /// Serves so many connections, each in a thread of its own, over one head that the limits of the settings make, and then prints what the
 /// head holds: for each label set with samples, by byte order of its list of (name, value), `received LABELS` and for each sample
 /// ` T=VALUE`, the line ended by LF. How a connection ends is no fault.
@@ -42,13 +54,14 @@ fn print_held<W: Sink>(alloc: Global, head: &Head, writer: &mut W) -> Result<(),
 /// counts as refused memory. Waits until so many connections have come and ended. Once the last one has come, or none can be accepted any
 /// more, the listener is closed, so that further clients are refused at once.
 ///
-/// A connection is ended by its writing side; what the client still writes is read and forgotten until it ends its own, for a second at
+/// A connection from which no byte comes for `idle_ms` milliseconds is closed. A connection is ended by its writing side; what the client still writes is read and forgotten until it ends its own, for a second at
 /// most, so that it sees the last reply.
 pub fn run_receive<R: Threads + Wait + Clock + Sync, W: Sink>(
     rt: &R,
     alloc: Global,
     settings: &Settings,
     connections: Bounded<1, 1_000>,
+    idle_ms: Bounded<10, 3_600_000>,
     listener: TcpListener,
     writer: &mut W,
 ) -> Result<(), ToolFault>
@@ -62,7 +75,50 @@ pub fn run_receive<R: Threads + Wait + Clock + Sync, W: Sink>(
 {
     let count = connections.get();
     let blank = Blank::new(count + 1);
-    let limits = &settings.limits;
-    let head = receive_all::<Brand, R>(rt, alloc, blank, limits, count as usize, listener)?;
+    let never = Sign::new();
+    let post = Post {
+        alloc,
+        limits: &settings.limits,
+        sign: &never,
+        idle_ms,
+    };
+    let head = receive_all::<Brand, R>(rt, &post, blank, count as usize, listener)?;
+    print_held(alloc, &head, writer)
+}
+
+/// Serves any number of connections over one head until the sign is set, and then prints what the head holds, as `run_receive` does. A seat is used again
+/// once its connection has ended. Each connection has a thread; where none can be made, it is served before the next one is accepted.
+///
+/// Once an end is wished, the listener is closed. A connection that is in a request finishes it, and each other one is closed; once an end at once is
+/// wished, each is. The sign is looked at five times a second.
+///
+/// A connection from which no byte comes for `idle_ms` milliseconds is closed. An accept that fails, as for want of descriptors, is made again after a
+/// nap. A listener whose accepts cannot be given a time is `Device`.
+pub fn run_receive_until<R: Threads + Wait + Clock + Sync, W: Sink>(
+    rt: &R,
+    alloc: Global,
+    settings: &Settings,
+    service: Service,
+    sign: &Sign,
+    listener: TcpListener,
+    writer: &mut W,
+) -> Result<(), ToolFault>
+    ensures ok { OnOk result (WritesHeld (W.contents writer.old) (W.contents writer.new)) }
+    ensures sound { OnOk result (W.has_failed writer.old ≡ false → W.has_failed writer.new ≡ false) }
+    ensures faults { IfErr result (λ e. (e ≡ OutOfMemory) ⊎ (e ≡ Device)) }
+    ensures memory { result ≡ Err OutOfMemory → writer.new ≡ writer.old }
+
+    // A listener that cannot be set has written nothing. Where the writer fails, it holds a beginning of the text.
+    ensures device { result ≡ Err Device → (writer.new ≡ writer.old) ⊎ ((W.has_failed writer.new ≡ true) × WritesHeldPart (W.contents writer.old) (W.contents writer.new)) }
+{
+    let most = service.most.get();
+    let blank = Blank::new(most + 1);
+    let post = Post {
+        alloc,
+        limits: &settings.limits,
+        sign,
+        idle_ms: service.idle_ms,
+    };
+    let head = receive_until::<Brand, R>(rt, &post, blank, most as usize, listener)?;
     print_held(alloc, &head, writer)
 }

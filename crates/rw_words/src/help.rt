@@ -78,8 +78,13 @@ pub(crate) const RECEIVE: &str = "\
 Example:
   rwship receive --listen 127.0.0.1:9090 --connections 10 > held
 
-Each attempt of a sender is one connection. What is held is in memory alone, and is printed when N
-connections have ended. docs/OPERATING.md tells how to count them, and docs/SETTINGS.md the settings.
+  rwship receive --listen 127.0.0.1:9090 --until-eof --stop-file stop > held
+
+With --until-eof any number of connections is served, 1000 at once, until standard input ends, or, with
+--stop-file, until FILE is there. Those in a request finish it. A line 'hard' on standard input ends
+them too. With --connections N the end comes when N connections have ended; each attempt of a sender is
+one. What is held is in memory alone, and is printed at the end. docs/OPERATING.md tells more, and
+docs/SETTINGS.md the settings.
 
 Exit status: 0; 2 for bad words or settings; 3 out of memory; 4 where a file, the network or standard
 output failed.";

@@ -18,6 +18,17 @@ pub struct SettingsFile<'a> {
     pub is_explained: bool,
 }
 
+/// How long connections are served.
+#[derive(Clone, Copy, Debug)]
+pub enum Until<'a> {
+    /// So many have come, and have ended.
+    Connections(Bounded<1, 1_000>),
+    /// Standard input has ended.
+    InputEnds,
+    /// The file is there.
+    FileIs(&'a str),
+}
+
 /// What the words ask for. A file or a folder is a path.
 #[derive(Clone, Copy, Debug)]
 pub enum Task<'a> {
@@ -59,7 +70,9 @@ pub enum Task<'a> {
     Receive {
         settings: SettingsFile<'a>,
         listen: Address<'a>,
-        connections: Bounded<1, 1_000>,
+        until: Until<'a>,
+        /// For how many milliseconds a connection may be silent.
+        idle_ms: Bounded<10, 3_600_000>,
     },
 }
 
@@ -179,25 +192,59 @@ fn send_command<'a>(alloc: Global) -> Result<Command<'a>, AllocError> {
         .arg(to)
 }
 
+fn connections<'a>(alloc: Global) -> Result<Arg<'a>, AllocError> {
+    Arg::new(alloc, "connections")
+        .long("connections")
+        .value_name("N")
+        .value_parser(value_parser!(u16).range(1..=1000))
+        .help("Serve this many connections, 1 to 1000")
+        .required_unless_present("until-eof")
+}
+
+fn until_eof<'a>(alloc: Global) -> Result<Arg<'a>, AllocError> {
+    Arg::new(alloc, "until-eof")
+        .long("until-eof")
+        .action(ArgAction::SetTrue)
+        .help("Serve any number of connections, until standard input ends")
+        .conflicts_with("connections")
+}
+
+fn stop_file<'a>(alloc: Global, id: &'a str) -> Result<Arg<'a>, AllocError> {
+    Arg::new(alloc, "stop-file")
+        .long("stop-file")
+        .value_name("FILE")
+        .value_parser(ValueParser::NonEmptyString)
+        .help("Stop once this file is there, and do not look at standard input")
+        .requires_arg(id)
+}
+
+fn idle_ms<'a>(alloc: Global) -> Arg<'a> {
+    Arg::new(alloc, "idle-ms")
+        .long("idle-ms")
+        .value_name("N")
+        .value_parser(value_parser!(u32).range(10..=3_600_000))
+        .default_value("60000")
+        .help(
+            "Close a connection from which no byte comes for this many milliseconds, 10 to 3600000",
+        )
+}
+
 fn receive_command<'a>(alloc: Global) -> Result<Command<'a>, AllocError> {
     let listen = Arg::new(alloc, "listen")
         .long("listen")
         .value_name("HOST:PORT")
         .required(true)
         .help("Listen here");
-    let connections = Arg::new(alloc, "connections")
-        .long("connections")
-        .value_name("N")
-        .required(true)
-        .value_parser(value_parser!(u16).range(1..=1000))
-        .help("Serve this many connections, 1 to 1000");
     Command::new(alloc, "receive")
         .about("Serves connections and prints what they left")
         .after_help(help::RECEIVE)
         .arg(settings(alloc))?
         .arg(explain(alloc))?
         .arg(listen)?
-        .arg(connections)
+        .arg(connections(alloc)?)?
+        .arg(until_eof(alloc)?)?
+        .arg(stop_file(alloc, "until-eof")?)?
+        .arg(idle_ms(alloc))
 }
 
 /// All commands.
@@ -230,6 +277,26 @@ pub fn bad_address<'a>(words: &ArgMatches<'a>) -> Option<(&'static str, &'a str)
     None
 }
 
+/// What the options of `receive` ask for.
+fn receive_task<'a>(settings: SettingsFile<'a>, options: &ArgMatches<'a>) -> Option<Task<'a>> {
+    let listen = read_address(options.get_str("listen")?)?;
+    let idle_ms = Bounded::new(options.get_one::<u32>("idle-ms")? as u64)?;
+    let until = if options.get_flag("until-eof") {
+        match options.get_str("stop-file") {
+            Some(file) => Until::FileIs(file),
+            None => Until::InputEnds,
+        }
+    } else {
+        Until::Connections(Bounded::new(options.get_one::<u16>("connections")? as u64)?)
+    };
+    Some(Task::Receive {
+        settings,
+        listen,
+        until,
+        idle_ms,
+    })
+}
+
 /// What a command's options ask for.
 fn task_named<'a>(name: &str, options: &ArgMatches<'a>) -> Option<Task<'a>> {
     let hex = options.get_flag("hex");
@@ -256,11 +323,7 @@ fn task_named<'a>(name: &str, options: &ArgMatches<'a>) -> Option<Task<'a>> {
             dir: options.get_str("dir")?,
             to: read_address(options.get_str("to")?)?,
         }),
-        b"receive" => Some(Task::Receive {
-            settings,
-            listen: read_address(options.get_str("listen")?)?,
-            connections: Bounded::new(options.get_one::<u16>("connections")? as u64)?,
-        }),
+        b"receive" => receive_task(settings, options),
         _ => None,
     }
 }

@@ -12,22 +12,23 @@ use clap::ArgMatches;
 use clap::error::ErrorKind as WordsErrorKind;
 use rw_address::Address;
 use rw_inspect::{Named, Report, inspect, json_of, table_of};
-use rw_receive::run_receive;
+use rw_receive::{Service, run_receive, run_receive_until};
 use rw_replay::run_replay;
 use rw_send::{Opened, SegmentFile, TcpConnect, run_send, segment_files};
 use rw_settings::{Settings, SettingsNote};
+use rw_stop::{Sign, watch_file, watch_input};
 use rw_tcp::look_up;
 use rw_tool::{ToolFault, run_body, run_log, run_log_dir, run_plan};
 use rw_types::{Bounded, Std, write_all};
-use rw_words::{SettingsFile, Task, bad_address, command_line, task_of};
+use rw_words::{SettingsFile, Task, Until, bad_address, command_line, task_of};
 use settings::{Unset, printed_settings, settings_in};
-use std::alloc::AllocError;
+use std::alloc::{AllocError, Global};
 use std::env;
 use std::io::ErrorKind;
 use std::net::{SocketAddr, TcpListener};
 use std::process::ExitCode;
-use std::sync::Wait;
-use std::thread::Threads;
+use std::sync::{Arc, Wait};
+use std::thread::{self, Threads};
 use std::time::Clock;
 
 /// The exit status for words and settings that the program does not take.
@@ -244,31 +245,80 @@ fn send<R: Threads + Wait + Clock + Copy + Send + 'static>(
     }
 }
 
-/// Serves connections, and prints what they left.
+/// A sign that is set once the file is there, or, where there is none, once standard input ends. What looks for it is left to itself.
+fn sign_of<R: Threads>(
+    rt: &HostRuntime,
+    threads: &R,
+    stop_file: Option<&str>,
+) -> Result<Arc<Sign, Global>, AllocError> {
+    let alloc = rt.alloc();
+    let sign = Arc::new(alloc, Sign::new())?;
+    let theirs = Arc::try_clone(&sign)?;
+    let host = *rt;
+    let watcher = match stop_file {
+        Some(path) => {
+            let path = String::from_str(alloc, path)?;
+            thread::spawn(threads, move || watch_file(&host, &path, &theirs))?
+        }
+        None => thread::spawn(threads, move || {
+            watch_input(host.alloc(), &mut host.reader(), &theirs)
+        })?,
+    };
+    drop(watcher);
+    Ok(sign)
+}
+
+/// Serves connections for so long, and prints what they left.
+fn serve<R: Threads + Wait + Clock + Sync>(
+    rt: &HostRuntime,
+    threads: &R,
+    settings: &Settings,
+    listener: TcpListener,
+    until: Until<'_>,
+    idle_ms: Bounded<10, 3_600_000>,
+) -> Result<(), ToolFault> {
+    let alloc = rt.alloc();
+    let mut output = Std::new(rt.stdout());
+    let stop_file = match until {
+        Until::Connections(n) => {
+            return run_receive(threads, alloc, settings, n, idle_ms, listener, &mut output);
+        }
+        Until::InputEnds => None,
+        Until::FileIs(path) => Some(path),
+    };
+    let sign = sign_of(rt, threads, stop_file)?;
+    let service = Service {
+        most: Bounded::of(1_000),
+        idle_ms,
+    };
+    run_receive_until(
+        threads,
+        alloc,
+        settings,
+        service,
+        &sign,
+        listener,
+        &mut output,
+    )
+}
+
+/// The same, by the settings in a file, at an address.
 fn receive<R: Threads + Wait + Clock + Sync>(
     rt: &HostRuntime,
     threads: &R,
     settings: SettingsFile<'_>,
     listen: Address<'_>,
-    connections: Bounded<1, 1_000>,
+    until: Until<'_>,
+    idle_ms: Bounded<10, 3_600_000>,
 ) -> ExitCode {
-    let mut output = Std::new(rt.stdout());
     let settings = match settings_in(rt, settings) {
         Ok(settings) => settings,
         Err(fault) => return unset(rt, fault),
     };
-    let Ok(listener) = TcpListener::bind(rt, (listen.name(), listen.port)) else {
-        return ended(rt, Err(ToolFault::Device));
-    };
-    let outcome = run_receive(
-        threads,
-        rt.alloc(),
-        &settings,
-        connections,
-        listener,
-        &mut output,
-    );
-    ended(rt, outcome)
+    match TcpListener::bind(rt, (listen.name(), listen.port)) {
+        Ok(listener) => ended(rt, serve(rt, threads, &settings, listener, until, idle_ms)),
+        Err(_) => ended(rt, Err(ToolFault::Device)),
+    }
 }
 
 /// Does what the words ask for.
@@ -288,8 +338,9 @@ fn perform<R: Threads + Wait + Clock + Copy + Send + Sync + 'static>(
         Task::Receive {
             settings,
             listen,
-            connections,
-        } => receive(rt, threads, *settings, *listen, *connections),
+            until,
+            idle_ms,
+        } => receive(rt, threads, *settings, *listen, *until, *idle_ms),
     }
 }
 

@@ -198,10 +198,11 @@ fn are_served<
     let listener = TcpListener::bind(rt, "127.0.0.1:0")?;
     let address = listener.local_addr()?;
     let client = row.client;
+    let idle_ms = Bounded::of(60_000);
     let (read, ended) = thread::join(
         rt,
         || read_by(rt, alloc, client, address, request),
-        || run_receive(rt, alloc, settings, connections, listener, printed),
+        || run_receive(rt, alloc, settings, connections, idle_ms, listener, printed),
     );
     Ok(ended == row.ended && read?.as_slice() == row.read)
 }
@@ -383,8 +384,8 @@ fn fails_without_waiting<
     let mut printed = Room::new(alloc, 4096)?;
     let listener = TcpListener::bind(rt, "127.0.0.1:0")?;
     listener.set_nonblocking(true)?;
-    let most = Bounded::of(1_000);
-    let ended = run_receive(rt, alloc, settings, most, listener, &mut printed);
+    let (most, idle_ms) = (Bounded::of(1_000), Bounded::of(60_000));
+    let ended = run_receive(rt, alloc, settings, most, idle_ms, listener, &mut printed);
     Ok(ended == Err(ToolFault::Device) && printed.as_slice().is_empty())
 }
 

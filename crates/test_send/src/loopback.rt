@@ -89,8 +89,11 @@ fn receives<R: Threads + Wait + Clock + Sync>(
     let Some(connections) = Bounded::new(row.1.max(1)) else {
         return false;
     };
+    let idle_ms = Bounded::of(60_000);
     match read_settings(alloc, row.0) {
-        Ok(settings) => run_receive(rt, alloc, &settings, connections, listener, held).is_ok(),
+        Ok(settings) => {
+            run_receive(rt, alloc, &settings, connections, idle_ms, listener, held).is_ok()
+        }
         Err(_) => false,
     }
 }

@@ -1,0 +1,78 @@
+//! Connections that are served until a sign is set.
+
+ghost use Rattle.std.specs.Prelude.{◌≡◌, ◌+◌, ◌<◌, ◌⊎◌, sum, IfOk, IfErr, vec_len};
+ghost use Rattle.rw_recv_head.specs.Store.{total};
+ghost use Rattle.rw_recv_head.specs.Growth.{EachRises};
+ghost use Rattle.rw_tool.specs.declared.fault.ToolFault.TheVariants.{OutOfMemory, Device};
+
+use crate::door::accept_in_ticks;
+use crate::places::{Places, serve_on};
+use crate::serving::Post;
+use rw_recv_head::Head;
+use rw_shared_head::{Seat, SharedHead};
+use rw_tool::ToolFault;
+use std::alloc::AllocError;
+use std::net::TcpListener;
+use std::sync::Wait;
+use std::sync::ledger::{Blank, Ledger};
+use std::thread;
+use std::thread::Threads;
+use std::time::Clock;
+
+/// Serves from all seats until the sign is set, waits for those in work, and gives the seats back. Nobody is listened to from then on.
+fn serve_until<L: Ledger + Send + Sync, R: Threads + Wait + Clock + Sync>(
+    rt: &R,
+    listener: TcpListener,
+    post: &Post<'_>,
+    shared: &SharedHead<L>,
+    seats: Vec<Seat<L>>,
+) -> Result<Vec<Seat<L>>, AllocError>
+    ensures { IfOk result (λ back. vec_len back ≡ vec_len seats) }
+{
+    thread::scope(
+        thread::scope_env(),
+        rt,
+        move |scope| -> Result<Vec<Seat<L>>, AllocError>
+            ensures { IfOk result (λ back. vec_len back ≡ vec_len seats) }
+        {
+            let mut places = Places::new(post.alloc, seats)?;
+            serve_on(&mut places, scope, rt, &listener, post, shared);
+            drop(listener);
+            Ok(places.into_seats(rt))
+        },
+    )
+}
+
+/// The head once all seats are back. It holds what it held at first, and what was stored from each seat over all its connections.
+fn gathered<L: Ledger>(shared: SharedHead<L>, seats: Vec<Seat<L>>) -> Head
+    requires { vec_len seats ≡ shared.seats }
+    ensures adds_up { total result.store ≡ shared.start + sum seats.items }
+    ensures rises { EachRises result.store }
+{
+    shared.gather(seats)
+}
+
+/// Serves at most so many connections at once over one head, which had nothing, until the sign is set. Gives the head that they leave.
+pub(crate) fn receive_until<L: Ledger + Send + Sync, R: Threads + Wait + Clock + Sync>(
+    rt: &R,
+    post: &Post<'_>,
+    blank: Blank,
+    most: usize,
+    listener: TcpListener,
+) -> Result<Head, ToolFault>
+    requires some { 0 < most }
+    requires name { blank.name ≡ L.name }
+    requires parts { (blank.parts ≡ most + 1) × (L.parts ≡ most + 1) }
+    ensures rises { IfOk result (λ head. EachRises head.store) }
+    ensures faults { IfErr result (λ e. (e ≡ OutOfMemory) ⊎ (e ≡ Device)) }
+{
+    if accept_in_ticks(&listener).is_err() {
+        return Err(ToolFault::Device);
+    }
+    let head = Head::new(post.alloc, post.limits);
+    let Ok((shared, seats)) = SharedHead::<L>::seats(post.alloc, blank, head, most) else {
+        return Err(ToolFault::OutOfMemory);
+    };
+    let seats = serve_until(rt, listener, post, &shared, seats)?;
+    Ok(gathered(shared, seats))
+}

@@ -1,0 +1,56 @@
+//! One connection, served to its end.
+
+use crate::parting::part;
+use crate::patient::{Patience, Patient};
+use rw_recv_head::Limits;
+use rw_recv_http::serve;
+use rw_shared_head::{Asking, Seat, SharedHead};
+use rw_stop::Sign;
+use rw_types::{Bounded, Std};
+use std::alloc::Global;
+use std::cell::Cell;
+use std::net::TcpStream;
+use std::sync::Wait;
+use std::sync::ledger::Ledger;
+use std::time::Clock;
+
+/// What all connections have in common.
+#[derive(Clone, Copy, Drop)]
+pub(crate) struct Post<'a> {
+    pub(crate) alloc: Global,
+    pub(crate) limits: &'a Limits,
+    pub(crate) sign: &'a Sign,
+    pub(crate) idle_ms: Bounded<10, 3_600_000>,
+}
+
+/// Serves a connection to its end, however it ends, parts from the client, and gives the seat back.
+pub(crate) fn served<L: Ledger, R: Wait + Clock>(
+    rt: &R,
+    post: &Post<'_>,
+    shared: &SharedHead<L>,
+    stream: TcpStream,
+    seat: Seat<L>,
+) -> Seat<L> {
+    let mut seat = seat;
+    let is_inside = Cell::new(false);
+    let patience = Patience::of(post.idle_ms);
+    let Ok(patient) = Patient::new(&stream, post.sign, &is_inside, patience) else {
+        return seat;
+    };
+    let mut reader = Std::new(patient);
+    let mut writer = Std::new(patient);
+    let mut asking = Asking {
+        rt,
+        shared,
+        seat: &mut seat,
+    };
+    serve(
+        post.alloc,
+        &mut reader,
+        &mut writer,
+        &mut asking,
+        post.limits,
+    );
+    part(rt, &stream);
+    seat
+}

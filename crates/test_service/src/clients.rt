@@ -1,0 +1,168 @@
+//! What clients do, and what they read.
+
+use rw_stop::Sign;
+use std::alloc::{AllocError, Global};
+use std::io::{self, Read, Write};
+use std::net::{Net, Shutdown, SocketAddr, TcpStream};
+use std::thread;
+use std::time::{Clock, Duration};
+
+/// What clients do.
+#[derive(Clone, Copy, Debug)]
+pub(crate) enum Clients {
+    /// Five come one after the other.
+    InTurn,
+    /// A second one has its reply while a first one has a connection.
+    SideBySide,
+    /// One has its reply, and keeps its connection when the end is wished.
+    Stays,
+    /// One writes the last byte of its second request when the end is wished already.
+    IsInside,
+    /// The same, where an end at once is wished.
+    IsCutOff,
+    /// One writes a byte and is silent. Another one comes behind it.
+    WritesOneByte,
+    /// A third one comes while two keep their connections, and then those two go.
+    OneTooMany,
+}
+
+/// The reply to a request that is taken.
+const TAKEN: &[u8] = b"HTTP/1.1 204 No Content\r\n\r\n";
+
+/// Where clients connect to, and how they ask for an end.
+#[derive(Clone, Copy)]
+pub(crate) struct Door<'a, N> {
+    pub(crate) net: &'a N,
+    pub(crate) alloc: Global,
+    pub(crate) address: SocketAddr,
+    pub(crate) sign: &'a Sign,
+}
+
+/// A request to store the sample 1 of `{__name__="up"}` at 1000 ms and so many more, less than 8.
+fn request(alloc: Global, later: u8) -> Result<Vec<u8>, AllocError> {
+    let mut bytes = Vec::from_slice(
+        alloc,
+        b"POST /api/v1/write HTTP/1.1\r\nContent-Length: 32\r\n\r\n\x0a\x1e\x0a\x0e\x0a\x08__name__\x12\x02up\x12\x0c\x09\x00\x00\x00\x00\x00\x00\xf0\x3f\x10",
+    )?;
+    bytes.push(0xe8 | later)?;
+    bytes.push(0x07)?;
+    Ok(bytes)
+}
+
+/// Asks, ends the writing side, and reads to the end.
+fn ask_last(stream: &mut TcpStream, request: &[u8], read: &mut Vec<u8>) -> io::Result<()> {
+    stream.write_all(request)?;
+    stream.shutdown(Shutdown::Write)?;
+    stream.read_to_end(read)?;
+    Ok(())
+}
+
+/// Asks, and reads one reply.
+fn ask(stream: &mut TcpStream, request: &[u8], read: &mut Vec<u8>) -> io::Result<()> {
+    let mut reply = [0; TAKEN.len()];
+    stream.write_all(request)?;
+    stream.read_exact(&mut reply)?;
+    read.extend_from_slice(&reply)?;
+    Ok(())
+}
+
+fn in_turn<N: Net<Stream = TcpStream>>(door: &Door<'_, N>, read: &mut Vec<u8>) -> io::Result<()> {
+    for later in 0..5 {
+        let mut stream = TcpStream::connect(door.net, door.address)?;
+        ask_last(&mut stream, &request(door.alloc, later)?, read)?;
+    }
+    Ok(())
+}
+
+fn side_by_side<N: Net<Stream = TcpStream>>(
+    door: &Door<'_, N>,
+    read: &mut Vec<u8>,
+) -> io::Result<()> {
+    let mut first = TcpStream::connect(door.net, door.address)?;
+    let mut second = TcpStream::connect(door.net, door.address)?;
+    ask_last(&mut second, &request(door.alloc, 0)?, read)?;
+    ask_last(&mut first, &request(door.alloc, 1)?, read)
+}
+
+fn stays<N: Net<Stream = TcpStream>>(door: &Door<'_, N>, read: &mut Vec<u8>) -> io::Result<()> {
+    let mut stream = TcpStream::connect(door.net, door.address)?;
+    ask(&mut stream, &request(door.alloc, 0)?, read)?;
+    door.sign.end();
+    stream.read_to_end(read)?;
+    Ok(())
+}
+
+/// Writes a request, and another one of which the last byte comes when a stop is wished.
+fn is_inside<N: Net<Stream = TcpStream> + Clock>(
+    door: &Door<'_, N>,
+    is_hard: bool,
+    read: &mut Vec<u8>,
+) -> io::Result<()> {
+    let mut stream = TcpStream::connect(door.net, door.address)?;
+    ask(&mut stream, &request(door.alloc, 0)?, read)?;
+    let second = request(door.alloc, 1)?;
+    let (most, last) = second.split_at(second.len().saturating_sub(1));
+    stream.write_all(most)?;
+    thread::sleep(door.net, Duration::from_millis(500));
+    if is_hard {
+        door.sign.hard();
+    } else {
+        door.sign.end();
+    }
+    thread::sleep(door.net, Duration::from_millis(500));
+    let _ = stream.write_all(last);
+    stream.read_to_end(read)?;
+    Ok(())
+}
+
+fn writes_one_byte<N: Net<Stream = TcpStream>>(
+    door: &Door<'_, N>,
+    read: &mut Vec<u8>,
+) -> io::Result<()> {
+    let mut first = TcpStream::connect(door.net, door.address)?;
+    first.write_all(b"P")?;
+    let mut second = TcpStream::connect(door.net, door.address)?;
+    ask_last(&mut second, &request(door.alloc, 0)?, read)?;
+    first.read_to_end(read)?;
+    Ok(())
+}
+
+fn one_too_many<N: Net<Stream = TcpStream>>(
+    door: &Door<'_, N>,
+    read: &mut Vec<u8>,
+) -> io::Result<()> {
+    let first = TcpStream::connect(door.net, door.address)?;
+    let second = TcpStream::connect(door.net, door.address)?;
+    let mut third = TcpStream::connect(door.net, door.address)?;
+    third.write_all(&request(door.alloc, 0)?)?;
+    third.set_read_timeout(Some(Duration::from_millis(500)))?;
+    if third.read(&mut [0; 1]).is_ok() {
+        read.extend_from_slice(b"early ")?;
+    }
+    third.set_read_timeout(None)?;
+    drop(first);
+    drop(second);
+    third.shutdown(Shutdown::Write)?;
+    third.read_to_end(read)?;
+    Ok(())
+}
+
+/// What the clients read, each behind the one before. They ask for an end at last.
+pub(crate) fn read_by<N: Net<Stream = TcpStream> + Clock>(
+    door: &Door<'_, N>,
+    clients: Clients,
+) -> io::Result<Vec<u8>> {
+    let mut read = Vec::new(door.alloc);
+    let done = match clients {
+        Clients::InTurn => in_turn(door, &mut read),
+        Clients::SideBySide => side_by_side(door, &mut read),
+        Clients::Stays => stays(door, &mut read),
+        Clients::IsInside => is_inside(door, false, &mut read),
+        Clients::IsCutOff => is_inside(door, true, &mut read),
+        Clients::WritesOneByte => writes_one_byte(door, &mut read),
+        Clients::OneTooMany => one_too_many(door, &mut read),
+    };
+    door.sign.end();
+    done?;
+    Ok(read)
+}

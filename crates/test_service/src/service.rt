@@ -1,0 +1,184 @@
+//! A receiver that is stopped by a sign, and its clients, in threads of one process.
+
+use crate::clients::{Clients, Door, read_by};
+use rw_receive::{Service, run_receive, run_receive_until};
+use rw_settings::{Settings, read_settings};
+use rw_stop::Sign;
+use rw_types::{Bounded, Room};
+use std::alloc::Global;
+use std::net::{Net, TcpListener, TcpStream};
+use std::sync::Wait;
+use std::test::Fail;
+use std::thread::Threads;
+use std::time::Clock;
+use std::{io, thread};
+
+/// The bounds of a service, what clients do, how many replies they have, and what is printed at last.
+#[derive(Drop)]
+struct Row<'a> {
+    most: u64,
+    idle_ms: u64,
+    clients: Clients,
+    replies: usize,
+    printed: &'a [u8],
+}
+
+/// The reply to a request that is taken.
+const TAKEN: &[u8] = b"HTTP/1.1 204 No Content\r\n\r\n";
+
+/// Whether these are so many replies to requests that were taken.
+fn are_replies(read: &[u8], count: usize) -> bool {
+    let mut left = read;
+    for _ in 0..count {
+        match left.strip_prefix(TAKEN) {
+            Some(rest) => left = rest,
+            None => return false,
+        }
+    }
+    left.is_empty()
+}
+
+/// Whether a service and its clients do as a row says.
+fn does_with<R: Net<Stream = TcpStream, Listener = TcpListener> + Threads + Wait + Clock + Sync>(
+    rt: &R,
+    alloc: Global,
+    row: &Row<'_>,
+    settings: &Settings,
+    printed: &mut Room,
+) -> io::Result<bool> {
+    let (Some(most), Some(idle_ms)) = (Bounded::new(row.most), Bounded::new(row.idle_ms)) else {
+        return Ok(false);
+    };
+    let listener = TcpListener::bind(rt, "127.0.0.1:0")?;
+    let sign = Sign::new();
+    let door = Door {
+        net: rt,
+        alloc,
+        address: listener.local_addr()?,
+        sign: &sign,
+    };
+    let service = Service { most, idle_ms };
+    let clients = row.clients;
+    let (read, ended) = thread::join(
+        rt,
+        || read_by(&door, clients),
+        || run_receive_until(rt, alloc, settings, service, &sign, listener, printed),
+    );
+    Ok(ended.is_ok() && are_replies(&read?, row.replies))
+}
+
+/// The place of the first row that goes otherwise.
+fn wrong_row<R: Net<Stream = TcpStream, Listener = TcpListener> + Threads + Wait + Clock + Sync>(
+    rt: &R,
+    alloc: Global,
+) -> Result<Option<usize>, Fail> {
+    let settings = read_settings(alloc, b"")?;
+    for (at, row) in ROWS.iter().enumerate() {
+        let mut printed = Room::new(alloc, 4096)?;
+        let is_so = does_with(rt, alloc, row, &settings, &mut printed)?;
+        if !is_so || printed.as_slice() != row.printed {
+            return Ok(Some(at));
+        }
+    }
+    Ok(None)
+}
+
+static ROWS: [Row<'static>; 8] = [
+    // a seat is used again
+    Row {
+        most: 1,
+        idle_ms: 60_000,
+        clients: Clients::InTurn,
+        replies: 5,
+        printed: b"received {__name__=\"up\"} 1000=1 1001=1 1002=1 1003=1 1004=1\n",
+    },
+    Row {
+        most: 1_000,
+        idle_ms: 60_000,
+        clients: Clients::InTurn,
+        replies: 5,
+        printed: b"received {__name__=\"up\"} 1000=1 1001=1 1002=1 1003=1 1004=1\n",
+    },
+    Row {
+        most: 2,
+        idle_ms: 60_000,
+        clients: Clients::SideBySide,
+        replies: 2,
+        printed: b"received {__name__=\"up\"} 1000=1 1001=1\n",
+    },
+    // whoever is in no request is closed at the stop
+    Row {
+        most: 2,
+        idle_ms: 60_000,
+        clients: Clients::Stays,
+        replies: 1,
+        printed: b"received {__name__=\"up\"} 1000=1\n",
+    },
+    // whoever is in a request has its reply
+    Row {
+        most: 2,
+        idle_ms: 60_000,
+        clients: Clients::IsInside,
+        replies: 2,
+        printed: b"received {__name__=\"up\"} 1000=1 1001=1\n",
+    },
+    Row {
+        most: 2,
+        idle_ms: 60_000,
+        clients: Clients::IsCutOff,
+        replies: 1,
+        printed: b"received {__name__=\"up\"} 1000=1\n",
+    },
+    // nobody holds the only seat by silence
+    Row {
+        most: 1,
+        idle_ms: 100,
+        clients: Clients::WritesOneByte,
+        replies: 1,
+        printed: b"received {__name__=\"up\"} 1000=1\n",
+    },
+    Row {
+        most: 2,
+        idle_ms: 60_000,
+        clients: Clients::OneTooMany,
+        replies: 1,
+        printed: b"received {__name__=\"up\"} 1000=1\n",
+    },
+];
+
+#[test]
+fn a_service_serves_until_it_is_stopped(rt: HostRuntime) -> Result<(), Fail> {
+    let wrong = wrong_row(&rt, rt.alloc())?;
+    assert_eq!(rt; wrong, None);
+    Ok(())
+}
+
+/// Whether a receiver of two connections ends, of which the first one is silent behind a byte.
+fn ends_without_a_sign<
+    R: Net<Stream = TcpStream, Listener = TcpListener> + Threads + Wait + Clock + Sync,
+>(rt: &R, alloc: Global, settings: &Settings, printed: &mut Room) -> io::Result<bool> {
+    let listener = TcpListener::bind(rt, "127.0.0.1:0")?;
+    let sign = Sign::new();
+    let door = Door {
+        net: rt,
+        alloc,
+        address: listener.local_addr()?,
+        sign: &sign,
+    };
+    let (two, idle_ms) = (Bounded::of(2), Bounded::of(100));
+    let (read, ended) = thread::join(
+        rt,
+        || read_by(&door, Clients::WritesOneByte),
+        || run_receive(rt, alloc, settings, two, idle_ms, listener, printed),
+    );
+    Ok(ended.is_ok() && are_replies(&read?, 1))
+}
+
+/// A silent connection does not hold the end of a receiver that counts its connections either.
+#[test]
+fn a_silent_connection_is_closed(rt: HostRuntime) -> Result<(), Fail> {
+    let settings = read_settings(rt.alloc(), b"")?;
+    let mut printed = Room::new(rt.alloc(), 4096)?;
+    assert!(rt; ends_without_a_sign(&rt, rt.alloc(), &settings, &mut printed)?);
+    Ok(())
+}

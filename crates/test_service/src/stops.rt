@@ -1,0 +1,61 @@
+//! What sets a sign.
+
+use rw_stop::{Sign, Wish, watch_file, watch_input};
+use std::alloc::Global;
+use std::test::Fail;
+use std::{fs, io};
+
+/// What is wished behind an input.
+fn wish_behind(alloc: Global, text: &[u8]) -> Wish {
+    let sign = Sign::new();
+    let mut input = text;
+    watch_input(alloc, &mut input, &sign);
+    sign.wish()
+}
+
+/// The place of the first input behind which something else is wished.
+fn wrong_input(alloc: Global) -> Option<usize> {
+    INPUTS
+        .iter()
+        .position(|(text, wish)| wish_behind(alloc, text) != *wish)
+}
+
+/// Only a whole line asks for an end at once, and its end is a line feed.
+static INPUTS: [(&[u8], Wish); 7] = [
+    (b"", Wish::End),
+    (b"hard", Wish::End),
+    (b"hard\n", Wish::Hard),
+    (b"soft\nhard\nsoft\n", Wish::Hard),
+    (b"hardly\n hard\nHARD\n", Wish::End),
+    (b"hard\r\n", Wish::End),
+    (
+        b"0123456789012345678901234567890123456789012345678901234567890123hard\n",
+        Wish::End,
+    ),
+];
+
+#[test]
+fn an_input_sets_a_sign(rt: HostRuntime) -> Result<(), Fail> {
+    assert_eq!(rt; wrong_input(rt.alloc()), None);
+    Ok(())
+}
+
+#[test]
+fn nothing_is_wished_at_first(rt: HostRuntime) -> Result<(), Fail> {
+    let sign = Sign::new();
+    let first = sign.wish();
+    sign.hard();
+    sign.end();
+    assert!(rt; first == Wish::Work && sign.wish() == Wish::Hard);
+    Ok(())
+}
+
+#[test]
+fn a_file_sets_a_sign(rt: HostRuntime) -> io::Result<()> {
+    let sign = Sign::new();
+    fs::write(&rt, "stop", b"")?;
+    watch_file(&rt, "stop", &sign);
+    fs::remove_file(&rt, "stop")?;
+    assert!(rt; sign.wish() == Wish::End);
+    Ok(())
+}
