@@ -274,17 +274,17 @@ fn serve<R: Threads + Wait + Clock + Sync>(
     threads: &R,
     settings: &Settings,
     listener: TcpListener,
-    until: Until<'_>,
+    until: &Until<'_>,
     idle_ms: Bounded<10, 3_600_000>,
 ) -> Result<(), ToolFault> {
     let alloc = rt.alloc();
     let mut output = Std::new(rt.stdout());
     let stop_file = match until {
         Until::Connections(n) => {
-            return run_receive(threads, alloc, settings, n, idle_ms, listener, &mut output);
+            return run_receive(threads, alloc, settings, *n, idle_ms, listener, &mut output);
         }
         Until::InputEnds => None,
-        Until::FileIs(path) => Some(path),
+        Until::FileIs(path) => Some(*path),
     };
     let sign = sign_of(rt, threads, stop_file)?;
     let service = Service {
@@ -308,7 +308,7 @@ fn receive<R: Threads + Wait + Clock + Sync>(
     threads: &R,
     settings: SettingsFile<'_>,
     listen: Address<'_>,
-    until: Until<'_>,
+    until: &Until<'_>,
     idle_ms: Bounded<10, 3_600_000>,
 ) -> ExitCode {
     let settings = match settings_in(rt, settings) {
@@ -340,7 +340,7 @@ fn perform<R: Threads + Wait + Clock + Copy + Send + Sync + 'static>(
             listen,
             until,
             idle_ms,
-        } => receive(rt, threads, *settings, *listen, *until, *idle_ms),
+        } => receive(rt, threads, *settings, *listen, until, *idle_ms),
     }
 }
 
