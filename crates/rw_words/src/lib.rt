@@ -209,13 +209,13 @@ fn until_eof<'a>(alloc: Global) -> Result<Arg<'a>, AllocError> {
         .conflicts_with("connections")
 }
 
-fn stop_file<'a>(alloc: Global, id: &'a str) -> Result<Arg<'a>, AllocError> {
+fn stop_file<'a>(alloc: Global) -> Result<Arg<'a>, AllocError> {
     Arg::new(alloc, "stop-file")
         .long("stop-file")
         .value_name("FILE")
         .value_parser(ValueParser::NonEmptyString)
         .help("Stop once this file is there, and do not look at standard input")
-        .requires_arg(id)
+        .conflicts_with("connections")
 }
 
 fn idle_ms<'a>(alloc: Global) -> Arg<'a> {
@@ -243,7 +243,7 @@ fn receive_command<'a>(alloc: Global) -> Result<Command<'a>, AllocError> {
         .arg(listen)?
         .arg(connections(alloc)?)?
         .arg(until_eof(alloc)?)?
-        .arg(stop_file(alloc, "until-eof")?)?
+        .arg(stop_file(alloc)?)?
         .arg(idle_ms(alloc))
 }
 
