@@ -1,4 +1,5 @@
 pub mod AnswerLemmas
+pub mod FollowLemmas
 pub mod PartLemmas
 pub mod PrintLemmas
 pub mod SegmentLemmas

@@ -1,4 +1,5 @@
 pub mod Folders
+pub mod Following
 pub mod Opening
 pub mod ReportText
 pub mod Segments

@@ -79,7 +79,10 @@ fn fault_of(error: &io::Error) -> ToolFault {
 }
 
 /// The names of a folder's segments, in order.
-fn names_in<R: Files + AllocGlobal + Copy>(rt: &R, dir: &str) -> Result<Vec<SegmentName>, ToolFault>
+pub(crate) fn names_in<R: Files + AllocGlobal + Copy>(
+    rt: &R,
+    dir: &str,
+) -> Result<Vec<SegmentName>, ToolFault>
     ensures { IfOk result (λ names. IsSortedBy comes_before names.items) }
 {
     let alloc = rt.alloc();

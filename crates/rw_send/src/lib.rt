@@ -3,7 +3,11 @@
 
 mod connect;
 mod files;
+mod folder;
+mod follow_fault;
+mod following;
 mod halt;
+mod live;
 mod opened;
 mod printing;
 mod send;
@@ -12,5 +16,8 @@ mod shipping;
 
 pub use connect::TcpConnect;
 pub use files::{SegmentFile, segment_files};
+pub use folder::Folder;
+pub use follow_fault::FollowFault;
+pub use following::run_follow;
 pub use opened::{Open, Opened};
 pub use send::run_send;

@@ -1,9 +1,10 @@
 //! The command `send`, over any readers, connections and writer.
 
-ghost use Rattle.std.specs.Prelude.{◌≡◌, ◌⊎◌, ℕ, None, map, Ok, Err, true, false, IfOk, IfErr, IsOk, OnOk};
+ghost use Rattle.std.specs.Prelude.{◌≡◌, ◌⊎◌, ℕ, None, Some, map, Ok, Err, true, false, IfOk, IfErr, IsOk, OnOk};
 ghost use Rattle.rw_codes.specs.declared.tail_fault.TailFault.{TailFault};
 ghost use Rattle.rw_shipper.specs.Reports.{IsAbandoned, ListsCut};
 ghost use Rattle.rw_shipper.specs.Shipping.{HasStopped};
+ghost use Rattle.rw_tool.specs.declared.fault.ToolFault.{ToolFault};
 ghost use Rattle.rw_tool.specs.declared.fault.ToolFault.TheVariants.{OutOfMemory, Log, Line, SegmentFull, Device};
 ghost use Rattle.rw_send.specs.Sending.{answer_to, hard_fault, Answers, IsHalted, IsPrinted, IsPrintedPart, IsSent};
 
@@ -51,7 +52,7 @@ fn hard_fault(shipped: Result<(), Halt>) -> Option<ToolFault>
 }
 
 /// Stops a shipper whose log was fed whole or to a halt.
-fn stopped<R: Threads + Wait, C: Connect + Drop>(
+pub(crate) fn stopped<R: Threads + Wait, C: Connect + Drop>(
     rt: &R,
     shipper: Shipper<C>,
     shipped: Result<(), Halt>,
@@ -61,6 +62,7 @@ fn stopped<R: Threads + Wait, C: Connect + Drop>(
     ensures stopped { HasStopped C.T.tells C.T.seen C.T.is_for shipper result.report }
     ensures cut { hard_fault shipped ≡ None → IsAbandoned result.report.outcome → ListsCut result.report.workers.items }
     ensures answers { Answers (IsOk shipped) (shipped ≡ Err Halt.Unreadable) result.report.outcome result.answer }
+    ensures hard { (f : ToolFault) → hard_fault shipped ≡ Some f → IsAbandoned result.report.outcome }
 {
     match hard_fault(shipped) {
         None => {

@@ -20,7 +20,7 @@ use std::time::Clock;
 /// The most bytes of a piece.
 const PIECE_BYTES: usize = 65_536;
 
-fn zeros(alloc: Global) -> Result<Vec<u8>, AllocError>
+pub(crate) fn zeros(alloc: Global) -> Result<Vec<u8>, AllocError>
     ensures { IfOk result (λ v. vec_len v ≡ PIECE_BYTES) }
 {
     vec![in alloc; 0; PIECE_BYTES]
@@ -91,7 +91,7 @@ fn ship_segment<R: Wait, S: Source + Drop, C: Connect + Drop>(
 }
 
 /// Tells that the next segment begins, where it is not the first one.
-fn begin_segment<R: Wait, C: Connect + Drop>(
+pub(crate) fn begin_segment<R: Wait, C: Connect + Drop>(
     rt: &R,
     shipper: &mut Shipper<C>,
     is_first: bool,

@@ -1,0 +1,38 @@
+//! What tells a follower to stop, and lets time pass.
+
+ghost use Rattle.std.specs.Prelude.{◌≡◌};
+
+/// What is wished of a follower.
+#[derive(Clone, Copy, Debug, PartialEq, Eq)]
+pub enum Wish {
+    /// To go on.
+    Work,
+    /// To read what stands, and end.
+    End,
+    /// To end at once.
+    Hard,
+}
+
+/// A sign that others set.
+pub trait Sign {
+    /// What is wished now.
+    fn wish(&mut self) -> Wish;
+}
+
+/// What a follower asks between two looks at a log.
+pub trait Watch {
+    ghost use Rattle.rw_follow.specs.declared.watch.Wish.{Wish};
+
+    /// What it said last.
+    ghost said: { Self → Wish };
+
+    /// What is wished now.
+    fn wish(&mut self) -> Wish
+        ensures { said self.new ≡ result };
+
+    /// Waits a little.
+    fn nap(&mut self);
+
+    /// Whether what was fed since the last flush has waited long enough. It is asked while something waits.
+    fn is_flush_due(&mut self) -> bool;
+}

@@ -1,0 +1,22 @@
+use Rattle.std.proofs.Common.{refl, ap, ◌∙◌}
+use Rattle.rw_feeder.specs.Feeders.{Sorting}
+use Rattle.rw_send.proofs.FollowLemmas.{follow_so}
+use Rattle.rw_send.proofs.following.ship_on.Goals as goal
+
+pub returns : goal.returns
+returns g c =
+    let live = c.ship_live-ended.ensures in
+    let stopped = c.stopped-report.ensures in
+    record {
+      pieces = c.ship_live-ended.new.shipper.log.pieces;
+      begins = live.begins;
+      short = live.short;
+      report = record {
+        shipping = c.ship_live-ended.new.shipper;
+        choice = live.kept.0 ∙ ap (λ (l : Sorting). l.choice) c.in_ok-shipper.ensures.log;
+        config = live.kept.1 ∙ c.in_ok-shipper.ensures.config;
+        pieces_are = refl;
+        stopped = stopped.stopped;
+      };
+      answers = follow_so c.ship_live-ended.new.shipper _ _ _ _ c.ship_live-ended.result c.shipped_by.result _ _ c.shipped_by.ensures c.answer_by.ensures live.whole live.signed live.cut stopped.answers stopped.hard;
+    }

@@ -1,0 +1,20 @@
+use Rattle.std.proofs.Common.{Ok, Err}
+use Rattle.rw_codes.specs.Pieces.{bytes}
+use Rattle.rw_send.proofs.FollowLemmas.{fed_piece, part_piece}
+use Rattle.rw_send.proofs.PartLemmas.{also_on_err, joins_or_not}
+use Rattle.rw_send.proofs.ShortLemmas.{short_fed}
+use Rattle.rw_send.proofs.live.feed_bytes.Goals as goal
+
+pub returns-in_err-feed-clause-part : goal.returns-in_err-feed-clause-part
+returns-in_err-feed-clause-part g c =
+    also_on_err _ (part_piece _ _ _ (joins_or_not c.args.shipper.now.log c.feed.new.self.log (bytes c.args.piece.items) c.in_err-feed.field-0.0 (c.in_err-feed.ensures.pieces c.requires.live)))
+
+pub returns-in_err-feed-clause-short : goal.returns-in_err-feed-clause-short
+returns-in_err-feed-clause-short g c =
+    short_fed c.args.shipper.now.log c.feed.new.self.log (bytes c.args.piece.items) (Err c.in_err-feed.field-0.0) (c.in_err-feed.ensures.pieces c.requires.live) c.requires.short
+
+pub returns-clause-short : goal.returns-clause-short
+returns-clause-short g c = short_fed c.args.shipper.now.log c.feed.new.self.log (bytes c.args.piece.items) (Ok tt) (c.in_ok-feed.ensures.pieces c.requires.live) c.requires.short
+
+pub returns-clause-fed : goal.returns-clause-fed
+returns-clause-fed g c = fed_piece _ _ _ (c.in_ok-feed.ensures.pieces c.requires.live)

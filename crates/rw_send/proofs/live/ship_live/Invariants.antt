@@ -1,0 +1,18 @@
+use Rattle.std.proofs.Common.{◌≡◌, ◌<◌, ◌≤◌, length, true, None}
+use Rattle.rw_follow.specs.Growth.{IsFollowed, IsGivenAt, Known}
+use Rattle.rw_send.specs.Following.{meal_of}
+use Rattle.rw_send.specs.Segments.{AreShort}
+use Rattle.rw_send.specs.Sending.{IsKept}
+use Rattle.rw_send.proofs.live.ship_live.Given as goal
+
+abbrev pub invariant-loop : goal.invariant-loop
+invariant-loop g l = record {
+  kept : IsKept l.fn.shipper l.shipper;
+  short : AreShort l.shipper.log.pieces;
+  live : l.shipper.fault ≡ None;
+  shards : length l.shipper.fleet.current ≡ l.sharding.shards;
+  given : Known (g.S.Segments.now l.segments) (λ m. IsGivenAt (meal_of l.shipper.log.pieces) m);
+  followed : l.follower ≡ true → Known (g.S.Segments.now l.segments) IsFollowed;
+  room : 0 < length l.buf;
+  small : length l.buf ≤ 65536;
+}

@@ -1,0 +1,108 @@
+-- What a run of the command `send --follow` does.
+use Rattle.std.specs.Prelude.{◌≡◌, ℕ, List, [], ◌∷◌, Option, Result, Ok, Err, ⊤}
+use Rattle.std.specs.Io.KnownBytes.{Appends}
+use Rattle.rw_codes.specs.Pieces.{Piece, bytes, next_segment}
+use Rattle.rw_follow.specs.Growth as growth
+use Rattle.rw_follow.specs.Growth.{HadAll, HasGap, IsBeginning, Known, Meal, Moment, with_next, with_piece}
+use Rattle.rw_follow.specs.declared.follower.Broken.TheVariants as broken
+use Rattle.rw_follow.specs.declared.follower.Stop.{Stop}
+use Rattle.rw_follow.specs.declared.follower.Stop.TheVariants as stop
+use Rattle.rw_follow.specs.declared.watch.Wish.{Wish}
+use Rattle.rw_follow.specs.declared.watch.Wish.TheVariants as wish
+use Rattle.rw_sender.specs.declared.config.ConfigFields.{ConfigFields}
+use Rattle.rw_sender.specs.declared.outcome.Outcome.{Outcome}
+use Rattle.rw_worker.specs.Transcript.{Exchange}
+use Rattle.rw_shipper.specs.Reports.{IsAbandoned}
+use Rattle.rw_shipper.specs.Shipping.{Shipping}
+use Rattle.rw_shipper.specs.declared.report.Report.{Report}
+use Rattle.rw_tool.specs.declared.fault.ToolFault.{ToolFault}
+use Rattle.rw_types.specs.declared.transfer.ReadFault.TheVariants as read
+use Rattle.rw_send.specs.declared.follow_fault.FollowFault.{FollowFault}
+use Rattle.rw_send.specs.declared.follow_fault.FollowFault.TheVariants as fault
+use Rattle.rw_send.specs.declared.halt.Halt.{Halt}
+use Rattle.rw_send.specs.declared.halt.Halt.TheVariants as halt
+use Rattle.rw_send.specs.declared.live.Cut.{Cut}
+use Rattle.rw_send.specs.declared.live.Cut.TheVariants as cut
+use Rattle.rw_send.specs.ReportText.{IsTextOf, WritesPart}
+use Rattle.rw_send.specs.Segments.{AreShort}
+use Rattle.rw_send.specs.Sending.{Answers, IsHalted, IsReportOf}
+
+-- nothing was given of the log, of which no segment is over
+pub record IsUnread (m : Moment) : Type 0 where
+  pub done : m.done ≡ []
+  pub given : m.given ≡ []
+
+-- what these pieces tell: the bytes between two words of a next segment, joined; here after some
+abbrev pub meal_after : Meal → List Piece → Meal
+meal_after meal [] = meal
+meal_after meal (bytes b ∷ pieces) = meal_after (with_piece meal b) pieces
+meal_after meal (next_segment ∷ pieces) = meal_after (with_next meal) pieces
+
+abbrev pub no_meal : Meal
+no_meal = record { whole = []; begun = [] }
+
+abbrev pub meal_of : List Piece → Meal
+meal_of pieces = meal_after no_meal pieces
+
+-- Where the shipper takes no more, the log has the fault for which it does not. A segment is missing that the log says is.
+abbrev pub IsCut : {T : Type 0} → Shipping T → Option Moment → Cut → Type 0
+IsCut s now (cut.Broken (broken.Unreadable f)) = ⊤
+IsCut s now (cut.Broken (broken.Missing n)) = Known now (HasGap n)
+IsCut s now (cut.Halted h) = IsHalted s h
+
+-- how the reading ended: by a hard sign, and where a segment is missing, as where it cannot be read
+abbrev pub shipped_by : Result Stop Cut → Result (Unit {0}) Halt
+shipped_by (Ok stop.Orderly) = Ok tt
+shipped_by (Ok stop.Hard) = Err halt.Unreadable
+shipped_by (Err (cut.Broken (broken.Missing n))) = Err halt.Unreadable
+shipped_by (Err (cut.Broken (broken.Unreadable read.OutOfMemory))) = Err halt.Failed
+shipped_by (Err (cut.Broken (broken.Unreadable read.Failed))) = Err halt.Unreadable
+shipped_by (Err (cut.Halted h)) = Err h
+
+abbrev pub told : Result (Unit {0}) ToolFault → Result (Unit {0}) FollowFault
+told (Ok u) = Ok u
+told (Err f) = Err (fault.Tool f)
+
+-- how it is answered, where the shipper's stop is answered so
+abbrev pub answer_by : Result Stop Cut → Result (Unit {0}) ToolFault → Result (Unit {0}) FollowFault
+answer_by (Ok stop.Orderly) answer = told answer
+answer_by (Ok stop.Hard) answer = Err fault.Stopped
+answer_by (Err (cut.Broken (broken.Missing n))) answer = Err (fault.Missing n)
+answer_by (Err (cut.Broken (broken.Unreadable f))) answer = told answer
+answer_by (Err (cut.Halted h)) answer = told answer
+
+-- it was told to end, and all that stood was fed
+abbrev pub HasRead : Option Moment → Wish → Meal → Type 0
+HasRead now said fed = (said ≡ wish.End) × Known now (HadAll fed)
+
+-- How a following answers whose report has this outcome: all is well only where it was told to end, all that stood was fed and the outcome is complete; a
+-- missing segment is one that the log says is missing; and it ends at once only where it was told to.
+abbrev pub FollowAnswers : Option Moment → Wish → Meal → Outcome → Result (Unit {0}) FollowFault → Type 0
+FollowAnswers now said fed o (Ok u) = Answers (HasRead now said fed) ⊤ o (Ok u)
+FollowAnswers now said fed o (Err (fault.Tool f)) = Answers (HasRead now said fed) ⊤ o (Err f)
+FollowAnswers now said fed o (Err (fault.Missing n)) = IsAbandoned o × Known now (HasGap n)
+FollowAnswers now said fed o (Err fault.Stopped) = IsAbandoned o × (said ≡ wish.Hard)
+
+-- A beginning of the segments' texts was shipped in order, in short pieces, with word of a next segment between two, and nothing else; with this report and
+-- this answer.
+pub record IsFollowed {T : Type 0} (tells : T → Type 0) (seen : T → List Exchange) (is_for : ℕ → ℕ → T → Type 0) (c : ConfigFields) (now : Option Moment) (said : Wish) (r : Report T) (answer : Result (Unit {0}) FollowFault) : Type 0 where
+  pub pieces : List Piece
+  pub begins : Known now (λ m. IsBeginning (meal_of pieces) (growth.texts m))
+  pub short : AreShort pieces
+  pub report : IsReportOf tells seen is_for c pieces r
+  pub answers : FollowAnswers now said (meal_of pieces) r.outcome answer
+
+-- and the text of the report was written
+pub record IsFollowPrinted {T : Type 0} (tells : T → Type 0) (seen : T → List Exchange) (is_for : ℕ → ℕ → T → Type 0) (c : ConfigFields) (now : Option Moment) (said : Wish) (before after : Option (List ℕ)) (answer : Result (Unit {0}) FollowFault) : Type 0 where
+  pub report : Report T
+  pub followed : IsFollowed tells seen is_for c now said report answer
+  pub text : List ℕ
+  pub text_of : IsTextOf report text
+  pub written : Appends before after text
+
+-- a beginning of it was written
+pub record IsFollowPrintedPart {T : Type 0} (tells : T → Type 0) (seen : T → List Exchange) (is_for : ℕ → ℕ → T → Type 0) (c : ConfigFields) (now : Option Moment) (said : Wish) (before after : Option (List ℕ)) : Type 0 where
+  pub answer : Result (Unit {0}) FollowFault
+  pub report : Report T
+  pub followed : IsFollowed tells seen is_for c now said report answer
+  pub part : WritesPart report before after

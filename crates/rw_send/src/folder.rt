@@ -1,0 +1,145 @@
+//! The segments of a folder in which a writer goes on writing.
+
+use crate::files::{SegmentName, names_in};
+use rw_follow::{Ahead, Segments};
+use rw_tool::ToolFault;
+use rw_types::{ReadFault, Source, Std};
+use std::alloc::{AllocError, Global};
+use std::fs;
+use std::fs::File;
+use std::path::{Path, PathBuf};
+use std::rt::Files;
+
+/// A segment that is read.
+#[derive(Drop)]
+struct Current {
+    segment: SegmentName,
+    file: Std<File>,
+}
+
+/// The segments of a log in a folder, as they come: the files whose names are one to eight decimal digits, by number, and of two names of one number the
+/// shorter first. What stands in them nobody can know.
+#[derive(Drop)]
+pub struct Folder<R> {
+    rt: R,
+    dir: String,
+    /// None before the first one is there.
+    current: Option<Current>,
+    /// The one after it, once it was seen.
+    ahead: Option<SegmentName>,
+}
+
+/// The path of a segment.
+fn path_of(alloc: Global, dir: &str, name: &str) -> Result<PathBuf, AllocError> {
+    Path::new(dir).join(alloc, name)
+}
+
+/// The first of the names in order that comes after this one.
+fn name_after(names: Vec<SegmentName>, current: &Option<Current>) -> Option<SegmentName> {
+    for next in names {
+        let is_after = match current {
+            None => true,
+            Some(current) => {
+                let name = &current.segment;
+                (next.number, next.name.len()) > (name.number, name.name.len())
+            }
+        };
+        if is_after {
+            return Some(next);
+        }
+    }
+    None
+}
+
+impl<R: Files<File = File> + AllocGlobal + Copy> Folder<R> {
+    /// Of the folder of this name, from its first segment on.
+    pub fn new(rt: R, dir: String) -> Folder<R> {
+        Folder {
+            rt,
+            dir,
+            current: None,
+            ahead: None,
+        }
+    }
+
+    /// The segment after the current one that is there now.
+    fn next_name(&self) -> Result<Option<SegmentName>, ReadFault> {
+        match names_in(&self.rt, self.dir.as_str()) {
+            Ok(names) => Ok(name_after(names, &self.current)),
+            Err(ToolFault::OutOfMemory) => Err(ReadFault::OutOfMemory),
+            Err(_) => Err(ReadFault::Failed),
+        }
+    }
+
+    /// Opens a segment, which is the current one from then on.
+    fn open(&mut self, segment: SegmentName) -> Result<(), ReadFault> {
+        let path = path_of(self.rt.alloc(), self.dir.as_str(), segment.name.as_str())?;
+        match fs::open(&self.rt, path.as_path()) {
+            Ok(file) => {
+                let file = Std::new(file);
+                self.current = Some(Current { segment, file });
+                Ok(())
+            }
+            Err(_) => Err(ReadFault::Failed),
+        }
+    }
+
+    /// The number that is missing before the segment that was seen.
+    fn missing(&self) -> Option<u64> {
+        match (&self.current, &self.ahead) {
+            (Some(current), Some(ahead)) => {
+                let next = current.segment.number.saturating_add(1);
+                if next < ahead.number {
+                    Some(next)
+                } else {
+                    None
+                }
+            }
+            _ => None,
+        }
+    }
+}
+
+impl<R: Files<File = File> + AllocGlobal + Copy> Segments for Folder<R> {
+    ghost use Rattle.std.specs.Prelude.{None};
+
+    ghost now = { λ _. None };
+
+    fn read(&mut self, buf: &mut [u8]) -> Result<usize, ReadFault> {
+        if self.current.is_none() {
+            if let Some(first) = self.next_name()? {
+                self.open(first)?;
+            }
+        }
+        match &mut self.current {
+            Some(current) => match current.file.read(buf) {
+                Ok(count) => Ok(count),
+                Err(_) => Err(ReadFault::Failed),
+            },
+            None => Ok(0),
+        }
+    }
+
+    fn look(&mut self) -> Result<Ahead, ReadFault> {
+        if self.current.is_none() {
+            return Ok(Ahead::Nothing);
+        }
+        self.ahead = self.next_name()?;
+        // a listing may have passed by the place of a segment that came in the meantime
+        if self.missing().is_some() {
+            self.ahead = self.next_name()?;
+        }
+        match self.missing() {
+            Some(number) => Ok(Ahead::Missing(number)),
+            None if self.ahead.is_some() => Ok(Ahead::Segment),
+            None => Ok(Ahead::Nothing),
+        }
+    }
+
+    fn advance(&mut self) -> Result<(), ReadFault> {
+        match self.ahead.take() {
+            Some(next) => self.open(next),
+            None => Err(ReadFault::Failed),
+        }
+    }
+}

@@ -1,0 +1,140 @@
+//! The command `send --follow`, over any segments, connections, watch and writer.
+
+ghost use Rattle.std.specs.Prelude.{◌≡◌, ◌⊎◌, ℕ, Ok, Err, true, false, IfOk, OnOk};
+ghost use Rattle.rw_codes.specs.declared.tail_fault.TailFault.{TailFault};
+ghost use Rattle.rw_follow.specs.Growth.{Known};
+ghost use Rattle.rw_tool.specs.declared.fault.ToolFault.TheVariants.{OutOfMemory, Log, Line, SegmentFull, Device};
+ghost use Rattle.rw_send.specs.Following.{IsFollowPrinted, IsFollowPrintedPart, IsFollowed, IsUnread, answer_by, shipped_by, told};
+ghost use Rattle.rw_send.specs.declared.follow_fault.FollowFault.TheVariants.{Tool, Missing, Stopped};
+
+use crate::follow_fault::FollowFault;
+use crate::halt::Halt;
+use crate::live::{Cut, ship_live};
+use crate::printing::print_report;
+use crate::send::{Sent, stopped};
+use crate::sharding::Sharding;
+use crate::shipping::zeros;
+use rw_follow::{Broken, Segments, Stop, Watch};
+use rw_sender::Config;
+use rw_settings::Settings;
+use rw_shipper::{Connect, Report, Shipper};
+use rw_tool::ToolFault;
+use rw_types::{ReadFault, Sink};
+use std::alloc::{AllocError, Global};
+use std::sync::Wait;
+use std::thread::Threads;
+use std::time::Clock;
+
+/// What came of following.
+#[derive(Drop)]
+struct Followed<T> {
+    report: Report<T>,
+    answer: Result<(), FollowFault>,
+}
+
+/// How the reading of a log ended that was followed.
+fn shipped_by(ended: Result<Stop, Cut>) -> Result<(), Halt>
+    ensures { result ≡ shipped_by ended }
+{
+    match ended {
+        Ok(Stop::Orderly) => Ok(()),
+        Ok(Stop::Hard) => Err(Halt::Unreadable),
+        Err(Cut::Broken(Broken::Missing(_))) => Err(Halt::Unreadable),
+        Err(Cut::Broken(Broken::Unreadable(ReadFault::OutOfMemory))) => Err(Halt::Failed),
+        Err(Cut::Broken(Broken::Unreadable(ReadFault::Failed))) => Err(Halt::Unreadable),
+        Err(Cut::Halted(halt)) => Err(halt),
+    }
+}
+
+/// The same answer, of a log that is followed.
+fn told(answer: Result<(), ToolFault>) -> Result<(), FollowFault>
+    ensures { result ≡ told answer }
+{
+    match answer {
+        Ok(()) => Ok(()),
+        Err(fault) => Err(FollowFault::Tool(fault)),
+    }
+}
+
+/// How a following answers that ended so, where its shipper's stop is answered so.
+fn answer_by(ended: Result<Stop, Cut>, answer: Result<(), ToolFault>) -> Result<(), FollowFault>
+    ensures { result ≡ answer_by ended answer }
+{
+    match ended {
+        Ok(Stop::Orderly) => told(answer),
+        Ok(Stop::Hard) => Err(FollowFault::Stopped),
+        Err(Cut::Broken(Broken::Missing(number))) => Err(FollowFault::Missing(number)),
+        Err(Cut::Broken(Broken::Unreadable(_))) => told(answer),
+        Err(Cut::Halted(_)) => told(answer),
+    }
+}
+
+/// Follows a log, and stops.
+fn ship_on<
+    R: Threads + Wait + Clock + Copy + Send + 'static,
+    S: Segments,
+    C: Connect + Drop,
+    W: Watch,
+>(
+    rt: &R,
+    alloc: Global,
+    config: Config,
+    segments: &mut S,
+    connect: C,
+    watch: &mut W,
+) -> Result<Followed<C::T>, AllocError>
+    requires unread { Known (S.now segments.old) IsUnread }
+    ensures { IfOk result (λ f. IsFollowed C.T.tells C.T.seen C.T.is_for config (S.now segments.new) (W.said watch.new) f.report f.answer) }
+{
+    let sharding = Sharding::of(&config);
+    let mut buf = zeros(alloc)?;
+    let mut shipper = Shipper::start(rt, alloc, config, connect)?;
+    let ended = ship_live(rt, alloc, &mut shipper, sharding, segments, watch, &mut buf);
+    let Sent { report, answer } = stopped(rt, shipper, shipped_by(ended));
+    Ok(Followed {
+        report,
+        answer: answer_by(ended, answer),
+    })
+}
+
+/// Ships a log while it grows, until the watch says that it is to end, then stops and prints the report as the command `send` does. Of what was read the
+/// labels of series, the samples that wait to be answered for and the dropped ones are kept, and nothing else.
+///
+/// A segment is over once the next one is there and, read again after that was seen, it gives no more bytes. Between two of them the number of shards
+/// is changed to what is wanted under the load. Told to end, it reads what stands, and waits until the receiver has answered for all of it; told to end at
+/// once, it leaves what is not done. Where a segment is missing between two, or cannot be read, the work is stopped at once too.
+pub fn run_follow<
+    R: Threads + Wait + Clock + Copy + Send + 'static,
+    S: Segments,
+    C: Connect + Drop,
+    W: Watch,
+    K: Sink,
+>(
+    rt: &R,
+    alloc: Global,
+    settings: Settings,
+    segments: &mut S,
+    connect: C,
+    watch: &mut W,
+    writer: &mut K,
+) -> Result<(), FollowFault>
+    requires unread { Known (S.now segments.old) IsUnread }
+    ensures complete { OnOk result (IsFollowPrinted C.T.tells C.T.seen C.T.is_for settings.config (S.now segments.new) (W.said watch.new) (K.contents writer.old) (K.contents writer.new) (Ok tt)) }
+    ensures sound { OnOk result (K.has_failed writer.old ≡ false → K.has_failed writer.new ≡ false) }
+    ensures damaged { (f : TailFault) → result ≡ Err (Tool (Log f)) → IsFollowPrinted C.T.tells C.T.seen C.T.is_for settings.config (S.now segments.new) (W.said watch.new) (K.contents writer.old) (K.contents writer.new) (Err (Tool (Log f))) }
+    ensures missing { (n : ℕ) → result ≡ Err (Missing n) → IsFollowPrinted C.T.tells C.T.seen C.T.is_for settings.config (S.now segments.new) (W.said watch.new) (K.contents writer.old) (K.contents writer.new) (Err (Missing n)) }
+    ensures stopped { result ≡ Err Stopped → IsFollowPrinted C.T.tells C.T.seen C.T.is_for settings.config (S.now segments.new) (W.said watch.new) (K.contents writer.old) (K.contents writer.new) (Err Stopped) }
+    ensures memory { result ≡ Err (Tool OutOfMemory) → (writer.new ≡ writer.old)
+        ⊎ IsFollowPrinted C.T.tells C.T.seen C.T.is_for settings.config (S.now segments.new) (W.said watch.new) (K.contents writer.old) (K.contents writer.new) (Err (Tool OutOfMemory)) }
+
+    // A segment cannot be read, or the writer holds a beginning of the report.
+    ensures device { result ≡ Err (Tool Device) → IsFollowPrinted C.T.tells C.T.seen C.T.is_for settings.config (S.now segments.new) (W.said watch.new) (K.contents writer.old) (K.contents writer.new) (Err (Tool Device))
+        ⊎ ((K.has_failed writer.new ≡ true) × IsFollowPrintedPart C.T.tells C.T.seen C.T.is_for settings.config (S.now segments.new) (W.said watch.new) (K.contents writer.old) (K.contents writer.new)) }
+    ensures no_line { (n : ℕ) → result ≡ Err (Tool (Line n)) → ⊥ }
+    ensures no_full { result ≡ Err (Tool SegmentFull) → ⊥ }
+{
+    let Settings { config, limits: _ } = settings;
+    let Followed { report, answer } = ship_on(rt, alloc, config, segments, connect, watch)?;
+    print_report(alloc, report, writer)?;
+    answer
+}

@@ -1,0 +1,189 @@
+//! A log is fed to a shipper as it grows.
+
+ghost use Rattle.std.specs.Prelude.{◌≡◌, ◌<◌, ◌≤◌, ◌⊎◌, [], length, None, Ok, IfErr, IfOk, OnOk, OnErr};
+ghost use Rattle.rw_follow.specs.Growth as growth;
+ghost use Rattle.rw_follow.specs.Growth.{HadAll, IsBeginning, Known, with_next, with_piece};
+ghost use Rattle.rw_follow.specs.Turns.{IsWithin, given_by, wish_of};
+ghost use Rattle.rw_follow.specs.declared.follower.Stop.TheVariants as Stop;
+ghost use Rattle.rw_send.specs.Following.{IsCut, IsUnread, meal_of};
+ghost use Rattle.rw_send.specs.Segments.{AreShort};
+ghost use Rattle.rw_send.specs.Sending.{IsHalted, IsKept};
+
+use crate::halt::Halt;
+use crate::sharding::{Sharding, resharded};
+use crate::shipping::begin_segment;
+use rw_follow::{Broken, Follower, Segments, Stop, Turn, Watch};
+use rw_shipper::{Connect, Shipper};
+use rw_wal_tail::Piece;
+use std::alloc::Global;
+use std::sync::Wait;
+use std::thread::Threads;
+use std::time::Clock;
+
+/// Why a log is followed no further, but for a sign.
+#[derive(Clone, Copy, Debug, PartialEq, Eq)]
+pub(crate) enum Cut {
+    /// The log cannot be followed.
+    Broken(Broken),
+    /// The shipper takes no more.
+    Halted(Halt),
+}
+
+impl From<Broken> for Cut {
+    ghost use Rattle.std.specs.Prelude.{◌≡◌};
+    ghost use Rattle.rw_send.specs.declared.live.Cut.TheVariants.{Broken};
+
+    ghost from_gives = { λ b c. c ≡ Broken b };
+
+    fn from(broken: Broken) -> Cut {
+        Cut::Broken(broken)
+    }
+}
+
+impl From<Halt> for Cut {
+    ghost use Rattle.std.specs.Prelude.{◌≡◌};
+    ghost use Rattle.rw_send.specs.declared.live.Cut.TheVariants.{Halted};
+
+    ghost from_gives = { λ h c. c ≡ Halted h };
+
+    fn from(halt: Halt) -> Cut {
+        Cut::Halted(halt)
+    }
+}
+
+/// Feeds some bytes of the current segment.
+fn feed_bytes<R: Wait, C: Connect + Drop>(
+    rt: &R,
+    shipper: &mut Shipper<C>,
+    piece: Vec<u8>,
+) -> Result<(), Halt>
+    requires live { shipper.old.fault ≡ None }
+    requires short { length piece.items ≤ 65_536 }
+    ensures kept { IsKept shipper.old shipper.new }
+    ensures shards { length shipper.new.fleet.current ≡ length shipper.old.fleet.current }
+    ensures short { AreShort shipper.old.log.pieces → AreShort shipper.new.log.pieces }
+    ensures live { OnOk result (shipper.new.fault ≡ None) }
+    ensures fed { OnOk result (meal_of shipper.new.log.pieces ≡ with_piece (meal_of shipper.old.log.pieces) piece.items) }
+    ensures part { OnErr result ((meal_of shipper.new.log.pieces ≡ meal_of shipper.old.log.pieces)
+        ⊎ (meal_of shipper.new.log.pieces ≡ with_piece (meal_of shipper.old.log.pieces) piece.items)) }
+
+    ensures halted { IfErr result (IsHalted shipper.new) }
+{
+    shipper.feed(rt, Piece::Bytes(piece))?;
+    Ok(())
+}
+
+/// Tells that the next segment begins, with as many shards as are wanted under the load.
+fn feed_next<R: Threads + Wait + Clock + Copy + Send + 'static, C: Connect + Drop>(
+    rt: &R,
+    shipper: &mut Shipper<C>,
+    sharding: Sharding,
+) -> Result<Sharding, Halt>
+    requires live { shipper.old.fault ≡ None }
+    requires shards { length shipper.old.fleet.current ≡ sharding.shards }
+    ensures kept { IsKept shipper.old shipper.new }
+    ensures shards { IfOk result (λ s. length shipper.new.fleet.current ≡ s.shards) }
+    ensures short { AreShort shipper.old.log.pieces → AreShort shipper.new.log.pieces }
+    ensures live { OnOk result (shipper.new.fault ≡ None) }
+    ensures fed { OnOk result (meal_of shipper.new.log.pieces ≡ with_next (meal_of shipper.old.log.pieces)) }
+    ensures part { OnErr result ((meal_of shipper.new.log.pieces ≡ meal_of shipper.old.log.pieces)
+        ⊎ (meal_of shipper.new.log.pieces ≡ with_next (meal_of shipper.old.log.pieces))) }
+
+    ensures halted { IfErr result (IsHalted shipper.new) }
+{
+    let next = resharded(rt, shipper, sharding, true)?;
+    begin_segment(rt, shipper, false)?;
+    Ok(next)
+}
+
+/// Asks each shard to send what waits for a full batch.
+fn flush<R: Wait, C: Connect + Drop>(rt: &R, shipper: &mut Shipper<C>) -> Result<(), Halt>
+    requires live { shipper.old.fault ≡ None }
+    ensures kept { IsKept shipper.old shipper.new }
+    ensures shards { OnOk result (length shipper.new.fleet.current ≡ length shipper.old.fleet.current) }
+    ensures log { shipper.new.log ≡ shipper.old.log }
+    ensures live { OnOk result (shipper.new.fault ≡ None) }
+    ensures halted { IfErr result (IsHalted shipper.new) }
+{
+    shipper.flush(rt)?;
+    Ok(())
+}
+
+/// Does what a turn of a follower asks for.
+fn obey<R: Threads + Wait + Clock + Copy + Send + 'static, C: Connect + Drop>(
+    rt: &R,
+    alloc: Global,
+    shipper: &mut Shipper<C>,
+    sharding: Sharding,
+    turn: Turn,
+    buf: &[u8],
+) -> Result<Sharding, Halt>
+    requires live { shipper.old.fault ≡ None }
+    requires shards { length shipper.old.fleet.current ≡ sharding.shards }
+    requires within { IsWithin turn (length buf.now) }
+    requires short { length buf.now ≤ 65_536 }
+    ensures kept { IsKept shipper.old shipper.new }
+    ensures shards { IfOk result (λ s. length shipper.new.fleet.current ≡ s.shards) }
+    ensures short { AreShort shipper.old.log.pieces → AreShort shipper.new.log.pieces }
+    ensures live { OnOk result (shipper.new.fault ≡ None) }
+    ensures fed { OnOk result (meal_of shipper.new.log.pieces ≡ given_by turn buf.now (meal_of shipper.old.log.pieces)) }
+    ensures part { OnErr result ((meal_of shipper.new.log.pieces ≡ meal_of shipper.old.log.pieces)
+        ⊎ (meal_of shipper.new.log.pieces ≡ given_by turn buf.now (meal_of shipper.old.log.pieces))) }
+
+    ensures halted { IfErr result (IsHalted shipper.new) }
+{
+    match turn {
+        Turn::Piece(count) => {
+            let piece = Vec::from_slice(alloc, &buf[..count])?;
+            feed_bytes(rt, shipper, piece)?;
+            Ok(sharding)
+        }
+        Turn::Over => feed_next(rt, shipper, sharding),
+        Turn::Flush => {
+            flush(rt, shipper)?;
+            Ok(sharding)
+        }
+        Turn::Nothing | Turn::Stopped(_) => Ok(sharding),
+    }
+}
+
+/// Feeds a log as it grows, until the watch says that it is to end.
+pub(crate) fn ship_live<
+    R: Threads + Wait + Clock + Copy + Send + 'static,
+    S: Segments,
+    C: Connect + Drop,
+    W: Watch,
+>(
+    rt: &R,
+    alloc: Global,
+    shipper: &mut Shipper<C>,
+    sharding: Sharding,
+    segments: &mut S,
+    watch: &mut W,
+    buf: &mut [u8],
+) -> Result<Stop, Cut>
+    requires begun { shipper.old.log.pieces ≡ [] }
+    requires live { shipper.old.fault ≡ None }
+    requires shards { length shipper.old.fleet.current ≡ sharding.shards }
+    requires unread { Known (S.now segments.old) IsUnread }
+    requires buffer { 0 < length buf.old }
+    requires short { length buf.old ≤ 65_536 }
+    ensures kept { IsKept shipper.old shipper.new }
+    ensures short { AreShort shipper.new.log.pieces }
+    ensures live { OnOk result (shipper.new.fault ≡ None) }
+    ensures begins { Known (S.now segments.new) (λ m. IsBeginning (meal_of shipper.new.log.pieces) (growth.texts m)) }
+    ensures whole { result ≡ Ok Stop.Orderly → Known (S.now segments.new) (HadAll (meal_of shipper.new.log.pieces)) }
+    ensures signed { IfOk result (λ stop. W.said watch.new ≡ wish_of stop) }
+    ensures cut { IfErr result (IsCut shipper.new (S.now segments.new)) }
+{
+    let mut sharding = sharding;
+    let mut follower = Follower::new();
+    for _ in rt.forever() {
+        let turn = follower.turn(segments, watch, buf)?;
+        if let Turn::Stopped(stop) = turn {
+            return Ok(stop);
+        }
+        sharding = obey(rt, alloc, shipper, sharding, turn, buf)?;
+    }
+    unreachable!()
+}

@@ -1,0 +1,44 @@
+//! Watches that say to stop after so many looks.
+
+use rw_follow::{Sign, Watch, Wish};
+
+/// Says this wish once it was asked so often. What was fed is flushed at once, or never.
+#[derive(Drop)]
+pub(crate) struct Countdown {
+    pub(crate) looks: u32,
+    pub(crate) wish: Wish,
+    pub(crate) flushes: bool,
+    pub(crate) said: Wish,
+}
+
+impl Countdown {
+    /// What is said at this look.
+    fn next(&mut self) -> Wish {
+        if self.looks == 0 {
+            return self.wish;
+        }
+        self.looks -= 1;
+        Wish::Work
+    }
+}
+
+impl Watch for Countdown {
+    ghost said = { λ c. c.said };
+
+    fn wish(&mut self) -> Wish {
+        self.said = self.next();
+        self.said
+    }
+
+    fn nap(&mut self) {}
+
+    fn is_flush_due(&mut self) -> bool {
+        self.flushes
+    }
+}
+
+impl Sign for Countdown {
+    fn wish(&mut self) -> Wish {
+        self.next()
+    }
+}
