@@ -6,3 +6,4 @@ pub mod PointLemmas
 pub mod RisingLemmas
 pub mod SeriesLemmas
 pub mod TimestampLemmas
+pub mod VerdictLemmas

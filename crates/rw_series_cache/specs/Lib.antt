@@ -5,3 +5,4 @@ pub mod Noted
 pub mod Numbers
 pub mod Points
 pub mod Rising
+pub mod Verdicts

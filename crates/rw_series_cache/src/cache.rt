@@ -12,11 +12,11 @@ use crate::known::Known;
 use crate::label_sets::LabelSets;
 use crate::timestamps::Timestamps;
 use crate::verdict::Verdict;
+use crate::verdicts::Verdicts;
 use rw_history::History;
 use rw_relabel::Choice;
 use rw_types::{Entry, Names, RawLabels};
 use std::alloc::{AllocError, Global};
-use std::collections::HashMap;
 use std::marker::Model;
 
 /// What the definitions of a log say of its references, and the latest timestamp that was noted of each series. Contracts see the
@@ -25,16 +25,16 @@ use std::marker::Model;
 pub struct Cache {
     taken: History<Entry>,
     sets: LabelSets,
-    verdicts: HashMap<u64, Verdict>,
+    verdicts: Verdicts,
     latest: Timestamps,
 }
 
 impl Model for Cache {
-    ghost use Rattle.std.specs.Prelude.{◌≤◌, length, nat_eq};
-    ghost use Rattle.std.specs.HashMap.{get};
+    ghost use Rattle.std.specs.Prelude.{◌≤◌, length};
     ghost use Rattle.std.specs.Coded.{codes};
     ghost use Rattle.std.specs.FinMap as map;
     ghost use Rattle.rw_series_cache.specs.Cached.{Taken, IsCache};
+    ghost use Rattle.rw_series_cache.specs.Verdicts.{verdict_in};
 
     ghost Value = { Taken };
 
@@ -42,7 +42,7 @@ impl Model for Cache {
 
     ghost view = { λ c. record { choice = c.sets.choice; definitions = c.taken; noted = c.latest.times } };
 
-    ghost invariant = { λ c. IsCache c.sets.choice c.taken (get nat_eq c.verdicts) c.sets.series
+    ghost invariant = { λ c. IsCache c.sets.choice c.taken (verdict_in c.verdicts) c.sets.series
         × (length c.sets.series ≤ c.latest.places) };
 }
 
@@ -54,7 +54,7 @@ impl Cache {
         Cache {
             taken: History::new(),
             sets: LabelSets::new(alloc, choice),
-            verdicts: HashMap::new(alloc),
+            verdicts: Verdicts::new(alloc),
             latest: Timestamps::new(alloc),
         }
     }
@@ -73,10 +73,10 @@ impl Cache {
         ensures err { OnErr result (self.new ≡ self.old) }
     {
         // This room is all that the reference and its series take: once a label set has its number, nothing is refused any more.
-        self.verdicts.reserve(1)?;
+        self.verdicts.make_room(reference)?;
         self.latest.make_place(self.sets.len())?;
         let verdict = self.sets.judge(&labels)?;
-        self.verdicts.insert(reference, verdict)?;
+        self.verdicts.put(reference, verdict);
         self.taken.push(&Entry::Def { reference, labels });
         Ok(())
     }
@@ -89,11 +89,11 @@ impl Cache {
         ensures log { (entries : List Entry) → definitions_of entries ≡ self.now.definitions
             → Answers self.now.choice entries reference result }
     {
-        match self.verdicts.get(&reference) {
+        match self.verdicts.get(reference) {
             None => Known::Unknown,
-            Some(Verdict::Bad(fault)) => Known::Bad(*fault),
+            Some(Verdict::Bad(fault)) => Known::Bad(fault),
             Some(Verdict::Filtered) => Known::Filtered,
-            Some(Verdict::Kept(number)) => Known::Kept(*number as u64, self.sets.get(*number)),
+            Some(Verdict::Kept(number)) => Known::Kept(number as u64, self.sets.get(number)),
         }
     }
 

@@ -10,6 +10,7 @@ mod label_sets;
 mod laws;
 mod timestamps;
 mod verdict;
+mod verdicts;
 
 pub use cache::Cache;
 pub use known::{Known, label_fault_number};

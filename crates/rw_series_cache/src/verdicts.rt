@@ -1,0 +1,84 @@
+//! The verdicts of references.
+
+ghost use Rattle.std.specs.Prelude.{◌≡◌, ℕ, None, OnOk, Some, nat_eq, if◌then◌else◌};
+ghost use Rattle.rw_series_cache.specs.Verdicts.{verdict_in, HasRoom};
+
+use crate::verdict::Verdict;
+use std::alloc::{AllocError, Global};
+use std::collections::HashMap;
+
+/// How many places the table may have for each definition, and beyond that.
+const PLACES_FOR_EACH: usize = 4;
+
+const PLACES_BEYOND: usize = 1024;
+
+/// What was found of the last labels of each reference. References that are small for the number of definitions stand in a table,
+/// as those of a server do that counts them up; the others in a map beside it. What the table has counts before what the map has.
+#[derive(Drop)]
+pub(crate) struct Verdicts {
+    table: Vec<Option<Verdict>>,
+    beside: HashMap<u64, Verdict>,
+    definitions: usize,
+}
+
+impl Verdicts {
+    /// Of no reference. This takes no memory.
+    pub(crate) fn new(alloc: Global) -> Verdicts
+        ensures { (r : ℕ) → verdict_in result r ≡ None }
+    {
+        Verdicts {
+            table: Vec::new(alloc),
+            beside: HashMap::new(alloc),
+            definitions: 0,
+        }
+    }
+
+    /// What was found of a reference. This takes no memory.
+    pub(crate) fn get(&self, reference: u64) -> Option<Verdict>
+        ensures { result ≡ verdict_in self.now reference }
+    {
+        match self.table.get(reference as usize) {
+            Some(Some(verdict)) => Some(*verdict),
+            _ => self.beside.get(&reference).copied(),
+        }
+    }
+
+    /// Makes room for the verdict of a reference. The table is extended only for one that is small for the number of definitions: a
+    /// log may name any number.
+    pub(crate) fn make_room(&mut self, reference: u64) -> Result<(), AllocError>
+        ensures ok { OnOk result (HasRoom self.new reference) }
+        ensures same { (r : ℕ) → verdict_in self.new r ≡ verdict_in self.old r }
+    {
+        let place = reference as usize;
+        if place < self.table.len() {
+            return Ok(());
+        }
+        if place < self.most_places() {
+            self.table.resize(place + 1, None)
+        } else {
+            self.beside.reserve(1)
+        }
+    }
+
+    /// Puts the verdict of a reference. This takes no memory.
+    pub(crate) fn put(&mut self, reference: u64, verdict: Verdict)
+        requires { HasRoom self.old reference }
+        ensures { (r : ℕ) → verdict_in self.new r ≡ (if nat_eq reference r then Some verdict else verdict_in self.old r) }
+    {
+        self.definitions = self.definitions.saturating_add(1);
+        let place = reference as usize;
+        if place < self.table.len() {
+            self.table[place] = Some(verdict);
+        } else {
+            let put: Result<_, _> = self.beside.insert(reference, verdict);
+            put.unwrap();
+        }
+    }
+
+    /// How many places the table may have by now.
+    fn most_places(&self) -> usize {
+        self.definitions
+            .saturating_mul(PLACES_FOR_EACH)
+            .saturating_add(PLACES_BEYOND)
+    }
+}
