@@ -1,0 +1,10 @@
+use Rattle.std.proofs.Common.{append_assoc, refl}
+use Rattle.rw_metrics.proofs.receiver_page.push_requests.Goals as goal
+
+pub returns : goal.returns
+returns c =
+    rw (
+      c.in_ok-push_statuses.ensures,
+      c.in_ok-push_counters.ensures,
+      c.as_slice.ensures.value,
+    ) (simp append_assoc refl)

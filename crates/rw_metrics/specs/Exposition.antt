@@ -1,0 +1,32 @@
+-- Metrics in the text format 0.0.4 of Prometheus.
+use Rattle.std.specs.Prelude.{ℕ, List, ◌++◌, flat_map, codes, decimal, length}
+
+-- what is said of a metric before its numbers
+abbrev pub about : (name kind help : List ℕ) → List ℕ
+about name kind help = codes "# HELP " ++ name ++ codes " " ++ help ++ codes "\n# TYPE " ++ name ++ codes " " ++ kind ++ codes "\n"
+
+-- a metric with one number
+unfoldable pub counter : (name help : List ℕ) → ℕ → List ℕ
+counter name help n = about name (codes "counter") help ++ name ++ codes " " ++ decimal n ++ codes "\n"
+
+unfoldable pub gauge : (name help : List ℕ) → ℕ → List ℕ
+gauge name help n = about name (codes "gauge") help ++ name ++ codes " " ++ decimal n ++ codes "\n"
+
+-- what is said of a counter with numbers under labels
+unfoldable pub counters : (name help : List ℕ) → List ℕ
+counters name help = about name (codes "counter") help
+
+-- a number of it
+unfoldable pub labelled : (name label value : List ℕ) → ℕ → List ℕ
+labelled name label value n = name ++ codes "{" ++ label ++ codes "=\"" ++ value ++ codes "\"} " ++ decimal n ++ codes "\n"
+
+-- how often a status came, which stands behind a prefix
+unfoldable pub status_sample : (name label prefix : List ℕ) → ℕ × ℕ → List ℕ
+status_sample name label prefix count = name ++ codes "{" ++ label ++ codes "=\"" ++ prefix ++ decimal count.0 ++ codes "\"} " ++ decimal count.1 ++ codes "\n"
+
+abbrev pub by_status : (name label prefix : List ℕ) → List (ℕ × ℕ) → List ℕ
+by_status name label prefix counts = flat_map (status_sample name label prefix) counts
+
+-- the reply that carries a page
+abbrev pub reply : List ℕ → List ℕ
+reply body = codes "HTTP/1.1 200 OK\r\nContent-Type: text/plain; version=0.0.4\r\nConnection: close\r\nContent-Length: " ++ decimal (length body) ++ codes "\r\n\r\n" ++ body

@@ -1,0 +1,5 @@
+pub mod Exposition
+pub mod SendPage
+pub mod ReceivePage
+pub mod Lines
+pub mod Asking

@@ -1,0 +1,71 @@
+-- Lines of progress.
+use Rattle.std.specs.Prelude.{ℕ, List, [], ◌++◌, Option, None, Some, flat_map, codes, decimal}
+use Rattle.rw_metrics.specs.declared.cause.Cause.{Cause}
+use Rattle.rw_metrics.specs.declared.cause.Cause.TheVariants as cause
+use Rattle.rw_metrics.specs.declared.send_numbers.Drops.{Drops}
+use Rattle.rw_metrics.specs.declared.send_numbers.SendNumbers.{SendNumbers}
+use Rattle.rw_metrics.specs.declared.receive_numbers.ReceiveNumbers.{ReceiveNumbers}
+
+-- ` WORD N`
+unfoldable pub told : List ℕ → ℕ → List ℕ
+told word n = codes " " ++ word ++ codes " " ++ decimal n
+
+-- ` status_NNN N`
+unfoldable pub status_told : ℕ × ℕ → List ℕ
+status_told count = codes " status_" ++ decimal count.0 ++ codes " " ++ decimal count.1
+
+abbrev pub statuses_told : List (ℕ × ℕ) → List ℕ
+statuses_told counts = flat_map status_told counts
+
+abbrev pub cause_text : Cause → List ℕ
+cause_text cause.Connect = codes "connect"
+cause_text cause.Timeout = codes "timeout"
+cause_text cause.Broken = codes "broken"
+cause_text cause.Ended = codes "ended"
+cause_text cause.BadReply = codes "bad_reply"
+cause_text cause.Memory = codes "memory"
+cause_text (cause.Status status) = codes "status_" ++ decimal status
+
+-- ` last CAUSE`, where an attempt has failed
+unfoldable pub last_told : Option Cause → List ℕ
+last_told None = []
+last_told (Some c) = codes " last " ++ cause_text c
+
+-- of a sender
+abbrev pub samples_line : SendNumbers → List ℕ
+samples_line n =
+    codes "entries " ++ decimal n.entries
+    ++ told (codes "placed") n.placed
+    ++ told (codes "resolved") n.resolved
+    ++ told (codes "dropped") n.drops.all
+    ++ told (codes "filtered") n.filtered
+    ++ told (codes "waiting") n.waiting
+
+abbrev pub work_line : SendNumbers → List ℕ
+work_line n =
+    told (codes "shards") n.shards
+    ++ told (codes "attempts") n.attempts
+    ++ told (codes "failed") n.failures.all
+    ++ last_told n.failures.last
+    ++ told (codes "segment") n.segment
+    ++ told (codes "bytes") n.segment_bytes
+
+abbrev pub send_line : SendNumbers → List ℕ
+send_line n = samples_line n ++ work_line n
+
+-- of a receiver
+abbrev pub receive_line : ReceiveNumbers → List ℕ
+receive_line n =
+    codes "connections " ++ decimal n.connections
+    ++ told (codes "accepted") n.accepted
+    ++ told (codes "samples") n.samples
+    ++ statuses_told n.statuses.items
+
+-- how many samples a sender has dropped, by reason
+abbrev pub drops_line : Drops → List ℕ
+drops_line d =
+    codes "dropped " ++ decimal d.all
+    ++ told (codes "noseries") d.no_series
+    ++ told (codes "badlabels") d.bad_labels
+    ++ told (codes "notrising") d.not_rising
+    ++ statuses_told d.refused.items

@@ -1,0 +1,53 @@
+//! The counters of either side.
+
+use crate::lines::{drops_line, receive_line, send_line};
+use crate::receive_counters::ReceiveCounters;
+use crate::receiver_page::receive_page;
+use crate::send_counters::SendCounters;
+use crate::sender_page::send_page;
+use std::alloc::{AllocError, Global};
+use std::sync::Arc;
+
+/// The counters of a sender or of a receiver.
+#[derive(Drop)]
+pub enum Counters {
+    Send(Arc<SendCounters, Global>),
+    Receive(Arc<ReceiveCounters, Global>),
+}
+
+impl Counters {
+    /// The same counters once more.
+    pub fn share(&self) -> Result<Counters, AllocError> {
+        Ok(match self {
+            Counters::Send(counters) => Counters::Send(Arc::try_clone(counters)?),
+            Counters::Receive(counters) => Counters::Receive(Arc::try_clone(counters)?),
+        })
+    }
+
+    /// Their page.
+    pub(crate) fn page(&self, alloc: Global) -> Result<Vec<u8>, AllocError> {
+        match self {
+            Counters::Send(counters) => send_page(alloc, &counters.numbers(alloc)?),
+            Counters::Receive(counters) => receive_page(alloc, &counters.numbers(alloc)?),
+        }
+    }
+
+    /// Their line of progress.
+    pub(crate) fn line(&self, alloc: Global) -> Result<Vec<u8>, AllocError> {
+        match self {
+            Counters::Send(counters) => send_line(alloc, &counters.numbers(alloc)?),
+            Counters::Receive(counters) => receive_line(alloc, &counters.numbers(alloc)?),
+        }
+    }
+
+    /// Of a sender the line of its dropped samples.
+    pub(crate) fn drops(&self, alloc: Global) -> Result<Option<Vec<u8>>, AllocError> {
+        match self {
+            Counters::Send(counters) => {
+                let numbers = counters.numbers(alloc)?;
+                Ok(Some(drops_line(alloc, &numbers.drops)?))
+            }
+            Counters::Receive(_) => Ok(None),
+        }
+    }
+}

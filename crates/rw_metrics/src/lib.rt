@@ -1,0 +1,30 @@
+//! What a sender and a receiver are doing: counters that threads share, their page in the text format of Prometheus over HTTP, and lines of progress.
+#![tactic(auto)]
+
+mod asking;
+mod cause;
+mod codes;
+mod counters;
+mod exposition;
+mod lines;
+mod progress;
+mod receive_counters;
+mod receive_numbers;
+mod receiver_page;
+mod reply;
+mod send_counters;
+mod send_numbers;
+mod sender_page;
+mod server;
+
+pub use cause::Cause;
+pub use counters::Counters;
+pub use lines::{drops_line, receive_line, send_line};
+pub use progress::{Screen, show_progress, write_end};
+pub use receive_counters::ReceiveCounters;
+pub use receive_numbers::ReceiveNumbers;
+pub use receiver_page::receive_page;
+pub use send_counters::SendCounters;
+pub use send_numbers::{Drops, Failures, SendNumbers};
+pub use sender_page::send_page;
+pub use server::serve_metrics;

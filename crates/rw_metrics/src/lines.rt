@@ -1,0 +1,138 @@
+//! Lines of progress.
+
+ghost use Rattle.std.specs.Prelude.{◌≡◌, ◌++◌, IfOk, OnOk};
+ghost use Rattle.rw_metrics.specs.Lines.{cause_text, drops_line, last_told, receive_line, samples_line, send_line, status_told, statuses_told, told, work_line};
+
+use crate::cause::Cause;
+use crate::exposition::push_text;
+use crate::receive_numbers::ReceiveNumbers;
+use crate::send_numbers::{Drops, SendNumbers};
+use rw_text::push_number;
+use std::alloc::{AllocError, Global};
+
+/// Adds ` WORD N`.
+#[tactic(auto, unfolding(crate::specs::Lines::told))]
+fn push_told(out: &mut Vec<u8>, word: &str, n: u64) -> Result<(), AllocError>
+    ensures { OnOk result (out.new.items ≡ out.old.items ++ told word.now n) }
+{
+    push_text(out, " ")?;
+    push_text(out, word)?;
+    push_text(out, " ")?;
+    push_number(out, n)
+}
+
+/// Adds ` status_NNN N`.
+#[tactic(auto, unfolding(crate::specs::Lines::status_told))]
+fn push_status_told(out: &mut Vec<u8>, count: &(u16, u64)) -> Result<(), AllocError>
+    ensures { OnOk result (out.new.items ≡ out.old.items ++ status_told count.now) }
+{
+    push_text(out, " status_")?;
+    push_number(out, count.0 as u64)?;
+    push_text(out, " ")?;
+    push_number(out, count.1)
+}
+
+/// Adds ` status_NNN N` for each of these statuses.
+fn push_statuses_told(out: &mut Vec<u8>, counts: &[(u16, u64)]) -> Result<(), AllocError>
+    ensures { OnOk result (out.new.items ≡ out.old.items ++ statuses_told counts.now) }
+{
+    for count in counts {
+        push_status_told(out, count)?;
+    }
+    Ok(())
+}
+
+/// Adds the name of a cause.
+fn push_cause(out: &mut Vec<u8>, cause: Cause) -> Result<(), AllocError>
+    ensures { OnOk result (out.new.items ≡ out.old.items ++ cause_text cause) }
+{
+    match cause {
+        Cause::Connect => push_text(out, "connect"),
+        Cause::Timeout => push_text(out, "timeout"),
+        Cause::Broken => push_text(out, "broken"),
+        Cause::Ended => push_text(out, "ended"),
+        Cause::BadReply => push_text(out, "bad_reply"),
+        Cause::Memory => push_text(out, "memory"),
+        Cause::Status(status) => {
+            push_text(out, "status_")?;
+            push_number(out, status as u64)
+        }
+    }
+}
+
+/// Adds ` last CAUSE`, where an attempt has failed.
+#[tactic(auto, unfolding(crate::specs::Lines::last_told))]
+fn push_last_told(out: &mut Vec<u8>, last: Option<Cause>) -> Result<(), AllocError>
+    ensures { OnOk result (out.new.items ≡ out.old.items ++ last_told last) }
+{
+    match last {
+        None => Ok(()),
+        Some(cause) => {
+            push_text(out, " last ")?;
+            push_cause(out, cause)
+        }
+    }
+}
+
+fn push_samples_line(out: &mut Vec<u8>, n: &SendNumbers) -> Result<(), AllocError>
+    ensures { OnOk result (out.new.items ≡ out.old.items ++ samples_line n.now) }
+{
+    push_text(out, "entries ")?;
+    push_number(out, n.entries)?;
+    push_told(out, "placed", n.placed)?;
+    push_told(out, "resolved", n.resolved)?;
+    push_told(out, "dropped", n.drops.all)?;
+    push_told(out, "filtered", n.filtered)?;
+    push_told(out, "waiting", n.waiting)?;
+    Ok(())
+}
+
+fn push_work_line(out: &mut Vec<u8>, n: &SendNumbers) -> Result<(), AllocError>
+    ensures { OnOk result (out.new.items ≡ out.old.items ++ work_line n.now) }
+{
+    push_told(out, "shards", n.shards)?;
+    push_told(out, "attempts", n.attempts)?;
+    push_told(out, "failed", n.failures.all)?;
+    push_last_told(out, n.failures.last)?;
+    push_told(out, "segment", n.segment)?;
+    push_told(out, "bytes", n.segment_bytes)?;
+    Ok(())
+}
+
+/// The progress of a sender with these numbers, in one line: `entries N placed N resolved N dropped N filtered N waiting N shards N attempts N failed N`,
+/// where an attempt has failed ` last CAUSE`, and ` segment N bytes N`.
+pub fn send_line(alloc: Global, numbers: &SendNumbers) -> Result<Vec<u8>, AllocError>
+    ensures { IfOk result (λ line. line.items ≡ send_line numbers.now) }
+{
+    let mut out = Vec::new(alloc);
+    push_samples_line(&mut out, numbers)?;
+    push_work_line(&mut out, numbers)?;
+    Ok(out)
+}
+
+/// The progress of a receiver with these numbers, in one line: `connections N accepted N samples N`, and ` status_NNN N` for each status.
+pub fn receive_line(alloc: Global, numbers: &ReceiveNumbers) -> Result<Vec<u8>, AllocError>
+    ensures { IfOk result (λ line. line.items ≡ receive_line numbers.now) }
+{
+    let mut out = Vec::new(alloc);
+    push_text(&mut out, "connections ")?;
+    push_number(&mut out, numbers.connections)?;
+    push_told(&mut out, "accepted", numbers.accepted)?;
+    push_told(&mut out, "samples", numbers.samples)?;
+    push_statuses_told(&mut out, numbers.statuses.as_slice())?;
+    Ok(out)
+}
+
+/// How many samples a sender has dropped, in one line: `dropped N noseries N badlabels N notrising N`, and ` status_NNN N` for each status.
+pub fn drops_line(alloc: Global, drops: &Drops) -> Result<Vec<u8>, AllocError>
+    ensures { IfOk result (λ line. line.items ≡ drops_line drops.now) }
+{
+    let mut out = Vec::new(alloc);
+    push_text(&mut out, "dropped ")?;
+    push_number(&mut out, drops.all)?;
+    push_told(&mut out, "noseries", drops.no_series)?;
+    push_told(&mut out, "badlabels", drops.bad_labels)?;
+    push_told(&mut out, "notrising", drops.not_rising)?;
+    push_statuses_told(&mut out, drops.refused.as_slice())?;
+    Ok(out)
+}

@@ -1,0 +1,108 @@
+//! Progress, told once a second.
+
+use crate::counters::Counters;
+use std::alloc::{AllocError, Global};
+use std::io::Write;
+use std::thread;
+use std::thread::Threads;
+use std::time::{Clock, Duration};
+
+/// How many seconds are waited between two lines.
+const PAUSE_SECONDS: u64 = 1;
+
+/// What reads the lines of progress.
+#[derive(Clone, Copy, Debug, PartialEq, Eq)]
+pub enum Screen {
+    /// A terminal, on which each line is written over the one before.
+    Terminal,
+    /// A file or a pipe.
+    Lines,
+}
+
+/// What stands behind a line: on a terminal the rest of the one before is cleared, and the next one is written over it, unless it is the last one.
+fn ending_of(screen: Screen, is_last: bool) -> &'static [u8] {
+    match screen {
+        Screen::Terminal if is_last => b"\x1b[K\n",
+        Screen::Terminal => b"\x1b[K\r",
+        Screen::Lines => b"\n",
+    }
+}
+
+/// Writes a line in one go.
+fn write_line<W: Write>(writer: &mut W, line: Vec<u8>, ending: &[u8]) -> Result<(), AllocError> {
+    let mut line = line;
+    line.extend_from_slice(ending)?;
+    let _ = writer.write(line.as_slice());
+    Ok(())
+}
+
+/// Writes where the counters stand.
+fn show<W: Write>(
+    writer: &mut W,
+    screen: Screen,
+    alloc: Global,
+    counters: &Counters,
+) -> Result<(), AllocError> {
+    let line = counters.line(alloc)?;
+    write_line(writer, line, ending_of(screen, false))
+}
+
+/// Writes where the counters stand, once a second.
+fn show_on<C: Clock, W: Write>(
+    clock: &C,
+    writer: &mut W,
+    screen: Screen,
+    alloc: Global,
+    counters: &Counters,
+) {
+    for _ in 0..u64::MAX {
+        thread::sleep(clock, Duration::from_secs(PAUSE_SECONDS));
+        let _ = show(writer, screen, alloc, counters);
+    }
+}
+
+/// Writes a line of progress once a second, in a thread that nobody joins: it ends with the process.
+pub fn show_progress<
+    R: Threads,
+    C: Clock + Copy + Send + 'static,
+    W: Write + Send + Drop + 'static,
+>(
+    rt: &R,
+    clock: C,
+    writer: W,
+    screen: Screen,
+    alloc: Global,
+    counters: Counters,
+) -> Result<(), AllocError> {
+    let mut writer = writer;
+    match thread::spawn(rt, move || {
+        show_on(&clock, &mut writer, screen, alloc, &counters)
+    }) {
+        Ok(shower) => {
+            drop(shower);
+            Ok(())
+        }
+        Err(_) => Err(AllocError),
+    }
+}
+
+/// Writes the last lines.
+fn write_last<W: Write>(
+    writer: &mut W,
+    screen: Screen,
+    alloc: Global,
+    counters: &Counters,
+) -> Result<(), AllocError> {
+    let ending = ending_of(screen, true);
+    write_line(writer, counters.line(alloc)?, ending)?;
+    match counters.drops(alloc)? {
+        Some(line) => write_line(writer, line, ending),
+        None => Ok(()),
+    }
+}
+
+/// Writes where the counters stand in the end, and of a sender how many samples were dropped, by reason: each in a line of its own. What follows is not
+/// written where memory is refused.
+pub fn write_end<W: Write>(writer: &mut W, screen: Screen, alloc: Global, counters: &Counters) {
+    let _ = write_last(writer, screen, alloc, counters);
+}

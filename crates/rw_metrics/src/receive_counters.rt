@@ -1,0 +1,73 @@
+//! Counters of a receiver.
+
+use crate::codes::Codes;
+use crate::receive_numbers::ReceiveNumbers;
+use std::alloc::{AllocError, Global};
+use std::sync::atomic::{AtomicU64, Ordering};
+
+/// What a receiver does, counted by its threads and read by others. This is advice: nothing is claimed of it, and nothing that is promised stands on it.
+#[derive(Drop)]
+pub struct ReceiveCounters {
+    accepted: AtomicU64,
+    ended: AtomicU64,
+    refused: AtomicU64,
+    statuses: Codes,
+    samples: AtomicU64,
+}
+
+fn read(counter: &AtomicU64) -> u64 {
+    counter.load(Ordering::Relaxed)
+}
+
+fn add(counter: &AtomicU64, n: u64) {
+    counter.fetch_add(n, Ordering::Relaxed);
+}
+
+impl ReceiveCounters {
+    /// Nothing was done yet.
+    pub fn new(alloc: Global) -> Result<ReceiveCounters, AllocError> {
+        let statuses = Codes::new(alloc)?;
+        Ok(ReceiveCounters {
+            accepted: AtomicU64::new(0),
+            ended: AtomicU64::new(0),
+            refused: AtomicU64::new(0),
+            statuses,
+            samples: AtomicU64::new(0),
+        })
+    }
+
+    /// A connection was accepted, and is served.
+    pub fn begin_connection(&self) {
+        add(&self.accepted, 1);
+    }
+
+    /// A connection has ended.
+    pub fn end_connection(&self) {
+        add(&self.ended, 1);
+    }
+
+    /// An accept has failed.
+    pub fn refuse_connection(&self) {
+        add(&self.refused, 1);
+    }
+
+    /// The head has answered a request with this status, and stored so many samples of it.
+    pub fn answer(&self, status: u16, stored: u64) {
+        self.statuses.count(status);
+        add(&self.samples, stored);
+    }
+
+    /// What was counted.
+    pub fn numbers(&self, alloc: Global) -> Result<ReceiveNumbers, AllocError> {
+        let statuses = self.statuses.read(alloc)?;
+        let ended = read(&self.ended);
+        let accepted = read(&self.accepted);
+        Ok(ReceiveNumbers {
+            connections: accepted.saturating_sub(ended),
+            accepted,
+            refused: read(&self.refused),
+            statuses,
+            samples: read(&self.samples),
+        })
+    }
+}

@@ -1,0 +1,16 @@
+//! Numbers of a receiver.
+
+/// What the counters of a receiver were when they were read, one after the other.
+#[derive(Drop)]
+pub struct ReceiveNumbers {
+    /// Connections that are served.
+    pub connections: u64,
+    /// Connections that were accepted.
+    pub accepted: u64,
+    /// Accepts that failed.
+    pub refused: u64,
+    /// What the head has answered: the statuses in ascending order, each with how often.
+    pub statuses: Vec<(u16, u64)>,
+    /// Samples that are held.
+    pub samples: u64,
+}
