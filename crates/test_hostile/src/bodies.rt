@@ -1,0 +1,62 @@
+//! A body with each byte changed to each other value, and cut at each length.
+
+use crate::plain_body::plain_spelling;
+use rw_write_request::{WireFault, decode, encode};
+use std::alloc::Global;
+
+/// `up` with the value 1 at 1000 ms.
+pub(crate) static ONE: [u8; 32] = [
+    0x0a, 0x1e, 0x0a, 0x0e, 0x0a, 0x08, 0x5f, 0x5f, 0x6e, 0x61, 0x6d, 0x65, 0x5f, 0x5f, 0x12, 0x02,
+    0x75, 0x70, 0x12, 0x0c, 0x09, 0x00, 0x00, 0x00, 0x00, 0x00, 0x00, 0xf0, 0x3f, 0x10, 0xe8, 0x07,
+];
+
+/// The canonical spelling of what a body is read as, or its fault.
+fn spelling(alloc: Global, body: &[u8]) -> Result<Vec<u8>, WireFault> {
+    let message = decode(alloc, body)?;
+    Ok(encode(alloc, &message)?)
+}
+
+/// Whether a body is read as it is to be.
+fn is_read(alloc: Global, body: &[u8]) -> bool {
+    match (spelling(alloc, body), plain_spelling(alloc, body)) {
+        (Ok(found), Ok(wanted)) => found.as_slice() == wanted.as_slice(),
+        (Err(found), Err(wanted)) => found == wanted && found != WireFault::OutOfMemory,
+        _ => false,
+    }
+}
+
+/// The first length of a body, more than so many bytes, at which it is read otherwise.
+fn wrong_length(alloc: Global, body: &[u8], least: usize) -> Option<usize> {
+    for len in 0..=body.len() {
+        if len > least && !is_read(alloc, &body[..len]) {
+            return Some(len);
+        }
+    }
+    None
+}
+
+/// The first value of this byte with which the body, or a front of it that has the byte, is read otherwise.
+fn wrong_value(alloc: Global, at: usize) -> Option<u8> {
+    let mut body = ONE;
+    for value in 0..=255u8 {
+        body[at % 32] = value;
+        if wrong_length(alloc, &body, at).is_some() {
+            return Some(value);
+        }
+    }
+    None
+}
+
+fn wrong_byte(alloc: Global) -> Option<usize> {
+    for at in 0..32usize {
+        if wrong_value(alloc, at).is_some() {
+            return Some(at);
+        }
+    }
+    None
+}
+
+#[test]
+fn each_byte_changed_and_cut(rt: HostRuntime) {
+    assert_eq!(rt; wrong_byte(rt.alloc()), None);
+}

@@ -1,0 +1,164 @@
+//! A worker whose request or reply is cut off by one failing call, at each of the calls, or that is refused memory: it sends the same bytes
+//! again, and the head has each sample once.
+
+ghost use Rattle.std.specs.Prelude.{◌≡◌, []};
+ghost use Rattle.rw_shard_queue.specs.declared.item.Item.TheVariants as item;
+
+use crate::line::{Line, Quick};
+use rw_recv_head::Limits;
+use rw_ruled_queue::{Feed, Item, Kind, Open, open};
+use rw_sender::Config;
+use rw_types::{LabelFault, LabelSet, Place, RawLabels, Word};
+use rw_worker::{StopFlag, Worker, WorkerReport};
+use std::alloc::{AllocError, Global};
+use std::cell::Cell;
+use std::sync::{Arc, Wait};
+
+/// More calls than two requests and their replies take.
+const MANY: usize = 1_000;
+
+/// What a run is to show: the exchanges that were made, the samples that were resolved and that the head has.
+#[derive(Clone, Copy, PartialEq, Eq)]
+struct Shown {
+    exchanges: usize,
+    resolved: u64,
+    held: u64,
+    is_same: bool,
+    is_named: bool,
+}
+
+fn up(alloc: Global) -> Result<Arc<LabelSet>, LabelFault> {
+    let mut raw = RawLabels::new(alloc);
+    raw.push(b"__name__", b"up")?;
+    let labels = LabelSet::check(alloc, &raw)?;
+    match Arc::new(alloc, labels) {
+        Ok(labels) => Ok(labels),
+        Err(_) => Err(LabelFault::OutOfMemory),
+    }
+}
+
+/// The sample of this number, of the queue of shard 0 in epoch 0.
+fn sample(seq: u64, t: i64, labels: Arc<LabelSet>) -> Item
+    ensures { result ≡ item.Sample (record { epoch = 0; shard = 0; seq = seq; pos = seq; series = 0 }) t 1 labels }
+{
+    let place = Place {
+        epoch: 0,
+        shard: 0,
+        seq,
+        pos: seq,
+        series: 0,
+    };
+    Item::Sample(place, t, Word(1), labels)
+}
+
+/// Puts two samples with a Flush between, and an End.
+fn is_fed<R: Wait>(rt: &R, feed: Feed<Open>, labels: Arc<LabelSet>) -> bool
+    requires { (feed.queue.epoch ≡ 0) × (feed.queue.shard ≡ 0) × (feed.put ≡ []) }
+{
+    let Ok(copy) = Arc::try_clone(&labels) else {
+        return false;
+    };
+    let mut feed = feed;
+    feed.put(rt, sample(0, 10, copy)).is_ok()
+        && feed.put(rt, Item::Flush).is_ok()
+        && feed.put(rt, sample(1, 20, labels)).is_ok()
+        && feed.end(rt, Kind::Orderly).is_ok()
+}
+
+fn shown_by(report: &WorkerReport<Line<'_>>) -> Shown {
+    let line = &report.transport;
+    Shown {
+        exchanges: line.exchanges,
+        resolved: report.resolved,
+        held: line.head.total(),
+        is_same: line.is_same,
+        is_named: report.ledger.total() > 0,
+    }
+}
+
+/// Runs a worker over a line; none where memory is refused.
+fn run<R: Wait>(
+    rt: &R,
+    alloc: Global,
+    config: &Config,
+    labels: Arc<LabelSet>,
+    line: Line<'_>,
+) -> Result<Option<Shown>, AllocError> {
+    let stop = StopFlag::new(alloc)?;
+    let (feed, drain) = open(alloc, 0, 0, 4)?;
+    let Ok(worker) = Worker::new(alloc, config, 0, 0, drain) else {
+        return Ok(None);
+    };
+    if !is_fed(rt, feed, labels) {
+        return Ok(None);
+    }
+    Ok(Some(shown_by(&worker.run(rt, line, &mut Quick, &stop))))
+}
+
+/// What a worker shows where this call fails, counted from 1, and whether it came to that call.
+fn shown_at<R: Wait>(
+    rt: &R,
+    alloc: Global,
+    failing: usize,
+) -> Result<(Option<Shown>, bool), LabelFault> {
+    let calls = Cell::new(failing);
+    let labels = up(alloc)?;
+    let config = Config::standard(alloc)?;
+    let line = Line::new(alloc, Limits::standard(alloc)?, &calls);
+    let shown = run(rt, alloc, &config, labels, line)?;
+    Ok((shown, calls.get() == 0))
+}
+
+/// The first call with whose failure a worker shows something else; MANY where all are well, and 0 where there are few.
+fn wrong_call<R: Wait>(rt: &R, alloc: Global) -> Result<usize, LabelFault> {
+    for failing in 1..MANY {
+        let (shown, has_failed) = shown_at(rt, alloc, failing)?;
+        let wanted = Shown {
+            exchanges: if has_failed { 3 } else { 2 },
+            resolved: 2,
+            held: 2,
+            is_same: true,
+            is_named: false,
+        };
+        if shown != Some(wanted) {
+            return Ok(failing);
+        }
+        if !has_failed {
+            return Ok(if failing > 20 { MANY } else { 0 });
+        }
+    }
+    Ok(0)
+}
+
+#[test]
+fn each_call_may_fail(rt: HostRuntime) {
+    assert_eq!(rt; wrong_call(&rt, rt.alloc()), Ok(MANY));
+}
+
+/// What a worker shows where no call fails; again where memory is refused before it begins.
+fn shown_whole<R: Wait>(rt: &R, alloc: Global) -> Option<Shown> {
+    match shown_at(rt, alloc, 0) {
+        Ok((Some(shown), _)) => Some(shown),
+        _ => shown_at(rt, alloc, 0).ok()?.0,
+    }
+}
+
+/// Whether all is sent, and one request again at most.
+fn goes_on<R: Wait>(rt: &R, alloc: Global) -> bool {
+    match shown_whole(rt, alloc) {
+        Some(shown) => {
+            (shown.exchanges == 2 || shown.exchanges == 3)
+                && shown.resolved == 2
+                && shown.held == 2
+                && shown.is_same
+                && !shown.is_named
+        }
+        None => false,
+    }
+}
+
+/// Holds whichever growth is refused; `tools/refuse-each` refuses each of them in turn.
+#[test]
+fn a_worker_goes_on(rt: HostRuntime) {
+    assert!(rt; goes_on(&rt, rt.alloc()));
+}

@@ -1,0 +1,19 @@
+//! Tests of hostile input: bytes that are changed and cut, compared with plain readings of the formats, and devices of which one call fails.
+#![tactic(auto)]
+
+#[cfg(test)]
+mod bodies;
+#[cfg(test)]
+mod broken;
+#[cfg(test)]
+mod devices;
+#[cfg(test)]
+mod line;
+#[cfg(test)]
+mod plain_body;
+#[cfg(test)]
+mod plain_segment;
+#[cfg(test)]
+mod requests;
+#[cfg(test)]
+mod segments;

@@ -1,0 +1,85 @@
+//! A segment with each byte changed to each other value, and cut at each length.
+
+use crate::plain_segment::{Reading, plain_reading};
+use rw_types::Entry;
+use rw_wal_tail::{Tail, TailFault};
+use std::alloc::Global;
+
+/// The definition of reference 1 as `{__name__="up"}`, and a sample of it at 1000 with the value 1.
+static UP: [u8; 63] = [
+    1, 0, 22, 0x39, 0x19, 0x94, 0xf3, 1, 0, 0, 0, 0, 0, 0, 0, 1, 1, 8, 95, 95, 110, 97, 109, 101,
+    95, 95, 2, 117, 112, 1, 0, 27, 0x2c, 0x51, 0x4c, 0x07, 2, 0, 0, 0, 0, 0, 0, 0, 1, 0, 0, 0, 0,
+    0, 0, 0x03, 0xe8, 0, 0, 0x3f, 0xf0, 0, 0, 0, 0, 0, 0,
+];
+
+/// Whether this is the entry of the record of this number.
+fn is_known(entry: &Entry, number: usize) -> bool {
+    match entry {
+        Entry::Def { reference, labels } => { number == 0 && *reference == 1 && labels.len() == 1 }
+        Entry::Sample { reference, t, word } => {
+            number == 1 && *reference == 1 && *t == 1000 && word.0 == 0x3ff0_0000_0000_0000
+        }
+    }
+}
+
+/// What a reader gives: each entry has to be that of the next record.
+fn given(tail: &mut Tail) -> Option<Reading> {
+    for records in 0..=2usize {
+        match tail.next_entry() {
+            Ok(Some(entry)) if is_known(&entry, records) => {}
+            Ok(Some(_)) => return None,
+            Ok(None) => return Some(Reading {
+                records,
+                fault: None,
+            }),
+            Err(fault) => return Some(Reading {
+                records,
+                fault: Some(fault),
+            }),
+        }
+    }
+    None
+}
+
+/// Whether a page is read as it is to be.
+fn is_read(alloc: Global, page: &[u8]) -> bool {
+    let mut tail = Tail::new(alloc);
+    tail.feed(page).is_ok()
+        && given(&mut tail) == Some(plain_reading(page, &[&UP[7..29], &UP[36..63]]))
+}
+
+/// The first length of a page, more than so many bytes, at which it is read otherwise.
+fn wrong_length(alloc: Global, page: &[u8], least: usize) -> Option<usize> {
+    for len in 0..=page.len() {
+        if len > least && !is_read(alloc, &page[..len]) {
+            return Some(len);
+        }
+    }
+    None
+}
+
+/// The first value of this byte with which the segment, or a front of it that has the byte, is read otherwise.
+fn wrong_value(alloc: Global, at: usize) -> Option<u8> {
+    let mut page = UP;
+    for value in 0..=255u8 {
+        page[at % 63] = value;
+        if wrong_length(alloc, &page, at).is_some() {
+            return Some(value);
+        }
+    }
+    None
+}
+
+fn wrong_byte(alloc: Global) -> Option<usize> {
+    for at in 0..63usize {
+        if wrong_value(alloc, at).is_some() {
+            return Some(at);
+        }
+    }
+    None
+}
+
+#[test]
+fn each_byte_changed_and_cut(rt: HostRuntime) {
+    assert_eq!(rt; wrong_byte(rt.alloc()), None);
+}
