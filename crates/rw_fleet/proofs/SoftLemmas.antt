@@ -8,7 +8,7 @@ use Rattle.rw_shard_queue.specs.declared.item.Kind.{Kind}
 use Rattle.rw_shard_queue.specs.declared.item.Kind.TheVariants.{Orderly, Reshard, Hard}
 use Rattle.rw_worker.specs.Report.{is_hard, drain_of, IsOrderly, StopsAtHard, IsReport}
 use Rattle.rw_worker.specs.Setups.{Setup}
-use Rattle.rw_worker.specs.Steps.{Step, Takes, Freezes, Sends, items_of}
+use Rattle.rw_worker.specs.Steps.{Step, Takes, Freezes, Sends, Waits, items_of}
 use Rattle.rw_worker.specs.Transcript.{Exchange}
 use Rattle.rw_worker.specs.declared.report.TakingEnd.{TakingEnd}
 use Rattle.rw_worker.specs.declared.report.TakingEnd.TheVariants as taking
@@ -88,6 +88,7 @@ items_snoc [] x = refl
 items_snoc (Takes y ∷ ss) x = ap (λ l. y ∷ l) (items_snoc ss x)
 items_snoc (Freezes ∷ ss) x = items_snoc ss x
 items_snoc (Sends e ∷ ss) x = items_snoc ss x
+items_snoc (Waits ∷ ss) x = items_snoc ss x
 
 -- an End that was taken, and is not hard, asks for all
 orderly_of : (e : TakingEnd) (steps : List Step) (put : List Item) → IsEndTaken e → StopsAtHard e steps → items_of steps ≡ put → IsSoft put → IsOrderly e

@@ -17,6 +17,12 @@ impl<C> Sleep<C> {
 }
 
 impl<C: Clock> Pause for Sleep<C> {
+    ghost use Rattle.std.specs.Prelude.{[]};
+
+    ghost tells = { λ _. ⊥ };
+
+    ghost paused = { λ _. [] };
+
     fn pause(&mut self, ms: u64) {
         thread::sleep(&self.clock, Duration::from_millis(ms));
     }

@@ -20,7 +20,7 @@ use Rattle.rw_worker.specs.declared.transport.Reply.{Reply}
 use Rattle.rw_worker.specs.declared.transport.Lost.{Lost}
 use Rattle.rw_worker.specs.Cut.{cutting, close, one_of, cut_by}
 use Rattle.rw_worker.specs.Transcript.{Exchange, IsAgain, exchange_of, status_of, with_names, names_after}
-use Rattle.rw_worker.specs.Steps.{Working, working, new_working, Step, Takes, Freezes, Sends, MayStep, AreSteps, after, after_step, items_of, exchanges_of, answered, unsettled, growing, IsTranscriptOf, IsWorked}
+use Rattle.rw_worker.specs.Steps.{Working, working, new_working, Step, Takes, Freezes, Sends, Waits, MayStep, AreSteps, after, after_step, items_of, exchanges_of, answered, unsettled, growing, IsTranscriptOf, IsWorked}
 use Rattle.rw_worker.proofs.StepLemmas.{items-append, exchanges-append}
 use Rattle.rw_worker.proofs.CutLemmas.{fill}
 use Rattle.rw_worker.proofs.TranscriptLemmas.{transcript-take, transcript-again, transcript-settle}
@@ -388,6 +388,9 @@ keeps-step target epoch shard n items es w Freezes h may =
     (subst (λ (xs : List Item). Keeps target epoch shard n xs es (after_step Freezes w)) (sym (append-nil items)) (keeps-freeze target epoch shard n items es w.core w.ledger h may.0 may.1))
 keeps-step target epoch shard n items es w (Sends e) h may =
     subst (λ (xs : List Item). Keeps target epoch shard n xs (es ++ e ∷ []) (after_step (Sends e) w)) (sym (append-nil items)) (keeps-send target epoch shard n items es w.core w.ledger e h may.0 may.1)
+keeps-step target epoch shard n items es w Waits h may =
+    subst (λ (fs : List Exchange). Keeps target epoch shard n (items ++ []) fs w) (sym (append-nil es))
+    (subst (λ (xs : List Item). Keeps target epoch shard n xs es w) (sym (append-nil items)) h)
 
 pub keeps-steps : (target : Target) (epoch shard n : ℕ) (items : List Item) (es : List Exchange) (w : Working) (ss : List Step) → Keeps target epoch shard n items es w → AreSteps w ss
     → Keeps target epoch shard n (items ++ items_of ss) (es ++ exchanges_of ss) (after w ss)

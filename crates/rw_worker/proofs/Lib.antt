@@ -1,4 +1,5 @@
 pub mod StepLemmas
+pub mod PauseLemmas
 pub mod CutLemmas
 pub mod TranscriptLemmas
 pub mod KeepsLemmas

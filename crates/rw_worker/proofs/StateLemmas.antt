@@ -1,6 +1,5 @@
 -- A worker that made one step more, and what it reports.
-use Rattle.std.proofs.Common.{◌≡◌, ℕ, ◌+◌, ◌<◌, ◌≤◌, ◌^◌, Bool, true, false, true≢false, not, ◌&&◌, ◌||◌, nat_le, List, [], ◌∷◌, ◌++◌, length, Option, None, Some, Result, Ok, Err, OnOk, OnErr, refl, sym, ap, ◌∙◌, subst, append-nil, length-append, arith}
-use Rattle.std.specs.declared.alloc.AllocError.{AllocError}
+use Rattle.std.proofs.Common.{◌≡◌, ℕ, ◌+◌, ◌<◌, ◌≤◌, ◌^◌, Bool, true, false, true≢false, not, ◌&&◌, ◌||◌, nat_le, List, [], ◌∷◌, ◌++◌, length, Option, None, Some, refl, sym, ap, ◌∙◌, subst, append-nil, length-append, arith, cond}
 use Rattle.std.proofs.lemmas.List.{length-map}
 use Rattle.std.specs.Ordering.{nat_cmp}
 use Rattle.std.specs.FinMap.{FinMap, get, empty, get-empty}
@@ -26,18 +25,33 @@ use Rattle.rw_worker.specs.declared.state.State.{State}
 use Rattle.rw_worker.specs.declared.state.Progress.{Progress}
 use Rattle.rw_worker.specs.declared.state.Progress.TheVariants.{Goes, Stops}
 use Rattle.rw_worker.specs.Transcript.{Exchange, exchange_of, Adds}
-use Rattle.rw_worker.specs.Steps.{Working, working, Step, Takes, Freezes, Sends, MayStep, after, after_step, items_of, exchanges_of, WasSent}
+use Rattle.rw_worker.specs.Steps.{Working, working, Step, Takes, Freezes, Sends, Waits, MayStep, after, after_step, items_of, exchanges_of, WasSent}
+use Rattle.rw_worker.specs.Pauses.{pause_after, retries_after, retries_of}
+use Rattle.rw_retry.specs.Backoff.{delay_of}
 use Rattle.rw_worker.specs.Setups.{Setup, start_of}
-use Rattle.rw_worker.specs.Report.{is_hard, drain_of, IsOrderly, StopsAtHard, IsLast, intake_drain, given_back, report_of, IsClosed, HasMade, IsSending, IsState, IsReport, IsNotStopped, IsStoppedAt}
+use Rattle.rw_worker.specs.Report.{is_hard, drain_of, IsOrderly, StopsAtHard, IsLast, intake_drain, given_back, report_of, IsClosed, counted_to, HasMade, HasStepped, HasPaused, IsSending, IsState, HasRun, IsNotStopped, IsStoppedAt}
 use Rattle.rw_worker.proofs.StepLemmas.{steps-push, after-push, items-append, exchanges-append}
+use Rattle.rw_worker.proofs.PauseLemmas.{pauses-push, retries-push, same-pause, counted-after, counted-same}
 use Rattle.rw_worker.proofs.TranscriptLemmas.{adds-append}
 use Rattle.rw_worker.proofs.KeepsLemmas.{Keeps, keeps-steps, keeps-start, answered-builder, can_take-parts, can_take-not_due, none_of, frozen-builder}
 use Rattle.rw_worker.proofs.NameLemmas.{unnamed, names_before, AreBelow}
 use Rattle.rw_worker.proofs.TakeLemmas.{may-take, few}
 
 -- nothing was added
-pub adds-none : (a : Type 0) (old : List Exchange) → Adds a a old old []
+pub adds-none : {X : Type 0} (a : Type 0) (old : List X) → Adds a a old old []
 adds-none a old told = (told, sym (append-nil old))
+
+-- what was added is as long as it had to be
+pub adds-due : (a b : Type 0) (old new : List ℕ) (ms due : ℕ) → Adds a b old new (ms ∷ []) → ms ≡ due → Adds a b old new (due ∷ [])
+adds-due a b old new ms due h is = subst (λ n. Adds a b old new (n ∷ [])) is h
+
+-- nothing is taken while a batch is open
+cannot_take : (killed none due : Bool) → none ≡ false → (not killed && (none && not due)) ≡ false
+cannot_take true none due e = refl
+cannot_take false none due e = rw e refl
+
+pub open-full : (c : Core) → is_empty c.batch ≡ false → can_take c ≡ false
+open-full c some = cannot_take c.killed (is_empty c.batch) (is_due c) some
 
 due_of : (killed none due : Bool) → killed ≡ false → none ≡ true → (not killed && (none && not due)) ≡ false → due ≡ true
 due_of killed none true k e h = refl
@@ -54,7 +68,22 @@ few_left n resolved c items taken whole fits counted =
     let waits = length-append c.batch c.builder in
     omega arith
 
-module _ {T : Type 0} (tells : T → Type 0) (seen : T → List Exchange) (setup : Setup) (begun : T) where
+module _ {T P : Type 0} (tells : T → Type 0) (seen : T → List Exchange) (waits : P → Type 0) (paused : P → List ℕ) (setup : Setup) (begun : T) (first : P) where
+  abbrev Going : Draining → Sending T → P → Type 0
+  Going drain s p = IsSending tells seen waits paused setup begun first drain s p
+
+  abbrev At : State T → P → Type 0
+  At s p = IsState tells seen waits paused setup begun first s p
+
+  abbrev Ran : WorkerReport T → P → Type 0
+  Ran r p = HasRun tells seen waits paused setup begun first r p
+
+  abbrev Paused : P → List Step → Type 0
+  Paused p ss = HasPaused tells seen waits paused setup begun first p ss
+
+  abbrev Stepped : Sending T → Sending T → P → P → Type 0
+  Stepped s v p q = HasStepped tells seen waits paused s v p q
+
   abbrev KeepsAt : Draining → List Step → Working → Type 0
   KeepsAt drain ss w = Keeps setup.target setup.queue.epoch setup.queue.shard setup.batch drain.taken (exchanges_of ss) w
 
@@ -67,15 +96,16 @@ module _ {T : Type 0} (tells : T → Type 0) (seen : T → List Exchange) (setup
       subst (λ (xs : List Item). Keeps target epoch shard n xs (exchanges_of ss) (after (start_of setup) ss)) made.items
       (keeps-steps target epoch shard n [] [] (start_of setup) ss (keeps-start target epoch shard n some) made.allowed)
 
-  pub keeps-of : (drain : Draining) (s : Sending T) (h : IsSending tells seen setup begun drain s) → KeepsAt drain h.steps (working s.core s.ledger)
-  keeps-of drain s h = subst (λ (w : Working). KeepsAt drain h.steps w) h.now (keeps-made drain s.transport h.steps h.some h.made)
+  pub keeps-of : (drain : Draining) (s : Sending T) (p : P) (h : Going drain s p) → KeepsAt drain h.steps (working s.core s.ledger)
+  keeps-of drain s p h = subst (λ (w : Working). KeepsAt drain h.steps w) h.now (keeps-made drain s.transport h.steps h.some h.made)
 
   -- no step was made
-  pub state-begun : (drain : Draining) (core : Core) (ledger : Named) (backoff : ℕ × ℕ) (tally : Tally) → 0 < setup.batch → drain.queue ≡ setup.queue → drain.taken ≡ [] → working core ledger ≡ start_of setup
-      → IsState tells seen setup begun (record { intake = intake.Open drain; sending = record { core = core; ledger = ledger; backoff = backoff; resolved = 0; tally = tally; retries = 0; transport = begun } })
-  state-begun drain core ledger backoff tally some queue none fresh = record {
+  pub state-begun : (drain : Draining) (core : Core) (ledger : Named) (backoff : ℕ × ℕ) (tally : Tally) → 0 < setup.batch → setup.max_backoff < 2 ^ 64 → backoff ≡ (setup.min_backoff, setup.max_backoff) → drain.queue ≡ setup.queue → drain.taken ≡ [] → working core ledger ≡ start_of setup
+      → At (record { intake = intake.Open drain; sending = record { core = core; ledger = ledger; backoff = backoff; resolved = 0; tally = tally; retries = 0; transport = begun } }) first
+  state-begun drain core ledger backoff tally some fits pair queue none fresh = record {
     sending = record {
       some = some;
+      fits = fits;
       steps = [];
       made = record {
         queue_is = queue;
@@ -84,8 +114,11 @@ module _ {T : Type 0} (tells : T → Type 0) (seen : T → List Exchange) (setup
         items = sym none;
         adds = adds-none (tells begun) (seen begun);
       };
+      waited = adds-none (waits first) (paused first);
       now = sym fresh;
       counted = ap (λ (w : Working). length w.core.resolved) (sym fresh);
+      backoff = pair;
+      retries = refl;
     };
     closed = tt;
     last = tt;
@@ -103,38 +136,85 @@ module _ {T : Type 0} (tells : T → Type 0) (seen : T → List Exchange) (setup
     adds = subst (λ (es : List Exchange). Adds (tells begun) (tells u) (seen begun) (seen u) es) (sym (exchanges-append ss (step ∷ []))) (adds-append _ _ _ _ _ _ _ _ made.adds adds);
   }
 
-  pub sending-more : (drain later : Draining) (s v : Sending T) (step : Step) → IsSending tells seen setup begun drain s → MayStep step s.core → later.queue ≡ drain.queue
-      → IsHistory setup.queue.epoch setup.queue.shard later.taken → later.taken ≡ drain.taken ++ items_of (step ∷ []) → Adds (tells s.transport) (tells v.transport) (seen s.transport) (seen v.transport) (exchanges_of (step ∷ []))
-      → working v.core v.ledger ≡ after_step step (working s.core s.ledger) → v.resolved ≡ length v.core.resolved
-      → IsSending tells seen setup begun later v
-  sending-more drain later s v step h may queue history taken adds becomes counted = record {
+  same_pause : (drain : Draining) (s : Sending T) (p : P) (step : Step) (h : Going drain s p) → pause_after s.backoff.0 s.backoff.1 s.retries step ≡ pause_after setup.min_backoff setup.max_backoff (retries_of 0 h.steps) step
+  same_pause drain s p step h =
+      ap (λ (b : ℕ × ℕ). pause_after b.0 b.1 s.retries step) h.backoff
+      ∙ ap (λ n. pause_after setup.min_backoff setup.max_backoff n step) h.retries
+      ∙ same-pause setup.min_backoff setup.max_backoff (retries_of 0 h.steps) step h.fits
+
+  pub sending-more : (drain later : Draining) (s v : Sending T) (p q : P) → Going drain s p → (h : Stepped s v p q) → later.queue ≡ drain.queue
+      → IsHistory setup.queue.epoch setup.queue.shard later.taken → later.taken ≡ drain.taken ++ items_of (h.step ∷ []) → v.resolved ≡ length v.core.resolved
+      → Going later v q
+  sending-more drain later s v p q h more queue history taken counted = record {
     some = h.some;
-    steps = h.steps ++ step ∷ [];
-    made = made-more drain later s.transport v.transport h.steps step h.made (subst (λ (w : Working). MayStep step w.core) (sym h.now) may) queue history taken adds;
-    now = after-push (start_of setup) h.steps step ∙ ap (after_step step) h.now ∙ sym becomes;
+    fits = h.fits;
+    steps = h.steps ++ more.step ∷ [];
+    made = made-more drain later s.transport v.transport h.steps more.step h.made (subst (λ (w : Working). MayStep more.step w.core) (sym h.now) more.allowed) queue history taken more.told;
+    waited = subst (λ (ps : List ℕ). Adds (waits first) (waits q) (paused first) (paused q) ps) (sym (pauses-push setup.min_backoff setup.max_backoff 0 h.steps more.step))
+        (adds-append _ _ _ _ _ _ _ _ h.waited (subst (λ (ps : List ℕ). Adds (waits p) (waits q) (paused p) (paused q) ps) (same_pause drain s p more.step h) more.waited));
+    now = after-push (start_of setup) h.steps more.step ∙ ap (after_step more.step) h.now ∙ sym more.becomes;
     counted = counted;
+    backoff = more.backoff ∙ h.backoff;
+    retries = more.retries ∙ ap (λ n. counted_to (retries_after n more.step)) h.retries ∙ counted-after (retries_of 0 h.steps) more.step ∙ ap counted_to (sym (retries-push 0 h.steps more.step));
   }
 
-  -- a builder that is due was frozen, or memory was refused
-  pub state-frozen : (i : Intake) (s : Sending T) (core : Core) (ledger : Named) (r : Result Bool AllocError) → IsState tells seen setup begun (record { intake = i; sending = s }) → can_take s.core ≡ false → is_empty s.core.batch ≡ true
-      → OnOk r (core ≡ freeze s.core) → OnOk r (ledger ≡ freeze_room s.core s.ledger) → OnErr r (core ≡ s.core) → OnErr r (ledger ≡ s.ledger)
-      → IsState tells seen setup begun (record { intake = i; sending = record s { core = core; ledger = ledger } })
-  state-frozen i s core ledger (Err e) h full none ok room err kept =
-      subst (λ (c : Core). IsState tells seen setup begun (record { intake = i; sending = record s { core = c; ledger = ledger } })) (sym err)
-      (subst (λ (l : Named). IsState tells seen setup begun (record { intake = i; sending = record s { ledger = l } })) (sym kept) h)
-  state-frozen i s core ledger (Ok b) h full none ok room err kept =
-      let k = keeps-of (intake_drain i) s h.sending in
+  -- memory was refused, and it waited
+  pub steps-waited : (drain : Draining) (s v : Sending T) (p q : P) → Going drain s p → can_take s.core ≡ false → v.core ≡ s.core → v.ledger ≡ s.ledger → v.transport ≡ s.transport → v.retries ≡ s.retries → v.backoff ≡ s.backoff
+      → Adds (waits p) (waits q) (paused p) (paused q) (s.backoff.0 ∷ []) → Stepped s v p q
+  steps-waited drain s v p q h full core ledger transport retries backoff waited = record {
+    step = Waits;
+    allowed = full;
+    becomes = λ j. working (core j) (ledger j);
+    told = subst (λ (t : T). Adds (tells s.transport) (tells t) (seen s.transport) (seen t) []) (sym transport) (adds-none (tells s.transport) (seen s.transport));
+    waited = waited;
+    retries = retries ∙ counted-same s.retries (retries_of 0 h.steps) h.retries;
+    backoff = backoff;
+  }
+
+  pub state-waited : (i : Intake) (s v : Sending T) (p q : P) → At (record { intake = i; sending = s }) p → can_take s.core ≡ false → v.core ≡ s.core → v.ledger ≡ s.ledger → v.transport ≡ s.transport → v.retries ≡ s.retries → v.backoff ≡ s.backoff
+      → v.resolved ≡ s.resolved → Adds (waits p) (waits q) (paused p) (paused q) (s.backoff.0 ∷ []) → At (record { intake = i; sending = v }) q
+  unfolding steps-waited
+  state-waited i s v p q h full core ledger transport retries backoff resolved waited = record {
+    sending = sending-more (intake_drain i) (intake_drain i) s v p q h.sending (steps-waited (intake_drain i) s v p q h.sending full core ledger transport retries backoff waited) refl h.sending.made.history (sym (append-nil (intake_drain i).taken))
+        (resolved ∙ h.sending.counted ∙ ap (λ (c : Core). length c.resolved) (sym core));
+    closed = subst (λ (c : Core). IsClosed i c) (sym core) h.closed;
+    last = h.last;
+  }
+
+  -- a builder that is not to be taken into is to be frozen
+  due_at : (i : Intake) (s : Sending T) (p : P) → At (record { intake = i; sending = s }) p → can_take s.core ≡ false → is_empty s.core.batch ≡ true → (is_due s.core ≡ true) × (can_freeze s.core ≡ true)
+  due_at i s p h full none =
+      let k = keeps-of (intake_drain i) s p h.sending in
       let due = due_of s.core.killed (is_empty s.core.batch) (is_due s.core) k.alive none full in
-      let can : can_freeze s.core ≡ true = may k.alive none (k.due_some due) in record {
-        sending = sending-more (intake_drain i) (intake_drain i) s (record s { core = core; ledger = ledger }) Freezes h.sending (due, can) refl h.sending.made.history (sym (append-nil (intake_drain i).taken))
-            (adds-none (tells s.transport) (seen s.transport)) (λ x. working (ok x) (room x)) (h.sending.counted ∙ ap length (sym (same_resolved can) ∙ ap (λ (c : Core). c.resolved) (sym ok)));
-        closed = closed_after i h.closed (ap (λ (c : Core). c.builder) ok ∙ frozen-builder s.core can);
-        last = h.last;
-      }
+      (due, may k.alive none (k.due_some due))
     where
       may : s.core.killed ≡ false → is_empty s.core.batch ≡ true → is_empty s.core.builder ≡ false → can_freeze s.core ≡ true
       may a b c = rw (a, b, c) refl
 
+  -- a builder that is due was frozen
+  pub steps-frozen : (i : Intake) (s : Sending T) (p : P) (core : Core) (ledger : Named) → At (record { intake = i; sending = s }) p → can_take s.core ≡ false → is_empty s.core.batch ≡ true
+      → core ≡ freeze s.core → ledger ≡ freeze_room s.core s.ledger → Stepped s (record s { core = core; ledger = ledger }) p p
+  steps-frozen i s p core ledger h full none ok room = record {
+    step = Freezes;
+    allowed = due_at i s p h full none;
+    becomes = λ x. working (ok x) (room x);
+    told = adds-none (tells s.transport) (seen s.transport);
+    waited = adds-none (waits p) (paused p);
+    retries = counted-same s.retries (retries_of 0 h.sending.steps) h.sending.retries;
+    backoff = refl;
+  }
+
+  pub state-frozen : (i : Intake) (s : Sending T) (p : P) (core : Core) (ledger : Named) → At (record { intake = i; sending = s }) p → can_take s.core ≡ false → is_empty s.core.batch ≡ true
+      → core ≡ freeze s.core → ledger ≡ freeze_room s.core s.ledger → At (record { intake = i; sending = record s { core = core; ledger = ledger } }) p
+  unfolding steps-frozen
+  state-frozen i s p core ledger h full none ok room =
+      let can = (due_at i s p h full none).1 in record {
+        sending = sending-more (intake_drain i) (intake_drain i) s (record s { core = core; ledger = ledger }) p p h.sending (steps-frozen i s p core ledger h full none ok room) refl h.sending.made.history (sym (append-nil (intake_drain i).taken))
+            (h.sending.counted ∙ ap length (sym (same_resolved can) ∙ ap (λ (c : Core). c.resolved) (sym ok)));
+        closed = closed_after i h.closed (ap (λ (c : Core). c.builder) ok ∙ frozen-builder s.core can);
+        last = h.last;
+      }
+    where
       same_resolved : can_freeze s.core ≡ true → (freeze s.core).resolved ≡ s.core.resolved
       same_resolved can = rw can refl
 
@@ -144,23 +224,23 @@ module _ {T : Type 0} (tells : T → Type 0) (seen : T → List Exchange) (setup
       closed_after (intake.Ended Orderly d) c e = λ _. e
       closed_after (intake.Ended Reshard d) c e = λ _. e
 
-  pub state-can_send : (drain : Draining) (s : Sending T) → IsSending tells seen setup begun drain s → is_empty s.core.batch ≡ false → can_send s.core ≡ true
-  state-can_send drain s h some = let k = keeps-of drain s h in rw (k.alive, some, k.idle) refl
+  pub state-can_send : (drain : Draining) (s : Sending T) (p : P) → Going drain s p → is_empty s.core.batch ≡ false → can_send s.core ≡ true
+  state-can_send drain s p h some = let k = keeps-of drain s p h in rw (k.alive, some, k.idle) refl
 
-  pub state-room : (drain : Draining) (s : Sending T) → IsSending tells seen setup begun drain s → IsCore s.core → HasRoomFor s.core s.ledger
-  state-room drain s h core =
-      let k = keeps-of drain s h in record {
+  pub state-room : (drain : Draining) (s : Sending T) (p : P) → Going drain s p → IsCore s.core → HasRoomFor s.core s.ledger
+  state-room drain s p h core =
+      let k = keeps-of drain s p h in record {
         room = let r = k.room in omega arith;
         unnamed = unnamed s.core.resolved s.core.batch s.core.builder s.ledger.names
-            (λ p below. ap (λ (m : FinMap nat_cmp Reason). get m p) k.worked.names_are
-            ∙ names_before p k.worked.settled empty (subst (λ (xs : List Placed). AreBelow p xs) k.worked.resolved_are below) (get-empty nat_cmp p))
+            (λ at below. ap (λ (m : FinMap nat_cmp Reason). get m at) k.worked.names_are
+            ∙ names_before at k.worked.settled empty (subst (λ (xs : List Placed). AreBelow at xs) k.worked.resolved_are below) (get-empty nat_cmp at))
             (subst AreInRow core.whole core.in_row);
       }
 
   -- the samples that wait, and those that are resolved, are few
-  pub pending-few : (drain : Draining) (s : Sending T) → IsSending tells seen setup begun drain s → s.resolved + length (places_of (pending s.core)) ≤ 2 ^ 60
-  pending-few drain s h =
-      let k = keeps-of drain s h in
+  pub pending-few : (drain : Draining) (s : Sending T) (p : P) → Going drain s p → s.resolved + length (places_of (pending s.core)) ≤ 2 ^ 60
+  pending-few drain s p h =
+      let k = keeps-of drain s p h in
       let counted = h.counted in
       let most = few setup.queue.epoch setup.queue.shard drain.taken h.made.history in
       let same = ap length k.taken_is in
@@ -169,14 +249,41 @@ module _ {T : Type 0} (tells : T → Type 0) (seen : T → List Exchange) (setup
       let places = length-map (s.core.batch ++ s.core.builder) (λ (x : Placed). x.place) in
       omega arith
 
-  state-sent : (i : Intake) (s v : Sending T) (settled : Bool) → IsState tells seen setup begun (record { intake = i; sending = s }) → is_empty s.core.batch ≡ false
-      → WasSent (tells s.transport) (tells v.transport) (seen s.transport) (seen v.transport) (working s.core s.ledger) (working v.core v.ledger) settled → v.resolved ≡ length v.core.resolved
-      → IsState tells seen setup begun (record { intake = i; sending = v })
-  state-sent i s v settled h some sent counted =
-      let k = keeps-of (intake_drain i) s h.sending in
-      let e = exchange_of (request_for s.core) sent.answer in
+  abbrev Sent : Sending T → Sending T → Bool → Type 0
+  Sent s v settled = WasSent (tells s.transport) (tells v.transport) (seen s.transport) (seen v.transport) (working s.core s.ledger) (working v.core v.ledger) settled
+
+  sent-settled : (s v : Sending T) (b : Bool) → b ≡ true → Sent s v b → Sent s v true
+  sent-settled s v b is given = subst (λ (x : Bool). Sent s v x) is given
+
+  sent-again : (s v : Sending T) (b : Bool) → b ≡ false → Sent s v b → Sent s v false
+  sent-again s v b is given = subst (λ (x : Bool). Sent s v x) is given
+
+  -- the open batch was sent: the count and the pause that are due
+  abbrev CountsOn : Sending T → Sending T → Bool → Type 0
+  CountsOn s v settled = v.retries ≡ counted_to (cond (not settled) (s.retries + 1) 0)
+
+  abbrev WaitsOn : Sending T → P → P → Bool → Type 0
+  WaitsOn s p q settled = Adds (waits p) (waits q) (paused p) (paused q) (cond (not settled) (delay_of s.backoff.0 s.backoff.1 s.retries ∷ []) [])
+
+  steps-sent : (i : Intake) (s v : Sending T) (p q : P) (settled : Bool) → At (record { intake = i; sending = s }) p → is_empty s.core.batch ≡ false → Sent s v settled → CountsOn s v settled → v.backoff ≡ s.backoff → WaitsOn s p q settled
+      → Stepped s v p q
+  steps-sent i s v p q settled h some sent counts backoff waited = record {
+    step = Sends (exchange_of (request_for s.core) sent.answer);
+    allowed = (state-can_send (intake_drain i) s p h.sending some, refl);
+    becomes = sent.becomes;
+    told = sent.told;
+    waited = subst (λ (again : Bool). Adds (waits p) (waits q) (paused p) (paused q) (cond again (delay_of s.backoff.0 s.backoff.1 s.retries ∷ []) [])) (sym sent.again) waited;
+    retries = counts ∙ ap (λ (again : Bool). counted_to (cond again (s.retries + 1) 0)) (sym sent.again);
+    backoff = backoff;
+  }
+
+  state-sent : (i : Intake) (s v : Sending T) (p q : P) (settled : Bool) → At (record { intake = i; sending = s }) p → is_empty s.core.batch ≡ false → Sent s v settled → CountsOn s v settled → v.backoff ≡ s.backoff → WaitsOn s p q settled
+      → v.resolved ≡ length v.core.resolved → At (record { intake = i; sending = v }) q
+  unfolding steps-sent
+  state-sent i s v p q settled h some sent counts backoff waited counted =
+      let k = keeps-of (intake_drain i) s p h.sending in
       let builder : v.core.builder ≡ [] = ap (λ (w : Working). w.core.builder) sent.becomes ∙ answered-builder sent.answer (working s.core s.ledger) ∙ k.one some in record {
-        sending = sending-more (intake_drain i) (intake_drain i) s v (Sends e) h.sending (state-can_send (intake_drain i) s h.sending some, refl) refl h.sending.made.history (sym (append-nil (intake_drain i).taken)) sent.told sent.becomes counted;
+        sending = sending-more (intake_drain i) (intake_drain i) s v p q h.sending (steps-sent i s v p q settled h some sent counts backoff waited) refl h.sending.made.history (sym (append-nil (intake_drain i).taken)) counted;
         closed = closed_after i h.closed builder;
         last = h.last;
       }
@@ -188,43 +295,37 @@ module _ {T : Type 0} (tells : T → Type 0) (seen : T → List Exchange) (setup
       closed_after (intake.Ended Reshard d) c e = λ _. e
 
   -- the batch was settled
-  pub state-settled : (i : Intake) (s v : Sending T) (b : Bool) → b ≡ true → IsState tells seen setup begun (record { intake = i; sending = s }) → is_empty s.core.batch ≡ false
-      → WasSent (tells s.transport) (tells v.transport) (seen s.transport) (seen v.transport) (working s.core s.ledger) (working v.core v.ledger) b → v.resolved ≡ s.resolved + length (places_of (pending s.core))
-      → IsState tells seen setup begun (record { intake = i; sending = v })
-  state-settled i s v b is h some given sum =
-      let sent = subst (λ (x : Bool). WasSent (tells s.transport) (tells v.transport) (seen s.transport) (seen v.transport) (working s.core s.ledger) (working v.core v.ledger) x) is given in
-      let k = keeps-of (intake_drain i) s h.sending in
+  pub steps-settled : (i : Intake) (s v : Sending T) (p q : P) (b : Bool) → b ≡ true → At (record { intake = i; sending = s }) p → is_empty s.core.batch ≡ false → Sent s v b → CountsOn s v true → v.backoff ≡ s.backoff → WaitsOn s p q true
+      → Stepped s v p q
+  steps-settled i s v p q b is h some given counts backoff waited = steps-sent i s v p q true h some (sent-settled s v b is given) counts backoff waited
+
+  pub state-settled : (i : Intake) (s v : Sending T) (p q : P) (b : Bool) → b ≡ true → At (record { intake = i; sending = s }) p → is_empty s.core.batch ≡ false → Sent s v b → CountsOn s v true → v.backoff ≡ s.backoff → WaitsOn s p q true
+      → v.resolved ≡ s.resolved + length (places_of (pending s.core)) → At (record { intake = i; sending = v }) q
+  state-settled i s v p q b is h some given counts backoff waited sum =
+      let sent = sent-settled s v b is given in
+      let k = keeps-of (intake_drain i) s p h.sending in
       let before = h.sending.counted in
       let after' = ap length sent.resolved in
       let parts = length-append s.core.resolved s.core.batch in
       let places = length-map (s.core.batch ++ s.core.builder) (λ (x : Placed). x.place) in
       let all = length-append s.core.batch s.core.builder in
       let none = ap length (k.one some) in
-      state-sent i s v true h some sent (omega arith)
+      state-sent i s v p q true h some sent counts backoff waited (omega arith)
 
   -- the batch was sent in vain
-  pub state-again : (i : Intake) (s v : Sending T) (b : Bool) → b ≡ false → IsState tells seen setup begun (record { intake = i; sending = s }) → is_empty s.core.batch ≡ false
-      → WasSent (tells s.transport) (tells v.transport) (seen s.transport) (seen v.transport) (working s.core s.ledger) (working v.core v.ledger) b → v.resolved ≡ s.resolved
-      → IsState tells seen setup begun (record { intake = i; sending = v })
-  state-again i s v b is h some given same =
-      let sent = subst (λ (x : Bool). WasSent (tells s.transport) (tells v.transport) (seen s.transport) (seen v.transport) (working s.core s.ledger) (working v.core v.ledger) x) is given in
-      state-sent i s v false h some sent (same ∙ h.sending.counted ∙ ap length (sym sent.resolved))
+  pub steps-again : (i : Intake) (s v : Sending T) (p q : P) (b : Bool) → b ≡ false → At (record { intake = i; sending = s }) p → is_empty s.core.batch ≡ false → Sent s v b → CountsOn s v false → v.backoff ≡ s.backoff → WaitsOn s p q false
+      → Stepped s v p q
+  steps-again i s v p q b is h some given counts backoff waited = steps-sent i s v p q false h some (sent-again s v b is given) counts backoff waited
 
-  -- memory was refused
-  pub state-kept : (i : Intake) (s v : Sending T) → IsState tells seen setup begun (record { intake = i; sending = s }) → v.core ≡ s.core → v.ledger ≡ s.ledger → v.transport ≡ s.transport → v.resolved ≡ s.resolved
-      → IsState tells seen setup begun (record { intake = i; sending = v })
-  state-kept i s v h core ledger transport resolved =
-      subst (λ (x : Sending T). IsState tells seen setup begun (record { intake = i; sending = x }))
-      (λ j. record { core = sym core j; ledger = sym ledger j; backoff = v.backoff; resolved = sym resolved j; tally = v.tally; retries = v.retries; transport = sym transport j })
-      (record {
-        sending = record { some = h.sending.some; steps = h.sending.steps; made = h.sending.made; now = h.sending.now; counted = h.sending.counted };
-        closed = h.closed;
-        last = h.last;
-      })
+  pub state-again : (i : Intake) (s v : Sending T) (p q : P) (b : Bool) → b ≡ false → At (record { intake = i; sending = s }) p → is_empty s.core.batch ≡ false → Sent s v b → CountsOn s v false → v.backoff ≡ s.backoff → WaitsOn s p q false
+      → v.resolved ≡ s.resolved → At (record { intake = i; sending = v }) q
+  state-again i s v p q b is h some given counts backoff waited same =
+      let sent = sent-again s v b is given in
+      state-sent i s v p q false h some sent counts backoff waited (same ∙ h.sending.counted ∙ ap length (sym sent.resolved))
 
-  pub may-take-of : (drain later : Draining) (s : Sending T) (x : Item) → IsSending tells seen setup begun drain s → IsHistory drain.queue.epoch drain.queue.shard later.taken → later.taken ≡ drain.taken ++ x ∷ [] → MayTake x s.core
-  may-take-of drain later s x h history taken =
-      let k = keeps-of drain s h in
+  pub may-take-of : (drain later : Draining) (s : Sending T) (p : P) (x : Item) → Going drain s p → IsHistory drain.queue.epoch drain.queue.shard later.taken → later.taken ≡ drain.taken ++ x ∷ [] → MayTake x s.core
+  may-take-of drain later s p x h history taken =
+      let k = keeps-of drain s p h in
       let q = h.made.queue_is in
       may-take drain.queue.epoch drain.queue.shard drain.taken x s.core k.taken_is (k.epoch_is ∙ ap (λ (d : QueueId). d.epoch) (sym q)) (k.shard_is ∙ ap (λ (d : QueueId). d.shard) (sym q))
       (subst (λ (xs : List Item). IsHistory drain.queue.epoch drain.queue.shard xs) taken history)
@@ -238,21 +339,34 @@ module _ {T : Type 0} (tells : T → Type 0) (seen : T → List Exchange) (setup
   take_resolved (item.End k) c = refl
 
   -- an item was taken
-  sending-taken : (drain later : Draining) (s : Sending T) (x : Item) (core : Core) → IsSending tells seen setup begun drain s → can_take s.core ≡ true → later.queue ≡ drain.queue → later.taken ≡ drain.taken ++ x ∷ []
-      → IsHistory drain.queue.epoch drain.queue.shard later.taken → core ≡ take_item x s.core → IsSending tells seen setup begun later (record s { core = core })
-  sending-taken drain later s x core h can queue taken history is =
-      sending-more drain later s (record s { core = core }) (Takes x) h (can, may-take-of drain later s x h history taken) queue (history_of drain later.taken h.made.queue_is history) taken
-      (adds-none (tells s.transport) (seen s.transport)) (ap (λ (c : Core). working c s.ledger) is) (h.counted ∙ ap length (sym (take_resolved x s.core) ∙ ap (λ (c : Core). c.resolved) (sym is)))
+  pub steps-taken : (drain later : Draining) (s : Sending T) (p : P) (x : Item) (core : Core) → Going drain s p → can_take s.core ≡ true → later.taken ≡ drain.taken ++ x ∷ []
+      → IsHistory drain.queue.epoch drain.queue.shard later.taken → core ≡ take_item x s.core → Stepped s (record s { core = core }) p p
+  steps-taken drain later s p x core h can taken history is = record {
+    step = Takes x;
+    allowed = (can, may-take-of drain later s p x h history taken);
+    becomes = ap (λ (c : Core). working c s.ledger) is;
+    told = adds-none (tells s.transport) (seen s.transport);
+    waited = adds-none (waits p) (paused p);
+    retries = counted-same s.retries (retries_of 0 h.steps) h.retries;
+    backoff = refl;
+  }
 
-  pub state-taken : (drain later : Draining) (s : Sending T) (x : Item) (core : Core) → IsSending tells seen setup begun drain s → can_take s.core ≡ true → later.queue ≡ drain.queue → later.taken ≡ drain.taken ++ x ∷ []
-      → IsHistory drain.queue.epoch drain.queue.shard later.taken → core ≡ take_item x s.core → IsState tells seen setup begun (record { intake = intake.Open later; sending = record s { core = core } })
-  state-taken drain later s x core h can queue taken history is = record { sending = sending-taken drain later s x core h can queue taken history is; closed = tt; last = tt }
+  sending-taken : (drain later : Draining) (s : Sending T) (p : P) (x : Item) (core : Core) → Going drain s p → can_take s.core ≡ true → later.queue ≡ drain.queue → later.taken ≡ drain.taken ++ x ∷ []
+      → IsHistory drain.queue.epoch drain.queue.shard later.taken → core ≡ take_item x s.core → Going later (record s { core = core }) p
+  unfolding steps-taken
+  sending-taken drain later s p x core h can queue taken history is =
+      sending-more drain later s (record s { core = core }) p p h (steps-taken drain later s p x core h can taken history is) queue (history_of drain later.taken h.made.queue_is history) taken
+      (h.counted ∙ ap length (sym (take_resolved x s.core) ∙ ap (λ (c : Core). c.resolved) (sym is)))
+
+  pub state-taken : (drain later : Draining) (s : Sending T) (p : P) (x : Item) (core : Core) → Going drain s p → can_take s.core ≡ true → later.queue ≡ drain.queue → later.taken ≡ drain.taken ++ x ∷ []
+      → IsHistory drain.queue.epoch drain.queue.shard later.taken → core ≡ take_item x s.core → At (record { intake = intake.Open later; sending = record s { core = core } }) p
+  state-taken drain later s p x core h can queue taken history is = record { sending = sending-taken drain later s p x core h can queue taken history is; closed = tt; last = tt }
 
   -- an End was taken, which closes the builder
-  pub state-ended : (drain later : Draining) (s : Sending T) (kind : Kind) (core : Core) → is_hard kind ≡ false → IsSending tells seen setup begun drain s → can_take s.core ≡ true → later.queue ≡ drain.queue → later.taken ≡ drain.taken ++ item.End kind ∷ []
-      → IsHistory drain.queue.epoch drain.queue.shard later.taken → core ≡ take_item (item.End kind) s.core → IsState tells seen setup begun (record { intake = intake.Ended kind later; sending = record s { core = core } })
-  state-ended drain later s kind core soft h can queue taken history is = record {
-    sending = sending-taken drain later s (item.End kind) core h can queue taken history is;
+  pub state-ended : (drain later : Draining) (s : Sending T) (p : P) (kind : Kind) (core : Core) → is_hard kind ≡ false → Going drain s p → can_take s.core ≡ true → later.queue ≡ drain.queue → later.taken ≡ drain.taken ++ item.End kind ∷ []
+      → IsHistory drain.queue.epoch drain.queue.shard later.taken → core ≡ take_item (item.End kind) s.core → At (record { intake = intake.Ended kind later; sending = record s { core = core } }) p
+  state-ended drain later s p kind core soft h can queue taken history is = record {
+    sending = sending-taken drain later s p (item.End kind) core h can queue taken history is;
     closed = closed_at kind soft (λ d. ap (λ (c : Core). c.builder) is ∙ nothing (sym (ap is_due is) ∙ d));
     last = (drain.taken, taken);
   }
@@ -271,71 +385,74 @@ module _ {T : Type 0} (tells : T → Type 0) (seen : T → List Exchange) (setup
       closed_at Hard no' c = absurd (true≢false no')
 
   -- a report of these steps
-  reports : (r : WorkerReport T) (ss : List Step) → 0 < setup.batch → HasMade tells seen setup begun (drain_of r.end) r.transport ss → r.resolved ≡ length (after (start_of setup) ss).core.resolved → r.ledger.names ≡ (after (start_of setup) ss).ledger.names
-      → (r.stopped ≡ None → IsOrderly r.end → (after (start_of setup) ss).core.resolved ≡ samples_in (drain_of r.end).taken) → StopsAtHard r.end ss → IsLast r.end → IsReport tells seen setup begun r
-  reports r ss some made counted names whole hard last = let k = keeps-made (drain_of r.end) r.transport ss some made in record {
-    steps = ss;
-    made = made;
-    worked = k.worked;
-    target = k.target_is;
-    counted = counted;
-    few = few_left setup.batch r.resolved (after (start_of setup) ss).core (drain_of r.end).taken k.taken_is k.whole k.fits counted;
-    names = names;
-    last = last;
-    whole = whole;
-    hard = hard;
+  reports : (r : WorkerReport T) (p : P) (ss : List Step) → 0 < setup.batch → HasMade tells seen setup begun (drain_of r.end) r.transport ss → r.resolved ≡ length (after (start_of setup) ss).core.resolved → r.ledger.names ≡ (after (start_of setup) ss).ledger.names
+      → (r.stopped ≡ None → IsOrderly r.end → (after (start_of setup) ss).core.resolved ≡ samples_in (drain_of r.end).taken) → StopsAtHard r.end ss → IsLast r.end → Paused p ss → Ran r p
+  reports r p ss some made counted names whole hard last waited = let k = keeps-made (drain_of r.end) r.transport ss some made in record {
+    report = record {
+      steps = ss;
+      made = made;
+      worked = k.worked;
+      target = k.target_is;
+      counted = counted;
+      few = few_left setup.batch r.resolved (after (start_of setup) ss).core (drain_of r.end).taken k.taken_is k.whole k.fits counted;
+      names = names;
+      last = last;
+      whole = whole;
+      hard = hard;
+    };
+    waited = waited;
   }
 
-  stops : (e : TakingEnd) (stopped : Option ℕ) (s : Sending T) (h : IsSending tells seen setup begun (drain_of e) s) → (stopped ≡ None → IsOrderly e → s.core.resolved ≡ samples_in (drain_of e).taken) → StopsAtHard e h.steps → IsLast e
-      → IsReport tells seen setup begun (report_of e stopped s)
-  stops e stopped s h whole hard last =
-      reports (report_of e stopped s) h.steps h.some h.made (h.counted ∙ ap (λ (w : Working). length w.core.resolved) (sym h.now)) (ap (λ (w : Working). w.ledger.names) (sym h.now))
-      (λ going orderly. ap (λ (w : Working). w.core.resolved) h.now ∙ whole going orderly) hard last
+  stops : (e : TakingEnd) (stopped : Option ℕ) (s : Sending T) (p : P) (h : Going (drain_of e) s p) → (stopped ≡ None → IsOrderly e → s.core.resolved ≡ samples_in (drain_of e).taken) → StopsAtHard e h.steps → IsLast e
+      → Ran (report_of e stopped s) p
+  stops e stopped s p h whole hard last =
+      reports (report_of e stopped s) p h.steps h.some h.made (h.counted ∙ ap (λ (w : Working). length w.core.resolved) (sym h.now)) (ap (λ (w : Working). w.ledger.names) (sym h.now))
+      (λ going orderly. ap (λ (w : Working). w.core.resolved) h.now ∙ whole going orderly) hard last h.waited
 
   -- the state where the end is open
-  pub opened : (i : Intake) (d : Draining) (s : Sending T) → IsState tells seen setup begun (record { intake = i; sending = s }) → i ≡ intake.Open d → IsSending tells seen setup begun d s
-  opened i d s h is = subst (λ (x : Draining). IsSending tells seen setup begun x s) (ap intake_drain is) h.sending
+  pub opened : (i : Intake) (d : Draining) (s : Sending T) (p : P) → At (record { intake = i; sending = s }) p → i ≡ intake.Open d → Going d s p
+  opened i d s p h is = subst (λ (x : Draining). Going x s p) (ap intake_drain is) h.sending
 
   -- the end was given up
-  pub report-killed : (drain killed : Draining) (stopped : Option ℕ) (s : Sending T) (r : WorkerReport T) → IsSending tells seen setup begun drain s → killed ≡ drain → r ≡ report_of (end.Killed killed) stopped s → IsReport tells seen setup begun r
-  report-killed drain killed stopped s r h same is =
-      subst (IsReport tells seen setup begun) (sym is)
-      (subst (λ (d : Draining). IsReport tells seen setup begun (report_of (end.Killed d) stopped s)) (sym same) (stops (end.Killed drain) stopped s h (λ going orderly. absurd orderly) tt tt))
+  pub report-killed : (drain killed : Draining) (stopped : Option ℕ) (s : Sending T) (p : P) (r : WorkerReport T) → Going drain s p → killed ≡ drain → r ≡ report_of (end.Killed killed) stopped s → Ran r p
+  report-killed drain killed stopped s p r h same is =
+      subst (λ (x : WorkerReport T). Ran x p) (sym is)
+      (subst (λ (d : Draining). Ran (report_of (end.Killed d) stopped s) p) (sym same) (stops (end.Killed drain) stopped s p h (λ going orderly. absurd orderly) tt tt))
 
   -- the stop flag was set
-  pub report-stopped : (i : Intake) (e : TakingEnd) (flag : ℕ) (s : Sending T) (r : WorkerReport T) → IsState tells seen setup begun (record { intake = i; sending = s }) → e ≡ given_back i → r ≡ report_of e (Some flag) s → IsReport tells seen setup begun r
-  report-stopped i e flag s r h same is = subst (IsReport tells seen setup begun) (sym is) (subst (λ (x : TakingEnd). IsReport tells seen setup begun (report_of x (Some flag) s)) (sym same) (at i h))
+  pub report-stopped : (i : Intake) (e : TakingEnd) (flag : ℕ) (s : Sending T) (p : P) (r : WorkerReport T) → At (record { intake = i; sending = s }) p → e ≡ given_back i → r ≡ report_of e (Some flag) s → Ran r p
+  report-stopped i e flag s p r h same is = subst (λ (x : WorkerReport T). Ran x p) (sym is) (subst (λ (x : TakingEnd). Ran (report_of x (Some flag) s) p) (sym same) (at i h))
     where
-      at : (j : Intake) → IsState tells seen setup begun (record { intake = j; sending = s }) → IsReport tells seen setup begun (report_of (given_back j) (Some flag) s)
-      at (intake.Open d) k = stops (end.Killed d) (Some flag) s k.sending (λ going orderly. absurd orderly) tt tt
+      at : (j : Intake) → At (record { intake = j; sending = s }) p → Ran (report_of (given_back j) (Some flag) s) p
+      at (intake.Open d) k = stops (end.Killed d) (Some flag) s p k.sending (λ going orderly. absurd orderly) tt tt
       at (intake.Ended Hard d) k = absurd k.closed
-      at (intake.Ended Orderly d) k = stops (end.Ended Orderly d) (Some flag) s k.sending (λ going. absurd (cc)) tt k.last
-      at (intake.Ended Reshard d) k = stops (end.Ended Reshard d) (Some flag) s k.sending (λ going. absurd (cc)) tt k.last
+      at (intake.Ended Orderly d) k = stops (end.Ended Orderly d) (Some flag) s p k.sending (λ going. absurd (cc)) tt k.last
+      at (intake.Ended Reshard d) k = stops (end.Ended Reshard d) (Some flag) s p k.sending (λ going. absurd (cc)) tt k.last
 
   -- everything was sent
-  pub report-whole : (i : Intake) (kind : Kind) (d : Draining) (s : Sending T) (r : WorkerReport T) → IsState tells seen setup begun (record { intake = i; sending = s }) → i ≡ intake.Ended kind d → can_take s.core ≡ true → r ≡ report_of (end.Ended kind d) None s → IsReport tells seen setup begun r
-  report-whole i kind d s r h ended can is = subst (IsReport tells seen setup begun) (sym is) (at kind (subst (λ (j : Intake). IsState tells seen setup begun (record { intake = j; sending = s })) ended h))
+  pub report-whole : (i : Intake) (kind : Kind) (d : Draining) (s : Sending T) (p : P) (r : WorkerReport T) → At (record { intake = i; sending = s }) p → i ≡ intake.Ended kind d → can_take s.core ≡ true → r ≡ report_of (end.Ended kind d) None s → Ran r p
+  report-whole i kind d s p r h ended can is = subst (λ (x : WorkerReport T). Ran x p) (sym is) (at kind (subst (λ (j : Intake). At (record { intake = j; sending = s }) p) ended h))
     where
-      all : IsSending tells seen setup begun d s → s.core.builder ≡ [] → s.core.resolved ≡ samples_in d.taken
+      all : Going d s p → s.core.builder ≡ [] → s.core.resolved ≡ samples_in d.taken
       all k none =
-          let kept = keeps-of d s k in
+          let kept = keeps-of d s p k in
           let batch = none_of s.core.batch (can_take-parts s.core can).0 in
           sym (append-nil s.core.resolved) ∙ ap (λ xs. s.core.resolved ++ xs) (sym none) ∙ ap (λ xs. s.core.resolved ++ (xs ++ s.core.builder)) (sym batch) ∙ sym kept.whole ∙ kept.taken_is
 
-      at : (j : Kind) → IsState tells seen setup begun (record { intake = intake.Ended j d; sending = s }) → IsReport tells seen setup begun (report_of (end.Ended j d) None s)
+      at : (j : Kind) → At (record { intake = intake.Ended j d; sending = s }) p → Ran (report_of (end.Ended j d) None s) p
       at Hard k = absurd k.closed
-      at Orderly k = stops (end.Ended Orderly d) None s k.sending (λ going orderly. all k.sending (k.closed (can_take-not_due s.core can))) tt k.last
-      at Reshard k = stops (end.Ended Reshard d) None s k.sending (λ going orderly. all k.sending (k.closed (can_take-not_due s.core can))) tt k.last
+      at Orderly k = stops (end.Ended Orderly d) None s p k.sending (λ going orderly. all k.sending (k.closed (can_take-not_due s.core can))) tt k.last
+      at Reshard k = stops (end.Ended Reshard d) None s p k.sending (λ going orderly. all k.sending (k.closed (can_take-not_due s.core can))) tt k.last
 
   -- a hard End was taken
-  pub report-hard : (kind : Kind) (drain later : Draining) (s : Sending T) (r : WorkerReport T) → is_hard kind ≡ true → IsSending tells seen setup begun drain s → can_take s.core ≡ true → later.queue ≡ drain.queue → later.taken ≡ drain.taken ++ item.End kind ∷ []
-      → IsHistory drain.queue.epoch drain.queue.shard later.taken → r ≡ report_of (end.Ended kind later) None s → IsReport tells seen setup begun r
-  unfolding sending-taken sending-more
-  report-hard Orderly drain later s r hard h can queue taken history is = absurd (true≢false (sym hard))
-  report-hard Reshard drain later s r hard h can queue taken history is = absurd (true≢false (sym hard))
-  report-hard Hard drain later s r hard h can queue taken history is =
-      let more = sending-taken drain later s (item.End Hard) (take_item (item.End Hard) s.core) h can queue taken history refl in
-      subst (IsReport tells seen setup begun) (sym is) (stops (end.Ended Hard later) None (record s { core = take_item (item.End Hard) s.core }) more (λ going orderly. absurd orderly) (h.steps, refl) (drain.taken, taken))
+  pub report-hard : (kind : Kind) (drain later : Draining) (s : Sending T) (p : P) (r : WorkerReport T) → is_hard kind ≡ true → Going drain s p → can_take s.core ≡ true → later.queue ≡ drain.queue → later.taken ≡ drain.taken ++ item.End kind ∷ []
+      → IsHistory drain.queue.epoch drain.queue.shard later.taken → r ≡ report_of (end.Ended kind later) None s → Ran r p
+  unfolding sending-taken sending-more steps-taken
+  report-hard Orderly drain later s p r hard h can queue taken history is = absurd (true≢false (sym hard))
+  report-hard Reshard drain later s p r hard h can queue taken history is = absurd (true≢false (sym hard))
+  report-hard Hard drain later s p r hard h can queue taken history is =
+      let more = sending-taken drain later s p (item.End Hard) (take_item (item.End Hard) s.core) h can queue taken history refl in
+      subst (λ (x : WorkerReport T). Ran x p) (sym is) (stops (end.Ended Hard later) None (record s { core = take_item (item.End Hard) s.core }) p more (λ going orderly. absurd orderly) (h.steps, refl) (drain.taken, taken))
 
 -- a report of a stop flag, or of none
 module _ {T : Type 0} where

@@ -1,6 +1,6 @@
 -- Steps one after the other.
 use Rattle.std.proofs.Common.{◌≡◌, List, [], ◌∷◌, ◌++◌, refl, ap}
-use Rattle.rw_worker.specs.Steps.{Working, Step, Takes, Freezes, Sends, MayStep, AreSteps, after, after_step, items_of, exchanges_of}
+use Rattle.rw_worker.specs.Steps.{Working, Step, Takes, Freezes, Sends, Waits, MayStep, AreSteps, after, after_step, items_of, exchanges_of}
 
 pub steps-push : (w : Working) (ss : List Step) (s : Step) → AreSteps w ss → MayStep s (after w ss).core → AreSteps w (ss ++ s ∷ [])
 steps-push w [] s h may = (may, tt)
@@ -15,9 +15,11 @@ items-append [] ts = refl
 items-append (Takes x ∷ ss) ts = ap (λ xs. x ∷ xs) (items-append ss ts)
 items-append (Freezes ∷ ss) ts = items-append ss ts
 items-append (Sends e ∷ ss) ts = items-append ss ts
+items-append (Waits ∷ ss) ts = items-append ss ts
 
 pub exchanges-append : (ss ts : List Step) → exchanges_of (ss ++ ts) ≡ exchanges_of ss ++ exchanges_of ts
 exchanges-append [] ts = refl
 exchanges-append (Takes x ∷ ss) ts = exchanges-append ss ts
 exchanges-append (Freezes ∷ ss) ts = exchanges-append ss ts
 exchanges-append (Sends e ∷ ss) ts = ap (λ es. e ∷ es) (exchanges-append ss ts)
+exchanges-append (Waits ∷ ss) ts = exchanges-append ss ts

@@ -39,7 +39,7 @@ names-push : (names : FinMap nat_cmp Reason) (bs : List Settled) (b : Settled) �
 names-push names [] b = refl
 names-push names (x ∷ xs) b = names-push (with_names names x) xs b
 
-pub adds-append : (a b c : Type 0) (old middle new first second : List Exchange) → Adds a b old middle first → Adds b c middle new second → Adds a c old new (first ++ second)
+pub adds-append : {X : Type 0} (a b c : Type 0) (old middle new first second : List X) → Adds a b old middle first → Adds b c middle new second → Adds a c old new (first ++ second)
 adds-append a b c old middle new first second f s told =
     let n = s told in
     let m = f n.0 in

@@ -1,5 +1,6 @@
 pub mod Cut
 pub mod Transcript
 pub mod Steps
+pub mod Pauses
 pub mod Setups
 pub mod Report

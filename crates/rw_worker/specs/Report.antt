@@ -1,5 +1,5 @@
 -- How far a worker is, and what it reports of its run.
-use Rattle.std.specs.Prelude.{◌≡◌, ℕ, ◌+◌, ◌<◌, ◌≤◌, Bool, true, false, List, [], ◌∷◌, ◌++◌, length, Option, None, Some, IfSome, ⊤}
+use Rattle.std.specs.Prelude.{◌≡◌, ℕ, ◌+◌, ◌-◌, ◌^◌, ◌<◌, ◌≤◌, min, Bool, true, false, List, [], ◌∷◌, ◌++◌, length, Option, None, Some, IfSome, ⊤}
 use Rattle.rw_shard_queue.specs.Items.{samples_in}
 use Rattle.rw_shard_queue.specs.declared.item.Item.{Item}
 use Rattle.rw_shard_queue.specs.History.{IsHistory}
@@ -14,12 +14,14 @@ use Rattle.rw_worker.specs.declared.report.WorkerReport.{WorkerReport}
 use Rattle.rw_worker.specs.declared.state.Intake.{Intake}
 use Rattle.rw_worker.specs.declared.state.Intake.TheVariants as intake
 use Rattle.rw_worker.specs.declared.state.Sending.{Sending}
+use Rattle.rw_worker.specs.declared.state.Start.{Start}
 use Rattle.rw_worker.specs.declared.state.State.{State}
 use Rattle.rw_worker.specs.declared.state.Progress.{Progress}
 use Rattle.rw_worker.specs.declared.state.Progress.TheVariants.{Goes, Stops}
 use Rattle.rw_worker.specs.Transcript.{Exchange, Adds}
 use Rattle.rw_worker.specs.Setups.{Setup, start_of}
-use Rattle.rw_worker.specs.Steps.{Step, Takes, working, AreSteps, after, items_of, exchanges_of, IsWorked}
+use Rattle.rw_worker.specs.Steps.{Step, Takes, working, MayStep, AreSteps, after_step, after, items_of, exchanges_of, IsWorked}
+use Rattle.rw_worker.specs.Pauses.{pause_after, retries_after, retries_of, pauses_of}
 
 abbrev pub is_hard : Kind → Bool
 is_hard Orderly = false
@@ -79,19 +81,6 @@ module _ {T : Type 0} (tells : T → Type 0) (seen : T → List Exchange) (setup
     pub items : items_of steps ≡ drain.taken
     pub adds : Adds (tells begun) (tells transport) (seen begun) (seen transport) (exchanges_of steps)
 
-  -- the worker is this far after some steps
-  pub record IsSending (drain : Draining) (s : Sending T) : Type 0 where
-    pub some : 0 < setup.batch
-    pub steps : List Step
-    pub made : HasMade drain s.transport steps
-    pub now : after (start_of setup) steps ≡ working s.core s.ledger
-    pub counted : s.resolved ≡ length s.core.resolved
-
-  pub record IsState (s : State T) : Type 0 where
-    pub sending : IsSending (intake_drain s.intake) s.sending
-    pub closed : IsClosed s.intake s.sending.core
-    pub last : IsLast (given_back s.intake)
-
   -- What a worker reports. The state of its shard is that after its steps, of which the exchanges are the transcript of what was taken. No more than a batch of that is not resolved.
   pub record IsReport (r : WorkerReport T) : Type 0 where
     pub steps : List Step
@@ -105,9 +94,69 @@ module _ {T : Type 0} (tells : T → Type 0) (seen : T → List Exchange) (setup
     pub whole : r.stopped ≡ None → IsOrderly r.end → (after (start_of setup) steps).core.resolved ≡ samples_in (drain_of r.end).taken
     pub hard : StopsAtHard r.end steps
 
-  abbrev pub IsProgress : Progress T → Type 0
-  IsProgress (Goes s) = IsState s
-  IsProgress (Stops r) = IsReport r
+-- a count of 64 bits, which stays where it is greatest
+abbrev pub counted_to : ℕ → ℕ
+counted_to n = min n (2 ^ 64 - 1)
+
+module _ {T P : Type 0} (tells : T → Type 0) (seen : T → List Exchange) (waits : P → Type 0) (paused : P → List ℕ) where
+  -- a step was made, with its exchange and its pause
+  pub record HasStepped (s v : Sending T) (p q : P) : Type 0 where
+    pub step : Step
+    pub allowed : MayStep step s.core
+    pub becomes : working v.core v.ledger ≡ after_step step (working s.core s.ledger)
+    pub told : Adds (tells s.transport) (tells v.transport) (seen s.transport) (seen v.transport) (exchanges_of (step ∷ []))
+    pub waited : Adds (waits p) (waits q) (paused p) (paused q) (pause_after s.backoff.0 s.backoff.1 s.retries step)
+    pub retries : v.retries ≡ counted_to (retries_after s.retries step)
+    pub backoff : v.backoff ≡ s.backoff
+
+  -- a worker that goes on made a step
+  abbrev pub StepsOn : Sending T → Progress T → P → P → Type 0
+  StepsOn s (Goes v) p q = HasStepped s v.sending p q
+  StepsOn s (Stops r) p q = ⊤
+
+  module _ (setup : Setup) (begun : T) (first : P) where
+    -- these pauses were made, which are those after the steps
+    abbrev pub HasPaused : P → List Step → Type 0
+    HasPaused pause steps = Adds (waits first) (waits pause) (paused first) (paused pause) (pauses_of setup.min_backoff setup.max_backoff 0 steps)
+
+    -- the worker is this far after some steps
+    pub record IsSending (drain : Draining) (s : Sending T) (pause : P) : Type 0 where
+      pub some : 0 < setup.batch
+      pub fits : setup.max_backoff < 2 ^ 64
+      pub steps : List Step
+      pub made : HasMade tells seen setup begun drain s.transport steps
+      pub waited : HasPaused pause steps
+      pub now : after (start_of setup) steps ≡ working s.core s.ledger
+      pub counted : s.resolved ≡ length s.core.resolved
+      pub backoff : s.backoff ≡ (setup.min_backoff, setup.max_backoff)
+      pub retries : s.retries ≡ counted_to (retries_of 0 steps)
+
+    pub record IsState (s : State T) (pause : P) : Type 0 where
+      pub sending : IsSending (intake_drain s.intake) s.sending pause
+      pub closed : IsClosed s.intake s.sending.core
+      pub last : IsLast (given_back s.intake)
+
+    -- What a worker reports, and how it waited: the pauses are those after the steps of its report.
+    pub record HasRun (r : WorkerReport T) (pause : P) : Type 0 where
+      pub report : IsReport tells seen setup begun r
+      pub waited : HasPaused pause report.steps
+
+    abbrev pub IsProgress : Progress T → P → Type 0
+    IsProgress (Goes s) pause = IsState s pause
+    IsProgress (Stops r) pause = HasRun r pause
+
+  -- the same of what a worker began with
+  abbrev pub IsSendingFrom : Start T P → Draining → Sending T → P → Type 0
+  IsSendingFrom b drain s pause = IsSending b.worker.value b.transport.value b.pause.value drain s pause
+
+  abbrev pub IsStateFrom : Start T P → State T → P → Type 0
+  IsStateFrom b s pause = IsState b.worker.value b.transport.value b.pause.value s pause
+
+  abbrev pub HasRunFrom : Start T P → WorkerReport T → P → Type 0
+  HasRunFrom b r pause = HasRun b.worker.value b.transport.value b.pause.value r pause
+
+  abbrev pub IsProgressFrom : Start T P → Progress T → P → Type 0
+  IsProgressFrom b p pause = IsProgress b.worker.value b.transport.value b.pause.value p pause
 
 -- no stop flag was read as set
 abbrev pub IsNotStopped : {T : Type 0} → Progress T → Type 0

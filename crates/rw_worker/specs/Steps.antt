@@ -1,5 +1,5 @@
 -- What a worker does to the state of its shard, step by step.
-use Rattle.std.specs.Prelude.{◌≡◌, ℕ, Bool, true, false, List, [], ◌∷◌, ◌++◌, map, Result, Ok, Err, ⊤, if◌then◌else◌}
+use Rattle.std.specs.Prelude.{◌≡◌, ℕ, Bool, true, false, not, List, [], ◌∷◌, ◌++◌, map, Result, Ok, Err, ⊤, if◌then◌else◌}
 use Rattle.std.specs.Ordering.{nat_cmp}
 use Rattle.std.specs.FinMap.{FinMap, empty}
 use Rattle.rw_ledger.specs.declared.ledger.Reason.{Reason}
@@ -10,7 +10,7 @@ use Rattle.rw_sender.specs.Shard.{Core, new_core, is_empty, can_take, MayTake, t
 use Rattle.rw_sender.specs.declared.config.Target.{Target}
 use Rattle.rw_worker.specs.declared.transport.Reply.{Reply}
 use Rattle.rw_worker.specs.declared.transport.Lost.{Lost}
-use Rattle.rw_worker.specs.Transcript.{Exchange, exchange_of, Adds, Settled, IsTranscript, AreTriesOf, samples_of, names_of}
+use Rattle.rw_worker.specs.Transcript.{Exchange, exchange_of, is_again, Adds, Settled, IsTranscript, AreTriesOf, samples_of, names_of}
 use Rattle.rw_worker.specs.Cut.{cut, cutting, one_of}
 
 -- a shard and its part of the ledger
@@ -29,12 +29,14 @@ pub data Step : Type 0 where
   Takes : Item → Step
   Freezes : Step
   Sends : Exchange → Step
+  Waits : Step  -- memory was refused
 
--- when a step may be made: only a builder that is due is frozen, and what is sent is the request of the open batch
+-- when a step may be made: only a builder that is due is frozen, what is sent is the request of the open batch, and memory is asked for where one of both is to be done
 abbrev pub MayStep : Step → Core → Type 0
 MayStep (Takes x) c = (can_take c ≡ true) × MayTake x c
 MayStep Freezes c = (is_due c ≡ true) × (can_freeze c ≡ true)
 MayStep (Sends e) c = (can_send c ≡ true) × (e.request ≡ request_for c)
+MayStep Waits c = can_take c ≡ false
 
 -- an attempt ends with a reply, or is lost
 abbrev pub answered : Result Reply Lost → Working → Working
@@ -45,6 +47,7 @@ abbrev pub after_step : Step → Working → Working
 after_step (Takes x) w = working (take_item x w.core) w.ledger
 after_step Freezes w = working (freeze w.core) (freeze_room w.core w.ledger)
 after_step (Sends e) w = answered e.answer (working (send w.core) w.ledger)
+after_step Waits w = w
 
 -- steps one after the other, each where it may be made
 abbrev pub AreSteps : Working → List Step → Type 0
@@ -60,12 +63,14 @@ items_of [] = []
 items_of (Takes x ∷ ss) = x ∷ items_of ss
 items_of (Freezes ∷ ss) = items_of ss
 items_of (Sends e ∷ ss) = items_of ss
+items_of (Waits ∷ ss) = items_of ss
 
 abbrev pub exchanges_of : List Step → List Exchange
 exchanges_of [] = []
 exchanges_of (Takes x ∷ ss) = exchanges_of ss
 exchanges_of (Freezes ∷ ss) = exchanges_of ss
 exchanges_of (Sends e ∷ ss) = e ∷ exchanges_of ss
+exchanges_of (Waits ∷ ss) = exchanges_of ss
 
 -- the samples of the batch that is not settled: the open batch, or a builder that is due
 abbrev pub unsettled : Core → List Placed
@@ -102,3 +107,4 @@ pub record WasSent (before now : Type 0) (old new : List Exchange) (w v : Workin
   pub told : Adds before now old new (exchange_of (request_for w.core) answer ∷ [])
   pub becomes : v ≡ after_step (Sends (exchange_of (request_for w.core) answer)) w
   pub resolved : v.core.resolved ≡ resolved_after settled w.core
+  pub again : is_again answer ≡ not settled

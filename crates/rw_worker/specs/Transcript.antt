@@ -1,5 +1,5 @@
 -- The exchanges of one sender (Remote-Write 1.0, "Retries & backoff"): a request that is answered by 429 or 5xx, or by nothing, is sent again; any other answer is final.
-use Rattle.std.specs.Prelude.{◌≡◌, ℕ, List, [], ◌∷◌, ◌++◌, false, fold, Result, Ok, Err, ⊤}
+use Rattle.std.specs.Prelude.{◌≡◌, ℕ, Bool, true, false, List, [], ◌∷◌, ◌++◌, fold, Result, Ok, Err, ⊤}
 use Rattle.std.specs.Ordering.{nat_cmp}
 use Rattle.std.specs.FinMap.{FinMap, empty}
 use Rattle.rw_ledger.specs.declared.ledger.Reason.{Reason}
@@ -28,6 +28,15 @@ status_of status = Ok (record { status = status })
 abbrev pub IsAgain : Result Reply Lost → Type 0
 IsAgain (Ok r) = judgement_of r.status ≡ Again
 IsAgain (Err lost) = ⊤
+
+abbrev pub is_again_by : Judgement → Bool
+is_again_by Done = false
+is_again_by Again = true
+is_again_by Refused = false
+
+abbrev pub is_again : Result Reply Lost → Bool
+is_again (Ok r) = is_again_by (judgement_of r.status)
+is_again (Err lost) = true
 
 -- the request that carries these samples
 abbrev pub batch_request : Target → List Placed → List ℕ
@@ -78,6 +87,6 @@ with_names names b = names_after (judgement_of b.status) b names
 abbrev pub names_of : List Settled → FinMap nat_cmp Reason
 names_of bs = fold with_names empty bs
 
--- who tells now told before, and these exchanges were added
-abbrev pub Adds : Type 0 → Type 0 → List Exchange → List Exchange → List Exchange → Type 0
+-- who tells now told before, and this was added to what it tells
+abbrev pub Adds : {X : Type 0} → Type 0 → Type 0 → List X → List X → List X → Type 0
 Adds before now old new added = now → before × (new ≡ old ++ added)

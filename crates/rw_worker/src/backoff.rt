@@ -15,13 +15,13 @@ pub(crate) struct Backoff {
 }
 
 impl Model for Backoff {
-    ghost use Rattle.std.specs.Prelude.{ℕ, ◌≤◌};
+    ghost use Rattle.std.specs.Prelude.{ℕ, ◌≤◌, ◌<◌, ◌^◌};
 
     ghost Value = { ℕ × ℕ };
 
     ghost view = { λ b. (b.least, b.most) };
 
-    ghost invariant = { λ b. b.least ≤ b.most };
+    ghost invariant = { λ b. (b.least ≤ b.most) × (b.most < 2 ^ 64) };
 }
 
 impl Backoff {

@@ -1,7 +1,8 @@
 //! One attempt to send a batch.
 
-ghost use Rattle.std.specs.Prelude.{◌≡◌, true, false, IfOk, OnErr};
+ghost use Rattle.std.specs.Prelude.{◌≡◌, true, false, not, IfOk, OnErr};
 ghost use Rattle.rw_sender.specs.Shard.{HasRoomFor, awaits, can_send, batch_id};
+ghost use Rattle.rw_worker.specs.Transcript.{is_again};
 ghost use Rattle.rw_worker.specs.Steps.{working, answered, resolved_after, WasSent};
 
 use crate::transport::{Lost, Reply, Transport};
@@ -18,6 +19,7 @@ fn note(core: &mut ShardCore, ledger: &mut Ledger, id: BatchId, answer: Result<R
     requires room { HasRoomFor core.old ledger.old }
     ensures becomes { working core.new ledger.new ≡ answered answer (working core.old ledger.old) }
     ensures resolved { core.new.resolved ≡ resolved_after result core.old }
+    ensures again { is_again answer ≡ not result }
 {
     let Ok(reply) = answer else {
         core.lost();

@@ -7,9 +7,19 @@ use crate::backoff::Backoff;
 use crate::report::{TakingEnd, WorkerReport};
 use crate::stop::Stopped;
 use crate::tally::Tally;
+use crate::worker::Worker;
 use rw_ledger::Ledger;
 use rw_ruled_queue::{Drain, Ended, Kind, Open};
 use rw_sender::ShardCore;
+use std::snapshot::Snapshot;
+
+/// What a worker began with, which contracts alone see.
+#[derive(Drop)]
+pub(crate) struct Start<T, P> {
+    pub(crate) worker: Snapshot<Worker>,
+    pub(crate) transport: Snapshot<T>,
+    pub(crate) pause: Snapshot<P>,
+}
 
 /// The end of the queue that is taken from.
 #[derive(Drop)]

@@ -35,6 +35,15 @@ pub trait Transport {
 
 /// Lets time pass.
 pub trait Pause {
+    ghost use Rattle.std.specs.Prelude.{◌≡◌, ℕ, List, [], ◌∷◌, ◌++◌};
+
+    /// It has told of each pause so far. One need not tell of any.
+    ghost tells: { Self → Type 0 };
+
+    /// The pauses so far, in milliseconds.
+    ghost paused: { Self → List ℕ };
+
     /// Waits for so many milliseconds.
-    fn pause(&mut self, ms: u64);
+    fn pause(&mut self, ms: u64)
+        ensures { tells self.new → tells self.old × (paused self.new ≡ paused self.old ++ ms ∷ []) };
 }

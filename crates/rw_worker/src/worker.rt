@@ -1,12 +1,11 @@
 //! The worker of a shard.
 
 ghost use Rattle.std.specs.Prelude.{◌≡◌, [], IfOk, IfErr, IfSome};
-ghost use Rattle.rw_worker.specs.Report.{IsState, IsReport};
+ghost use Rattle.rw_worker.specs.Report.{IsState, HasRun};
 
 use crate::backoff::Backoff;
-use crate::begun::Begun;
 use crate::report::WorkerReport;
-use crate::state::{Intake, Progress, Sending, State};
+use crate::state::{Intake, Progress, Sending, Start, State};
 use crate::step::step;
 use crate::stop::StopFlag;
 use crate::tally::Tally;
@@ -30,7 +29,7 @@ pub struct Worker {
 }
 
 impl Model for Worker {
-    ghost use Rattle.std.specs.Prelude.{◌≡◌, ◌<◌, []};
+    ghost use Rattle.std.specs.Prelude.{◌≡◌, ◌<◌, ◌^◌, []};
     ghost use Rattle.std.specs.FinMap.{empty};
     ghost use Rattle.rw_sender.specs.Shard.{new_core};
     ghost use Rattle.rw_worker.specs.Setups.{Setup};
@@ -48,7 +47,8 @@ impl Model for Worker {
     ghost invariant = { λ w. (w.drain.taken ≡ [])
         × (w.core ≡ new_core w.core.target w.drain.queue.epoch w.drain.queue.shard w.core.full)
         × (w.ledger ≡ record { names = empty; room = 0 })
-        × (0 < w.core.full) };
+        × (0 < w.core.full)
+        × (w.backoff.1 < 2 ^ 64) };
 }
 
 impl Worker {
@@ -100,17 +100,17 @@ impl Worker {
         pause: &mut P,
         stop: &StopFlag,
     ) -> WorkerReport<T>
-        ensures report { IsReport T.tells T.seen self transport result }
+        ensures report { HasRun T.tells T.seen P.tells P.paused self transport pause.old result pause.new }
         ensures flag { IfSome result.stopped (λ flag. flag ≡ stop.now) }
     {
-        let begun = Begun {
+        let start = Start {
             worker: Snapshot::of(&self),
             transport: Snapshot::of(&transport),
-            stop: Snapshot::of(stop),
+            pause: Snapshot::of(pause),
         };
-        let mut state = self.begin(transport);
+        let mut state = self.begin(transport, pause);
         for _ in rt.forever() {
-            match step(rt, &begun, state, pause, stop) {
+            match step(rt, &start, state, pause, stop) {
                 Progress::Goes(next) => state = next,
                 Progress::Stops(report) => return report,
             }
@@ -119,8 +119,8 @@ impl Worker {
     }
 
     /// The state before the first step.
-    fn begin<T: Transport>(self, transport: T) -> State<T>
-        ensures { IsState T.tells T.seen self transport result }
+    fn begin<T: Transport, P: Pause>(self, transport: T, _pause: &P) -> State<T>
+        ensures { IsState T.tells T.seen P.tells P.paused self transport _pause.now result _pause.now }
     {
         let Worker {
             drain,

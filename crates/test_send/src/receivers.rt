@@ -37,6 +37,12 @@ impl<R: Clock> Transport for Always<R> {
 pub(crate) struct Quick;
 
 impl Pause for Quick {
+    ghost use Rattle.std.specs.Prelude.{[]};
+
+    ghost tells = { λ _. ⊥ };
+
+    ghost paused = { λ _. [] };
+
     fn pause(&mut self, _ms: u64) {}
 }
 

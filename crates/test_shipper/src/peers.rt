@@ -16,6 +16,12 @@ pub(crate) const TURNS: u32 = 10_000_000;
 pub(crate) struct Quick;
 
 impl Pause for Quick {
+    ghost use Rattle.std.specs.Prelude.{[]};
+
+    ghost tells = { λ _. ⊥ };
+
+    ghost paused = { λ _. [] };
+
     fn pause(&mut self, _ms: u64) {}
 }
 

@@ -103,10 +103,20 @@ impl Transport for Script {
 #[derive(Drop)]
 pub struct Times {
     pub milliseconds: Vec<u64>,
+    /// Whether memory sufficed to note all of them.
+    pub is_complete: bool,
 }
 
 impl Pause for Times {
+    ghost use Rattle.std.specs.Prelude.{◌≡◌, true};
+
+    ghost tells = { λ t. t.is_complete ≡ true };
+
+    ghost paused = { λ t. t.milliseconds.items };
+
     fn pause(&mut self, ms: u64) {
-        let _ = self.milliseconds.push(ms);
+        if self.milliseconds.push(ms).is_err() {
+            self.is_complete = false;
+        }
     }
 }

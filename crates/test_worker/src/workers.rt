@@ -145,6 +145,7 @@ fn works_as_wanted<R: Wait>(
 ) -> bool {
     let mut times = Times {
         milliseconds: Vec::new(alloc),
+        is_complete: true,
     };
     let report = worker.run(rt, script, &mut times, stop);
     waits_as_wanted(&times, wanted) && reports_as_wanted(&report, wanted)
@@ -382,6 +383,7 @@ fn fed_in_a_thread<R: Threads + Wait + Copy + Send + 'static>(
     let (feed, worker) = worker_of(alloc, config, 1)?;
     let times = Times {
         milliseconds: Vec::new(alloc),
+        is_complete: true,
     };
     let handle = spawn(rt, worker, script, times, stop)?;
     let is_fed = fed(rt, feed, labels, Feeding::Two);

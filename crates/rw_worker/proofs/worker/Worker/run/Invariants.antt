@@ -1,5 +1,5 @@
-use Rattle.rw_worker.specs.Report.{IsState}
+use Rattle.rw_worker.specs.Report.{IsStateFrom}
 use Rattle.rw_worker.proofs.worker.Worker.run.Given as goal
 
 abbrev pub invariant-loop : goal.invariant-loop
-invariant-loop g l = IsState g.T.Transport.tells g.T.Transport.seen l.begun.worker.value l.begun.transport.value l.state
+invariant-loop g l = IsStateFrom g.T.Transport.tells g.T.Transport.seen g.P.Pause.tells g.P.Pause.paused l.start l.state l.pause
