@@ -1,13 +1,15 @@
 //! Requests over TCP connections.
 
-ghost use Rattle.std.specs.Prelude.{◌≡◌, ◌<◌, ◌*◌, IfOk, IsOk, IsSome, vec_len};
+ghost use Rattle.std.specs.Prelude.{◌≡◌, ◌<◌, ◌*◌, Ok, IfOk, IsOk, IsSome, vec_len};
 ghost use Rattle.std.specs.Io.KnownBytes.{Appends};
 ghost use Rattle.rw_retry.specs.Judgements.{judgement_of};
 ghost use Rattle.rw_sender.specs.declared.replies.ReplyRead.TheVariants as read;
 ghost use Rattle.rw_retry.specs.declared.judgement.Judgement.TheVariants as judgement;
 ghost use Rattle.rw_tcp.specs.Hearing.{Hears};
 
-use crate::reply::ask;
+use crate::reply::{NoReply, ask};
+use rw_metrics::{Cause, SendCounters};
+use rw_retry::{Judgement, judge};
 use rw_socket::{Deadline, Timely};
 use rw_types::{Bounded, Sink, Source, Std};
 use rw_worker::{Lost, Reply, Transport};
@@ -15,6 +17,7 @@ use std::alloc::Global;
 use std::io;
 use std::marker::Model;
 use std::net::{Net, SocketAddr, TcpStream, ToSocketAddrs};
+use std::sync::Arc;
 use std::time::{Clock, Duration};
 
 /// How many addresses are tried.
@@ -44,6 +47,7 @@ pub struct TcpTransport<N> {
     net: N,
     addresses: Vec<SocketAddr>,
     timeout: Duration,
+    counters: Arc<SendCounters, Global>,
 }
 
 impl<N> Model for TcpTransport<N> {
@@ -57,12 +61,13 @@ impl<N> Model for TcpTransport<N> {
 
 impl<N: Net<Stream = TcpStream> + Clock + Copy> TcpTransport<N> {
     /// A transport to these addresses of one receiver, tried in turn. The timeout is in milliseconds, for a whole attempt: the connects,
-    /// all writes and all reads together.
+    /// all writes and all reads together. The counters are told of each attempt, and why it failed.
     pub fn new(
         alloc: Global,
         net: N,
         addresses: Vec<SocketAddr>,
         timeout_ms: Bounded<1, 3_600_000>,
+        counters: Arc<SendCounters, Global>,
     ) -> TcpTransport<N>
         ensures addresses { result.addresses ≡ addresses.items }
         ensures timeout { result.timeout ≡ timeout_ms * 1_000_000 }
@@ -72,6 +77,7 @@ impl<N: Net<Stream = TcpStream> + Clock + Copy> TcpTransport<N> {
             net,
             addresses,
             timeout: Duration::from_millis(timeout_ms.get()),
+            counters,
         }
     }
 
@@ -89,19 +95,37 @@ impl<N: Net<Stream = TcpStream> + Clock + Copy> TcpTransport<N> {
     }
 }
 
-/// Sends a request over the two directions of a connection. Whatever fails is `Lost`.
+/// Why an attempt failed that has no reply.
+fn cause_of(fault: NoReply) -> Cause {
+    match fault {
+        NoReply::OutOfMemory => Cause::Memory,
+        NoReply::Device => Cause::Broken,
+        NoReply::Ended => Cause::Ended,
+        NoReply::Bad => Cause::BadReply,
+    }
+}
+
+/// The same cause, or that the time was over.
+fn cause_at<C: Clock>(cause: Cause, deadline: &Deadline<C>) -> Cause {
+    match deadline.left() {
+        Some(_) => cause,
+        None => Cause::Timeout,
+    }
+}
+
+/// Sends a request over the two directions of a connection.
 fn exchange_over<R: Source, W: Sink>(
     alloc: Global,
     reader: &mut R,
     writer: &mut W,
     request: &[u8],
-) -> Result<Reply, Lost>
+) -> Result<Reply, Cause>
     ensures reply { IfOk result (λ r. Hears (R.remaining reader.old) (R.remaining reader.new) (read.Status r.status)) }
     ensures written { IfOk result (λ r. judgement_of r.status ≡ judgement.Done → Appends (W.contents writer.old) (W.contents writer.new) request.now) }
 {
     match ask(alloc, reader, writer, request) {
         Ok(reply) => Ok(reply),
-        Err(_) => Err(Lost),
+        Err(fault) => Err(cause_of(fault)),
     }
 }
 
@@ -111,11 +135,11 @@ fn exchange_through<C: Clock + Copy>(
     stream: Option<TcpStream>,
     deadline: Deadline<C>,
     request: &[u8],
-) -> Result<Reply, Lost>
+) -> Result<Reply, Cause>
     ensures { IsOk result → IsSome stream }
 {
     let Some(stream) = stream else {
-        return Err(Lost);
+        return Err(Cause::Connect);
     };
     exchange_over(
         alloc,
@@ -123,6 +147,28 @@ fn exchange_through<C: Clock + Copy>(
         &mut Std::new(Timely::new(&stream, deadline)),
         request,
     )
+}
+
+/// Counts an attempt that failed: it has no answer, or a status that does not take the batch.
+fn counted<C: Clock>(
+    counters: &SendCounters,
+    deadline: &Deadline<C>,
+    answer: Result<Reply, Cause>,
+) -> Result<Reply, Lost>
+    ensures { IfOk result (λ reply. answer ≡ Ok reply) }
+{
+    match answer {
+        Ok(reply) => {
+            if judge(reply.status) != Judgement::Done {
+                counters.fail(Cause::Status(reply.status.as_u16()));
+            }
+            Ok(reply)
+        }
+        Err(cause) => {
+            counters.fail(cause_at(cause, deadline));
+            Err(Lost)
+        }
+    }
 }
 
 impl<N: Net<Stream = TcpStream> + Clock + Copy> Transport for TcpTransport<N> {
@@ -135,8 +181,10 @@ impl<N: Net<Stream = TcpStream> + Clock + Copy> Transport for TcpTransport<N> {
     ghost seen = { λ _. [] };
 
     fn exchange(&mut self, request: &[u8]) -> Result<Reply, Lost> {
+        self.counters.attempt();
         let deadline = Deadline::new(self.net, self.timeout);
         let stream = self.connect(&deadline);
-        exchange_through(self.alloc, stream, deadline, request)
+        let answer = exchange_through(self.alloc, stream, deadline, request);
+        counted(&self.counters, &deadline, answer)
     }
 }
