@@ -1,4 +1,5 @@
-//! Tests of hostile input: bytes that are changed and cut, compared with plain readings of the formats, and devices of which one call fails.
+//! Tests of hostile input: bytes that are changed and cut, compared with plain readings of the formats, devices of which one call fails, and
+//! memory that is refused.
 #![tactic(auto)]
 
 #[cfg(test)]
@@ -13,6 +14,8 @@ mod line;
 mod plain_body;
 #[cfg(test)]
 mod plain_segment;
+#[cfg(test)]
+mod refused;
 #[cfg(test)]
 mod requests;
 #[cfg(test)]

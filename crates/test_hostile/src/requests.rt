@@ -1,4 +1,4 @@
-//! The sender's request with each byte changed to each value: the replies that each part of it may have then. `rt try --test` needs `--seconds 600` for it.
+//! The sender's request with each byte changed to each value: the replies that each part of it may have then. `rt try --test` is too slow for it.
 
 use crate::bodies::ONE;
 use rw_recv_head::{Head, Limits};
