@@ -26,8 +26,7 @@ use std::mem::replace;
 use std::sync::Wait;
 use std::thread::Threads;
 
-/// The shards at work, and those that have ended, in the order of their epochs.
-#[derive(Drop)]
+/// The shards at work, and those that have ended, in the order of their epochs. It has to be finished.
 pub struct Fleet<C: Connect + Drop> {
     alloc: Global,
     config: Config,
@@ -128,9 +127,12 @@ impl<C: Connect + Drop> Fleet<C> {
         ensures all { OnOk result (length self.new.current ≡ shards) }
     {
         self.joined.reserve(shards as usize)?;
-        let mut running = Vec::new(self.alloc);
-        running.reserve(shards as usize)?;
         self.ending.reserve(shards as usize)?;
+        let mut none = Vec::new(self.alloc);
+        if let Err(refused) = none.reserve(shards as usize) {
+            none.destroy_empty();
+            return Err(refused);
+        }
         let (running, all) = open_all(
             rt,
             self.alloc,
@@ -139,9 +141,9 @@ impl<C: Connect + Drop> Fleet<C> {
             shards,
             &mut self.connect,
             &self.stop,
-            running,
+            none,
         );
-        self.running = running;
+        replace(&mut self.running, running).destroy_empty();
         if all { Ok(()) } else { Err(AllocError) }
     }
 
@@ -209,7 +211,10 @@ impl<C: Connect + Drop> Fleet<C> {
             ending,
             joined,
             stop,
-            ..
+            alloc: _,
+            config: _,
+            connect: _,
+            epoch: _,
         } = self;
         if kind == Kind::Hard {
             stop.set();

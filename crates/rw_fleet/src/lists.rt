@@ -95,9 +95,11 @@ pub(crate) fn end_all<T: Transport + Send + Drop + 'static, R: Wait>(
     ensures same { AreSame running.items result.items }
     ensures ended { AreEndedBy kind (map put_into result.items) }
 {
-    for shard in running {
+    let mut rest = running.into_iter();
+    while let Some(shard) = rest.next() {
         ending.push_reserved(shard.end(rt, kind));
     }
+    rest.destroy_empty();
     ending
 }
 
@@ -114,9 +116,11 @@ pub(crate) fn join_all<T: Transport + Send + Drop + 'static, R: Threads>(
     ensures same { (more : List _) × (result.items ≡ joined.items ++ more) × (map lane_of more ≡ ending.items) }
     ensures worked { AreWorked T.tells T.seen T.is_for result.items }
 {
-    for shard in ending {
+    let mut rest = ending.into_iter();
+    while let Some(shard) = rest.next() {
         joined.push_reserved(shard.join(rt));
     }
+    rest.destroy_empty();
     joined
 }
 

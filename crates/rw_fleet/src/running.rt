@@ -29,8 +29,7 @@ pub enum Fault {
     Gone,
 }
 
-/// A shard at work. Contracts see what its worker is set up with, and what was put into its queue.
-#[derive(Drop)]
+/// A shard at work, which has to be ended and joined. Contracts see what its worker is set up with, and what was put into its queue.
 pub(crate) struct Running<T: Transport + Send + Drop + 'static> {
     epoch: u64,
     shard: u32,
@@ -63,8 +62,7 @@ impl<T: Transport + Send + Drop + 'static> Model for Running<T> {
         × T.is_for r.worker.value.queue.epoch r.worker.value.queue.shard r.handle.promise.transport.value };
 }
 
-/// A shard that is to end. Contracts see what its worker is set up with, and what was put into its queue.
-#[derive(Drop)]
+/// A shard that is to end, which has to be joined. Contracts see what its worker is set up with, and what was put into its queue.
 pub(crate) struct Ending<T: Transport + Send + Drop + 'static> {
     fed: Fed,
     window: Window,

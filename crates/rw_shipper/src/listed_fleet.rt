@@ -20,8 +20,7 @@ use std::marker::Model;
 use std::sync::Wait;
 use std::thread::Threads;
 
-/// A fleet that always has room for the lists of its report. Contracts see the fleet.
-#[derive(Drop)]
+/// A fleet that always has room for the lists of its report, and has to be finished. Contracts see the fleet.
 pub(crate) struct ListedFleet<C: Connect + Drop> {
     fleet: Fleet<C>,
     /// They are empty until the fleet is finished.

@@ -116,8 +116,7 @@ fn split_choice(alloc: Global, config: Config) -> (Config, Choice)
 
 /// Reads a log as it grows, and puts its samples into the queues of their shards, each with a worker in a thread of its own.
 ///
-/// Contracts see the log as far as it was placed, the shards with what they were put, and the fault by which the shipper has failed.
-#[derive(Drop)]
+/// Contracts see the log as far as it was placed, the shards with what they were put, and the fault by which the shipper has failed. One that was started has to be stopped.
 pub struct Shipper<C: Connect + Drop> {
     feeder: Feeder,
     fleet: ListedFleet<C>,

@@ -8,7 +8,7 @@ use Rattle.rw_fleet.proofs.lists.end_all.Goals as goal
 pub loop-shard-preserved : goal.loop-shard-preserved
 loop-shard-preserved g c =
     let i = c.loop-shard.invariant in
-    let step = c.in-Some.ensures.steps in
+    let step = c.in-Some.ensures.cases in
     let p = c.push_reserved.ensures in
     let a = i.0 in
     let b = i.1 in
@@ -24,7 +24,7 @@ loop-shard-preserved g c =
 pub returns-clause-same : goal.returns-clause-same
 returns-clause-same g c =
     let i = c.loop-shard.invariant in
-    let step = c.in-None.ensures.steps in
+    let step = c.in_default.ensures.cases in
     let a = i.0 in
     let z = step.0 in
     let n = same_length _ _ i.2.2 in

@@ -6,8 +6,11 @@ use Rattle.rw_fleet.proofs.lists.end_all.Given as goal
 
 abbrev pub invariant-loop-shard : goal.invariant-loop-shard
 invariant-loop-shard g l =
-    let rest = l.shard-iterator in
+    let rest = l.rest in
     (vec_len l.ending + into_iter_len rest ≡ vec_len l.fn.running)
     × (vec_len l.fn.running ≤ vec_capacity l.ending)
     × ((done : List Lane) × (l.fn.running.items ≡ done ++ into_iter_items rest) × AreSame done l.ending.items)
     × AreEndedBy l.kind (map put_into l.ending.items)
+
+abbrev pub decreases-loop-shard : goal.decreases-loop-shard
+decreases-loop-shard g l = into_iter_len l.rest

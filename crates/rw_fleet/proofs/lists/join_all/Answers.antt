@@ -7,13 +7,13 @@ use Rattle.rw_fleet.proofs.lists.join_all.Goals as goal
 
 pub loop-shard-init : goal.loop-shard-init
 loop-shard-init g c =
-    let into = c.into_iter-shard-iterator.ensures.into_iter_gives in
-    (ap (λ n. vec_len c.args.joined + n) into.1, refl, c.requires.worked, ([], [], sym (append-nil c.args.joined.items), sym into.0, refl))
+    let into = c.into_iter-rest.ensures in
+    (ap (λ n. vec_len c.args.joined + n) into.len, refl, c.requires.worked, ([], [], sym (append-nil c.args.joined.items), sym into.rest, refl))
 
 pub loop-shard-preserved : goal.loop-shard-preserved
 loop-shard-preserved g c =
     let i = c.loop-shard.invariant in
-    let step = c.in-Some.ensures.steps in
+    let step = c.in-Some.ensures.cases in
     let p = c.push_reserved.ensures in
     let a = i.0 in
     let s = step.1 in
@@ -33,6 +33,6 @@ loop-shard-preserved g c =
 pub returns-clause-same : goal.returns-clause-same
 returns-clause-same g c =
     let i = c.loop-shard.invariant in
-    let step = c.in-None.ensures.steps in
+    let step = c.in_default.ensures.cases in
     let len = all_done _ _ _ _ _ _ _ _ _ i.3.2 i.3.4 c.loop-shard.joined.ok.0 c.args.joined.ok.0 c.args.ending.ok.0 i.0 step.0 in
     (i.3.0, i.3.2, i.3.4 ∙ sym (none_left _ _ _ i.3.3 len))

@@ -6,8 +6,11 @@ use Rattle.rw_fleet.proofs.lists.join_all.Given as goal
 
 abbrev pub invariant-loop-shard : goal.invariant-loop-shard
 invariant-loop-shard g l =
-    let rest = l.shard-iterator in
+    let rest = l.rest in
     (vec_len l.joined + into_iter_len rest ≡ vec_len l.initial.joined + vec_len l.fn.ending)
     × (vec_capacity l.joined ≡ vec_capacity l.initial.joined)
     × AreWorked g.T.Transport.tells g.T.Transport.seen g.T.Transport.is_for l.joined.items
     × ((more : List _) × (done : List Lane) × (l.joined.items ≡ l.initial.joined.items ++ more) × (l.fn.ending.items ≡ done ++ into_iter_items rest) × (map lane_of more ≡ done))
+
+abbrev pub decreases-loop-shard : goal.decreases-loop-shard
+decreases-loop-shard g l = into_iter_len l.rest

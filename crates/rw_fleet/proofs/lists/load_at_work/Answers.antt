@@ -1,6 +1,6 @@
-use Rattle.std.proofs.Common.{◌≡◌, ◌+◌, ◌-◌, ◌<◌, ◌≤◌, List, length, min, ap, ◌∙◌, arith}
+use Rattle.std.proofs.Common.{◌≡◌, ◌+◌, ◌-◌, ◌<◌, ◌≤◌, List, length, ap, ◌∙◌, arith}
 use Rattle.std.specs.Prelude.{get_or}
-use Rattle.rw_fleet.specs.Loads.{count_in, left_at_work}
+use Rattle.rw_fleet.specs.Loads.{count_in}
 use Rattle.rw_fleet.proofs.LoadLemmas.{advised_on, advised_whole, waits_are_put}
 use Rattle.rw_fleet.proofs.lists.load_at_work.Goals as goal
 

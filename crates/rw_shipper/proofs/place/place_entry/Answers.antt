@@ -1,9 +1,29 @@
-use Rattle.std.proofs.Common.{refl, subst}
+use Rattle.std.proofs.Common.{◌≡◌, [], map, length, refl, sym, ap, ◌∙◌, subst, append-nil}
 use Rattle.std.specs.Prelude.{Option}
 use Rattle.rw_router.specs.declared.sample.RoutedSample.{RoutedSample}
-use Rattle.rw_feeder.specs.Feeders.{Judges}
+use Rattle.rw_feeder.specs.Feeders.{Sorting, Judges}
+use Rattle.rw_fleet.specs.Lanes.{marks_of}
+use Rattle.rw_fleet.specs.Fleets.{Shards}
+use Rattle.rw_shipper.specs.Shipping.{GoesOn}
 use Rattle.rw_shipper.proofs.ShippingLemmas.{goes_placed, put_len, put_marks, places_none, places_sent, stands_behind}
 use Rattle.rw_shipper.proofs.place.place_entry.Goals as goal
+
+-- nothing was placed, and nothing was put
+goes_nowhere : {T : Type 0} (old new : Sorting) (was now : Shards T) → new ≡ old → now ≡ record was { current = now.current } → now ≡ was → GoesOn old new was now
+goes_nowhere old new was now same rest still = record {
+  choice = ap (λ (s : Sorting). s.choice) same;
+  pieces = ap (λ (s : Sorting). s.pieces) same;
+  more = [];
+  grown = ap (λ (s : Sorting). s.placed) same ∙ sym (append-nil old.placed);
+  fleet = rest;
+  len = ap (λ (f : Shards _). length f.current) still;
+  marks = ap (λ (f : Shards _). map marks_of f.current) still;
+}
+
+pub returns-in-Err-clause-goes : goal.returns-in-Err-clause-goes
+returns-in-Err-clause-goes g c =
+    let j = subst (λ (o : Option RoutedSample). Judges c.args.feeder.now c.place.new.self c.args.entry o) c.in-Some.is c.in-Ok.ensures.ok in
+    goes_nowhere c.args.feeder.now c.place.new.self c.args.fleet.now c.put.new.self j.0 c.put.ensures.rest c.in-Err.ensures.err
 
 pub returns-in_default-found-clause-places : goal.returns-in_default-found-clause-places
 returns-in_default-found-clause-places g c =
