@@ -2,12 +2,14 @@
 
 ghost use Rattle.std.specs.Prelude.{◌≡◌, ◌*◌, IfOk};
 
+use rw_metrics::SendCounters;
 use rw_shipper::Connect;
 use rw_tcp::{Sleep, TcpTransport};
 use rw_types::Bounded;
 use std::alloc::{AllocError, Global};
 use std::marker::Model;
 use std::net::{Net, SocketAddr, TcpStream};
+use std::sync::Arc;
 use std::time::Clock;
 
 /// Gives each worker a transport to the same receiver, with one connection for each attempt, and pauses by the clock. Contracts see the
@@ -18,6 +20,7 @@ pub struct TcpConnect<N> {
     net: N,
     addresses: Vec<SocketAddr>,
     timeout_ms: Bounded<1, 3_600_000>,
+    counters: Arc<SendCounters, Global>,
 }
 
 impl<N> Model for TcpConnect<N> {
@@ -30,12 +33,13 @@ impl<N> Model for TcpConnect<N> {
 }
 
 impl<N> TcpConnect<N> {
-    /// To these addresses of one receiver, tried in turn. The timeout is in milliseconds, for a whole attempt.
+    /// To these addresses of one receiver, tried in turn. The timeout is in milliseconds, for a whole attempt. The counters are told of each attempt.
     pub fn new(
         alloc: Global,
         net: N,
         addresses: Vec<SocketAddr>,
         timeout_ms: Bounded<1, 3_600_000>,
+        counters: Arc<SendCounters, Global>,
     ) -> TcpConnect<N>
         ensures addresses { result.addresses ≡ addresses.items }
         ensures timeout { result.timeout ≡ timeout_ms * 1_000_000 }
@@ -45,6 +49,7 @@ impl<N> TcpConnect<N> {
             net,
             addresses,
             timeout_ms,
+            counters,
         }
     }
 }
@@ -55,7 +60,14 @@ impl<N: Net<Stream = TcpStream> + Clock + Copy> TcpConnect<N> {
         ensures { IfOk result (λ transport. transport ≡ self.now) }
     {
         let addresses = self.addresses.clone()?;
-        Ok(TcpTransport::new(self.alloc, self.net, addresses, self.timeout_ms))
+        let counters = Arc::try_clone(&self.counters)?;
+        Ok(TcpTransport::new(
+            self.alloc,
+            self.net,
+            addresses,
+            self.timeout_ms,
+            counters,
+        ))
     }
 }
 

@@ -5,6 +5,7 @@ ghost use Rattle.std.specs.List.Sorted.{IsPermutation, IsSortedBy};
 ghost use Rattle.rw_send.specs.Folders.{IsNameOf, comes_before};
 
 use crate::opened::{Open, Opened};
+use rw_metrics::SendCounters;
 use rw_text::read_number;
 use rw_tool::ToolFault;
 use rw_types::{Failed, Std};
@@ -13,6 +14,7 @@ use std::fs::File;
 use std::io::ErrorKind;
 use std::path::{Path, PathBuf};
 use std::rt::Files;
+use std::sync::Arc;
 use std::{fs, io};
 
 /// The longest name of a segment.
@@ -24,6 +26,9 @@ pub struct SegmentFile<R> {
     rt: R,
     path: PathBuf,
     name: String,
+    number: u64,
+    /// They are told when it is opened.
+    counters: Option<Arc<SendCounters, Global>>,
 }
 
 impl<R> SegmentFile<R> {
@@ -40,7 +45,12 @@ impl<R: Files<File = File>> Open for SegmentFile<R> {
 
     fn open(&self) -> Result<Std<File>, Failed> {
         match fs::open(&self.rt, self.path.as_path()) {
-            Ok(file) => Ok(Std::new(file)),
+            Ok(file) => {
+                if let Some(counters) = &self.counters {
+                    counters.begin_segment(self.number);
+                }
+                Ok(Std::new(file))
+            }
             Err(_) => Err(Failed),
         }
     }
@@ -111,23 +121,41 @@ pub(crate) fn names_in<R: Files + AllocGlobal + Copy>(
     Ok(names)
 }
 
+/// The file of a segment. The counters are told when it is opened.
+fn file_of<R: Files + AllocGlobal + Copy>(
+    rt: &R,
+    dir: &str,
+    segment: SegmentName,
+    counters: Option<&Arc<SendCounters, Global>>,
+) -> Result<SegmentFile<R>, AllocError> {
+    let path = Path::new(dir).join(rt.alloc(), segment.name.as_str())?;
+    let counters = match counters {
+        Some(counters) => Some(Arc::try_clone(counters)?),
+        None => None,
+    };
+    Ok(SegmentFile {
+        rt: *rt,
+        path,
+        name: segment.name,
+        number: segment.number,
+        counters,
+    })
+}
+
 /// The segments of a log in a folder, in the order of their numbers: the files whose names are one to eight decimal digits, and of two names
 /// of one number the shorter first. Other names are passed over. Of a folder that cannot be read there is one segment, which cannot be read.
+/// Counters are told of each segment that is opened.
 pub fn segment_files<R: Files<File = File> + AllocGlobal + Copy>(
     rt: &R,
     dir: &str,
+    counters: Option<&Arc<SendCounters, Global>>,
 ) -> Result<Vec<Opened<SegmentFile<R>>>, AllocError> {
     let alloc = rt.alloc();
     let mut files = Vec::new(alloc);
     match names_in(rt, dir) {
         Ok(names) => {
             for segment in names {
-                let path = Path::new(dir).join(alloc, segment.name.as_str())?;
-                files.push(Opened::new(SegmentFile {
-                    rt: *rt,
-                    path,
-                    name: segment.name,
-                }))?;
+                files.push(Opened::new(file_of(rt, dir, segment, counters)?))?;
             }
         }
         Err(ToolFault::OutOfMemory) => return Err(AllocError),
@@ -135,6 +163,8 @@ pub fn segment_files<R: Files<File = File> + AllocGlobal + Copy>(
             rt: *rt,
             path: PathBuf::new(alloc),
             name: String::new(alloc),
+            number: 0,
+            counters: None,
         }))?,
     }
     Ok(files)

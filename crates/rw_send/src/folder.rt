@@ -2,6 +2,7 @@
 
 use crate::files::{SegmentName, names_in};
 use rw_follow::{Ahead, Segments};
+use rw_metrics::SendCounters;
 use rw_tool::ToolFault;
 use rw_types::{ReadFault, Source, Std};
 use std::alloc::{AllocError, Global};
@@ -9,6 +10,7 @@ use std::fs;
 use std::fs::File;
 use std::path::{Path, PathBuf};
 use std::rt::Files;
+use std::sync::Arc;
 
 /// A segment that is read.
 #[derive(Drop)]
@@ -27,6 +29,7 @@ pub struct Folder<R> {
     current: Option<Current>,
     /// The one after it, once it was seen.
     ahead: Option<SegmentName>,
+    counters: Arc<SendCounters, Global>,
 }
 
 /// The path of a segment.
@@ -52,13 +55,14 @@ fn name_after(names: Vec<SegmentName>, current: &Option<Current>) -> Option<Segm
 }
 
 impl<R: Files<File = File> + AllocGlobal + Copy> Folder<R> {
-    /// Of the folder of this name, from its first segment on.
-    pub fn new(rt: R, dir: String) -> Folder<R> {
+    /// Of the folder of this name, from its first segment on. The counters are told of each segment that is opened.
+    pub fn new(rt: R, dir: String, counters: Arc<SendCounters, Global>) -> Folder<R> {
         Folder {
             rt,
             dir,
             current: None,
             ahead: None,
+            counters,
         }
     }
 
@@ -76,6 +80,7 @@ impl<R: Files<File = File> + AllocGlobal + Copy> Folder<R> {
         let path = path_of(self.rt.alloc(), self.dir.as_str(), segment.name.as_str())?;
         match fs::open(&self.rt, path.as_path()) {
             Ok(file) => {
+                self.counters.begin_segment(segment.number);
                 let file = Std::new(file);
                 self.current = Some(Current { segment, file });
                 Ok(())

@@ -14,6 +14,7 @@ use crate::printing::print_report;
 use crate::send::{Sent, stopped};
 use crate::sharding::Sharding;
 use crate::shipping::zeros;
+use crate::telling::{Counted, Means, tell_report};
 use rw_follow::{Broken, Segments, Stop, Watch};
 use rw_sender::Config;
 use rw_settings::Settings;
@@ -80,7 +81,7 @@ fn ship_on<
     alloc: Global,
     config: Config,
     segments: &mut S,
-    connect: C,
+    line: Counted<'_, C>,
     watch: &mut W,
 ) -> Result<Followed<C::T>, AllocError>
     requires unread { Known (S.now segments.old) IsUnread }
@@ -88,9 +89,12 @@ fn ship_on<
 {
     let sharding = Sharding::of(&config);
     let mut buf = zeros(alloc)?;
+    let Counted { connect, counters } = line;
     let mut shipper = Shipper::start(rt, alloc, config, connect)?;
-    let ended = ship_live(rt, alloc, &mut shipper, sharding, segments, watch, &mut buf);
+    let means = Means { alloc, counters };
+    let ended = ship_live(rt, means, &mut shipper, sharding, segments, watch, &mut buf);
     let Sent { report, answer } = stopped(rt, shipper, shipped_by(ended));
+    tell_report(counters, &report);
     Ok(Followed {
         report,
         answer: answer_by(ended, answer),
@@ -102,7 +106,7 @@ fn ship_on<
 ///
 /// A segment is over once the next one is there and, read again after that was seen, it gives no more bytes. Between two of them the number of shards
 /// is changed to what is wanted under the load. Told to end, it reads what stands, and waits until the receiver has answered for all of it; told to end at
-/// once, it leaves what is not done. Where a segment is missing between two, or cannot be read, the work is stopped at once too.
+/// once, it leaves what is not done. The counters are told after each turn, and once the work has stopped. Where a segment is missing between two, or cannot be read, the work is stopped at once too.
 pub fn run_follow<
     R: Threads + Wait + Clock + Copy + Send + 'static,
     S: Segments,
@@ -114,7 +118,7 @@ pub fn run_follow<
     alloc: Global,
     settings: Settings,
     segments: &mut S,
-    connect: C,
+    line: Counted<'_, C>,
     watch: &mut W,
     writer: &mut K,
 ) -> Result<(), FollowFault>
@@ -134,7 +138,7 @@ pub fn run_follow<
     ensures no_full { result ≡ Err (Tool SegmentFull) → ⊥ }
 {
     let Settings { config, limits: _ } = settings;
-    let Followed { report, answer } = ship_on(rt, alloc, config, segments, connect, watch)?;
+    let Followed { report, answer } = ship_on(rt, alloc, config, segments, line, watch)?;
     print_report(alloc, report, writer)?;
     answer
 }

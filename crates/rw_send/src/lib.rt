@@ -13,6 +13,7 @@ mod printing;
 mod send;
 mod sharding;
 mod shipping;
+mod telling;
 
 pub use connect::TcpConnect;
 pub use files::{SegmentFile, segment_files};
@@ -21,3 +22,4 @@ pub use follow_fault::FollowFault;
 pub use following::run_follow;
 pub use opened::{Open, Opened};
 pub use send::run_send;
+pub use telling::Counted;

@@ -12,6 +12,7 @@ ghost use Rattle.rw_send.specs.Sending.{IsHalted, IsKept};
 use crate::halt::Halt;
 use crate::sharding::{Sharding, resharded};
 use crate::shipping::begin_segment;
+use crate::telling::{Means, tell};
 use rw_follow::{Broken, Follower, Segments, Stop, Turn, Watch};
 use rw_shipper::{Connect, Shipper};
 use rw_wal_tail::Piece;
@@ -147,6 +148,15 @@ fn obey<R: Threads + Wait + Clock + Copy + Send + 'static, C: Connect + Drop>(
     }
 }
 
+/// Tells of a turn that was done.
+fn tell_turn<C: Connect + Drop>(means: Means<'_>, shipper: &Shipper<C>, shards: u32, turn: Turn) {
+    if let Turn::Piece(count) = turn {
+        means.counters.read_bytes(count);
+    }
+    means.counters.set_shards(shards);
+    tell(means.counters, shipper);
+}
+
 /// Feeds a log as it grows, until the watch says that it is to end.
 pub(crate) fn ship_live<
     R: Threads + Wait + Clock + Copy + Send + 'static,
@@ -155,7 +165,7 @@ pub(crate) fn ship_live<
     W: Watch,
 >(
     rt: &R,
-    alloc: Global,
+    means: Means<'_>,
     shipper: &mut Shipper<C>,
     sharding: Sharding,
     segments: &mut S,
@@ -183,7 +193,8 @@ pub(crate) fn ship_live<
         if let Turn::Stopped(stop) = turn {
             return Ok(stop);
         }
-        sharding = obey(rt, alloc, shipper, sharding, turn, buf)?;
+        sharding = obey(rt, means.alloc, shipper, sharding, turn, buf)?;
+        tell_turn(means, shipper, sharding.shards, turn);
     }
     unreachable!()
 }

@@ -12,6 +12,7 @@ use crate::halt::Halt;
 use crate::printing::print_report;
 use crate::sharding::Sharding;
 use crate::shipping::ship_all;
+use crate::telling::{Counted, Means, tell_report};
 use rw_sender::Config;
 use rw_settings::Settings;
 use rw_shipper::{Connect, Outcome, Report, Shipper};
@@ -84,14 +85,18 @@ fn ship<R: Threads + Wait + Clock + Copy + Send + 'static, S: Source + Drop, C: 
     alloc: Global,
     config: Config,
     segments: Vec<S>,
-    connect: C,
+    line: Counted<'_, C>,
 ) -> Result<Sent<C::T>, AllocError>
     ensures { IfOk result (λ s. IsSent C.T.tells C.T.seen C.T.is_for config (map S.remaining segments.items) (map S.is_sure segments.items) s.report s.answer) }
 {
     let sharding = Sharding::of(&config);
+    let Counted { connect, counters } = line;
     let mut shipper = Shipper::start(rt, alloc, config, connect)?;
-    let shipped = ship_all(rt, alloc, &mut shipper, sharding, segments);
-    Ok(stopped(rt, shipper, shipped))
+    let means = Means { alloc, counters };
+    let shipped = ship_all(rt, means, &mut shipper, sharding, segments);
+    let sent = stopped(rt, shipper, shipped);
+    tell_report(counters, &sent.report);
+    Ok(sent)
 }
 
 /// Ships the segments of a log in their order, stops, and prints the report: `dropped POS REASON` by position, `filtered COUNT`,
@@ -102,7 +107,7 @@ fn ship<R: Threads + Wait + Clock + Copy + Send + 'static, S: Source + Drop, C: 
 /// load, for which the workers are given a moment to catch up.
 /// A log fault ends the reading, and what stands before it is still shipped. Where memory or a thread is refused, a worker has gone or a
 /// segment cannot be read, the work is stopped at once. Where it could not start, or the report could not be printed for want of memory,
-/// nothing is printed. Waits until the receiver has answered for all that was read, or the work is stopped.
+/// nothing is printed. The counters are told after each piece, and once the work has stopped. Waits until the receiver has answered for all that was read, or the work is stopped.
 pub fn run_send<
     R: Threads + Wait + Clock + Copy + Send + 'static,
     S: Source + Drop,
@@ -113,7 +118,7 @@ pub fn run_send<
     alloc: Global,
     settings: Settings,
     segments: Vec<S>,
-    connect: C,
+    line: Counted<'_, C>,
     writer: &mut W,
 ) -> Result<(), ToolFault>
     ensures complete { OnOk result (IsPrinted C.T.tells C.T.seen C.T.is_for settings.config (map S.remaining segments.items) (map S.is_sure segments.items) (W.contents writer.old) (W.contents writer.new) (Ok tt)) }
@@ -129,7 +134,7 @@ pub fn run_send<
     ensures no_full { result ≡ Err SegmentFull → ⊥ }
 {
     let Settings { config, limits: _ } = settings;
-    let Sent { report, answer } = ship(rt, alloc, config, segments, connect)?;
+    let Sent { report, answer } = ship(rt, alloc, config, segments, line)?;
     print_report(alloc, report, writer)?;
     answer
 }

@@ -9,6 +9,7 @@ ghost use Rattle.rw_send.specs.declared.halt.Halt.TheVariants.{Unreadable};
 
 use crate::halt::Halt;
 use crate::sharding::{Sharding, resharded};
+use crate::telling::{Means, tell};
 use rw_shipper::{Connect, Shipper};
 use rw_types::Source;
 use rw_wal_tail::Piece;
@@ -43,7 +44,7 @@ fn read_piece<S: Source>(alloc: Global, segment: &mut S) -> Result<Vec<u8>, Halt
 /// Feeds the next bytes of a segment. False is its end.
 fn ship_piece<R: Wait, S: Source, C: Connect + Drop>(
     rt: &R,
-    alloc: Global,
+    means: Means<'_>,
     shipper: &mut Shipper<C>,
     segment: &mut S,
 ) -> Result<bool, Halt>
@@ -57,18 +58,20 @@ fn ship_piece<R: Wait, S: Source, C: Connect + Drop>(
     ensures halted { IfErr result (IsHalted shipper.new) }
     ensures sure { S.is_sure segment.old ≡ true → (S.is_sure segment.new ≡ true) × (result ≡ Err Unreadable → ⊥) }
 {
-    let piece = read_piece(alloc, segment)?;
+    let piece = read_piece(means.alloc, segment)?;
     if piece.is_empty() {
         return Ok(false);
     }
+    means.counters.read_bytes(piece.len());
     shipper.feed(rt, Piece::Bytes(piece))?;
+    tell(means.counters, shipper);
     Ok(true)
 }
 
 /// Feeds all bytes of a segment, as they come.
 fn ship_segment<R: Wait, S: Source + Drop, C: Connect + Drop>(
     rt: &R,
-    alloc: Global,
+    means: Means<'_>,
     shipper: &mut Shipper<C>,
     segment: S,
 ) -> Result<(), Halt>
@@ -83,7 +86,7 @@ fn ship_segment<R: Wait, S: Source + Drop, C: Connect + Drop>(
 {
     let mut segment = segment;
     for _ in rt.forever() {
-        if !ship_piece(rt, alloc, shipper, &mut segment)? {
+        if !ship_piece(rt, means, shipper, &mut segment)? {
             return Ok(());
         }
     }
@@ -119,7 +122,7 @@ pub(crate) fn ship_all<
     C: Connect + Drop,
 >(
     rt: &R,
-    alloc: Global,
+    means: Means<'_>,
     shipper: &mut Shipper<C>,
     sharding: Sharding,
     segments: Vec<S>,
@@ -140,12 +143,14 @@ pub(crate) fn ship_all<
     let mut sharding = sharding;
     let mut is_first = true;
     let mut left = segments.len();
+    means.counters.set_shards(sharding.shards);
     for segment in segments {
         begin_segment(rt, shipper, is_first)?;
-        ship_segment(rt, alloc, shipper, segment)?;
+        ship_segment(rt, means, shipper, segment)?;
         is_first = false;
         left -= 1;
         sharding = resharded(rt, shipper, sharding, left > 0)?;
+        means.counters.set_shards(sharding.shards);
     }
     Ok(())
 }

@@ -1,0 +1,41 @@
+//! Counters are told what a shipper does.
+
+use rw_metrics::SendCounters;
+use rw_shipper::{Connect, Report, Shipper};
+use std::alloc::Global;
+
+/// What connects to a receiver, and what counts the work. Nothing is claimed of the counters.
+#[derive(Drop)]
+pub struct Counted<'a, C> {
+    pub connect: C,
+    pub counters: &'a SendCounters,
+}
+
+/// What a log is fed with, beside its shipper.
+#[derive(Clone, Copy)]
+pub(crate) struct Means<'a> {
+    pub(crate) alloc: Global,
+    pub(crate) counters: &'a SendCounters,
+}
+
+/// Tells how far a shipper has come.
+pub(crate) fn tell<C: Connect + Drop>(counters: &SendCounters, shipper: &Shipper<C>) {
+    let load = shipper.load();
+    counters.set_entries(shipper.entries_read());
+    counters.set_load(load.placed, load.resolved, load.backlog);
+}
+
+/// Tells how far a shipper came that has stopped, and what it dropped.
+pub(crate) fn tell_report<T>(counters: &SendCounters, report: &Report<T>) {
+    counters.set_filtered(report.filtered);
+    for part in &report.parts {
+        for name in part.iter() {
+            counters.drop_sample(name.1);
+        }
+    }
+    let mut resolved = 0u64;
+    for worker in &report.workers {
+        resolved = resolved.saturating_add(worker.resolved);
+    }
+    counters.set_resolved(resolved);
+}
