@@ -61,13 +61,7 @@ impl<N: Net<Stream = TcpStream> + Clock + Copy> TcpConnect<N> {
     {
         let addresses = self.addresses.clone()?;
         let counters = Arc::try_clone(&self.counters)?;
-        Ok(TcpTransport::new(
-            self.alloc,
-            self.net,
-            addresses,
-            self.timeout_ms,
-            counters,
-        ))
+        Ok(TcpTransport::new(self.alloc, self.net, addresses, self.timeout_ms, counters))
     }
 }
 
