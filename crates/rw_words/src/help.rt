@@ -67,12 +67,17 @@ pub(crate) const SEND: &str = "\
 Example:
   rwship send --settings rwship.toml --dir data/wal --to receiver.example:9090
 
-DIR is the folder 'wal' of a server that has stopped, or a copy of it, from its first segment on. The
-report names each sample that was not taken; docs/OPERATING.md tells its lines, and docs/SETTINGS.md
-the settings.
+  rwship send --dir data/wal --to receiver.example:9090 --follow --stop-file stop --poll-ms 500 --flush-ms 2000
+
+DIR is the folder 'wal' of a server that has stopped, or a copy of it, from its first segment on; with
+--follow that of a server that runs. --follow ends once standard input ends, or, with --stop-file, once
+FILE is there: it ships what stands, and prints its report. A line 'hard' on standard input ends it at
+once. The report names each sample that was not taken; docs/OPERATING.md tells its lines, and
+docs/SETTINGS.md the settings.
 
 Exit status: 0 where each sample is answered for (look for 'dropped' lines); 1 for a fault of the log;
-2 for bad words or settings; 3 out of memory; 4 where a file, the look-up or standard output failed.";
+2 for bad words or settings; 3 out of memory; 4 where a file, the look-up or standard output failed, a
+segment is missing, or a line 'hard' came.";
 
 pub(crate) const RECEIVE: &str = "\
 Example:

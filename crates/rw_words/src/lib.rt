@@ -2,11 +2,13 @@
 #![tactic(auto)]
 
 mod help;
+mod send;
 
 use clap::builder::ValueParser;
 use clap::{Arg, ArgAction, ArgMatches, Command, value_parser};
 use rw_address::{Address, read_address};
 use rw_types::Bounded;
+use send::{send_command, send_task};
 use std::alloc::{AllocError, Global};
 
 /// Which settings are asked for.
@@ -27,6 +29,26 @@ pub enum Until<'a> {
     InputEnds,
     /// The file is there.
     FileIs(&'a str),
+}
+
+/// How a log is followed that a server writes to.
+#[derive(Clone, Copy, Debug)]
+pub struct Following<'a> {
+    /// It ends once this file is there; without one, once standard input has ended.
+    pub stop_file: Option<&'a str>,
+    /// So many milliseconds lie between two looks for more.
+    pub poll_ms: Bounded<10, 60_000>,
+    /// So many milliseconds may a sample wait for a full batch.
+    pub flush_ms: Bounded<10, 3_600_000>,
+}
+
+/// How far a log is read.
+#[derive(Clone, Copy, Debug)]
+pub enum Reading<'a> {
+    /// To the end that it has.
+    Whole,
+    /// While it grows, until a stop.
+    Follow(Following<'a>),
 }
 
 /// What the words ask for. A file or a folder is a path.
@@ -65,6 +87,7 @@ pub enum Task<'a> {
         settings: SettingsFile<'a>,
         dir: &'a str,
         to: Address<'a>,
+        reading: Reading<'a>,
     },
     /// Serves connections, and then prints what is held.
     Receive {
@@ -95,7 +118,7 @@ fn explain<'a>(alloc: Global) -> Arg<'a> {
     Arg::new(alloc, "explain")
         .long("explain")
         .action(ArgAction::SetTrue)
-        .help("Tell each fault of the settings: its key, and what the key takes")
+        .help("Tell each fault of the settings, and what cannot be read, found or listened at")
 }
 
 fn body_command<'a>(alloc: Global) -> Result<Command<'a>, AllocError> {
@@ -169,27 +192,6 @@ fn settings_command<'a>(alloc: Global) -> Result<Command<'a>, AllocError> {
         .after_help(help::SETTINGS)
         .arg(file)?
         .arg(explain(alloc))
-}
-
-fn send_command<'a>(alloc: Global) -> Result<Command<'a>, AllocError> {
-    let dir = Arg::new(alloc, "dir")
-        .long("dir")
-        .value_name("DIR")
-        .value_parser(ValueParser::NonEmptyString)
-        .required(true)
-        .help("Ship the segments of this folder");
-    let to = Arg::new(alloc, "to")
-        .long("to")
-        .value_name("HOST:PORT")
-        .required(true)
-        .help("Send to this receiver");
-    Command::new(alloc, "send")
-        .about("Ships all segments of a folder and prints a report")
-        .after_help(help::SEND)
-        .arg(settings(alloc))?
-        .arg(explain(alloc))?
-        .arg(dir)?
-        .arg(to)
 }
 
 fn connections<'a>(alloc: Global) -> Result<Arg<'a>, AllocError> {
@@ -318,11 +320,7 @@ fn task_named<'a>(name: &str, options: &ArgMatches<'a>) -> Option<Task<'a>> {
         }),
         b"replay" => Some(Task::Replay { settings }),
         b"settings" => Some(Task::Settings { settings }),
-        b"send" => Some(Task::Send {
-            settings,
-            dir: options.get_str("dir")?,
-            to: read_address(options.get_str("to")?)?,
-        }),
+        b"send" => send_task(settings, options),
         b"receive" => receive_task(settings, options),
         _ => None,
     }

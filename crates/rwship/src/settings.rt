@@ -8,34 +8,44 @@ use rw_settings::{Settings, SettingsFault, SettingsNote, explain_settings, read_
 use rw_settings_text::print_settings;
 use rw_tool::ToolFault;
 use rw_words::SettingsFile;
-use std::fs;
 use std::io::ErrorKind;
+use std::{fs, io};
 
 /// Why there are no settings.
 #[derive(Debug, Drop)]
 pub enum Unset {
-    /// The file cannot be read, or memory ran out.
+    /// Memory ran out.
     Tool(ToolFault),
+    /// The file cannot be read, and this says why where that was asked for.
+    Unreadable(String),
     /// The file has this fault, which is not want of memory, and these notes tell each of its faults where that was asked for.
     Settings(SettingsFault, Vec<SettingsNote>),
 }
 
-/// The text of a file.
-fn text_of(rt: &HostRuntime, path: &str) -> Result<Vec<u8>, ToolFault> {
-    match fs::read(rt, path) {
-        Ok(text) => Ok(text),
-        Err(error) if error.kind() == ErrorKind::OutOfMemory => Err(ToolFault::OutOfMemory),
-        Err(_) => Err(ToolFault::Device),
+/// Why the file at a path cannot be read.
+fn unreadable(rt: &HostRuntime, path: &str, error: &io::Error, is_explained: bool) -> Unset {
+    if error.kind() == ErrorKind::OutOfMemory {
+        return Unset::Tool(ToolFault::OutOfMemory);
+    }
+    if !is_explained {
+        return Unset::Unreadable(String::new(rt.alloc()));
+    }
+    match format!(in rt.alloc(); "cannot read {path}: {error}") {
+        Ok(said) => Unset::Unreadable(said),
+        Err(_) => Unset::Tool(ToolFault::OutOfMemory),
     }
 }
 
 /// The text of a settings file, or the empty one where there is none.
-fn text_or_none(rt: &HostRuntime, path: Option<&str>) -> Result<Vec<u8>, Unset>
-    ensures { path.entry ≡ None → IfOk result (λ t. t.items ≡ []) }
+fn text_of(rt: &HostRuntime, file: SettingsFile<'_>) -> Result<Vec<u8>, Unset>
+    ensures { file.entry.path ≡ None → IfOk result (λ t. t.items ≡ []) }
 {
-    match path {
-        Some(path) => text_of(rt, path).map_err(Unset::Tool),
-        None => Ok(Vec::new(rt.alloc())),
+    let Some(path) = file.path else {
+        return Ok(Vec::new(rt.alloc()));
+    };
+    match fs::read(rt, path) {
+        Ok(text) => Ok(text),
+        Err(error) => Err(unreadable(rt, path, &error, file.is_explained)),
     }
 }
 
@@ -57,7 +67,7 @@ fn refused(rt: &HostRuntime, text: &[u8], fault: SettingsFault, is_explained: bo
 pub fn settings_in(rt: &HostRuntime, file: SettingsFile<'_>) -> Result<Settings, Unset>
     ensures { file.entry.path ≡ None → IfOk result (λ s. toml.settings_in [] ≡ Ok s) }
 {
-    let text = text_or_none(rt, file.path)?;
+    let text = text_of(rt, file)?;
     match read_settings(rt.alloc(), &text) {
         Ok(settings) => Ok(settings),
         Err(fault) => Err(refused(rt, &text, fault, file.is_explained)),
@@ -68,7 +78,7 @@ pub fn settings_in(rt: &HostRuntime, file: SettingsFile<'_>) -> Result<Settings,
 pub fn printed_settings(rt: &HostRuntime, file: SettingsFile<'_>) -> Result<String, Unset>
     ensures { file.entry.path ≡ None → IfOk result (λ t. IsOkAnd (toml.settings_in []) (λ s. string_bytes t ≡ settings_text s)) }
 {
-    let text = text_or_none(rt, file.path)?;
+    let text = text_of(rt, file)?;
     match print_settings(rt.alloc(), &text) {
         Ok(text) => Ok(text),
         Err(fault) => Err(refused(rt, &text, fault, file.is_explained)),

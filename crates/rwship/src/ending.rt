@@ -1,0 +1,119 @@
+//! How the program ends: what it says of a fault, and its exit status.
+
+ghost use Rattle.std.specs.Prelude.{◌≡◌, MatchResult};
+ghost use Rattle.std.specs.Process as process;
+ghost use Rattle.rw_tool.specs.Printed.{exit_status};
+ghost use Rattle.rwship.specs.Statuses.{follow_status, unset_status};
+
+use crate::settings::Unset;
+use clap::ArgMatches;
+use clap::error::ErrorKind;
+use rw_send::FollowFault;
+use rw_settings::SettingsNote;
+use rw_tool::ToolFault;
+use rw_words::bad_address;
+use std::io::Error;
+use std::process::ExitCode;
+
+/// The exit status for words and settings that the program does not take.
+const BAD_WORDS: u8 = 2;
+
+/// The exit status for work that something outside has ended.
+const CUT_OFF: u8 = 4;
+
+/// Writes the one line of a fault to standard error, and gives its exit status.
+pub fn ended(rt: &HostRuntime, outcome: Result<(), ToolFault>) -> ExitCode
+    ensures { MatchResult outcome (λ _. process.exit_status result ≡ 0) (λ fault. process.exit_status result ≡ exit_status fault) }
+{
+    match outcome {
+        Ok(()) => ExitCode::SUCCESS,
+        Err(fault) => {
+            let _ = eprintln!(rt; "rwship: {fault}");
+            ExitCode::from(fault.exit_status())
+        }
+    }
+}
+
+/// The same of a log that was followed.
+pub fn followed(rt: &HostRuntime, outcome: Result<(), FollowFault>) -> ExitCode
+    ensures { MatchResult outcome (λ _. process.exit_status result ≡ 0) (λ fault. process.exit_status result ≡ follow_status fault) }
+{
+    match outcome {
+        Ok(()) => ExitCode::SUCCESS,
+        Err(FollowFault::Tool(fault)) => ended(rt, Err(fault)),
+        Err(FollowFault::Missing(number)) => {
+            let _ = eprintln!(rt; "rwship: segment {number} is missing");
+            ExitCode::from(CUT_OFF)
+        }
+        Err(FollowFault::Stopped) => {
+            let _ = eprintln!(rt; "rwship: stopped");
+            ExitCode::from(CUT_OFF)
+        }
+    }
+}
+
+/// Tells what could not be done with what, and what the system said.
+pub fn tell_device(rt: &HostRuntime, action: &str, name: &str, error: &Error) {
+    let _ = eprintln!(rt; "  cannot {action} {name}: {error}");
+}
+
+/// Writes a line for each note on settings to standard error.
+fn tell(rt: &HostRuntime, notes: &[SettingsNote]) {
+    for note in notes {
+        let place = note.place.as_str();
+        let text = note.text.as_str();
+        let _ = eprintln!(rt; "  {place}: {text}");
+    }
+}
+
+/// The same of settings that cannot be read, and what is wrong with them where that is asked for.
+pub fn unset(rt: &HostRuntime, fault: Unset) -> ExitCode
+    ensures { process.exit_status result ≡ unset_status fault }
+{
+    match fault {
+        Unset::Tool(fault) => ended(rt, Err(fault)),
+        Unset::Settings(fault, notes) => {
+            let number = fault.number();
+            let _ = eprintln!(rt; "rwship: settings fault {number}");
+            tell(rt, notes.as_slice());
+            ExitCode::from(BAD_WORDS)
+        }
+        Unset::Unreadable(said) => {
+            let status = ended(rt, Err(ToolFault::Device));
+            if !said.is_empty() {
+                let _ = eprintln!(rt; "  {said}");
+            }
+            status
+        }
+    }
+}
+
+/// The text of the command-line parser: help and version on standard output with status 0, and else what is wrong with the words.
+pub fn unparsed(rt: &HostRuntime, error: clap::Error) -> ExitCode {
+    if error.kind() == ErrorKind::OutOfMemory {
+        return ended(rt, Err(ToolFault::OutOfMemory));
+    }
+    match error.print(rt) {
+        Err(_) if !error.use_stderr() => ended(rt, Err(ToolFault::Device)),
+        _ if error.use_stderr() => ExitCode::from(BAD_WORDS),
+        _ => ExitCode::SUCCESS,
+    }
+}
+
+/// Says what is wrong with the words.
+pub fn bad_words(rt: &HostRuntime, text: &str) -> ExitCode
+    ensures { process.exit_status result ≡ 2 }
+{
+    let _ = eprintln!(rt; "{text}");
+    ExitCode::from(BAD_WORDS)
+}
+
+/// Says which HOST:PORT is none, in the form of the command-line parser.
+pub fn no_address(rt: &HostRuntime, words: &ArgMatches<'_>) -> ExitCode {
+    if let Some((option, value)) = bad_address(words) {
+        let _ = eprintln!(rt;
+            "error: invalid value '{value}' for '--{option} <HOST:PORT>': a host, a colon and a port from 1 to 65535\n"
+        );
+    }
+    bad_words(rt, "For more information, try '--help'.")
+}

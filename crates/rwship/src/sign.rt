@@ -1,0 +1,51 @@
+//! What tells the program to stop.
+
+use rw_stop::{Sign, Wish, watch_file, watch_input};
+use std::alloc::{AllocError, Global};
+use std::sync::Arc;
+use std::thread::{self, Threads};
+
+/// A sign that is set once the file is there, or, where there is none, once standard input ends. What looks for it is left to itself.
+pub fn sign_of<R: Threads>(
+    rt: &HostRuntime,
+    threads: &R,
+    stop_file: Option<&str>,
+) -> Result<Arc<Sign, Global>, AllocError> {
+    let alloc = rt.alloc();
+    let sign = Arc::new(alloc, Sign::new())?;
+    let theirs = Arc::try_clone(&sign)?;
+    let host = *rt;
+    let watcher = match stop_file {
+        Some(path) => {
+            let path = String::from_str(alloc, path)?;
+            thread::spawn(threads, move || watch_file(&host, &path, &theirs))?
+        }
+        None => thread::spawn(threads, move || {
+            watch_input(host.alloc(), &mut host.reader(), &theirs)
+        })?,
+    };
+    drop(watcher);
+    Ok(sign)
+}
+
+/// The sign, for what follows a log.
+#[derive(Drop)]
+pub struct Told {
+    sign: Arc<Sign, Global>,
+}
+
+impl Told {
+    pub fn new(sign: Arc<Sign, Global>) -> Told {
+        Told { sign }
+    }
+}
+
+impl rw_follow::Sign for Told {
+    fn wish(&mut self) -> rw_follow::Wish {
+        match self.sign.wish() {
+            Wish::Work => rw_follow::Wish::Work,
+            Wish::End => rw_follow::Wish::End,
+            Wish::Hard => rw_follow::Wish::Hard,
+        }
+    }
+}
