@@ -1,6 +1,7 @@
 //! How connections are accepted one at a time, with a look at the sign in between.
 
 use crate::patient::TICK_MS;
+use rw_metrics::ReceiveCounters;
 use std::io::{self, ErrorKind};
 use std::net::{TcpListener, TcpStream};
 use std::os::fd::AsFd;
@@ -25,12 +26,17 @@ fn is_passing(error: &io::Error) -> bool {
     )
 }
 
-/// The next connection, where one comes within a tick. An accept that fails, as for want of descriptors, naps for a tick.
-pub(crate) fn next_connection<C: Clock>(clock: &C, listener: &TcpListener) -> Option<TcpStream> {
+/// The next connection, where one comes within a tick. An accept that fails, as for want of descriptors, is counted, and naps for a tick.
+pub(crate) fn next_connection<C: Clock>(
+    clock: &C,
+    listener: &TcpListener,
+    counters: &ReceiveCounters,
+) -> Option<TcpStream> {
     match listener.accept() {
         Ok((stream, _)) => Some(stream),
         Err(e) => {
             if !is_passing(&e) {
+                counters.refuse_connection();
                 thread::sleep(clock, Duration::from_millis(TICK_MS));
             }
             None

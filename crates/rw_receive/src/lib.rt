@@ -2,6 +2,7 @@
 #![tactic(auto)]
 
 mod connections;
+mod counting;
 mod door;
 mod parting;
 mod patient;

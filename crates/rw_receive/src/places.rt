@@ -135,7 +135,7 @@ fn serve_next<'s, E, L: Ledger + Send + Sync + 's, R: Threads + Wait + Clock + S
         thread::sleep(rt, Duration::from_millis(NAP_MS));
         return;
     };
-    let Some(stream) = next_connection(rt, listener) else {
+    let Some(stream) = next_connection(rt, listener, post.counters) else {
         places.free.push_reserved(seat);
         return;
     };

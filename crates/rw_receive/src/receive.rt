@@ -9,6 +9,7 @@ ghost use Rattle.rw_tool.specs.declared.fault.ToolFault.TheVariants.{OutOfMemory
 use crate::connections::receive_all;
 use crate::service::receive_until;
 use crate::serving::Post;
+use rw_metrics::ReceiveCounters;
 use rw_recv_head::Head;
 use rw_script::push_store;
 use rw_settings::Settings;
@@ -37,16 +38,18 @@ fn print_held<W: Sink>(alloc: Global, head: &Head, writer: &mut W) -> Result<(),
     Ok(())
 }
 
-/// Bounds of a service.
-#[derive(Clone, Copy, Debug)]
-pub struct Service {
+/// Bounds of a service, and what counts its work.
+#[derive(Clone, Copy, Drop)]
+pub struct Service<'a> {
     /// How many connections are served at once. One more waits to be accepted.
     pub most: Bounded<1, 1_000>,
     /// For how many milliseconds a connection may be silent.
     pub idle_ms: Bounded<10, 3_600_000>,
+    /// They are told of each connection and each answer of the head. Nothing is claimed of them.
+    pub counters: &'a ReceiveCounters,
 }
 
-/// Serves so many connections, each in a thread of its own, over one head that the limits of the settings make, and then prints what the
+/// Serves `most` connections, each in a thread of its own, over one head that the limits of the settings make, and then prints what the
 /// head holds: for each label set with samples, by byte order of its list of (name, value), `received LABELS` and for each sample
 /// ` T=VALUE`, the line ended by LF. How a connection ends is no fault.
 ///
@@ -60,8 +63,7 @@ pub fn run_receive<R: Threads + Wait + Clock + Sync, W: Sink>(
     rt: &R,
     alloc: Global,
     settings: &Settings,
-    connections: Bounded<1, 1_000>,
-    idle_ms: Bounded<10, 3_600_000>,
+    service: Service<'_>,
     listener: TcpListener,
     writer: &mut W,
 ) -> Result<(), ToolFault>
@@ -73,14 +75,15 @@ pub fn run_receive<R: Threads + Wait + Clock + Sync, W: Sink>(
     // A failed accept has written nothing. Where the writer fails, it holds a beginning of the text.
     ensures device { result ≡ Err Device → (writer.new ≡ writer.old) ⊎ ((W.has_failed writer.new ≡ true) × WritesHeldPart (W.contents writer.old) (W.contents writer.new)) }
 {
-    let count = connections.get();
+    let count = service.most.get();
     let blank = Blank::new(count + 1);
     let never = Sign::new();
     let post = Post {
         alloc,
         limits: &settings.limits,
         sign: &never,
-        idle_ms,
+        idle_ms: service.idle_ms,
+        counters: service.counters,
     };
     let head = receive_all::<Brand, R>(rt, &post, blank, count as usize, listener)?;
     print_held(alloc, &head, writer)
@@ -98,7 +101,7 @@ pub fn run_receive_until<R: Threads + Wait + Clock + Sync, W: Sink>(
     rt: &R,
     alloc: Global,
     settings: &Settings,
-    service: Service,
+    service: Service<'_>,
     sign: &Sign,
     listener: TcpListener,
     writer: &mut W,
@@ -118,6 +121,7 @@ pub fn run_receive_until<R: Threads + Wait + Clock + Sync, W: Sink>(
         limits: &settings.limits,
         sign,
         idle_ms: service.idle_ms,
+        counters: service.counters,
     };
     let head = receive_until::<Brand, R>(rt, &post, blank, most as usize, listener)?;
     print_held(alloc, &head, writer)

@@ -1,10 +1,12 @@
 //! One connection, served to its end.
 
+use crate::counting::Counting;
 use crate::parting::part;
 use crate::patient::{Patience, Patient};
+use rw_metrics::ReceiveCounters;
 use rw_recv_head::Limits;
 use rw_recv_http::serve;
-use rw_shared_head::{Asking, Seat, SharedHead};
+use rw_shared_head::{Seat, SharedHead};
 use rw_stop::Sign;
 use rw_types::{Bounded, Std};
 use std::alloc::Global;
@@ -21,10 +23,25 @@ pub(crate) struct Post<'a> {
     pub(crate) limits: &'a Limits,
     pub(crate) sign: &'a Sign,
     pub(crate) idle_ms: Bounded<10, 3_600_000>,
+    pub(crate) counters: &'a ReceiveCounters,
 }
 
-/// Serves a connection to its end, however it ends, parts from the client, and gives the seat back.
+/// Serves a connection to its end, however it ends, parts from the client, and gives the seat back. It is counted as long.
 pub(crate) fn served<L: Ledger, R: Wait + Clock>(
+    rt: &R,
+    post: &Post<'_>,
+    shared: &SharedHead<L>,
+    stream: TcpStream,
+    seat: Seat<L>,
+) -> Seat<L> {
+    post.counters.begin_connection();
+    let seat = served_to_end(rt, post, shared, stream, seat);
+    post.counters.end_connection();
+    seat
+}
+
+/// The same, without a count.
+fn served_to_end<L: Ledger, R: Wait + Clock>(
     rt: &R,
     post: &Post<'_>,
     shared: &SharedHead<L>,
@@ -39,10 +56,11 @@ pub(crate) fn served<L: Ledger, R: Wait + Clock>(
     };
     let mut reader = Std::new(patient);
     let mut writer = Std::new(patient);
-    let mut asking = Asking {
+    let mut asking = Counting {
         rt,
         shared,
         seat: &mut seat,
+        counters: post.counters,
     };
     serve(
         post.alloc,

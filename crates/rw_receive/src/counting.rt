@@ -1,0 +1,32 @@
+//! A seat that answers bodies, and counts.
+
+use rw_metrics::ReceiveCounters;
+use rw_recv_http::Answer;
+use rw_shared_head::{Seat, SharedHead};
+use std::sync::Wait;
+use std::sync::ledger::Ledger;
+
+/// A seat that is lent to answer the bodies of a connection's requests. Each answer may wait for the lock, and is counted.
+#[derive(Drop)]
+pub(crate) struct Counting<'a, R, L: Ledger> {
+    pub(crate) rt: &'a R,
+    pub(crate) shared: &'a SharedHead<L>,
+    /// A seat of that shared head.
+    pub(crate) seat: &'a mut Seat<L>,
+    pub(crate) counters: &'a ReceiveCounters,
+}
+
+impl<R: Wait, L: Ledger> Answer for Counting<'_, R, L> {
+    ghost use Rattle.std.specs.Prelude.{◌≡◌};
+    ghost use Rattle.rw_shared_head.specs.Seats.{HasAsked};
+
+    ghost answers = { λ old body status new. (new.seat.ghost_name ≡ old.seat.ghost_name) × HasAsked old.seat.now body status new.seat.now };
+
+    fn answer(&mut self, body: &[u8]) -> u16 {
+        let before = self.seat.stored();
+        let status = self.seat.answer(self.rt, self.shared, body);
+        let stored = self.seat.stored().saturating_sub(before);
+        self.counters.answer(status, stored);
+        status
+    }
+}
