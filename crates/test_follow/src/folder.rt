@@ -3,13 +3,14 @@
 use crate::kept::{Kept, follow_into};
 use Change::{Goes, Grows, Nothing};
 use rw_follow::{Broken, Sign, Timed, Wish};
+use rw_metrics::SendCounters;
 use rw_send::Folder;
 use std::alloc::{AllocError, Global};
 use std::fs::{File, OpenOptions};
 use std::io::Write;
 use std::path::{Path, PathBuf};
 use std::rt::Files;
-use std::sync::Wait;
+use std::sync::{Arc, Wait};
 use std::test::Fail;
 use std::time::Duration;
 use std::{env, fs};
@@ -104,7 +105,8 @@ fn followed<W: Wait>(
 ) -> Result<String, AllocError> {
     let alloc = rt.alloc();
     let mut buf = [0u8; 3];
-    let mut folder = Folder::new(*rt, String::from_str(alloc, dir.as_str())?);
+    let counters = Arc::new(alloc, SendCounters::new(alloc)?)?;
+    let mut folder = Folder::new(*rt, String::from_str(alloc, dir.as_str())?, counters);
     let writer = Writer {
         rt: *rt,
         dir,

@@ -10,7 +10,8 @@ use Part::{Cut, Gap, More, Next, Padded, Quiet, Rest};
 use http::StatusCode;
 use rw_codes::TailFault;
 use rw_follow::{Event, Listed, Timed, Wish};
-use rw_send::{FollowFault, run_follow};
+use rw_metrics::SendCounters;
+use rw_send::{Counted, FollowFault, run_follow};
 use rw_settings::{Settings, read_settings};
 use rw_tool::{ToolFault, run_log};
 use rw_types::Room;
@@ -132,15 +133,19 @@ fn does<R: Threads + Wait + Clock + Copy + Send + 'static>(
         flushes: false,
         said: Wish::Work,
     };
-    let receivers = Receivers {
-        status: StatusCode::NO_CONTENT,
+    let counters = SendCounters::new(alloc)?;
+    let line = Counted {
+        connect: Receivers {
+            status: StatusCode::NO_CONTENT,
+        },
+        counters: &counters,
     };
     let answer = run_follow(
         rt,
         alloc,
         settings,
         &mut log,
-        receivers,
+        line,
         &mut watch,
         &mut printed,
     );
@@ -255,12 +260,14 @@ fn flushed<R: Threads + Wait + Clock + Copy + Send + 'static>(
     };
     let poll = Duration::from_millis(5);
     let mut watch = Timed::new(*rt, sign, poll, Duration::from_millis(20));
-    let receivers = Receivers {
-        status: StatusCode::BAD_REQUEST,
+    let counters = SendCounters::new(alloc)?;
+    let line = Counted {
+        connect: Receivers {
+            status: StatusCode::BAD_REQUEST,
+        },
+        counters: &counters,
     };
-    Ok(run_follow(
-        rt, alloc, settings, &mut log, receivers, &mut watch, printed,
-    ))
+    Ok(run_follow(rt, alloc, settings, &mut log, line, &mut watch, printed))
 }
 
 /// The sample of a quiet log is sent though no batch is full.

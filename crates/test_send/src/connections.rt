@@ -1,6 +1,7 @@
 //! A sender and a receiver in one process, over the loopback interface.
 
-use rw_receive::run_receive;
+use rw_metrics::{ReceiveCounters, SendCounters};
+use rw_receive::{Service, run_receive};
 use rw_sender::{Target, request_bytes};
 use rw_settings::{Settings, read_settings};
 use rw_tcp::{Sleep, TcpTransport, look_up};
@@ -10,7 +11,7 @@ use rw_worker::{Lost, Pause, Reply, Transport};
 use std::alloc::{AllocError, Global};
 use std::io::{Read, Write};
 use std::net::{Net, Shutdown, SocketAddr, TcpListener, TcpStream};
-use std::sync::Wait;
+use std::sync::{Arc, Wait};
 use std::test::Fail;
 use std::thread::Threads;
 use std::time::{Clock, Duration, Instant};
@@ -171,7 +172,8 @@ fn read_by<N: Net<Stream = TcpStream, Listener = TcpListener> + Clock + Copy>(
         Client::Asks(count) => (count, look_up(net, alloc, "127.0.0.1", address.port())?),
         Client::AsksBehindDeserted => (1, vec![in alloc; deserted(net)?, address]?),
     };
-    let mut transport = TcpTransport::new(alloc, *net, addresses, Bounded::of(10_000));
+    let counters = Arc::new(alloc, SendCounters::new(alloc)?)?;
+    let mut transport = TcpTransport::new(alloc, *net, addresses, Bounded::of(10_000), counters);
     statuses(alloc, &mut transport, count, request)
 }
 
@@ -192,17 +194,22 @@ fn are_served<
     request: &[u8],
     printed: &mut Room,
 ) -> io::Result<bool> {
-    let Some(connections) = Bounded::new(row.connections) else {
+    let Some(most) = Bounded::new(row.connections) else {
         return Ok(false);
     };
     let listener = TcpListener::bind(rt, "127.0.0.1:0")?;
     let address = listener.local_addr()?;
     let client = row.client;
-    let idle_ms = Bounded::of(60_000);
+    let counters = ReceiveCounters::new(alloc)?;
+    let service = Service {
+        most,
+        idle_ms: Bounded::of(60_000),
+        counters: &counters,
+    };
     let (read, ended) = thread::join(
         rt,
         || read_by(rt, alloc, client, address, request),
-        || run_receive(rt, alloc, settings, connections, idle_ms, listener, printed),
+        || run_receive(rt, alloc, settings, service, listener, printed),
     );
     Ok(ended == row.ended && read?.as_slice() == row.read)
 }
@@ -384,8 +391,13 @@ fn fails_without_waiting<
     let mut printed = Room::new(alloc, 4096)?;
     let listener = TcpListener::bind(rt, "127.0.0.1:0")?;
     listener.set_nonblocking(true)?;
-    let (most, idle_ms) = (Bounded::of(1_000), Bounded::of(60_000));
-    let ended = run_receive(rt, alloc, settings, most, idle_ms, listener, &mut printed);
+    let counters = ReceiveCounters::new(alloc)?;
+    let service = Service {
+        most: Bounded::of(1_000),
+        idle_ms: Bounded::of(60_000),
+        counters: &counters,
+    };
+    let ended = run_receive(rt, alloc, settings, service, listener, &mut printed);
     Ok(ended == Err(ToolFault::Device) && printed.as_slice().is_empty())
 }
 
@@ -405,7 +417,8 @@ fn transport_to<N: Net<Stream = TcpStream> + Clock + Copy>(
     timeout: Bounded<1, 3_600_000>,
 ) -> Result<TcpTransport<N>, AllocError> {
     let addresses = vec![in alloc; address]?;
-    Ok(TcpTransport::new(alloc, *net, addresses, timeout))
+    let counters = Arc::new(alloc, SendCounters::new(alloc)?)?;
+    Ok(TcpTransport::new(alloc, *net, addresses, timeout, counters))
 }
 
 /// Whether a request has no reply.

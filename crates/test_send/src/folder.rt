@@ -27,7 +27,7 @@ fn are_read<R: Files<File = File> + Drop>(
 /// Whether the segments of a folder hold this.
 fn holds(rt: &HostRuntime, dir: &str, wanted: &[u8]) -> Result<bool, AllocError> {
     let mut text = Vec::new(rt.alloc());
-    let segments = segment_files(rt, dir)?;
+    let segments = segment_files(rt, dir, None)?;
     Ok(are_read(rt.alloc(), segments, &mut text) && text.as_slice() == wanted)
 }
 
@@ -105,7 +105,7 @@ fn a_long_file_is_read_to_its_end(rt: HostRuntime) -> Result<(), Fail> {
 
 #[test]
 fn a_missing_folder_cannot_be_read(rt: HostRuntime) -> Result<(), Fail> {
-    let segments = segment_files(&rt, "/no such folder")?;
+    let segments = segment_files(&rt, "/no such folder", None)?;
     let is_one = segments.len() == 1;
     let mut text = Vec::new(rt.alloc());
     assert!(rt; !are_read(rt.alloc(), segments, &mut text) && is_one);

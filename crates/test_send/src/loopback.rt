@@ -1,15 +1,16 @@
 //! A sender and a receiver in one process, over the loopback interface.
 
 use crate::logs::{BEHIND, FALLS, NAMES, UP, segment};
-use rw_receive::run_receive;
-use rw_send::{TcpConnect, run_send};
+use rw_metrics::{ReceiveCounters, SendCounters};
+use rw_receive::{Service, run_receive};
+use rw_send::{Counted, TcpConnect, run_send};
 use rw_settings::read_settings;
 use rw_shipper::Connect;
 use rw_tcp::look_up;
 use rw_types::{Bounded, Room};
 use std::alloc::Global;
 use std::net::{Net, SocketAddr, TcpListener, TcpStream};
-use std::sync::Wait;
+use std::sync::{Arc, Wait};
 use std::test::Fail;
 use std::thread;
 use std::thread::Threads;
@@ -75,7 +76,8 @@ fn connect_to<N: Net<Stream = TcpStream> + Drop>(
 ) -> Result<TcpConnect<N>, Fail> {
     let port = listener.local_addr()?.port();
     let addresses = look_up(&net, alloc, "127.0.0.1", port)?;
-    Ok(TcpConnect::new(alloc, net, addresses, Bounded::of(10_000)))
+    let counters = Arc::new(alloc, SendCounters::new(alloc)?)?;
+    Ok(TcpConnect::new(alloc, net, addresses, Bounded::of(10_000), counters))
 }
 
 /// Whether a receiver takes the connections of a sender, or one where there are none, and ends well.
@@ -86,14 +88,19 @@ fn receives<R: Threads + Wait + Clock + Sync>(
     listener: TcpListener,
     held: &mut Room,
 ) -> bool {
-    let Some(connections) = Bounded::new(row.1.max(1)) else {
+    let Some(most) = Bounded::new(row.1.max(1)) else {
         return false;
     };
-    let idle_ms = Bounded::of(60_000);
+    let Ok(counters) = ReceiveCounters::new(alloc) else {
+        return false;
+    };
+    let service = Service {
+        most,
+        idle_ms: Bounded::of(60_000),
+        counters: &counters,
+    };
     match read_settings(alloc, row.0) {
-        Ok(settings) => {
-            run_receive(rt, alloc, &settings, connections, idle_ms, listener, held).is_ok()
-        }
+        Ok(settings) => run_receive(rt, alloc, &settings, service, listener, held).is_ok(),
         Err(_) => false,
     }
 }
@@ -110,8 +117,15 @@ fn sends<R: Threads + Wait + Clock + Copy + Send + 'static, C: Connect + Drop>(
     let Ok(segments) = vec![in alloc; log] else {
         return false;
     };
+    let Ok(counters) = SendCounters::new(alloc) else {
+        return false;
+    };
+    let line = Counted {
+        connect,
+        counters: &counters,
+    };
     match read_settings(alloc, row.0) {
-        Ok(settings) => run_send(rt, alloc, settings, segments, connect, printed).is_ok(),
+        Ok(settings) => run_send(rt, alloc, settings, segments, line, printed).is_ok(),
         Err(_) => false,
     }
 }

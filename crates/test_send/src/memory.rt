@@ -6,7 +6,8 @@ use crate::rows::none_is_wrong;
 use Part::{Changed, Cut, Fails, Whole};
 use http::StatusCode;
 use rw_codes::TailFault;
-use rw_send::run_send;
+use rw_metrics::SendCounters;
+use rw_send::{Counted, run_send};
 use rw_settings::read_settings;
 use rw_tool::ToolFault;
 use rw_types::Room;
@@ -117,9 +118,13 @@ fn shipped<R: Threads + Wait + Clock + Copy + Send + 'static>(
 ) -> Result<Result<(), ToolFault>, AllocError> {
     let mut readers = Vec::new(alloc);
     put_readers(alloc, &mut readers, row.1)?;
-    let receivers = receivers_of(rt, row.2)?;
+    let counters = SendCounters::new(alloc)?;
+    let line = Counted {
+        connect: receivers_of(rt, row.2)?,
+        counters: &counters,
+    };
     match read_settings(alloc, row.0) {
-        Ok(settings) => Ok(run_send(rt, alloc, settings, readers, receivers, printed)),
+        Ok(settings) => Ok(run_send(rt, alloc, settings, readers, line, printed)),
         Err(_) => Err(AllocError),
     }
 }

@@ -4,6 +4,8 @@
 #[cfg(test)]
 mod clients;
 #[cfg(test)]
+mod metrics;
+#[cfg(test)]
 mod service;
 #[cfg(test)]
 mod stops;

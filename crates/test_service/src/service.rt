@@ -1,6 +1,7 @@
 //! A receiver that is stopped by a sign, and its clients, in threads of one process.
 
 use crate::clients::{Clients, Door, read_by};
+use rw_metrics::ReceiveCounters;
 use rw_receive::{Service, run_receive, run_receive_until};
 use rw_settings::{Settings, read_settings};
 use rw_stop::Sign;
@@ -57,7 +58,12 @@ fn does_with<R: Net<Stream = TcpStream, Listener = TcpListener> + Threads + Wait
         address: listener.local_addr()?,
         sign: &sign,
     };
-    let service = Service { most, idle_ms };
+    let counters = ReceiveCounters::new(alloc)?;
+    let service = Service {
+        most,
+        idle_ms,
+        counters: &counters,
+    };
     let clients = row.clients;
     let (read, ended) = thread::join(
         rt,
@@ -165,11 +171,16 @@ fn ends_without_a_sign<
         address: listener.local_addr()?,
         sign: &sign,
     };
-    let (two, idle_ms) = (Bounded::of(2), Bounded::of(100));
+    let counters = ReceiveCounters::new(alloc)?;
+    let service = Service {
+        most: Bounded::of(2),
+        idle_ms: Bounded::of(100),
+        counters: &counters,
+    };
     let (read, ended) = thread::join(
         rt,
         || read_by(&door, Clients::WritesOneByte),
-        || run_receive(rt, alloc, settings, two, idle_ms, listener, printed),
+        || run_receive(rt, alloc, settings, service, listener, printed),
     );
     Ok(ended.is_ok() && are_replies(&read?, 1))
 }
