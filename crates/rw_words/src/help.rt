@@ -69,13 +69,16 @@ Example:
 
   rwship send --dir data/wal --to receiver.example:9090 --follow --stop-file stop --poll-ms 500 --flush-ms 2000
 
+  rwship send --dir data/wal --to receiver.example:9090 --progress --metrics 127.0.0.1:9200 --fail-on-drop
+
 DIR is the folder 'wal' of a server that has stopped, or a copy of it, from its first segment on; with
 --follow that of a server that runs. --follow ends once standard input ends, or, with --stop-file, once
 FILE is there: it ships what stands, and prints its report. A line 'hard' on standard input ends it at
 once. The report names each sample that was not taken; docs/OPERATING.md tells its lines, and
 docs/SETTINGS.md the settings.
 
-Exit status: 0 where each sample is answered for (look for 'dropped' lines); 1 for a fault of the log;
+Exit status: 0 where each sample is answered for (look for 'dropped' lines); 1 for a fault of the log,
+and with --fail-on-drop where samples were dropped;
 2 for bad words or settings; 3 out of memory; 4 where a file, the look-up or standard output failed, a
 segment is missing, or a line 'hard' came.";
 
@@ -83,7 +86,7 @@ pub(crate) const RECEIVE: &str = "\
 Example:
   rwship receive --listen 127.0.0.1:9090 --connections 10 > held
 
-  rwship receive --listen 127.0.0.1:9090 --until-eof --stop-file stop > held
+  rwship receive --listen 127.0.0.1:9090 --until-eof --stop-file stop --progress --metrics 127.0.0.1:9201 > held
 
 With --until-eof any number of connections is served, 1000 at once, until standard input ends, or, with
 --stop-file, until FILE is there. Those in a request finish it. A line 'hard' on standard input ends

@@ -3,6 +3,7 @@
 
 mod help;
 mod send;
+mod telling;
 
 use clap::builder::ValueParser;
 use clap::{Arg, ArgAction, ArgMatches, Command, value_parser};
@@ -10,6 +11,7 @@ use rw_address::{Address, read_address};
 use rw_types::Bounded;
 use send::{send_command, send_task};
 use std::alloc::{AllocError, Global};
+use telling::{metrics, progress, reporting_of};
 
 /// Which settings are asked for.
 #[derive(Clone, Copy, Debug)]
@@ -51,6 +53,37 @@ pub enum Reading<'a> {
     Follow(Following<'a>),
 }
 
+/// What is told of the work while it goes on.
+#[derive(Clone, Copy, Debug)]
+pub struct Reporting<'a> {
+    /// Whether a line of progress a second is written to standard error.
+    pub has_progress: bool,
+    /// Where the metrics are served.
+    pub metrics: Option<Address<'a>>,
+}
+
+/// What `send` is to do.
+#[derive(Clone, Copy, Debug)]
+pub struct Sending<'a> {
+    /// The segments of this folder are shipped.
+    pub dir: &'a str,
+    pub to: Address<'a>,
+    pub reading: Reading<'a>,
+    pub reporting: Reporting<'a>,
+    /// Whether a complete report that names dropped samples is a fault.
+    pub fails_on_drop: bool,
+}
+
+/// What `receive` is to do.
+#[derive(Clone, Copy, Debug)]
+pub struct Receiving<'a> {
+    pub listen: Address<'a>,
+    pub until: Until<'a>,
+    /// For how many milliseconds a connection may be silent.
+    pub idle_ms: Bounded<10, 3_600_000>,
+    pub reporting: Reporting<'a>,
+}
+
 /// What the words ask for. A file or a folder is a path.
 #[derive(Clone, Copy, Debug)]
 pub enum Task<'a> {
@@ -82,20 +115,15 @@ pub enum Task<'a> {
     Settings {
         settings: SettingsFile<'a>,
     },
-    /// Ships all segments of `dir`.
+    /// Ships all segments of a folder.
     Send {
         settings: SettingsFile<'a>,
-        dir: &'a str,
-        to: Address<'a>,
-        reading: Reading<'a>,
+        sending: Sending<'a>,
     },
     /// Serves connections, and then prints what is held.
     Receive {
         settings: SettingsFile<'a>,
-        listen: Address<'a>,
-        until: Until<'a>,
-        /// For how many milliseconds a connection may be silent.
-        idle_ms: Bounded<10, 3_600_000>,
+        receiving: Receiving<'a>,
     },
 }
 
@@ -246,7 +274,9 @@ fn receive_command<'a>(alloc: Global) -> Result<Command<'a>, AllocError> {
         .arg(connections(alloc)?)?
         .arg(until_eof(alloc)?)?
         .arg(stop_file(alloc)?)?
-        .arg(idle_ms(alloc))
+        .arg(idle_ms(alloc))?
+        .arg(progress(alloc))?
+        .arg(metrics(alloc))
 }
 
 /// All commands.
@@ -269,7 +299,7 @@ pub fn command_line<'a>(alloc: Global) -> Result<Command<'a>, AllocError> {
 /// The option and the value of a HOST:PORT that is none, if the words have one.
 pub fn bad_address<'a>(words: &ArgMatches<'a>) -> Option<(&'static str, &'a str)> {
     let (_, options) = words.subcommand()?;
-    for option in ["to", "listen"] {
+    for option in ["to", "listen", "metrics"] {
         if let Some(value) = options.get_str(option) {
             if read_address(value).is_none() {
                 return Some((option, value));
@@ -291,11 +321,17 @@ fn receive_task<'a>(settings: SettingsFile<'a>, options: &ArgMatches<'a>) -> Opt
     } else {
         Until::Connections(Bounded::new(options.get_one::<u16>("connections")? as u64)?)
     };
+    let Some(reporting) = reporting_of(options) else {
+        return None;
+    };
     Some(Task::Receive {
         settings,
-        listen,
-        until,
-        idle_ms,
+        receiving: Receiving {
+            listen,
+            until,
+            idle_ms,
+            reporting,
+        },
     })
 }
 

@@ -1,6 +1,7 @@
 //! The words of the command `send`.
 
-use crate::{Following, Reading, SettingsFile, Task, explain, help, settings};
+use crate::telling::{metrics, progress, reporting_of};
+use crate::{Following, Reading, Sending, SettingsFile, Task, explain, help, settings};
 use clap::builder::ValueParser;
 use clap::{Arg, ArgAction, ArgMatches, Command, value_parser};
 use rw_address::read_address;
@@ -60,6 +61,13 @@ fn flush_ms<'a>(alloc: Global) -> Result<Arg<'a>, AllocError> {
         .requires_arg("follow")
 }
 
+fn fail_on_drop<'a>(alloc: Global) -> Arg<'a> {
+    Arg::new(alloc, "fail-on-drop")
+        .long("fail-on-drop")
+        .action(ArgAction::SetTrue)
+        .help("End with status 1 where all was answered for, but samples were dropped")
+}
+
 pub(crate) fn send_command<'a>(alloc: Global) -> Result<Command<'a>, AllocError> {
     Command::new(alloc, "send")
         .about("Ships all segments of a folder and prints a report")
@@ -71,7 +79,10 @@ pub(crate) fn send_command<'a>(alloc: Global) -> Result<Command<'a>, AllocError>
         .arg(follow(alloc))?
         .arg(stop_file(alloc)?)?
         .arg(poll_ms(alloc)?)?
-        .arg(flush_ms(alloc)?)
+        .arg(flush_ms(alloc)?)?
+        .arg(fail_on_drop(alloc))?
+        .arg(progress(alloc))?
+        .arg(metrics(alloc))
 }
 
 /// What the options of `send` ask for.
@@ -92,10 +103,17 @@ pub(crate) fn send_task<'a>(
     } else {
         Reading::Whole
     };
+    let Some(reporting) = reporting_of(options) else {
+        return None;
+    };
     Some(Task::Send {
         settings,
-        dir,
-        to,
-        reading,
+        sending: Sending {
+            dir,
+            to,
+            reading,
+            reporting,
+            fails_on_drop: options.get_flag("fail-on-drop"),
+        },
     })
 }

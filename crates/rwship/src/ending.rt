@@ -18,6 +18,9 @@ use std::process::ExitCode;
 /// The exit status for words and settings that the program does not take.
 const BAD_WORDS: u8 = 2;
 
+/// The exit status for dropped samples, where they are a fault.
+const DROPPED: u8 = 1;
+
 /// The exit status for work that something outside has ended.
 const CUT_OFF: u8 = 4;
 
@@ -34,22 +37,29 @@ pub fn ended(rt: &HostRuntime, outcome: Result<(), ToolFault>) -> ExitCode
     }
 }
 
-/// The same of a log that was followed.
-pub fn followed(rt: &HostRuntime, outcome: Result<(), FollowFault>) -> ExitCode
-    ensures { MatchResult outcome (λ _. process.exit_status result ≡ 0) (λ fault. process.exit_status result ≡ follow_status fault) }
+/// The same of shipping that has ended so.
+pub fn followed(rt: &HostRuntime, fault: FollowFault) -> ExitCode
+    ensures { process.exit_status result ≡ follow_status fault }
 {
-    match outcome {
-        Ok(()) => ExitCode::SUCCESS,
-        Err(FollowFault::Tool(fault)) => ended(rt, Err(fault)),
-        Err(FollowFault::Missing(number)) => {
+    match fault {
+        FollowFault::Tool(fault) => ended(rt, Err(fault)),
+        FollowFault::Missing(number) => {
             let _ = eprintln!(rt; "rwship: segment {number} is missing");
             ExitCode::from(CUT_OFF)
         }
-        Err(FollowFault::Stopped) => {
+        FollowFault::Stopped => {
             let _ = eprintln!(rt; "rwship: stopped");
             ExitCode::from(CUT_OFF)
         }
     }
+}
+
+/// Says how many samples were dropped, where that is a fault.
+pub fn dropped(rt: &HostRuntime, count: u64) -> ExitCode
+    ensures { process.exit_status result ≡ 1 }
+{
+    let _ = eprintln!(rt; "rwship: {count} samples were dropped");
+    ExitCode::from(DROPPED)
 }
 
 /// Tells what could not be done with what, and what the system said.

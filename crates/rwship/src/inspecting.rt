@@ -16,7 +16,7 @@ fn named_files(
 ) -> Result<Vec<Named<Opened<SegmentFile<HostRuntime>>>>, AllocError> {
     let alloc = rt.alloc();
     let mut named = Vec::new(alloc);
-    for source in segment_files(rt, dir)? {
+    for source in segment_files(rt, dir, None)? {
         let name = String::from_str(alloc, source.place().name())?;
         if named.push(Named { name, source }).is_err() {
             return Err(AllocError);
@@ -78,7 +78,7 @@ fn tell_damage(rt: &HostRuntime, dir: &str) -> Result<(), ToolFault> {
 
 /// Tells which segment cannot be opened, the first one.
 fn tell_first_closed(rt: &HostRuntime, dir: &str) -> Result<(), AllocError> {
-    for segment in segment_files(rt, dir)? {
+    for segment in segment_files(rt, dir, None)? {
         let path = Path::new(dir).join(rt.alloc(), segment.place().name())?;
         if let Err(error) = fs::open(rt, path.as_path()) {
             tell_device(rt, "read", path.as_path().as_str(), &error);

@@ -3,29 +3,27 @@
 
 mod ending;
 mod inspecting;
+mod receiving;
+mod reporting;
 mod sending;
 mod settings;
 mod sign;
 
 use ending::{bad_words, ended, no_address, unparsed, unset};
 use inspecting::print_inspected;
-use rw_address::Address;
-use rw_receive::{Service, run_receive, run_receive_until};
+use receiving::receive;
 use rw_replay::run_replay;
-use rw_settings::Settings;
 use rw_tool::{ToolFault, run_body, run_log, run_log_dir, run_plan};
 use rw_types::{Bounded, Std, write_all};
-use rw_words::{SettingsFile, Task, Until, command_line, task_of};
+use rw_words::{SettingsFile, Task, command_line, task_of};
 use sending::send;
 use settings::{printed_settings, settings_in};
-use sign::sign_of;
+use std::env;
 use std::io::ErrorKind;
-use std::net::TcpListener;
 use std::process::ExitCode;
 use std::sync::Wait;
 use std::thread::Threads;
 use std::time::Clock;
-use std::{env, io};
 
 /// Writes a segment of log text, or the segments into a folder.
 fn log(rt: &HostRuntime, hex: bool, pages: Bounded<1, 4096>, dir: Option<&str>) -> ExitCode {
@@ -85,74 +83,6 @@ fn body(rt: &HostRuntime, hex: bool) -> ExitCode {
     ended(rt, run_body(rt.alloc(), &mut input, &mut output, hex))
 }
 
-/// Serves connections for so long, and prints what they left.
-fn serve<R: Threads + Wait + Clock + Sync>(
-    rt: &HostRuntime,
-    threads: &R,
-    settings: &Settings,
-    listener: TcpListener,
-    until: &Until<'_>,
-    idle_ms: Bounded<10, 3_600_000>,
-) -> Result<(), ToolFault> {
-    let alloc = rt.alloc();
-    let mut output = Std::new(rt.stdout());
-    let stop_file = match until {
-        Until::Connections(n) => {
-            return run_receive(threads, alloc, settings, *n, idle_ms, listener, &mut output);
-        }
-        Until::InputEnds => None,
-        Until::FileIs(path) => Some(*path),
-    };
-    let sign = sign_of(rt, threads, stop_file)?;
-    let service = Service {
-        most: Bounded::of(1_000),
-        idle_ms,
-    };
-    run_receive_until(
-        threads,
-        alloc,
-        settings,
-        service,
-        &sign,
-        listener,
-        &mut output,
-    )
-}
-
-/// Says that an address cannot be listened at, and why where that is asked for.
-fn unheard(
-    rt: &HostRuntime,
-    listen: Address<'_>,
-    error: &io::Error,
-    is_explained: bool,
-) -> ExitCode {
-    let status = ended(rt, Err(ToolFault::Device));
-    if is_explained {
-        let Address { host, port } = listen;
-        let _ = eprintln!(rt; "  cannot listen on {host}:{port}: {error}");
-    }
-    status
-}
-
-/// The same, by the settings in a file, at an address.
-fn receive<R: Threads + Wait + Clock + Sync>(
-    rt: &HostRuntime,
-    threads: &R,
-    file: SettingsFile<'_>,
-    listen: Address<'_>,
-    until: &Until<'_>,
-    idle_ms: Bounded<10, 3_600_000>,
-) -> ExitCode {
-    let settings = match settings_in(rt, file) {
-        Ok(settings) => settings,
-        Err(fault) => return unset(rt, fault),
-    };
-    match TcpListener::bind(rt, (listen.name(), listen.port)) {
-        Ok(listener) => ended(rt, serve(rt, threads, &settings, listener, until, idle_ms)),
-        Err(error) => unheard(rt, listen, &error, file.is_explained),
-    }
-}
-
 /// Does what the words ask for.
 fn perform<R: Threads + Wait + Clock + Copy + Send + Sync + 'static>(
     rt: &HostRuntime,
@@ -166,18 +96,11 @@ fn perform<R: Threads + Wait + Clock + Copy + Send + Sync + 'static>(
         Task::Inspect { dir, json } => ended(rt, print_inspected(rt, *dir, *json)),
         Task::Replay { settings } => replay(rt, *settings),
         Task::Settings { settings } => print_settings(rt, *settings),
-        Task::Send {
-            settings,
-            dir,
-            to,
-            reading,
-        } => send(rt, threads, *settings, dir, *to, reading),
+        Task::Send { settings, sending } => send(rt, threads, *settings, sending),
         Task::Receive {
             settings,
-            listen,
-            until,
-            idle_ms,
-        } => receive(rt, threads, *settings, *listen, until, *idle_ms),
+            receiving,
+        } => receive(rt, threads, *settings, receiving),
     }
 }
 

@@ -1,0 +1,133 @@
+//! The command `receive`.
+
+use crate::ending::{ended, unset};
+use crate::reporting::{begin_reporting, end_reporting, tell_unheard};
+use crate::settings::settings_in;
+use crate::sign::sign_of;
+use rw_metrics::{Counters, ReceiveCounters};
+use rw_receive::{Service, run_receive, run_receive_until};
+use rw_settings::Settings;
+use rw_tool::ToolFault;
+use rw_types::{Bounded, Std};
+use rw_words::{Receiving, SettingsFile, Until};
+use std::alloc::{AllocError, Global};
+use std::net::TcpListener;
+use std::process::ExitCode;
+use std::sync::{Arc, Wait};
+use std::thread::Threads;
+use std::time::Clock;
+
+/// Serves connections until the sign is set, and prints what they left.
+fn serve_until<R: Threads + Wait + Clock + Sync>(
+    rt: &HostRuntime,
+    threads: &R,
+    settings: &Settings,
+    service: Service<'_>,
+    listener: TcpListener,
+    stop_file: Option<&str>,
+) -> Result<(), ToolFault> {
+    let sign = sign_of(rt, threads, stop_file)?;
+    let mut output = Std::new(rt.stdout());
+    run_receive_until(
+        threads,
+        rt.alloc(),
+        settings,
+        service,
+        &sign,
+        listener,
+        &mut output,
+    )
+}
+
+/// Serves so many connections, and prints what they left.
+fn serve_some<R: Threads + Wait + Clock + Sync>(
+    rt: &HostRuntime,
+    threads: &R,
+    settings: &Settings,
+    service: Service<'_>,
+    listener: TcpListener,
+) -> Result<(), ToolFault> {
+    let mut output = Std::new(rt.stdout());
+    run_receive(
+        threads,
+        rt.alloc(),
+        settings,
+        service,
+        listener,
+        &mut output,
+    )
+}
+
+/// Serves connections for as long as is asked for, and prints what they left.
+fn serve<R: Threads + Wait + Clock + Sync>(
+    rt: &HostRuntime,
+    threads: &R,
+    settings: &Settings,
+    listener: TcpListener,
+    receiving: &Receiving<'_>,
+    counters: &Arc<ReceiveCounters, Global>,
+) -> Result<(), ToolFault> {
+    let (most, stop_file) = match receiving.until {
+        Until::Connections(n) => (n, None),
+        Until::InputEnds => (Bounded::of(1_000), None),
+        Until::FileIs(path) => (Bounded::of(1_000), Some(path)),
+    };
+    let service = Service {
+        most,
+        idle_ms: receiving.idle_ms,
+        counters,
+    };
+    match receiving.until {
+        Until::Connections(_) => serve_some(rt, threads, settings, service, listener),
+        _ => serve_until(rt, threads, settings, service, listener, stop_file),
+    }
+}
+
+/// Counters that were told nothing yet.
+fn new_counters(rt: &HostRuntime) -> Result<Arc<ReceiveCounters, Global>, AllocError> {
+    let counters = ReceiveCounters::new(rt.alloc())?;
+    Ok(Arc::new(rt.alloc(), counters)?)
+}
+
+/// The same, with what is told of it while it goes on.
+fn serve_and_tell<R: Threads + Wait + Clock + Sync>(
+    rt: &HostRuntime,
+    threads: &R,
+    settings: &Settings,
+    listener: TcpListener,
+    receiving: &Receiving<'_>,
+) -> Result<(), ToolFault> {
+    let counters = new_counters(rt)?;
+    let shown = Counters::Receive(Arc::try_clone(&counters)?);
+    begin_reporting(rt, threads, receiving.reporting, &shown)?;
+    let outcome = serve(rt, threads, settings, listener, receiving, &counters);
+    end_reporting(rt, receiving.reporting, &shown);
+    outcome
+}
+
+/// Serves connections by the settings in a file, at an address.
+pub fn receive<R: Threads + Wait + Clock + Sync>(
+    rt: &HostRuntime,
+    threads: &R,
+    file: SettingsFile<'_>,
+    receiving: &Receiving<'_>,
+) -> ExitCode {
+    let settings = match settings_in(rt, file) {
+        Ok(settings) => settings,
+        Err(fault) => return unset(rt, fault),
+    };
+    let listen = receiving.listen;
+    match TcpListener::bind(rt, (listen.name(), listen.port)) {
+        Ok(listener) => {
+            let outcome = serve_and_tell(rt, threads, &settings, listener, receiving);
+            ended(rt, outcome)
+        }
+        Err(error) => {
+            let status = ended(rt, Err(ToolFault::Device));
+            if file.is_explained {
+                tell_unheard(rt, listen, &error);
+            }
+            status
+        }
+    }
+}

@@ -1,0 +1,65 @@
+//! What is told of the work while it goes on.
+
+use crate::ending::tell_device;
+use rw_address::Address;
+use rw_metrics::{Counters, Screen, serve_metrics, show_progress, write_end};
+use rw_tool::ToolFault;
+use rw_words::Reporting;
+use std::io::{Error, IsTerminal};
+use std::net::TcpListener;
+use std::thread::Threads;
+
+/// Says that an address cannot be listened at, and why.
+pub fn tell_unheard(rt: &HostRuntime, listen: Address<'_>, error: &Error) {
+    let Address { host, port } = listen;
+    let _ = eprintln!(rt; "  cannot listen on {host}:{port}: {error}");
+}
+
+/// What reads the lines of progress.
+fn screen_of(rt: &HostRuntime) -> Screen {
+    if rt.stderr().is_terminal() {
+        Screen::Terminal
+    } else {
+        Screen::Lines
+    }
+}
+
+/// Serves the page of the counters at an address.
+fn serve_at<R: Threads>(
+    rt: &HostRuntime,
+    threads: &R,
+    address: Address<'_>,
+    counters: &Counters,
+) -> Result<(), ToolFault> {
+    match TcpListener::bind(rt, (address.name(), address.port)) {
+        Ok(listener) => {
+            serve_metrics(threads, rt.alloc(), listener, counters.share()?)?;
+            Ok(())
+        }
+        Err(_) => Err(ToolFault::Device),
+    }
+}
+
+/// Serves the metrics and shows progress, where that is asked for.
+pub fn begin_reporting<R: Threads>(
+    rt: &HostRuntime,
+    threads: &R,
+    reporting: Reporting<'_>,
+    counters: &Counters,
+) -> Result<(), ToolFault> {
+    if let Some(address) = reporting.metrics {
+        serve_at(rt, threads, address, counters)?;
+    }
+    if reporting.has_progress {
+        let theirs = counters.share()?;
+        show_progress(threads, *rt, rt.stderr(), screen_of(rt), rt.alloc(), theirs)?;
+    }
+    Ok(())
+}
+
+/// Shows how far the work has come in the end, where that is asked for.
+pub fn end_reporting(rt: &HostRuntime, reporting: Reporting<'_>, counters: &Counters) {
+    if reporting.has_progress {
+        write_end(&mut rt.stderr(), screen_of(rt), rt.alloc(), counters);
+    }
+}
