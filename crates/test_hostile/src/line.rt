@@ -98,5 +98,11 @@ impl Transport for Line<'_> {
 pub(crate) struct Quick;
 
 impl Pause for Quick {
+    ghost use Rattle.std.specs.Prelude.{[]};
+
+    ghost tells = { λ _. ⊥ };
+
+    ghost paused = { λ _. [] };
+
     fn pause(&mut self, _ms: u64) {}
 }
