@@ -22,12 +22,18 @@ fn serve_until<R: Threads + Wait + Clock + Sync>(
     rt: &HostRuntime,
     threads: &R,
     settings: &Settings,
-    service: Service<'_>,
     listener: TcpListener,
+    idle_ms: Bounded<10, 3_600_000>,
     stop_file: Option<&str>,
+    counters: &ReceiveCounters,
 ) -> Result<(), ToolFault> {
     let sign = sign_of(rt, threads, stop_file)?;
     let mut output = Std::new(rt.stdout());
+    let service = Service {
+        most: Bounded::of(1_000),
+        idle_ms,
+        counters,
+    };
     run_receive_until(
         threads,
         rt.alloc(),
@@ -44,10 +50,17 @@ fn serve_some<R: Threads + Wait + Clock + Sync>(
     rt: &HostRuntime,
     threads: &R,
     settings: &Settings,
-    service: Service<'_>,
     listener: TcpListener,
+    idle_ms: Bounded<10, 3_600_000>,
+    most: Bounded<1, 1_000>,
+    counters: &ReceiveCounters,
 ) -> Result<(), ToolFault> {
     let mut output = Std::new(rt.stdout());
+    let service = Service {
+        most,
+        idle_ms,
+        counters,
+    };
     run_receive(
         threads,
         rt.alloc(),
@@ -65,22 +78,19 @@ fn serve<R: Threads + Wait + Clock + Sync>(
     settings: &Settings,
     listener: TcpListener,
     receiving: &Receiving<'_>,
-    counters: &Arc<ReceiveCounters, Global>,
+    counters: &ReceiveCounters,
 ) -> Result<(), ToolFault> {
-    let (most, stop_file) = match receiving.until {
-        Until::Connections(n) => (n, None),
-        Until::InputEnds => (Bounded::of(1_000), None),
-        Until::FileIs(path) => (Bounded::of(1_000), Some(path)),
+    let idle_ms = receiving.idle_ms;
+    let stop_file = match &receiving.until {
+        Until::Connections(most) => {
+            return serve_some(rt, threads, settings, listener, idle_ms, *most, counters);
+        }
+        Until::InputEnds => None,
+        Until::FileIs(path) => Some(*path),
     };
-    let service = Service {
-        most,
-        idle_ms: receiving.idle_ms,
-        counters,
-    };
-    match receiving.until {
-        Until::Connections(_) => serve_some(rt, threads, settings, service, listener),
-        _ => serve_until(rt, threads, settings, service, listener, stop_file),
-    }
+    serve_until(
+        rt, threads, settings, listener, idle_ms, stop_file, counters,
+    )
 }
 
 /// Counters that were told nothing yet.
@@ -99,9 +109,9 @@ fn serve_and_tell<R: Threads + Wait + Clock + Sync>(
 ) -> Result<(), ToolFault> {
     let counters = new_counters(rt)?;
     let shown = Counters::Receive(Arc::try_clone(&counters)?);
-    begin_reporting(rt, threads, receiving.reporting, &shown)?;
+    begin_reporting(rt, threads, &receiving.reporting, &shown)?;
     let outcome = serve(rt, threads, settings, listener, receiving, &counters);
-    end_reporting(rt, receiving.reporting, &shown);
+    end_reporting(rt, &receiving.reporting, &shown);
     outcome
 }
 

@@ -44,11 +44,11 @@ fn serve_at<R: Threads>(
 pub fn begin_reporting<R: Threads>(
     rt: &HostRuntime,
     threads: &R,
-    reporting: Reporting<'_>,
+    reporting: &Reporting<'_>,
     counters: &Counters,
 ) -> Result<(), ToolFault> {
-    if let Some(address) = reporting.metrics {
-        serve_at(rt, threads, address, counters)?;
+    if let Some(address) = &reporting.metrics {
+        serve_at(rt, threads, *address, counters)?;
     }
     if reporting.has_progress {
         let theirs = counters.share()?;
@@ -58,7 +58,7 @@ pub fn begin_reporting<R: Threads>(
 }
 
 /// Shows how far the work has come in the end, where that is asked for.
-pub fn end_reporting(rt: &HostRuntime, reporting: Reporting<'_>, counters: &Counters) {
+pub fn end_reporting(rt: &HostRuntime, reporting: &Reporting<'_>, counters: &Counters) {
     if reporting.has_progress {
         write_end(&mut rt.stderr(), screen_of(rt), rt.alloc(), counters);
     }

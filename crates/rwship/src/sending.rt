@@ -124,9 +124,9 @@ fn ship_and_tell<R: Threads + Wait + Clock + Copy + Send + 'static>(
 ) -> Result<u64, FollowFault> {
     let counters = new_counters(rt)?;
     let shown = Counters::Send(Arc::try_clone(&counters)?);
-    begin_reporting(rt, threads, sending.reporting, &shown)?;
+    begin_reporting(rt, threads, &sending.reporting, &shown)?;
     let outcome = ship_or_follow(rt, threads, settings, sending, addresses, &counters);
-    end_reporting(rt, sending.reporting, &shown);
+    end_reporting(rt, &sending.reporting, &shown);
     match outcome {
         Ok(()) => Ok(counters.dropped()),
         Err(fault) => Err(fault),

@@ -201,15 +201,17 @@ fn are_served<
     let address = listener.local_addr()?;
     let client = row.client;
     let counters = ReceiveCounters::new(alloc)?;
-    let service = Service {
-        most,
-        idle_ms: Bounded::of(60_000),
-        counters: &counters,
-    };
     let (read, ended) = thread::join(
         rt,
         || read_by(rt, alloc, client, address, request),
-        || run_receive(rt, alloc, settings, service, listener, printed),
+        || {
+            let service = Service {
+                most,
+                idle_ms: Bounded::of(60_000),
+                counters: &counters,
+            };
+            run_receive(rt, alloc, settings, service, listener, printed)
+        },
     );
     Ok(ended == row.ended && read?.as_slice() == row.read)
 }

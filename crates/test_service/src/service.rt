@@ -59,16 +59,18 @@ fn does_with<R: Net<Stream = TcpStream, Listener = TcpListener> + Threads + Wait
         sign: &sign,
     };
     let counters = ReceiveCounters::new(alloc)?;
-    let service = Service {
-        most,
-        idle_ms,
-        counters: &counters,
-    };
     let clients = row.clients;
     let (read, ended) = thread::join(
         rt,
         || read_by(&door, clients),
-        || run_receive_until(rt, alloc, settings, service, &sign, listener, printed),
+        || {
+            let service = Service {
+                most,
+                idle_ms,
+                counters: &counters,
+            };
+            run_receive_until(rt, alloc, settings, service, &sign, listener, printed)
+        },
     );
     Ok(ended.is_ok() && are_replies(&read?, row.replies))
 }
@@ -172,15 +174,17 @@ fn ends_without_a_sign<
         sign: &sign,
     };
     let counters = ReceiveCounters::new(alloc)?;
-    let service = Service {
-        most: Bounded::of(2),
-        idle_ms: Bounded::of(100),
-        counters: &counters,
-    };
     let (read, ended) = thread::join(
         rt,
         || read_by(&door, Clients::WritesOneByte),
-        || run_receive(rt, alloc, settings, service, listener, printed),
+        || {
+            let service = Service {
+                most: Bounded::of(2),
+                idle_ms: Bounded::of(100),
+                counters: &counters,
+            };
+            run_receive(rt, alloc, settings, service, listener, printed)
+        },
     );
     Ok(ended.is_ok() && are_replies(&read?, 1))
 }
