@@ -1,11 +1,12 @@
 -- What was put, with one item more.
-use Rattle.std.proofs.Common.{◌≡◌, ℕ, suc, map, List, [], ◌∷◌, ◌++◌, length, refl, sym, ap, ◌∙◌, append-nil}
+use Rattle.std.proofs.Common.{◌≡◌, ℕ, suc, ◌^◌, ◌<◌, map, List, [], ◌∷◌, ◌++◌, length, refl, sym, ap, ◌∙◌, append-nil, length-append, arith}
 use Rattle.std.specs.Prelude.{ℤ}
 use Rattle.std.specs.Arc.{arc_value}
 use Rattle.rw_types.specs.declared.place.Place.{Place}
 use Rattle.rw_shard_queue.specs.declared.item.Item.{Item}
 use Rattle.rw_shard_queue.specs.declared.item.Item.TheVariants as item
 use Rattle.rw_shard_queue.specs.Items.{Placed, samples_in, places_in}
+use Rattle.rw_shard_queue.specs.History.{IsFew}
 use Rattle.rw_fleet.specs.Lanes.{Lane, put_as, marks_in}
 use Rattle.rw_router.specs.declared.sample.RoutedSample.{RoutedSample}
 use Rattle.rw_fleet.specs.Work.{positions_in}
@@ -21,6 +22,10 @@ places_append [] ys = refl
 places_append (item.Sample p t w l ∷ xs) ys = ap (λ ps. p ∷ ps) (places_append xs ys)
 places_append (item.Flush ∷ xs) ys = places_append xs ys
 places_append (item.End k ∷ xs) ys = places_append xs ys
+
+-- with a sample more they are not too many
+pub few_more : (put : List Item) (p : Place) (t : ℤ) (w : _) (l : _) → length (places_in put) < 2 ^ 60 → IsFew (put ++ item.Sample p t w l ∷ [])
+few_more put p t w l below = let all = ap length (places_append put (item.Sample p t w l ∷ [])) in let sum = length-append (places_in put) (p ∷ []) in omega arith
 
 -- with an item more that is no sample
 pub samples_mark : (xs zs : List Item) (x : Item) → zs ≡ xs ++ x ∷ [] → samples_in (x ∷ []) ≡ [] → samples_in zs ≡ samples_in xs

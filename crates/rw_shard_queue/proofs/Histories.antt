@@ -6,7 +6,7 @@ use Rattle.rw_shard_queue.specs.declared.item.Kind.{Kind}
 use Rattle.rw_shard_queue.specs.declared.item.Item.{Item}
 use Rattle.rw_shard_queue.specs.declared.item.Item.TheVariants.{Sample, Flush, End}
 use Rattle.rw_shard_queue.specs.Items.{places_in, is_end}
-use Rattle.rw_shard_queue.specs.History.{IsNamed, IsNumbered, Rises, EndIsLast, IsHistory, MayFollow, IsOpen, IsEnded}
+use Rattle.rw_shard_queue.specs.History.{IsNamed, IsNumbered, Rises, EndIsLast, IsFew, IsHistory, MayFollow, IsOpen, IsEnded}
 use Rattle.rw_shard_queue.proofs.Lists.{get_snoc, get_front, get_below, cut_snoc, no_front, cut_not_nil}
 
 pub places_in-append : (xs ys : List Item) → places_in (xs ++ ys) ≡ places_in xs ++ places_in ys
@@ -34,7 +34,7 @@ history-mark epoch shard put x h open' none =
     }
 
 pub history-sample : (epoch shard : ℕ) (put : List Item) (x : Item) (p : Place) → IsHistory epoch shard put → IsOpen put → places_in (x ∷ []) ≡ p ∷ []
-    → p.epoch ≡ epoch → p.shard ≡ shard → p.seq ≡ length (places_in put) → length (places_in put) < 2 ^ 60 → ((k : ℕ) (o : Place) → slice_get (places_in put) k ≡ Some o → o.pos < p.pos) → IsHistory epoch shard (put ++ x ∷ [])
+    → p.epoch ≡ epoch → p.shard ≡ shard → p.seq ≡ length (places_in put) → IsFew (put ++ x ∷ []) → ((k : ℕ) (o : Place) → slice_get (places_in put) k ≡ Some o → o.pos < p.pos) → IsHistory epoch shard (put ++ x ∷ [])
 history-sample epoch shard put x p h open' one in_epoch in_shard next room later =
     let ps = places_in put in
     let same : places_in (put ++ x ∷ []) ≡ ps ++ p ∷ [] = places_in-append put (x ∷ []) ∙ ap (λ qs. ps ++ qs) one in record {
@@ -51,7 +51,7 @@ history-sample epoch shard put x p h open' one in_epoch in_shard next room later
         ]
       ]);
       ending = last-push put x open';
-      few = rw same (omega (arith, length-append ps (p ∷ [])));
+      few = room;
     }
 
 pub history-put : (epoch shard : ℕ) (put : List Item) (x : Item) → IsHistory epoch shard put → IsOpen put → MayFollow epoch shard put x → IsHistory epoch shard (put ++ x ∷ [])

@@ -22,18 +22,22 @@ Rises ps = (j k : ℕ) (p q : Place) → j < k → slice_get ps j ≡ Some p →
 abbrev pub EndIsLast : List Item → Type 0
 EndIsLast put = (before after : List Item) (kind : Kind) → put ≡ before ++ End kind ∷ after → after ≡ []
 
+-- so few samples that a queue may have had them all
+abbrev pub IsFew : List Item → Type 0
+IsFew put = length (places_in put) ≤ 2 ^ 60
+
 -- what may go through the queue of this shard of this epoch
 pub record IsHistory (epoch shard : ℕ) (put : List Item) : Type 0 where
   pub named : IsNamed epoch shard (places_in put)
   pub numbered : IsNumbered (places_in put)
   pub rising : Rises (places_in put)
   pub ending : EndIsLast put
-  pub few : length (places_in put) ≤ 2 ^ 60
+  pub few : IsFew put
 
--- the item may be put next: a sample of this queue, with the next number, below 2^60, and a later position; or a Flush
+-- the item may be put next: a sample of this queue, with the next number and a later position, by which the samples are not too many; or a Flush
 abbrev pub MayFollow : ℕ → ℕ → List Item → Item → Type 0
 MayFollow epoch shard put (Sample p t w labels) =
-    (p.epoch ≡ epoch) × (p.shard ≡ shard) × (p.seq ≡ length (places_in put)) × (length (places_in put) < 2 ^ 60)
+    (p.epoch ≡ epoch) × (p.shard ≡ shard) × (p.seq ≡ length (places_in put)) × IsFew (put ++ Sample p t w labels ∷ [])
     × ((k : ℕ) (o : Place) → slice_get (places_in put) k ≡ Some o → o.pos < p.pos)
 MayFollow epoch shard put Flush = ⊤
 MayFollow epoch shard put (End kind) = ⊥

@@ -7,7 +7,7 @@ use Rattle.rw_ruled_queue.specs.Ends.{QueueId}
 use Rattle.rw_shard_queue.specs.Items.{Placed, samples_in, places_in}
 use Rattle.rw_fleet.specs.Lanes.{Lane, put_as, marks_in}
 use Rattle.rw_fleet.specs.Positions.{Positions}
-use Rattle.rw_fleet.proofs.PutLemmas.{samples_more, positions_more, positions_length, as_put, marks_same_but}
+use Rattle.rw_fleet.proofs.PutLemmas.{few_more, samples_more, positions_more, positions_length, as_put, marks_same_but}
 use Rattle.rw_fleet.proofs.SoftLemmas.{unended_push}
 use Rattle.rw_fleet.proofs.running.Running.put.Goals as goal
 
@@ -21,7 +21,7 @@ pub put-requires : goal.put-requires
 put-requires g c =
     let i = c.self.invariant in
     let len : c.len-seq.result ≡ length (places_in c.self.inside.feed.put) = c.len-seq.ensures ∙ positions_length c.self.inside.feed.put _ i.0 in
-    (i.1, i.2, len, subst (λ n. n < 1152921504606846976) len c.if-seq.false, (λ k o at. c.requires.later k o (subst (λ (l : Lane). slice_get (places_in l.put) k ≡ Some o) c.self.view_is at)))
+    (i.1, i.2, len, few_more _ _ _ _ _ (subst (λ n. n < 1152921504606846976) len c.if-seq.false), (λ k o at. c.requires.later k o (subst (λ (l : Lane). slice_get (places_in l.put) k ≡ Some o) c.self.view_is at)))
 
 pub returns-clause-put : goal.returns-clause-put
 returns-clause-put g c =
