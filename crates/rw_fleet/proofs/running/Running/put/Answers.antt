@@ -1,4 +1,4 @@
-use mir.Val.{SFits}
+use mir.Val.{SFits, to_z, of_z}
 use mir.Syntax.{w64}
 use Rattle.std.proofs.Common.{rules, ◌≡◌, ◌<◌, Some, ◌∷◌, ◌++◌, [], length, refl, sym, ap, ◌∙◌, subst}
 use Rattle.std.proofs.lemmas.Int.{to_z-of_z}
@@ -21,7 +21,7 @@ pub put-requires : goal.put-requires
 put-requires g c =
     let i = c.self.invariant in
     let len : c.len-seq.result ≡ length (places_in c.self.inside.feed.put) = c.len-seq.ensures ∙ positions_length c.self.inside.feed.put _ i.0 in
-    (i.1, i.2, len, few_more _ _ _ _ _ (subst (λ n. n < 1152921504606846976) len c.if-seq.false), (λ k o at. c.requires.later k o (subst (λ (l : Lane). slice_get (places_in l.put) k ≡ Some o) c.self.view_is at)))
+    (i.1, i.2, len, few_more c.self.inside.feed.put (record { epoch = c.self.inside.epoch; shard = c.self.inside.shard; seq = c.len-seq.result; pos = c.args.sample.pos; series = c.args.sample.series }) (to_z w64 (of_z w64 c.args.sample.t)) c.args.sample.word c.args.sample.labels (subst (λ n. n < 1152921504606846976) len c.if-seq.false), (λ k o at. c.requires.later k o (subst (λ (l : Lane). slice_get (places_in l.put) k ≡ Some o) c.self.view_is at)))
 
 pub returns-clause-put : goal.returns-clause-put
 returns-clause-put g c =
