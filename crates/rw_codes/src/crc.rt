@@ -42,7 +42,7 @@ fn after_eight(code: u32, bytes: &[u8; 8]) -> u32
         ^ code_before_zeros(b7, 0)
 }
 
-/// The CRC-32C of the bytes (RFC 3720, appendix B.4). It takes no memory.
+/// The CRC-32C of `bytes` (RFC 3720, appendix B.4). This takes no memory.
 pub fn crc32c(bytes: &[u8]) -> u32
     ensures { result ≡ crc32c_of bytes.now }
 {

@@ -1,6 +1,6 @@
 //! The codes of the 256 bytes, each with none to seven zero bytes after it.
 
-/// `TABLES[zeros][byte]` is the code after `byte` and so many zero bytes, from a code of 0.
+/// `TABLES[zeros][byte]` is the code after `byte` and then `zeros` zero bytes, from a code of 0.
 pub static TABLES: [[u32; 256]; 8] = [
     [
         0x00000000, 0xF26B8303, 0xE13B70F7, 0x1350F3F4, 0xC79A971F, 0x35F1141C, 0x26A1E7E8,

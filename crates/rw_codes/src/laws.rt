@@ -1,4 +1,4 @@
-//! Laws of the codes and of the log's grammar, for the crates that read and write logs.
+//! Laws of the codes and of the log's grammar, for the crates that read and write logs. Each function has an empty body: its contract is the law.
 
 ghost use Rattle.std.specs.Prelude.{◌≡◌, ◌+◌, ◌^◌, ◌<◌, ◌≤◌, ◌++◌, ℕ, ℤ, List, [], ◌∷◌, map, length, Some, None, Ok, FitsSigned};
 ghost use Rattle.std.proofs.Common.{w64};
@@ -12,69 +12,69 @@ ghost use Rattle.rw_codes.specs.Writing.{log_bytes};
 ghost use Rattle.rw_codes.specs.Series.{labels_of};
 ghost use Rattle.rw_codes.specs.Laws.{Extends, AreBytes, AreRecords, log_all, reading_of_records, entries_of_records, AreTexts, AreSamples, sample_entry};
 
-/// A number of 64 bits is read again, whatever follows it.
+/// Law: a number below 2^64 is read back from its varint, whatever bytes follow.
 pub fn uvarint_is_read()
     ensures { (n : ℕ) (rest : List ℕ) → n < 2 ^ 64 → read_uvarint (uvarint n ++ rest) ≡ Ok (n, rest) }
 {}
 
-/// No other form of a number takes fewer bytes.
+/// Law: the varint of a number is its shortest form. No bytes that are read as that number are fewer.
 pub fn uvarint_is_shortest()
     ensures { (text rest : List ℕ) (n : ℕ) → AreBytes text → read_uvarint text ≡ Ok (n, rest) → length (uvarint n) + length rest ≤ length text }
 {}
 
-/// A signed number of 64 bits is read again, whatever follows it.
+/// Law: a signed number of 64 bits is read back from its ZigZag varint, whatever bytes follow.
 pub fn varint_is_read()
     ensures { (z : ℤ) (rest : List ℕ) → FitsSigned w64 z → read_varint (varint z ++ rest) ≡ Ok (z, rest) }
 {}
 
-/// Each number is the ZigZag number of just one signed number.
+/// Law: the ZigZag map is one to one, between all signed numbers and all natural ones.
 pub fn zig_zag_is_inverted()
     ensures signed { (z : ℤ) → un_zig_zag (zig_zag z) ≡ z }
     ensures unsigned { (n : ℕ) → zig_zag (un_zig_zag n) ≡ n }
 {}
 
-/// A series record holds its definition.
+/// Law: the series record of one definition is read as that definition.
 pub fn series_record_is_read()
     ensures { (reference : ℕ) (labels : Labels) → reference < 2 ^ 64 → length labels < 2 ^ 64 → AreTexts labels
         → record_entries (series_record reference labels) ≡ Some (Def reference labels ∷ []) }
 {}
 
-/// A sample record holds its samples.
+/// Law: the sample record of samples is read as these samples, in their order.
 pub fn sample_record_is_read()
     ensures { (samples : List (ℕ × ℤ × ℕ)) → AreSamples samples → record_entries (sample_record samples) ≡ Some (map sample_entry samples) }
 {}
 
-/// The records that a segment got one after the other are what is read of it.
+/// Law: the records that were written to a segment, one after the other, are what is read of it.
 pub fn records_are_read()
     ensures { (page : ℕ) (records : List (List ℕ)) → 7 < page → page < 2 ^ 16 → AreRecords records
         → reading page (bytes (log_all page 0 records) ∷ []) ≡ reading_of_records records }
 {}
 
-/// Of records that are of their form, their entries are read, and there is no fault.
+/// Law: of a segment with well-formed records the entries are read, in their order, and no fault.
 pub fn entries_are_read()
     ensures { (records : List (List ℕ)) (all : List Entry) → AreRecords records → entries_of_records records ≡ Some all
         → (entries (bytes (log_all page_size 0 records) ∷ []) ≡ all) × (fault (bytes (log_all page_size 0 records) ∷ []) ≡ None) }
 {}
 
-/// One more record goes behind what was written.
+/// Law: one more record adds its fragments at the end of a segment, and changes nothing before them.
 pub fn one_more_record()
     ensures { (page offset : ℕ) (records : List (List ℕ)) (d : List ℕ) → log_all page offset (records ++ d ∷ [])
         ≡ log_all page offset records ++ log_bytes page (offset + length (log_all page offset records)) d }
 {}
 
-/// As more of a log comes, what was read stays, and so does a fault.
+/// Law: as more of a log comes, what was read of it stays, and so does a fault.
 pub fn reading_goes_on()
     ensures { (page : ℕ) (pieces more : List Piece) → 0 < page → Extends (reading page pieces) (reading page (pieces ++ more)) }
 {}
 
-/// It does not matter how the bytes of a segment were cut into pieces.
+/// Law: it does not matter how the bytes of a segment are cut into pieces, and an empty piece changes nothing.
 pub fn cuts_do_not_matter()
     ensures cut { (page : ℕ) (before after : List Piece) (a b : List ℕ)
         → reading page (before ++ bytes a ∷ bytes b ∷ after) ≡ reading page (before ++ bytes (a ++ b) ∷ after) }
     ensures empty { (page : ℕ) (before after : List Piece) → reading page (before ++ bytes [] ∷ after) ≡ reading page (before ++ after) }
 {}
 
-/// What stands later in a log changes no labels below it.
+/// Law: entries that come later in a log do not change which labels a reference has below them.
 pub fn labels_stay()
     ensures { (all more : List Entry) (reference position : ℕ) → position ≤ length all
         → labels_of (all ++ more) reference position ≡ labels_of all reference position }

@@ -1,4 +1,4 @@
-//! The codes of a write-ahead log, and the grammar of the log as definitions that contracts cite.
+//! Varints, ZigZag numbers and CRC-32C, and the grammar of Prometheus' write-ahead log as definitions that contracts cite.
 #![tactic(auto)]
 
 mod code_fault;

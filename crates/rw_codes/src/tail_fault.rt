@@ -1,33 +1,33 @@
-//! Why a log can't be read further.
+//! Why a log cannot be read further.
 
 ghost use Rattle.std.specs.Prelude.{◌≡◌};
 ghost use Rattle.rw_codes.specs.Faults.{log_fault_number};
 
-/// Why the next entry of a log can't be given. Each but `OutOfMemory` is a fault of the log and stays.
+/// Why the next entry of a log cannot be given. Each fault but `OutOfMemory` is one of the log, and stays.
 #[derive(Clone, Copy, Debug, PartialEq, Eq)]
 pub enum TailFault {
-    /// No fault of the log: memory ran out, and the call may be made again.
+    /// Memory ran out, which is no fault of the log. The call may be made again.
     OutOfMemory,
-    /// No fragment has this type byte.
+    /// The type byte of a fragment is none that the format has.
     BadType,
-    /// A fragment passes the end of its page.
+    /// The length of a fragment passes the end of its page.
     BadLength,
-    /// The CRC-32C of a fragment's data is another one.
+    /// The CRC-32C in the header of a fragment is not that of its data.
     BadCrc,
-    /// The fragment is compressed, or its type byte has other flags.
+    /// A fragment is compressed, or other flags are set in its type byte.
     Compressed,
-    /// A byte of an empty rest of a page is not zero.
+    /// A byte is not zero in the rest of a page, where only zeros may stand.
     NonzeroPadding,
-    /// A fragment begins a record while one is open, or goes on with one while none is.
+    /// A fragment begins a record while one is open, or continues one while none is.
     Sequence,
-    /// A record of series or samples is not of its form.
+    /// A record of series or of samples is not well-formed.
     BadRecord,
-    /// The next segment begins inside a record.
+    /// A segment ends inside a record, and the next one begins.
     TornSegment,
 }
 
 impl TailFault {
-    /// The number by which a fault is known in text, from 1 to 8; 0 for want of memory, which is no fault of the log.
+    /// The number that stands for the fault in text: 1 to 8, and 0 for `OutOfMemory`, which is no fault of the log.
     pub fn number(self) -> u8
         ensures { result ≡ log_fault_number self }
     {

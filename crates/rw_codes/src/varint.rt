@@ -7,7 +7,7 @@ ghost use Rattle.rw_codes.specs.Varint.{uvarint, read_uvarint, varint, read_vari
 use crate::code_fault::CodeFault;
 use std::alloc::AllocError;
 
-/// The ZigZag number of a signed one.
+/// The ZigZag number of a signed number.
 #[inline]
 fn zig_zag_number(z: i64) -> u64
     ensures { result ≡ zig_zag z }
@@ -20,7 +20,7 @@ fn zig_zag_number(z: i64) -> u64
     }
 }
 
-/// The signed number of a ZigZag one.
+/// The signed number that has this ZigZag number.
 #[inline]
 fn signed_number(n: u64) -> i64
     ensures { result ≡ un_zig_zag n }
@@ -29,7 +29,7 @@ fn signed_number(n: u64) -> i64
     if n % 2 == 0 { half } else { -1 - half }
 }
 
-/// How many bytes the shortest form of the number takes: one to ten.
+/// How many bytes the varint of `n` takes in its shortest form: one to ten.
 #[inline]
 pub fn uvarint_len(n: u64) -> usize
     ensures exact { result ≡ length (uvarint n) }
@@ -41,7 +41,7 @@ pub fn uvarint_len(n: u64) -> usize
     1 + ((63 - n.leading_zeros()) / 7) as usize
 }
 
-/// Writes the shortest form of the number at the end, where there is room for it ("Base 128 Varints").
+/// Appends the varint of `n`, in its shortest form, to a vector that has room for it ("Base 128 Varints"). This takes no memory.
 pub fn push_uvarint(out: &mut Vec<u8>, n: u64)
     requires room { vec_len out.old + length (uvarint n) ≤ vec_capacity out.old }
     ensures items { out.new.items ≡ out.old.items ++ uvarint n }
@@ -55,7 +55,7 @@ pub fn push_uvarint(out: &mut Vec<u8>, n: u64)
     out.push_reserved(rest as u8);
 }
 
-/// Makes room for the shortest form of the number.
+/// Makes room for the varint of `n` in its shortest form.
 fn reserve_for(out: &mut Vec<u8>, n: u64) -> Result<(), AllocError>
     ensures items { out.new.items ≡ out.old.items }
     ensures ok { OnOk result (vec_len out.new + length (uvarint n) ≤ vec_capacity out.new) }
@@ -80,7 +80,8 @@ fn put_groups(out: &mut Vec<u8>, n: u64) -> Result<(), AllocError>
     Ok(())
 }
 
-/// Writes the shortest form of the number at the end ("Base 128 Varints"). Memory is refused only where the vector has no room for it.
+/// Appends the varint of `n`, in its shortest form ("Base 128 Varints"). Memory can run out only where the vector has no room for it; an `Err`
+/// leaves its bytes as they were.
 #[inline]
 pub fn put_uvarint(out: &mut Vec<u8>, n: u64) -> Result<(), AllocError>
     ensures ok { OnOk result (out.new.items ≡ out.old.items ++ uvarint n) }
@@ -120,7 +121,7 @@ fn get_groups(bytes: &[u8]) -> Result<(u64, usize), CodeFault>
     Err(CodeFault::Short)
 }
 
-/// Reads the number at the front, and how many bytes it takes: one to ten, also where fewer would do ("Base 128 Varints").
+/// Reads the varint at the front of `bytes` ("Base 128 Varints"): its number, and how many bytes it takes. These are one to ten, also where fewer would do.
 // Most numbers of a log take one byte or two, so these are read where the call stands.
 #[inline]
 pub fn get_uvarint(bytes: &[u8]) -> Result<(u64, usize), CodeFault>
@@ -138,7 +139,8 @@ pub fn get_uvarint(bytes: &[u8]) -> Result<(u64, usize), CodeFault>
     get_groups(bytes)
 }
 
-/// Writes the shortest form of the signed number at the end ("Signed Integers", ZigZag). Memory is refused as by `put_uvarint`.
+/// Appends the ZigZag varint of `z`, in its shortest form ("Signed Integers"). Memory can run out only where the vector has no room for it; an
+/// `Err` leaves its bytes as they were.
 #[inline]
 pub fn put_varint(out: &mut Vec<u8>, z: i64) -> Result<(), AllocError>
     ensures ok { OnOk result (out.new.items ≡ out.old.items ++ varint z) }
@@ -148,7 +150,7 @@ pub fn put_varint(out: &mut Vec<u8>, z: i64) -> Result<(), AllocError>
     put_uvarint(out, zig_zag_number(z))
 }
 
-/// Reads the signed number at the front, and how many bytes it takes ("Signed Integers", ZigZag). It refuses what `get_uvarint` refuses.
+/// Reads the ZigZag varint at the front of `bytes` ("Signed Integers"): its signed number, and how many bytes it takes. The errors are those of `get_uvarint`.
 #[inline]
 pub fn get_varint(bytes: &[u8]) -> Result<(i64, usize), CodeFault>
     ensures ok { IfOk result (λ x. read_varint bytes.now ≡ Ok (x.0, drop x.1 bytes.now)) }

@@ -1,4 +1,4 @@
-//! Digits and their pairs.
+//! Hexadecimal digits and their pairs.
 
 ghost use Rattle.std.specs.Prelude.{◌≡◌, ◌<◌, IfOk, IfSome};
 ghost use Rattle.std.specs.Option.{option_map};
@@ -6,7 +6,7 @@ ghost use Rattle.rw_hex.specs.HexText.{digit_value, is_digit, is_foreign, values
 
 use std::alloc::{AllocError, Global};
 
-/// The value of a digit.
+/// The value of a digit, `0` to `9` or `a` to `f`.
 pub(crate) fn digit_value(c: u8) -> Option<u8>
     ensures value { result ≡ digit_value c }
     ensures small { IfSome result (λ v. v < 16) }

@@ -1,4 +1,4 @@
-//! Why a text was not read.
+//! Why a hexadecimal text was not read.
 
 use std::alloc::AllocError;
 
@@ -7,7 +7,7 @@ use std::alloc::AllocError;
 pub enum HexFault {
     /// Memory ran out.
     OutOfMemory,
-    /// This line, counted from 1, has the first character that is neither a digit nor white space, or else the last digit of an odd number.
+    /// The line, counted from 1, of the first character that is neither a digit nor white space; or else of the last digit, where their number is odd.
     Line(u64),
 }
 

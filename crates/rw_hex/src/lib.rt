@@ -1,4 +1,4 @@
-//! Hexadecimal text of bytes, in lower case.
+//! Bytes as hexadecimal text in lower case, and such text as bytes.
 #![tactic(auto)]
 
 mod digits;

@@ -1,11 +1,11 @@
-//! Bytes as hexadecimal text.
+//! Bytes written as hexadecimal text.
 
 ghost use Rattle.std.specs.Prelude.{◌≡◌, IfOk, string_bytes};
 ghost use Rattle.rw_hex.specs.HexText.{hex_text};
 
 use std::alloc::{AllocError, Global};
 
-/// The text of some bytes: two lower case digits for each, and nothing else.
+/// The hexadecimal text of `bytes`: two lower case digits for each byte, and nothing else.
 pub fn to_text(alloc: Global, bytes: &[u8]) -> Result<String, AllocError>
     ensures { IfOk result (λ text. string_bytes text ≡ hex_text bytes.now) }
 {

@@ -1,4 +1,4 @@
-//! A list of what has happened, which only contracts see. It has no bytes, and its methods do nothing when the program runs.
+//! A list of what has happened, for contracts alone: it takes no bytes, and its methods do nothing when the program runs.
 #![tactic(auto)]
 
 ghost use Rattle.std.specs.Prelude.{◌≡◌, List, [], ◌∷◌, ◌++◌};
@@ -9,10 +9,10 @@ use crate::record::{Record, record_of};
 use logbook::Opening;
 use std::marker::Model;
 
-/// Contracts see it as the list of the items so far. The items themselves are not kept, and may be dropped or changed.
+/// The items so far, as a list that only contracts see. The items themselves are not kept, and may be dropped or changed.
 ///
-/// A history of what was written, sent or fed says what the clauses of its owner's methods say, and no more:
-/// each method that adds an item, or leaves the history alone, has to ensure so.
+/// A history of what was written, sent or fed is as good as the clauses of its owner's methods: each method that adds an item, or leaves the
+/// history alone, has to ensure so.
 pub struct History<T> {
     items: Record<T>,
 }
@@ -24,13 +24,14 @@ impl<T> Model for History<T> {
 }
 
 impl<T> History<T> {
+    /// An empty history.
     pub fn new() -> History<T>
         ensures { result ≡ [] }
     {
         History::of(&[])
     }
 
-    /// The items of a slice. A `History<u8>` so made stands for the bytes in an item of another history.
+    /// A history of the items of a slice, in order. A `History<u8>` so made stands for the bytes in an item of another history.
     pub fn of(items: &[T]) -> History<T>
         ensures { result ≡ items.now }
     {
@@ -39,19 +40,21 @@ impl<T> History<T> {
         }
     }
 
+    /// Appends `item`, which is borrowed and not kept.
     pub fn push(&mut self, item: &T)
         ensures { self.new ≡ self.old ++ item.now ∷ [] }
     {
         self.items = record_of::<(&Record<T>, &T), T, Pushed>(&(&self.items, item));
     }
 
+    /// Appends the items of a slice, in order.
     pub fn extend(&mut self, items: &[T])
         ensures { self.new ≡ self.old ++ items.now }
     {
         self.items = record_of::<(&Record<T>, &[T]), T, Extended>(&(&self.items, items));
     }
 
-    /// A second history, with the same items.
+    /// A second history with the items of this one.
     pub fn again(&self) -> History<T>
         ensures { result ≡ self.now }
     {

@@ -13,7 +13,7 @@ pub(crate) fn after<'a>(text: &'a [u8], beginning: &[u8]) -> Option<&'a [u8]>
     text.strip_prefix(beginning)
 }
 
-/// The texts before and behind the first of these bytes, where the text has one.
+/// The texts before and after the first `byte` in `text`; `None` where there is none.
 pub fn split_at_byte(text: &[u8], byte: u8) -> Option<(&[u8], &[u8])>
     ensures { MatchOption result
         ((front rest : List ℕ) → text.now ≡ front ++ byte ∷ rest → ⊥)

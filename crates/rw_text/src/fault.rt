@@ -7,7 +7,7 @@ use std::alloc::AllocError;
 pub enum TextFault {
     /// Memory ran out.
     OutOfMemory,
-    /// The text is not of the form.
+    /// The text does not have the form that the call reads.
     NotOfForm,
 }
 

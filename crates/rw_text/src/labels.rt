@@ -71,7 +71,7 @@ impl LabelReader {
         }
     }
 
-    /// Reads the label with which a text begins, and answers what follows it.
+    /// Reads the label with which a text begins, and returns what follows it.
     fn read_label<'a>(&mut self, text: &'a [u8]) -> Result<&'a [u8], TextFault>
         ensures ok { IfOk result (λ rest. (l : Label) × (self.new.labels ≡ self.old.labels ++ l ∷ []) × (text.now ≡ label_text l ++ rest.now)) }
         ensures err { result ≡ Err TextFault.NotOfForm → (l : Label) (rest : List ℕ) → text.now ≡ label_text l ++ rest → ⊥ }
@@ -94,7 +94,7 @@ impl LabelReader {
     }
 }
 
-/// The labels that a text in braces names. A name that could be bare must not be in quotes.
+/// Reads labels in braces: `{name="value",..}`. In quotes `\\`, `\"` and `\n` stand for backslash, quote and LF; a name that can stand without quotes must.
 pub fn read_labels(alloc: Global, text: &[u8]) -> Result<RawLabels, TextFault>
     ensures ok { IfOk result (λ ls. text.now ≡ labels_text ls) }
     ensures err { result ≡ Err TextFault.NotOfForm → (ls : Labels) → text.now ≡ labels_text ls → ⊥ }

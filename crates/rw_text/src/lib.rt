@@ -1,4 +1,4 @@
-//! The text forms of numbers, values, labels and logs: readers and printers.
+//! Readers and printers of the text forms of numbers, values, labels and log lines.
 #![tactic(auto)]
 
 mod bytes;

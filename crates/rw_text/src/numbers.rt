@@ -17,7 +17,7 @@ fn with_digit(front: u64, digit: u8) -> Option<u64>
     front.checked_mul(10)?.checked_add((digit - b'0') as u64)
 }
 
-/// A number below 2^64 in decimal digits, of which the first ones may be zeros.
+/// Reads decimal digits, zeros in front allowed, as a number below 2^64; `None` for any other text.
 pub fn read_number(text: &[u8]) -> Option<u64>
     ensures { MatchOption result ((n : ℕ) → n < 2 ^ 64 → IsNumber text.now n → ⊥) (IsNumber text.now) }
 {
@@ -37,7 +37,7 @@ pub fn read_number(text: &[u8]) -> Option<u64>
     Some(number)
 }
 
-/// A number from -2^63 to 2^63 - 1 in decimal digits, which may stand behind one minus.
+/// Reads decimal digits, with or without a minus before them, as a number from -2^63 to 2^63 - 1; `None` for any other text.
 pub fn read_integer(text: &[u8]) -> Option<i64>
     ensures { MatchOption result ((z : ℤ) → FitsSigned w64 z → IsInteger text.now z → ⊥) (IsInteger text.now) }
 {
@@ -47,7 +47,7 @@ pub fn read_integer(text: &[u8]) -> Option<i64>
     }
 }
 
-/// Adds the decimal digits of a number at the end, without zeros before them. An `Err` leaves `out` as it was.
+/// Appends the decimal digits of `n`, without zeros in front. An `Err` leaves `out` as it was.
 pub fn push_number(out: &mut Vec<u8>, n: u64) -> Result<(), AllocError>
     ensures ok { OnOk result (out.new.items ≡ out.old.items ++ decimal n) }
     ensures err { OnErr result (out.new.items ≡ out.old.items) }
@@ -56,7 +56,7 @@ pub fn push_number(out: &mut Vec<u8>, n: u64) -> Result<(), AllocError>
     out.extend_from_slice(buffer.format(n).as_bytes())
 }
 
-/// Adds the decimal digits of a number at the end, behind a minus where it is negative. An `Err` leaves `out` as it was.
+/// Appends the decimal digits of `z`, with a minus before them where it is negative. An `Err` leaves `out` as it was.
 pub fn push_integer(out: &mut Vec<u8>, z: i64) -> Result<(), AllocError>
     ensures ok { OnOk result (out.new.items ≡ out.old.items ++ signed_decimal z) }
     ensures err { OnErr result (out.new.items ≡ out.old.items) }

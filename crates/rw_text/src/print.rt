@@ -1,4 +1,4 @@
-//! Labels printed.
+//! Labels, printed.
 
 ghost use Rattle.std.specs.Prelude.{◌≡◌, ◌++◌, ◌∷◌, [], OnOk, OnErr, map, flat_map};
 ghost use Rattle.rw_types.specs.Labels.{text_label};
@@ -101,7 +101,7 @@ fn put_labels(out: &mut Vec<u8>, labels: &[(String, String)]) -> Result<(), Allo
     }
 }
 
-/// Adds the labels of a label set at the end: `{name="value",..}`. An `Err` leaves `out` as it was.
+/// Appends the labels of a label set: `{name="value",..}`. A name that needs them stands in quotes. An `Err` leaves `out` as it was.
 pub fn push_labels(out: &mut Vec<u8>, labels: &LabelSet) -> Result<(), AllocError>
     ensures ok { OnOk result (out.new.items ≡ out.old.items ++ labels_text labels.now) }
     ensures err { OnErr result (out.new.items ≡ out.old.items) }

@@ -1,14 +1,14 @@
-//! Readers and writers that may fail, and then stay failed.
+//! Readers and writers of bytes, which may fail and then stay failed.
 
 ghost use Rattle.std.specs.Prelude.{◌≡◌, ℕ, ◌+◌, ◌<◌, ◌≤◌, List, Bool, true, false, not, length, Option, is_ok, IsOk, IfOk};
 ghost use Rattle.std.specs.Io.{ReadsAtMost, WritesAtMost};
 ghost use Rattle.std.specs.Io.KnownBytes.{ReadConsumes, WriteAppends};
 
-/// The device failed, in this call or an earlier one.
+/// The error of a device: it failed, in this call or an earlier one.
 #[derive(Clone, Copy, Debug, PartialEq, Eq)]
 pub struct Failed;
 
-/// A reader of bytes. Its failure stays: after one `Err` each later call answers `Err`.
+/// A reader of bytes. A failure stays: after one `Err` each later call returns `Err`.
 pub trait Source {
     /// The bytes that reads will give from here on, where they are known.
     ghost remaining: { Self → Option (List ℕ) };
@@ -17,7 +17,7 @@ pub trait Source {
     /// Whether no read from here on fails.
     ghost is_sure: { Self → Bool };
 
-    /// Reads some bytes into the front of the buffer, and answers how many. `Ok(0)` into a buffer that is not empty is the end of the input.
+    /// Reads some bytes into the front of `buf`, and returns how many. `Ok(0)` for a buffer that is not empty is the end of the input.
     fn read(&mut self, buf: &mut [u8]) -> Result<usize, Failed>
         ensures bound { ReadsAtMost result buf.new }
         ensures bytes { ReadConsumes (remaining self.old) (remaining self.new) result buf.new }
@@ -27,7 +27,7 @@ pub trait Source {
         ensures sure_stays { is_sure self.old ≡ true → is_sure self.new ≡ true };
 }
 
-/// A writer of bytes. Its failure stays: after one `Err` each later call with a byte to write answers `Err`.
+/// A writer of bytes. A failure stays: after one `Err` each later call returns `Err`.
 pub trait Sink {
     /// The bytes that it holds, where they are known.
     ghost contents: { Self → Option (List ℕ) };
@@ -36,7 +36,7 @@ pub trait Sink {
     /// How many more bytes it surely takes, while it has not failed.
     ghost room: { Self → ℕ };
 
-    /// Writes a beginning of the bytes, at least one where there is one, and answers how many. An `Err` has written nothing.
+    /// Writes a beginning of `bytes`, at least one byte where there is one, and returns how many. An `Err` has written nothing.
     fn write(&mut self, bytes: &[u8]) -> Result<usize, Failed>
         ensures bound { WritesAtMost result bytes.now }
         ensures bytes { WriteAppends (contents self.old) (contents self.new) result bytes.now }

@@ -1,4 +1,4 @@
-//! What the records of a log hold.
+//! The entries of a write-ahead log.
 
 ghost use Rattle.std.specs.Prelude.{◌≡◌, IfOk};
 
@@ -9,14 +9,14 @@ use std::alloc::{AllocError, Global};
 /// An entry of a write-ahead log: the definition of a series, or a sample.
 #[derive(Debug, Drop)]
 pub enum Entry {
-    /// From here on the reference stands for the series with these labels.
+    /// Defines a series: from here on `reference` stands for the series with these labels.
     Def { reference: u64, labels: RawLabels },
-    /// A sample of the series that its reference stands for. `t` is in milliseconds since the Unix epoch.
+    /// A sample of the series that `reference` stands for: its time `t` in milliseconds since the Unix epoch, and its value `word`.
     Sample { reference: u64, t: i64, word: Word },
 }
 
 impl Entry {
-    /// The same entry once more.
+    /// A copy of the entry.
     pub fn copy(&self, alloc: Global) -> Result<Entry, AllocError>
         ensures { IfOk result (λ e. e ≡ self.now) }
     {

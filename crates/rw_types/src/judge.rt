@@ -1,4 +1,4 @@
-//! The judgement of labels, which takes no memory.
+//! Checks of labels, which take no memory.
 
 ghost use Rattle.std.specs.Prelude.{◌≡◌, map, nat_lt, sum_by};
 ghost use Rattle.std.specs.List.{list_all};
@@ -59,7 +59,7 @@ fn is_label_name(name: &[u8]) -> bool
     }
 }
 
-/// Whether the name could be that of a metric: `[a-zA-Z_:][a-zA-Z0-9_:]*`.
+/// Whether `name` matches `[a-zA-Z_:][a-zA-Z0-9_:]*`, as legacy metric names do (data model of Prometheus).
 pub fn is_metric_name(name: &[u8]) -> bool
     ensures { result ≡ is_metric_name name.now }
 {
@@ -127,7 +127,7 @@ fn are_sorted<L: LabelBytes>(labels: &[L]) -> bool
     true
 }
 
-/// Whether names and values have more than so many bytes together.
+/// Whether names and values have more than `most` bytes together.
 pub(crate) fn are_longer_than<L: LabelBytes>(labels: &[L], most: usize) -> bool
     ensures { result ≡ nat_lt most (sum_by (λ l. label_len (L.shown l)) labels.now) }
 {
@@ -142,7 +142,7 @@ pub(crate) fn are_longer_than<L: LabelBytes>(labels: &[L], most: usize) -> bool
     false
 }
 
-/// What is wrong with the labels, if anything is, where such names are taken.
+/// The first fault of the labels, in the order of `LabelFault`; `None` where they are a label set. `names` says which names are accepted.
 pub(crate) fn fault_of<L: LabelBytes>(names: Names, labels: &[L]) -> Option<LabelFault>
     ensures { result ≡ label_fault names (map L.shown labels.now) }
 {

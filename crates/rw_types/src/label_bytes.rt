@@ -27,7 +27,7 @@ fn is_utf8_text(bytes: &[u8]) -> bool
     str::from_utf8(bytes).is_ok()
 }
 
-// Every text is.
+// A `str` is UTF-8 by its type.
 fn is_utf8_string(text: &str) -> bool
     ensures { result ≡ is_utf8 text.now }
 {

@@ -1,4 +1,4 @@
-//! Label sets, which are what a series is.
+//! Label sets, which identify series.
 
 ghost use Rattle.std.specs.Prelude.{◌≡◌, ◌≢◌, ◌↔◌, Some, IfOk, IfErr, IfSome, MatchOption, OnOk, map, take, true, string_bytes, length, vec_len, nat_lt, ◌||◌, ◌++◌, ◌≤◌, []};
 ghost use Rattle.std.specs.Str.{is_utf8};
@@ -18,9 +18,10 @@ use std::cmp::Ordering;
 use std::hash::{Hash, Hasher};
 use std::marker::Model;
 
-/// Labels that name one series: sorted by name, none twice, none empty, and within the limits. Their names are such as
-/// were taken when it was made, and any text of UTF-8 at most. Contracts see the list of (name, value), and two label
-/// sets are equal where these lists are.
+/// The labels that identify one series: sorted by name in byte order, no name twice, no name or value empty, at most `MAX_LABELS` labels and
+/// `MAX_LABEL_BYTES` bytes. The names are of the form that was asked for when the set was made, and UTF-8 in any case.
+///
+/// Contracts see the list of (name, value); two label sets are equal where these lists are.
 #[derive(Debug, Drop)]
 pub struct LabelSet {
     labels: Vec<(String, String)>,
@@ -146,8 +147,8 @@ impl LabelSet {
         }
     }
 
-    /// Becomes the label set of these labels, where such names are taken, in the room that it has as far as it goes. It stays
-    /// where the labels have a fault, which is found before memory is taken, and it is empty after memory ran out.
+    /// Overwrites the set with the label set of `labels`, in the memory that it has as far as that goes. `names` says which names are accepted.
+    /// The first fault of the labels, found before memory is taken, leaves the set as it was; after `OutOfMemory` it is empty.
     pub fn assign(&mut self, names: Names, labels: &[(String, String)]) -> Result<(), LabelFault>
         ensures ok { OnOk result (self.new ≡ map text_label labels.now) }
         ensures label_set { OnOk result (IsLabelSet names (map text_label labels.now)) }
@@ -165,15 +166,14 @@ impl LabelSet {
         Ok(())
     }
 
-    /// Whether there are more than so many labels, or more than so many bytes of names and values together.
+    /// Whether there are more than `max_labels` labels, or more than `max_bytes` bytes of names and values together.
     pub fn is_over(&self, max_labels: usize, max_bytes: usize) -> bool
         ensures { result ≡ (nat_lt max_labels (length self.now) || nat_lt max_bytes (text_len self.now)) }
     {
         self.labels.len() > max_labels || are_longer_than(self.labels.as_slice(), max_bytes)
     }
 
-    /// The label set of these labels with legacy names, or the first fault that keeps them from being one. A fault of the
-    /// labels is found before memory is taken.
+    /// The label set of `labels`, with legacy names, or the first fault that keeps them from being one. A fault of the labels is found before memory is taken.
     pub fn check(alloc: Global, labels: &RawLabels) -> Result<LabelSet, LabelFault>
         ensures ok { IfOk result (λ s. s ≡ labels.now) }
         ensures label_set { IfOk result (λ _. IsLabelSet Legacy labels.now) }
@@ -182,8 +182,8 @@ impl LabelSet {
         LabelSet::check_as(alloc, Names::Legacy, labels)
     }
 
-    /// The label set of these labels, where such names are taken, or the first fault that keeps them from being one. A fault
-    /// of the labels is found before memory is taken.
+    /// The label set of `labels`, or the first fault that keeps them from being one; `names` says which names are accepted. A fault of the labels
+    /// is found before memory is taken.
     pub fn check_as(alloc: Global, names: Names, labels: &RawLabels) -> Result<LabelSet, LabelFault>
         ensures ok { IfOk result (λ s. s ≡ labels.now) }
         ensures label_set { IfOk result (λ _. IsLabelSet names labels.now) }
@@ -198,7 +198,7 @@ impl LabelSet {
         })
     }
 
-    /// The labels as (name, value), in the order of their names.
+    /// The labels as (name, value), sorted by name in byte order.
     pub fn as_slice(&self) -> &[(String, String)]
         ensures labels { map text_label result.now ≡ self.now }
         ensures label_set { IsLabelSet Utf8 self.now }
@@ -217,7 +217,7 @@ impl PartialEq for LabelSet {
 
     ghost laws = { partial_equiv_from_equiv (eq_by_cmp_equiv labels_cmp-total) };
 
-    // Texts are compared for equality many bytes at a time, and for their order with more ado.
+    // Texts are compared for equality many bytes at a time, which is quicker than to ask for their order.
     fn eq(&self, other: &LabelSet) -> bool {
         self.labels == other.labels
     }
@@ -276,12 +276,12 @@ impl Hash for LabelSet {
     }
 }
 
-/// Two lists of labels are the same exactly where the order of label sets does not tell them apart.
+/// Law: the order of label sets calls two lists of labels equal exactly where they are the same list. The call does nothing.
 pub fn equal_where_same()
     ensures { (a b : Labels) → (is_eq (labels_cmp a b) ≡ true) ↔ (a ≡ b) }
 {}
 
-/// Where any name is taken, no name is a bad one, and labels with legacy names are a label set as before.
+/// Law: with `Names::Utf8` no name is a bad one, and labels that are a label set with legacy names still are one. The call does nothing.
 pub fn utf8_takes_any_name()
     ensures no_bad_name { (labels : Labels) → label_fault Utf8 labels ≢ Some BadName }
     ensures legacy { (labels : Labels) → IsLabelSet Legacy labels → IsLabelSet Utf8 labels }

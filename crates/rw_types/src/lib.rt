@@ -1,4 +1,4 @@
-//! Words, labels, entries, places and devices: what the crates of the shipper and of the receiving head have in common.
+//! Types that the sender and the receiver have in common: values, labels and label sets, log entries, places of samples, readers and writers.
 #![tactic(auto)]
 
 mod bounded;

@@ -1,16 +1,16 @@
 //! Where a sample stands in the sender.
 
-/// The place of a sample that was put into a queue.
+/// The place of a sample that was put into the queue of a shard, and its position in the log.
 #[derive(Clone, Copy, Debug, PartialEq, Eq)]
 pub struct Place {
-    /// How often the number of shards has changed before.
+    /// How often the number of shards had changed before the sample was put.
     pub epoch: u64,
-    /// The shard, from 0, of that epoch.
+    /// The shard in that epoch, counted from 0.
     pub shard: u32,
-    /// The number of samples that were put into that shard of that epoch before.
+    /// How many samples were put into that shard in that epoch before this one.
     pub seq: u64,
-    /// The index, from 0, of its entry in the log.
+    /// The position of its entry in the log, counted from 0.
     pub pos: u64,
-    /// The number, from 0, of its series in the order in which label sets were first kept.
+    /// The number of its series, counted from 0 in the order in which label sets were first kept.
     pub series: u64,
 }

@@ -1,4 +1,4 @@
-//! Labels as they stand in a log, before anybody has judged them.
+//! Labels as they stand in a log, not yet checked.
 
 ghost use Rattle.std.specs.Prelude.{◌≡◌, ◌↔◌, ◌++◌, [], ◌∷◌, length, IsTrue, IfOk, OnOk, OnErr, map};
 ghost use Rattle.rw_types.specs.Labels.{bytes_label};
@@ -6,7 +6,7 @@ ghost use Rattle.rw_types.specs.Labels.{bytes_label};
 use std::alloc::{AllocError, Global};
 use std::marker::Model;
 
-/// Labels in any order, whose names and values are any bytes. Contracts see the list of (name, value).
+/// Labels that were not checked: in any order, with any bytes as names and values. Contracts see the list of (name, value).
 #[derive(Debug, Drop)]
 pub struct RawLabels {
     list: Vec<(Vec<u8>, Vec<u8>)>,
@@ -22,7 +22,7 @@ impl Model for RawLabels {
 }
 
 impl RawLabels {
-    /// No labels. This takes no memory.
+    /// An empty list of labels. This takes no memory.
     pub fn new(alloc: Global) -> RawLabels
         ensures { result ≡ [] }
     {
@@ -31,7 +31,7 @@ impl RawLabels {
         }
     }
 
-    /// Adds a label at the end.
+    /// Appends a label. An `Err` leaves the list as it was.
     pub fn push(&mut self, name: &[u8], value: &[u8]) -> Result<(), AllocError>
         ensures ok { OnOk result (self.new ≡ self.old ++ (name.now, value.now) ∷ []) }
         ensures err { OnErr result (self.new ≡ self.old) }
@@ -43,7 +43,7 @@ impl RawLabels {
         Ok(())
     }
 
-    /// The same labels once more.
+    /// A copy of the list.
     pub fn copy(&self, alloc: Global) -> Result<RawLabels, AllocError>
         ensures { IfOk result (λ l. l ≡ self.now) }
     {
@@ -55,19 +55,21 @@ impl RawLabels {
         Ok(copy)
     }
 
+    /// How many labels there are.
     pub fn len(&self) -> usize
         ensures { result ≡ length self.now }
     {
         self.list.len()
     }
 
+    /// Whether there are no labels.
     pub fn is_empty(&self) -> bool
         ensures { IsTrue result ↔ (self.now ≡ []) }
     {
         self.list.is_empty()
     }
 
-    /// The labels as (name, value), in their order.
+    /// The labels as (name, value), in the order in which they were appended.
     pub fn as_slice(&self) -> &[(Vec<u8>, Vec<u8>)]
         ensures { map bytes_label result.now ≡ self.now }
     {

@@ -1,4 +1,4 @@
-//! The host and the path of the requests that carry messages.
+//! The host and the path that HTTP requests name.
 
 ghost use Rattle.std.specs.Prelude.{◌≡◌, ◌==◌, ◌&&◌, nat_le, length, Some, None, true, codes, IfOk, string_bytes, if◌then◌else◌};
 ghost use Rattle.std.specs.List.{list_all};
@@ -11,7 +11,7 @@ use std::marker::Model;
 /// The most bytes of a host name, and of a path.
 const MAX_BYTES: usize = 255;
 
-/// The host that requests name, as their field `Host` has it, with a port or without. Contracts see its bytes.
+/// The value of the field `Host` of requests, with a port or without: 1 to 255 bytes, each from `!` to `~`. Contracts see its bytes.
 #[derive(Debug, Drop)]
 pub struct HostName {
     text: String,
@@ -28,7 +28,7 @@ impl Model for HostName {
     ghost invariant = { λ h. is_host_name (string_bytes h.text) ≡ true };
 }
 
-/// The path that requests name, with its query if it has one. Contracts see its bytes.
+/// The path of requests, with its query if it has one: 1 to 255 bytes, first `/`, then ASCII letters, digits and `/-._~%?=&`. Contracts see its bytes.
 #[derive(Debug, Drop)]
 pub struct RequestPath {
     text: String,
@@ -104,14 +104,14 @@ fn is_request_path(text: &[u8]) -> bool
 }
 
 impl HostName {
-    /// Whether the text has 1 to 255 bytes, each of `!` to `~`.
+    /// Whether `text` may be a host name: 1 to 255 bytes, each from `!` to `~`.
     pub fn is_host(text: &str) -> bool
         ensures { result ≡ is_host_name text.now }
     {
         is_host_name(text.as_bytes())
     }
 
-    /// The host of this text, where it is one. This takes no memory.
+    /// The host name with this text; `None` where `is_host` refuses it. This takes no memory.
     pub fn check(text: String) -> Option<HostName>
         ensures { result ≡ (if is_host_name (string_bytes text) then Some (string_bytes text) else None) }
     {
@@ -122,7 +122,7 @@ impl HostName {
         }
     }
 
-    /// Port 9090 of this machine, where Prometheus listens by default.
+    /// `localhost:9090`: the port of this machine at which Prometheus listens by default.
     pub fn local_prometheus(alloc: Global) -> Result<HostName, AllocError>
         ensures { IfOk result (λ h. h ≡ codes "localhost:9090") }
     {
@@ -131,6 +131,7 @@ impl HostName {
         })
     }
 
+    /// The host name as text.
     pub fn as_str(&self) -> &str
         ensures text { result.now ≡ self.now }
         ensures host { is_host_name result.now ≡ true }
@@ -140,14 +141,14 @@ impl HostName {
 }
 
 impl RequestPath {
-    /// Whether the text has 1 to 255 bytes, of which the first is `/` and each other one an ASCII letter, an ASCII digit or one of `/-._~%?=&`.
+    /// Whether `text` may be a path: 1 to 255 bytes, of which the first is `/` and each other one an ASCII letter, an ASCII digit or one of `/-._~%?=&`.
     pub fn is_path(text: &str) -> bool
         ensures { result ≡ is_request_path text.now }
     {
         is_request_path(text.as_bytes())
     }
 
-    /// The path of this text, where it is one. This takes no memory.
+    /// The path with this text; `None` where `is_path` refuses it. This takes no memory.
     pub fn check(text: String) -> Option<RequestPath>
         ensures { result ≡ (if is_request_path (string_bytes text) then Some (string_bytes text) else None) }
     {
@@ -158,7 +159,7 @@ impl RequestPath {
         }
     }
 
-    /// The path at which Prometheus' receivers take messages (Remote-Write 1.0, "Protocol").
+    /// `/api/v1/write`, the path at which receivers of Prometheus take messages (Remote-Write 1.0, "Protocol").
     pub fn api_v1_write(alloc: Global) -> Result<RequestPath, AllocError>
         ensures { IfOk result (λ p. p ≡ codes "/api/v1/write") }
     {
@@ -167,6 +168,7 @@ impl RequestPath {
         })
     }
 
+    /// The path as text.
     pub fn as_str(&self) -> &str
         ensures text { result.now ≡ self.now }
         ensures path { is_request_path result.now ≡ true }

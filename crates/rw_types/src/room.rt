@@ -7,7 +7,7 @@ use crate::device::{Failed, Sink};
 use std::alloc::{AllocError, Global};
 use std::marker::Model;
 
-/// A writer that takes no memory and fails only past its room. What passes its room is not written at all.
+/// A writer that takes no memory after it was made. It fails at the first write that does not fit, and writes nothing of that.
 #[derive(Debug, Drop)]
 pub struct Room {
     bytes: Vec<u8>,
@@ -27,7 +27,7 @@ impl Model for Room {
 }
 
 impl Room {
-    /// A writer that holds nothing, with room for so many bytes.
+    /// An empty writer with room for `room` bytes.
     pub fn new(alloc: Global, room: usize) -> Result<Room, AllocError>
         ensures { IfOk result (λ r. r ≡ record { bytes = []; room = room; has_failed = false }) }
     {
@@ -38,14 +38,14 @@ impl Room {
         })
     }
 
-    /// What was written.
+    /// The bytes that were written.
     pub fn as_slice(&self) -> &[u8]
         ensures { result.now ≡ self.now.bytes }
     {
         self.bytes.as_slice()
     }
 
-    /// What was written, without a copy.
+    /// The bytes that were written, without a copy.
     pub fn into_bytes(self) -> Vec<u8>
         ensures { result.items ≡ self.bytes }
     {

@@ -1,8 +1,8 @@
-//! Bytes in memory as a reader.
+//! A slice of bytes as a reader.
 
 use crate::device::{Failed, Source};
 
-/// A slice is a reader of its bytes, which never fails. Each read moves it past what was read.
+/// A slice as a reader of its bytes, which never fails. Each read moves its front past the bytes that were read.
 impl Source for &[u8] {
     ghost use Rattle.std.specs.Prelude.{Some, true, false};
 

@@ -1,4 +1,4 @@
-//! The readers and writers of std as devices.
+//! The readers and writers of Rust's `std::io` as devices.
 
 ghost use Rattle.std.specs.Prelude.{◌≡◌, ◌<◌, ◌≤◌, length, take, false, IfOk, OnErr};
 ghost use Rattle.std.specs.Io.{ReadsAtMost, WritesAtMost};
@@ -8,7 +8,8 @@ use crate::device::{Failed, Sink, Source};
 use std::io::{self, ErrorKind};
 use std::marker::Model;
 
-/// A reader or a writer of std, and whether it has failed, as contracts see it. An interrupted call is made again, and a write of no byte is a failure.
+/// A reader or a writer of `std::io` that stays failed once it has failed. A call that was interrupted is made again, and a write that takes no
+/// byte is a failure. Contracts see the reader or writer, and whether it has failed.
 #[derive(Drop)]
 pub struct Std<T> {
     inner: T,
@@ -24,6 +25,7 @@ impl<T> Model for Std<T> {
 }
 
 impl<T> Std<T> {
+    /// Wraps a reader or writer of `std::io`, as one that has not failed.
     pub fn new(inner: T) -> Std<T>
         ensures { result ≡ (inner, false) }
     {
@@ -33,7 +35,7 @@ impl<T> Std<T> {
         }
     }
 
-    /// The reader or writer of std, failed or not.
+    /// The reader or writer of `std::io`, failed or not.
     pub fn into_inner(self) -> T
         ensures { result ≡ self.0 }
     {

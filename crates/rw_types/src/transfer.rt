@@ -1,4 +1,4 @@
-//! Whole texts over readers and writers.
+//! Readers read to their end, and whole texts written.
 
 ghost use Rattle.std.specs.Prelude.{◌≡◌, ◌+◌, ◌<◌, ◌≤◌, ℕ, length, take, true, false, vec_len, IsOk, IfOk, OnOk, OnErr};
 ghost use Rattle.std.specs.Io.KnownBytes.{Appends, IsAtEnd};
@@ -10,6 +10,7 @@ use std::alloc::{AllocError, Global};
 /// Why an input was not read to its end.
 #[derive(Clone, Copy, Debug, PartialEq, Eq)]
 pub enum ReadFault {
+    /// Memory ran out.
     OutOfMemory,
     /// The reader failed.
     Failed,
@@ -26,7 +27,7 @@ impl From<AllocError> for ReadFault {
     }
 }
 
-/// Writes the whole text. Where the device fails it holds a beginning of it.
+/// Writes all of `bytes`. After an `Err` the device has failed, and has taken a beginning of them.
 pub fn write_all<W: Sink>(sink: &mut W, bytes: &[u8]) -> Result<(), Failed>
     ensures ok { OnOk result (Appends (W.contents sink.old) (W.contents sink.new) bytes.now) }
     ensures part { OnErr result ((n : ℕ) × (n ≤ length bytes.now)
@@ -53,7 +54,7 @@ fn zeros(alloc: Global, len: usize) -> Result<Vec<u8>, AllocError>
     vec![in alloc; 0; len]
 }
 
-/// Adds what one read gives to `out`, and answers how many bytes came. Room is made before the read, so no byte is lost.
+/// Appends what one read gives to `out`, and returns how many bytes came. Room is made before the read, so no byte is lost.
 fn read_some<S: Source>(
     source: &mut S,
     chunk: &mut [u8],
@@ -77,7 +78,7 @@ fn read_some<S: Source>(
     }
 }
 
-/// Adds what the reader has left to `out`. After an `Err` `out` has what was read before it.
+/// Reads to the end of the input, and appends the bytes to `out`. After an `Err` `out` has the bytes that were read before it.
 pub fn read_to_end<S: Source>(
     alloc: Global,
     source: &mut S,

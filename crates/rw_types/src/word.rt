@@ -1,11 +1,11 @@
-//! The 64-bit words of values, which are never interpreted but as whole numbers.
+//! The values of samples as 64-bit words, which are never interpreted except as whole numbers.
 
 ghost use Rattle.std.specs.Prelude.{◌≡◌, ◌<◌, ◌≤◌, ◌^◌, ◌*◌, ℤ, IfSome, IfNone, Some, unsigned_abs, IsTrue, ◌↔◌};
 ghost use Rattle.rw_types.specs.Words.{word_of_int, magnitude_word, int_of_word};
 
 use std::marker::Model;
 
-/// The 64 bits of a sample's value, as IEEE 754 binary64 has them. Contracts see it as its number.
+/// The value of a sample: the 64 bits of an IEEE 754 binary64 number. Contracts see these bits as a number below 2^64.
 #[derive(Clone, Copy, Debug, PartialEq, Eq)]
 pub struct Word(pub u64);
 
@@ -75,7 +75,7 @@ fn size_in(bits: u64) -> u64
 }
 
 impl Word {
-    /// The word of a whole number from -2^53 to 2^53, none outside.
+    /// The word of a whole number from -2^53 to 2^53; `None` for any other number.
     pub fn of_int(m: i64) -> Option<Word>
         ensures { result ≡ word_of_int m }
     {
@@ -85,7 +85,7 @@ impl Word {
         }
     }
 
-    /// The whole number from -2^53 to 2^53 of which this is the word.
+    /// The whole number from -2^53 to 2^53 that has this word; `None` where none has, as with -0.0.
     pub fn as_int(self) -> Option<i64>
         ensures some { IfSome result (λ m. word_of_int m ≡ Some self) }
         ensures none { IfNone result ((m : ℤ) → word_of_int m ≡ Some self → ⊥) }
