@@ -1,4 +1,4 @@
-//! The bytes that are not read yet.
+//! The bytes of a log that are not read yet.
 
 ghost use Rattle.std.specs.Prelude.{◌≡◌, ◌≤◌, ◌<◌, ◌+◌, ◌*◌, [], true, length, drop, take, map, IfOk, OnOk, OnErr};
 ghost use Rattle.rw_wal_tail.specs.Held.{has_ended, begun_with, extend_last, fed, unfed, passed, marked, can_count, waits_as};
@@ -52,7 +52,7 @@ impl Model for Input {
     ghost invariant = { λ i. i.at ≤ length i.buffer.items };
 }
 
-/// Lets the first bytes go.
+/// Removes the first `count` bytes.
 fn remove_front(buffer: &mut Vec<u8>, count: usize)
     requires { count ≤ length buffer.old.items }
     ensures { buffer.new.items ≡ drop count buffer.old.items }
@@ -74,7 +74,7 @@ fn compact(buffer: &mut Vec<u8>, at: &mut usize)
     }
 }
 
-/// Adds to the last segment.
+/// Appends bytes to the last segment.
 fn extend_last_segment(later: &mut VecDeque<Segment>, piece: &[u8]) -> Result<(), AllocError>
     requires { 0 < length later.old.items }
     ensures ok { OnOk result (map waits_as later.new.items ≡ extend_last piece.now (map waits_as later.old.items)) }
@@ -84,14 +84,14 @@ fn extend_last_segment(later: &mut VecDeque<Segment>, piece: &[u8]) -> Result<()
     later[last].bytes.extend_from_slice(piece)
 }
 
-/// The same bytes once more.
+/// A copy of the bytes.
 pub(crate) fn copy_of(alloc: Global, bytes: &[u8]) -> Result<Vec<u8>, AllocError>
     ensures { IfOk result (λ v. v.items ≡ bytes.now) }
 {
     bytes.to_vec(alloc)
 }
 
-/// The same segments once more.
+/// A copy of the segments.
 fn copy_all(alloc: Global, segments: &VecDeque<Segment>) -> Result<VecDeque<Segment>, AllocError>
     ensures { IfOk result (λ d. map waits_as d.items ≡ map waits_as segments.now.items) }
 {
@@ -142,14 +142,14 @@ impl Input {
         self.offset < COUNT_END && self.ends < COUNT_END
     }
 
-    /// What is left of the segment at hand.
+    /// The bytes of the segment at hand that are not read.
     pub(crate) fn rest(&self) -> &[u8]
         ensures { result.now ≡ self.now.rest }
     {
         &self.buffer[self.at..]
     }
 
-    /// Leaves so many bytes behind.
+    /// Advances past `count` bytes of the segment at hand.
     pub(crate) fn pass(&mut self, count: usize)
         requires rest { count ≤ length self.old.rest }
         requires counted { can_count self.old ≡ true }
@@ -166,7 +166,7 @@ impl Input {
         self.ended || !self.later.is_empty()
     }
 
-    /// Begins the next segment.
+    /// Goes on to the next segment.
     pub(crate) fn begin_segment(&mut self)
         requires { has_ended self.old.later self.old.ended ≡ true }
         ensures { self.new ≡ begun_with self.old.later self.old.ended self.old.ends }
@@ -186,7 +186,7 @@ impl Input {
         }
     }
 
-    /// The last segment has ended. Where it had ended before, the one between them is empty, and no two ends need to be told apart.
+    /// Marks the last segment as ended. Where it had ended before, the one between them is empty, and no two ends need to be told apart.
     pub(crate) fn end_segment(&mut self)
         ensures { self.new ≡ marked self.old }
     {
@@ -196,7 +196,7 @@ impl Input {
         }
     }
 
-    /// More bytes of the last segment.
+    /// Appends bytes to the last segment.
     pub(crate) fn feed(&mut self, piece: &[u8]) -> Result<(), AllocError>
         ensures ok { OnOk result (self.new ≡ fed piece.now self.old) }
         ensures err { OnErr result (self.new ≡ self.old) }
@@ -217,7 +217,7 @@ impl Input {
         }
     }
 
-    /// The same bytes once more.
+    /// A copy of the input.
     pub(crate) fn copy(&self, alloc: Global) -> Result<Input, AllocError>
         ensures { IfOk result (λ i. i ≡ self.now) }
     {

@@ -1,4 +1,4 @@
-//! What stands at a fragment's place.
+//! What stands at the front of the bytes of a segment.
 
 ghost use Rattle.std.specs.Prelude.{◌≡◌, ◌==◌, drop};
 ghost use Rattle.std.specs.List.{list_all};
@@ -17,7 +17,7 @@ pub(crate) enum Kind {
     Last,
 }
 
-/// What stands there. The data of a fragment are so many bytes after its header.
+/// What stands at the front. A `Fragment` has its type, and how many bytes of data follow its header.
 #[derive(Clone, Copy, Debug, PartialEq, Eq, Drop)]
 pub(crate) enum Found {
     Nothing,
@@ -33,7 +33,7 @@ fn are_zero(bytes: &[u8]) -> bool
     bytes.iter().all(|b| *b == 0)
 }
 
-/// The zeros of a page's end, of which the first are known.
+/// The zeros at the end of a page, of which the first `known` were seen before.
 fn zeros(left: usize, known: usize, bytes: &[u8]) -> Found
     requires { KnownZeros left known bytes.now }
     ensures item { zeros_at left bytes.now ≡ item_of (drop 7 bytes.now) result }
@@ -60,7 +60,7 @@ fn wrong_type(b: u8) -> TailFault
     }
 }
 
-/// The data after a header.
+/// The fragment after its header, with `len` bytes of data and the CRC-32C `crc`.
 fn data(kind: Kind, left: usize, len: u16, crc: u32, rest: &[u8]) -> Found
     ensures item { data_at (kind_of kind) left len crc rest.now ≡ item_of rest.now result }
     ensures fits { DataFits left rest.now result }
@@ -91,7 +91,7 @@ fn fragment(kind: Kind, left: usize, bytes: &[u8]) -> Found
     data(kind, left, len, crc, &bytes[6..])
 }
 
-/// The item at the front of the bytes, with so many bytes left in its page. Of zeros there, the first are known.
+/// What stands at the front of the bytes, with `left` bytes left in its page. Of zeros there, the first `known` were seen before.
 pub(crate) fn item(left: usize, known: usize, bytes: &[u8]) -> Found
     requires { KnownZeros left known bytes.now }
     ensures item { item_at left bytes.now ≡ item_of (drop 7 bytes.now) result }

@@ -1,7 +1,7 @@
-//! Reading a Prometheus write-ahead log (wal.md) as it grows: bytes in, in any pieces, and entries out, each fault where the format has it.
+//! Reads a Prometheus write-ahead log (wal.md) while it grows: bytes go in, in any pieces, and entries come out. A fault is reported where the format has it.
 //!
-//! How much a reader holds no contract says. By its code, what was given out is not kept: between calls a reader holds what it was fed and has
-//! not read yet, in one buffer for each segment of which the read part is let go once it is the greater one, and the record that came last, as
+//! No contract says how much memory a reader holds. By its code it does not keep what it gave out: between calls it holds what it was fed and has
+//! not read yet, in one buffer for each segment, of which the read part is let go once it is the greater one, and the record that came last, as
 //! bytes or as entries.
 #![tactic(auto)]
 

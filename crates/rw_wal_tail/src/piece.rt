@@ -1,11 +1,11 @@
-//! A log that comes in pieces.
+//! The pieces in which a log comes.
 
 use rw_history::History;
 
-/// Bytes of the segment at hand, or the next segment.
+/// A piece of a log: bytes of the segment at hand, or the end of that segment.
 #[derive(Debug, Drop)]
 pub enum Piece {
-    /// The bytes that follow. No byte is a piece too.
+    /// The bytes that follow. There may be none.
     Bytes(Vec<u8>),
     /// The segment at hand has ended.
     NextSegment,

@@ -1,4 +1,4 @@
-//! What stands at the front of some bytes, and the bytes after it.
+//! Reads what stands at the front of some bytes, and returns the bytes after it.
 
 ghost use Rattle.std.specs.Prelude.{◌≡◌, ◌≤◌, ◌<◌, ◌+◌, length, MatchOption, IfSome, None, Some};
 ghost use Rattle.std.specs.Int.{cast_signed, w64};
@@ -9,7 +9,7 @@ use byteorder::{BigEndian, ByteOrder};
 use rw_codes::{get_uvarint, get_varint};
 use rw_types::{Entry, Word};
 
-/// Eight bytes, high byte first.
+/// A 64-bit number in eight bytes, high byte first.
 pub(crate) fn eight(bytes: &[u8]) -> Option<(u64, &[u8])>
     ensures value { MatchOption result (eight_at bytes.now ≡ None) (λ x. eight_at bytes.now ≡ Some (x.0, x.1.now)) }
     ensures shorter { IfSome result (λ x. length x.1.now + 8 ≤ length bytes.now) }
@@ -42,7 +42,7 @@ pub(crate) fn signed(bytes: &[u8]) -> Option<(i64, &[u8])>
     }
 }
 
-/// Bytes after their length.
+/// A text after its length.
 pub(crate) fn text(bytes: &[u8]) -> Option<(&[u8], &[u8])>
     ensures value { MatchOption result (text_at bytes.now ≡ None) (λ x. text_at bytes.now ≡ Some (x.0.now, x.1.now)) }
     ensures shorter { IfSome result (λ x. length x.1.now ≤ length bytes.now) }
@@ -55,7 +55,7 @@ pub(crate) fn text(bytes: &[u8]) -> Option<(&[u8], &[u8])>
     Some((&rest[..len], &rest[len..]))
 }
 
-/// A name and a value.
+/// A label: a name and a value.
 pub(crate) fn label(bytes: &[u8]) -> Option<((&[u8], &[u8]), &[u8])>
     ensures value { MatchOption result (label_at bytes.now ≡ None) (λ x. label_at bytes.now ≡ Some ((x.0.0.now, x.0.1.now), x.1.now)) }
     ensures shorter { IfSome result (λ x. length x.1.now ≤ length bytes.now) }
@@ -65,7 +65,7 @@ pub(crate) fn label(bytes: &[u8]) -> Option<((&[u8], &[u8]), &[u8])>
     Some(((name, value), rest))
 }
 
-/// A sample against a base.
+/// A sample, whose reference and timestamp are deltas against `base` and `start`.
 pub(crate) fn sample(base: u64, start: u64, bytes: &[u8]) -> Option<(Entry, &[u8])>
     ensures value { MatchOption result (sample_at base (cast_signed w64 start) bytes.now ≡ None) (λ x. sample_at base (cast_signed w64 start) bytes.now ≡ Some (x.0, x.1.now)) }
     ensures shorter { IfSome result (λ x. length x.1.now < length bytes.now) }

@@ -98,7 +98,7 @@ fn read_whole(
     Ok(true)
 }
 
-/// The same entries once more.
+/// A copy of the entries.
 fn copy_ready(alloc: Global, ready: &VecDeque<Entry>) -> Result<VecDeque<Entry>, AllocError>
     ensures { IfOk result (λ d. d.items ≡ ready.now.items) }
 {
@@ -127,7 +127,7 @@ impl Reader {
         }
     }
 
-    /// More bytes of the segment that came last. After a fault they are let go, since nothing more is read.
+    /// Takes more bytes of the segment that came last. After a fault they are let go, since nothing more is read.
     pub(crate) fn feed(&mut self, piece: &[u8]) -> Result<(), AllocError>
         requires { IsReader self.old }
         ensures ok { OnOk result (Takes (bytes piece.now) self.old self.new) }
@@ -144,7 +144,7 @@ impl Reader {
         self.input.feed(piece)
     }
 
-    /// The end of the segment that came last.
+    /// Marks the segment that came last as ended.
     pub(crate) fn next_segment(&mut self)
         requires { IsReader self.old }
         ensures takes { Takes next_segment self.old self.new }
@@ -154,7 +154,7 @@ impl Reader {
         self.input.end_segment();
     }
 
-    /// Leaves a fragment behind.
+    /// Advances past a fragment: its header and `len` bytes of data.
     fn advance(&mut self, len: usize)
         requires whole { 7 + len ≤ length self.old.input.rest }
         requires in_page { 7 + len ≤ self.old.left }
@@ -348,7 +348,7 @@ impl Reader {
         }
     }
 
-    /// The same reader once more.
+    /// A copy of the reader.
     pub(crate) fn copy(&self) -> Result<Reader, AllocError>
         requires { IsReader self.now }
         ensures same { IfOk result (λ r. Same self.now r) }

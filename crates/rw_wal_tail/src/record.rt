@@ -34,7 +34,7 @@ impl<T: Drop> From<AllocFailed<T>> for Unread {
     }
 }
 
-/// So many labels.
+/// Reads `count` labels.
 fn label_list(alloc: Global, count: u64, bytes: &[u8]) -> Result<(RawLabels, &[u8]), Unread>
     ensures ok { IfOk result (λ x. label_list_at count bytes.now ≡ Some (x.0, x.1.now)) }
     ensures shorter { IfOk result (λ x. length x.1.now ≤ length bytes.now) }
@@ -52,7 +52,7 @@ fn label_list(alloc: Global, count: u64, bytes: &[u8]) -> Result<(RawLabels, &[u
     Ok((labels, rest))
 }
 
-/// A definition of a series.
+/// Reads the definition of a series.
 fn definition(alloc: Global, bytes: &[u8]) -> Result<(Entry, &[u8]), Unread>
     ensures ok { IfOk result (λ x. definition_at bytes.now ≡ Some (x.0, x.1.now)) }
     ensures shorter { IfOk result (λ x. length x.1.now < length bytes.now) }
@@ -83,7 +83,7 @@ fn series(alloc: Global, bytes: &[u8], out: &mut VecDeque<Entry>) -> Result<(), 
     Ok(())
 }
 
-/// The samples against a base.
+/// Reads samples, as deltas against the reference `base` and the timestamp `start`.
 fn samples(base: u64, start: u64, bytes: &[u8], out: &mut VecDeque<Entry>) -> Result<(), Unread>
     requires { out.old.items ≡ [] }
     ensures ok { OnOk result (samples_at base (cast_signed w64 start) bytes.now ≡ Some out.new.items) }

@@ -18,7 +18,7 @@ use rw_types::Entry;
 use std::alloc::{AllocError, Global};
 use std::marker::Model;
 
-/// Whether memory ran out, and the log has no fault.
+/// Whether the fault is `OutOfMemory`, which is none of the log.
 pub fn is_out_of_memory(fault: TailFault) -> bool
     ensures { result ≡ is_out_of_memory fault }
 {
@@ -30,8 +30,8 @@ pub fn is_out_of_memory(fault: TailFault) -> bool
 
 /// Follows a Prometheus write-ahead log (wal.md) that comes in pieces, and gives its entries.
 ///
-/// It holds what it was fed and has not read yet, and one record. Contracts see the pieces that it was fed,
-/// how many entries it has given, and how many records it had passed over when it last found no entry.
+/// It holds what it was fed and has not read yet, and one record. Contracts see the pieces that it was fed, how many entries it has given, how
+/// many records it had passed over when it last found no entry, and the fault that it has reported.
 #[derive(Drop)]
 pub struct Tail {
     reader: Reader,
@@ -62,7 +62,7 @@ impl Model for Tail {
 }
 
 impl Tail {
-    /// A reader at the start of a segment. This takes no memory.
+    /// A reader at the start of a segment, which was fed nothing. This takes no memory.
     pub fn new(alloc: Global) -> Tail
         ensures { result ≡ record { pieces = []; given = 0; skipped = 0; fault = None } }
     {
@@ -76,7 +76,7 @@ impl Tail {
         }
     }
 
-    /// More bytes of the segment at hand. They may be cut anywhere. Memory is also said to have run out where a count would reach 2^60.
+    /// Takes more bytes of the segment at hand, cut anywhere. An `Err` changes nothing; it is also the answer where a count would reach 2^60.
     pub fn feed(&mut self, piece: &[u8]) -> Result<(), AllocError>
         ensures ok { OnOk result (self.new ≡ record self.old { pieces = self.old.pieces ++ bytes piece.now ∷ [] }) }
         ensures err { OnErr result (self.new ≡ self.old) }
@@ -88,7 +88,7 @@ impl Tail {
         Ok(())
     }
 
-    /// The segment at hand has ended, and the next one begins. This takes no memory.
+    /// Ends the segment at hand: what comes next belongs to the next one. This takes no memory.
     pub fn next_segment(&mut self)
         ensures next { self.new ≡ record self.old { pieces = self.old.pieces ++ next_segment ∷ [] } }
         ensures goes_on { Extends (reading page_size self.old.pieces) (reading page_size self.new.pieces) }
@@ -97,7 +97,7 @@ impl Tail {
         self.pieces.push(&Told::NextSegment);
     }
 
-    /// The next piece of the log.
+    /// Takes the next piece of the log. An `Err` changes nothing.
     pub fn feed_piece(&mut self, piece: &Piece) -> Result<(), AllocError>
         ensures ok { OnOk result (self.new ≡ record self.old { pieces = self.old.pieces ++ piece_of piece.now ∷ [] }) }
         ensures err { OnErr result (self.new ≡ self.old) }
@@ -112,9 +112,9 @@ impl Tail {
         }
     }
 
-    /// The next entry; none where what was fed ends before another one. A fault is answered after all entries before it, and then again by each later call.
+    /// The next entry; `None` where what was fed ends before another one. A fault is reported after all entries before it, and then again by each later call.
     ///
-    /// After `OutOfMemory` the same call may be made again. It is also answered where a count would reach 2^60.
+    /// After `OutOfMemory` the same call may be made again. It is also the answer where a count would reach 2^60.
     pub fn next_entry(&mut self) -> Result<Option<Entry>, TailFault>
         ensures answer { (result ≡ Err OutOfMemory) ⊎ (result ≡ next_of self.old.pieces self.old.given) }
         ensures after { self.new ≡ answered self.old result }
@@ -147,7 +147,7 @@ impl Tail {
         }
     }
 
-    /// The number of entries that were given.
+    /// How many entries were given.
     pub fn entries_read(&self) -> u64
         ensures count { result ≡ self.now.given }
         ensures within { result ≤ length (entries self.now.pieces) }
@@ -156,14 +156,14 @@ impl Tail {
         self.count
     }
 
-    /// The number of records that were passed over, since they are empty or of another type, up to where `next_entry` last found no entry.
+    /// How many records were passed over, since they are empty or of another type, up to where `next_entry` last found no entry.
     pub fn skipped(&self) -> u64
         ensures { result ≡ self.now.skipped }
     {
         self.skipped
     }
 
-    /// The place of the fault that `next_entry` has answered; none before a fault was answered. This takes no memory.
+    /// Where the fault is that `next_entry` has reported; `None` before it has reported one. This takes no memory.
     pub fn fault_place(&self) -> Option<FaultPlace>
         ensures place { result ≡ told_place self.now.fault self.now.pieces }
         ensures is_fault { (f : TailFault) → self.now.fault ≡ Some f → fault self.now.pieces ≡ Some f }
@@ -174,7 +174,7 @@ impl Tail {
         }
     }
 
-    /// A second reader at the same place, for one who may have to go back.
+    /// A copy of the reader, at the same place, for a caller who may have to go back.
     pub fn copy(&self) -> Result<Tail, AllocError>
         ensures { IfOk result (λ t. t ≡ self.now) }
     {

@@ -11,7 +11,7 @@ use byteorder::{BigEndian, ByteOrder};
 use rw_codes::crc32c;
 use rw_types::{Failed, Sink, write_all};
 
-/// A page has 32 KiB, and no fragment crosses its end.
+/// The bytes of a page: 32 KiB. No fragment crosses the end of a page.
 pub const PAGE_BYTES: usize = 32 * 1024;
 
 /// The bytes of a fragment before its data: type, length, CRC.
@@ -70,7 +70,7 @@ fn put_fragment<W: Sink>(sink: &mut W, kind: FragmentType, part: &[u8]) -> Resul
     write_all(sink, part)
 }
 
-/// Fills the rest of a page with zeros, where no header has room there, and answers how many.
+/// Fills the rest of a page with zeros, where no header has room there, and returns how many.
 fn put_padding<W: Sink>(sink: &mut W, left: usize) -> Result<usize, Failed>
     ensures bytes { Takes W.contents W.has_failed W.room sink.old sink.new (padding left) result }
     ensures len { IfOk result (λ n. n ≡ length (padding left)) }
@@ -82,7 +82,7 @@ fn put_padding<W: Sink>(sink: &mut W, left: usize) -> Result<usize, Failed>
     Ok(left)
 }
 
-/// How many bytes of a record a fragment at this offset has room for.
+/// How many bytes of data a fragment at this offset has room for.
 fn room_in_page(offset: usize) -> usize
     requires { 7 ≤ page_size - offset % page_size }
     ensures { result ≡ page_size - offset % page_size - 7 }
@@ -90,7 +90,7 @@ fn room_in_page(offset: usize) -> usize
     PAGE_BYTES - offset % PAGE_BYTES - HEADER_BYTES
 }
 
-/// Writes the last fragment of a record and the zeros after it, where no further fragment has room in the page, and answers how many bytes they are.
+/// Writes the last fragment of a record, and zeros after it where no further fragment has room in the page. Returns how many bytes these are together.
 fn put_last<W: Sink>(
     sink: &mut W,
     kind: FragmentType,
@@ -107,7 +107,7 @@ fn put_last<W: Sink>(
     Ok(HEADER_BYTES + part.len() + zeros)
 }
 
-/// Writes a record at an offset as fragments, each the greatest that fits its page, and answers the offset after them.
+/// Writes a record at an offset as fragments, each the greatest that fits its page, and returns the offset after them.
 pub fn put_record<W: Sink>(sink: &mut W, offset: usize, rec: &[u8]) -> Result<usize, Failed>
     requires some { 0 < length rec.now }
     requires place { 7 ≤ page_size - offset % page_size }

@@ -1,4 +1,4 @@
-//! What was written is read again.
+//! A law of writing and reading. The function has an empty body: its contract is the law.
 
 ghost use Rattle.std.specs.Prelude.{◌≡◌, ℕ, List, [], ◌∷◌, None, All, map, flat_map};
 ghost use Rattle.std.specs.Io.KnownBytes.{Appends};
@@ -8,7 +8,7 @@ ghost use Rattle.rw_wal_write.specs.Segment.{Segment, AreLogged, HasEntries};
 
 use rw_types::Sink;
 
-/// The records of a segment that was written from its beginning on are read again: their entries in their order, and no fault.
+/// Law: the records of a segment that was written from its beginning on are read back: their entries in their order, and no fault.
 pub fn entries_are_read<W: Sink>()
     ensures { (old new : Segment W) (records : List (List ℕ × List Entry)) → old.offset ≡ 0 → All HasEntries records
         → AreLogged W.contents W.has_failed W.room old new (map (λ r. r.0) records)

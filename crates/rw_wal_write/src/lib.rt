@@ -1,4 +1,4 @@
-//! The writer of a write-ahead log: records, and the segments that hold them.
+//! The writer of a Prometheus write-ahead log (wal.md): records, and the segments that hold them.
 #![tactic(auto)]
 
 mod fragment;

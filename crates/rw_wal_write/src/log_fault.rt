@@ -3,10 +3,10 @@
 /// Why a record was not written.
 #[derive(Clone, Copy, Debug, PartialEq, Eq)]
 pub enum LogFault {
-    /// The record has no room in what is left of the segment. Nothing was written, and a shorter one may have room.
+    /// The record does not fit in what is left of the segment. Nothing was written; a shorter one may fit.
     SegmentFull = 1,
     /// The device failed, in this call or an earlier one. It may hold a beginning of the record.
     Device = 2,
-    /// No record may have more than 16 MiB. Nothing was written.
+    /// The record has more than 16 MiB. Nothing was written.
     RecordTooLong = 3,
 }

@@ -19,7 +19,7 @@ const BASE_BYTES: usize = 17;
 /// A sample with two deltas of one byte; a record with greater ones grows.
 const SAMPLE_BYTES: usize = 10;
 
-/// Writes a number of 64 bits at the end, high byte first.
+/// Appends a number of 64 bits, high byte first.
 fn put_u64(out: &mut Vec<u8>, n: u64) -> Result<(), AllocError>
     ensures { OnOk result (out.new.items ≡ out.old.items ++ big_bytes 8 n) }
 {
@@ -28,7 +28,7 @@ fn put_u64(out: &mut Vec<u8>, n: u64) -> Result<(), AllocError>
     out.extend_from_slice(&bytes)
 }
 
-/// Writes the length of a text and the text at the end.
+/// Appends the length of a text and the text.
 fn put_text(out: &mut Vec<u8>, text: &[u8]) -> Result<(), AllocError>
     ensures { OnOk result (out.new.items ≡ out.old.items ++ text_bytes text.now) }
 {
@@ -36,7 +36,7 @@ fn put_text(out: &mut Vec<u8>, text: &[u8]) -> Result<(), AllocError>
     out.extend_from_slice(text)
 }
 
-/// Writes the name and the value of a label at the end.
+/// Appends the name and the value of a label.
 fn put_label(out: &mut Vec<u8>, label: &(Vec<u8>, Vec<u8>)) -> Result<(), AllocError>
     ensures { OnOk result (out.new.items ≡ out.old.items ++ label_bytes (bytes_label label.now)) }
 {
@@ -53,7 +53,7 @@ fn put_labels(out: &mut Vec<u8>, labels: &[(Vec<u8>, Vec<u8>)]) -> Result<(), Al
     Ok(())
 }
 
-/// The series record of one definition.
+/// The bytes of a series record with one definition: `reference` stands for `labels` (wal.md, "Series records").
 pub fn series_record(
     alloc: Global,
     reference: u64,
@@ -69,7 +69,7 @@ pub fn series_record(
     Ok(out)
 }
 
-/// Writes one sample against the reference and the timestamp of the record's base.
+/// Appends a sample, as deltas against the reference `base` and the timestamp `start`.
 fn put_sample(
     out: &mut Vec<u8>,
     base: u64,
@@ -97,7 +97,8 @@ fn put_samples(
     Ok(())
 }
 
-/// The sample record of samples, as (reference, timestamp in milliseconds, value). The first of them is the base of all deltas.
+/// The bytes of a sample record (wal.md, "Sample records") with these samples, each as (reference, timestamp in milliseconds, value). The first
+/// one is the base of all deltas.
 pub fn sample_record(alloc: Global, samples: &[(u64, i64, Word)]) -> Result<Vec<u8>, AllocError>
     ensures { IfOk result (λ record_bytes. record_bytes.items ≡ bytes_of_samples samples.now) }
 {

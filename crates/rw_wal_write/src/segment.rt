@@ -11,7 +11,7 @@ use crate::log_fault::LogFault;
 use rw_types::Sink;
 use std::marker::Model;
 
-/// No record may have more bytes.
+/// The most bytes of a record.
 const MAX_RECORD_BYTES: usize = 16 * 1024 * 1024;
 
 /// The bytes of records that are left in a segment, behind the headers of their fragments.
@@ -24,7 +24,7 @@ fn room_in(pages: usize, offset: usize) -> usize
         + rest / PAGE_BYTES * (PAGE_BYTES - HEADER_BYTES)
 }
 
-/// Writes records into one segment. Contracts see its device, its pages, its offset and whether it is closed.
+/// Writes records to one segment of a log. Contracts see its device, the most pages, its offset, and whether it is closed, as it is after `Device`.
 #[derive(Debug, Drop)]
 pub struct SegmentWriter<W: Sink> {
     sink: W,
@@ -45,7 +45,7 @@ impl<W: Sink> Model for SegmentWriter<W> {
 }
 
 impl<W: Sink> SegmentWriter<W> {
-    /// A writer of an empty segment of at most so many pages of 32 KiB.
+    /// A writer of an empty segment, which has at most `pages` pages of 32 KiB.
     pub fn new(w: W, pages: usize) -> SegmentWriter<W>
         requires some { 1 ≤ pages }
         requires most { pages ≤ 4096 }
@@ -59,7 +59,7 @@ impl<W: Sink> SegmentWriter<W> {
         }
     }
 
-    /// A writer that goes on with a segment of at most so many pages of 32 KiB, of which so many bytes are written.
+    /// A writer that goes on with a segment of at most `pages` pages of 32 KiB, of which `offset` bytes are written.
     pub fn resume(w: W, pages: usize, offset: usize) -> SegmentWriter<W>
         requires { IsPlace pages offset }
         ensures { result ≡ record { sink = w; pages = pages; offset = offset; closed = false } }
@@ -72,7 +72,7 @@ impl<W: Sink> SegmentWriter<W> {
         }
     }
 
-    /// The bytes of whole records that were written, with their headers and zeros.
+    /// The offset, in bytes, behind the records that were written whole, with their headers and zeros.
     pub fn offset(&self) -> usize
         ensures offset { result ≡ self.now.offset }
         ensures place { IsPlace self.now.pages result }
@@ -95,7 +95,9 @@ impl<W: Sink> SegmentWriter<W> {
     }
 
     /// Writes a record behind those that were written before. This takes no memory.
-    /// Where several refusals hold, that of a device that has failed comes first, and then that of a record that is too long.
+    ///
+    /// Where several refusals hold, `Device` comes before `RecordTooLong`, and that before `SegmentFull`. After `Device` the writer is closed,
+    /// and each later call returns `Device`.
     pub fn log(&mut self, rec: &[u8]) -> Result<(), LogFault>
         requires { 0 < length rec.now }
 
