@@ -13,19 +13,19 @@ use std::slice;
 /// Why a sample was dropped.
 #[derive(Clone, Copy, Debug, PartialEq, Eq)]
 pub enum Reason {
-    /// The receiver refused its batch with this status.
+    /// The receiver refused its batch for good, with this HTTP status.
     Status(u16),
-    /// The labels of its series are no label set: the number of the fault.
+    /// The labels of its series are not a label set. The number stands for the fault, as `LabelFault` counts them.
     BadLabels(u8),
-    /// No series was defined under its reference before it.
+    /// No definition of its reference stands before it in the log.
     NoSeries,
-    /// An earlier sample of its series has the same timestamp or a later one.
+    /// A sample before it in its series has the same timestamp or a later one.
     NotRising,
 }
 
-/// The positions of dropped samples, each with its reason, and room for more of them.
+/// The positions of dropped samples in the log, each with its reason, and room for more of them.
 ///
-/// A name takes no memory: its room is made before. To name a position behind all others takes no longer as the ledger grows.
+/// To name a sample takes no memory, since its room is made before. To name a position behind all others takes no longer as the ledger grows.
 #[derive(Debug, Drop)]
 pub struct Ledger {
     names: Vec<(u64, Reason)>,
@@ -65,7 +65,7 @@ fn place_of(names: &[(u64, Reason)], pos: u64) -> usize
 }
 
 impl Ledger {
-    /// No names, and no room. This takes no memory.
+    /// A ledger without names and without room. This takes no memory.
     pub fn new(alloc: Global) -> Ledger
         ensures names { result.names ≡ map.empty }
         ensures room { result.room ≡ 0 }
@@ -76,7 +76,7 @@ impl Ledger {
         }
     }
 
-    /// Adds room for so many names to what there is.
+    /// Adds room for `n` more names. An `Err` leaves the ledger as it was.
     pub fn room(&mut self, n: usize) -> Result<(), AllocError>
         ensures ok { OnOk result (self.new.room ≡ self.old.room + n) }
         ensures names { self.new.names ≡ self.old.names }
@@ -97,7 +97,7 @@ impl Ledger {
         self.room
     }
 
-    /// Takes back room for so many names that will not be used.
+    /// Gives back room for `n` names, which will not be used.
     pub fn give_back(&mut self, n: usize)
         requires { n ≤ self.old.room }
         ensures names { self.new.names ≡ self.old.names }
@@ -106,7 +106,7 @@ impl Ledger {
         self.room -= n;
     }
 
-    /// Names the sample at this position, which uses room for one.
+    /// Names the sample at position `pos` as dropped, for `reason`. This uses the room for one name.
     pub fn name(&mut self, pos: u64, reason: Reason)
         requires room { 0 < self.old.room }
         requires unnamed { map.get self.old.names pos ≡ None }
@@ -118,7 +118,7 @@ impl Ledger {
         self.room -= 1;
     }
 
-    /// Why the sample at this position was dropped, if it was.
+    /// Why the sample at position `pos` was dropped; `None` where the ledger does not name it.
     pub fn get(&self, pos: u64) -> Option<Reason>
         ensures { result ≡ map.get self.now.names pos }
     {
@@ -139,7 +139,7 @@ impl Ledger {
         self.names.iter()
     }
 
-    /// How many positions are named.
+    /// How many samples are named.
     pub fn total(&self) -> usize
         ensures { result ≡ map.len self.now.names }
     {

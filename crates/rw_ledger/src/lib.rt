@@ -1,4 +1,4 @@
-//! The samples that a sender has dropped, by their positions in the log.
+//! The samples that a sender has dropped, named by their positions in the log.
 #![tactic(auto)]
 
 mod ledger;

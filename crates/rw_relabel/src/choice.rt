@@ -7,16 +7,17 @@ use crate::rules::Rules;
 use rw_types::Names;
 use std::alloc::Global;
 
-/// Which series of a log are sent: those whose names are taken, and that the rules keep.
+/// Which series of a log are sent: those whose names are accepted, and that the rules keep.
 #[derive(Debug, Drop)]
 pub struct Choice {
-    /// The names that are taken. Labels with other names are no label set.
+    /// The names that are accepted. Labels with other names are not a label set.
     pub names: Names,
+    /// The rules by which a label set is kept or dropped.
     pub rules: Rules,
 }
 
 impl Choice {
-    /// All series with legacy names. This takes no memory.
+    /// All series with legacy names: there are no rules. This takes no memory.
     pub fn legacy(alloc: Global) -> Choice
         ensures { result ≡ legacy }
     {

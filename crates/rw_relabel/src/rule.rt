@@ -1,4 +1,4 @@
-//! One rule.
+//! A rule of relabelling.
 
 ghost use Rattle.std.specs.Prelude.{◌≡◌, ◌≢◌, [], map, string_bytes, IfOk, IfErr};
 ghost use Rattle.rw_types.specs.Labels.{text_label};
@@ -12,22 +12,22 @@ use regex::Regex;
 use std::alloc::{AllocError, Global};
 use std::marker::Model;
 
-/// The separator of a rule that names none.
+/// The separator of a rule that sets none.
 pub const DEFAULT_SEPARATOR: &str = ";";
 
-/// The pattern of a rule that names none.
+/// The pattern of a rule that sets none, which matches any text.
 pub const DEFAULT_PATTERN: &str = "(.*)";
 
-/// What becomes of a series whose labels the pattern matches.
+/// What a rule does with a series.
 #[derive(Clone, Copy, Debug, PartialEq, Eq)]
 pub enum Action {
-    /// It is kept, and those that the pattern does not match are not.
+    /// Keeps it where the pattern matches, and not where it does not.
     Keep,
-    /// It is not kept.
+    /// Drops it where the pattern matches.
     Drop,
 }
 
-/// A rule with its pattern compiled. Contracts see its configuration.
+/// A rule with its pattern compiled. Contracts see its configuration: action, source labels, separator and pattern.
 #[derive(Debug, Drop)]
 pub struct Rule {
     action: Action,
@@ -59,11 +59,12 @@ impl Model for Rule {
 }
 
 impl Rule {
-    /// The rule of this configuration. The pattern is used as `^(?s:PATTERN)$`: it has to match a whole text, and its `.` stands for a newline too.
-    /// Both the pattern and that form have to be regular expressions of the regex crate.
+    /// Makes a rule. Its pattern is held against the values of the source labels, with the separator between them, in the form `^(?s:PATTERN)$`:
+    /// it has to match the whole text, and `.` matches a newline too. The pattern and that form have to be regular expressions of the regex
+    /// crate.
     ///
-    /// A regular expression is `BadPattern` too where it takes more room when it is compiled than that crate allows; which ones do is not said.
-    /// A bad pattern is answered before a missing source label. No clause says when memory runs out.
+    /// `BadPattern` is also the error where a compiled pattern takes more room than that crate allows; no clause says for which ones. It comes
+    /// before `NoSource`. No clause says when memory runs out.
     pub fn build(
         alloc: Global,
         action: Action,

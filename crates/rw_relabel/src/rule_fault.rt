@@ -5,11 +5,11 @@ use std::alloc::AllocError;
 /// Why a rule was not made. Cast to a number, `OutOfMemory` is 0, `BadPattern` 1 and `NoSource` 2.
 #[derive(Clone, Copy, Debug, PartialEq, Eq)]
 pub enum RuleFault {
-    /// No fault of the rule: memory ran out.
+    /// Memory ran out, which is no fault of the rule.
     OutOfMemory,
-    /// The pattern, or the pattern as it is used, is no regular expression, is nested too deep, or takes too much room when it is compiled.
+    /// The pattern, or its form `^(?s:PATTERN)$`, is no regular expression, is nested too deep, or takes too much room when it is compiled.
     BadPattern,
-    /// There is no source label.
+    /// The list of source labels is empty.
     NoSource,
 }
 

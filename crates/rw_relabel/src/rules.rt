@@ -8,7 +8,7 @@ use rw_types::LabelSet;
 use std::alloc::AllocError;
 use std::marker::Model;
 
-/// Rules for the series that are kept; without a rule all are. Contracts see the list of their configurations.
+/// A list of rules, which decides which series are kept; where it is empty all are. Contracts see the list of their configurations.
 #[derive(Debug, Drop)]
 pub struct Rules {
     rules: Vec<Rule>,
@@ -24,7 +24,7 @@ impl Model for Rules {
 }
 
 impl Rules {
-    /// These rules. This takes no memory.
+    /// A list of these rules. This takes no memory.
     pub fn new(rules: Vec<Rule>) -> Rules
         ensures { result ≡ rules.items }
     {

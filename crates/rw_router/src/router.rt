@@ -1,4 +1,4 @@
-//! The entries of a log, one after the other.
+//! What becomes of the entries of a log, one after the other.
 
 ghost use Rattle.std.specs.Prelude.{◌≡◌, ◌<◌, ◌^◌, [], ◌∷◌, ◌++◌, List, IfOk, IfSome, IfNone, OnErr};
 ghost use Rattle.std.specs.FinMap as map;
@@ -14,19 +14,19 @@ use std::alloc::{AllocError, Global};
 use std::marker::Model;
 use std::sync::Arc;
 
-/// What becomes of an entry.
+/// What becomes of an entry of a log.
 #[derive(Drop)]
 pub enum Routed {
-    /// It was placed: it is a definition, or a sample whose series the rules drop.
+    /// Nothing more is to be done: it is a definition, or a sample whose series the rules drop.
     Placed,
-    /// It is a sample that is dropped, for this reason.
+    /// It is a sample that has to be dropped, for this reason.
     Dropped(Reason),
-    /// It is a sample that is sent.
+    /// It is a sample that has to be sent.
     Sample(RoutedSample),
 }
 
-/// Decides what becomes of each entry of a log, in order: a sample without a series, of a series whose labels are no label set, or one that does
-/// not rise in its series is dropped, one whose series the rules drop is counted, and each other one is sent.
+/// Decides what becomes of each entry of a log, in order. A sample is dropped where it has no series, where the labels of its series are not a
+/// label set, or where it is not later than those before it in its series; it is counted where the rules drop its series; each other one is sent.
 ///
 /// It keeps no sample. Contracts see what it knows of the series, and how many samples were placed whose series the rules drop.
 #[derive(Drop)]
@@ -48,7 +48,7 @@ impl Model for Router {
 }
 
 impl Router {
-    /// Before the first entry. This takes no memory.
+    /// A router before the first entry of a log. `choice` says which series are sent. This takes no memory.
     pub fn new(alloc: Global, choice: Choice) -> Router
         ensures cache { result.cache ≡ record { choice = choice; definitions = []; noted = map.empty } }
         ensures filtered { result.filtered ≡ 0 }
@@ -60,8 +60,8 @@ impl Router {
         }
     }
 
-    /// Places the next entry of the log, which stands at this position, or tells what is to be done with its sample: a dropped one is to be
-    /// named, and one that is sent is to be told by `sent` once it was put.
+    /// Places the next entry of the log, which stands at position `pos`, or says what the caller has to do with its sample: to name a dropped one
+    /// in the ledger, or to put one that is sent and then to call `sent`. An `Err` changes nothing.
     pub fn place(&mut self, pos: u64, entry: Entry) -> Result<Routed, AllocError>
         requires few { self.old.filtered < 2 ^ 60 }
         ensures ok { (before : List Entry) → Knows before self.old.cache
@@ -118,8 +118,8 @@ impl Router {
         }
     }
 
-    /// The sample that `place` told was put: of the series of this number, at this time, in milliseconds since the Unix epoch. This takes no
-    /// memory.
+    /// Notes that the sample which `place` returned was put: one of series number `series`, at time `t` in milliseconds since the Unix epoch.
+    /// This takes no memory.
     pub fn sent(&mut self, series: u64, t: i64)
         requires { IsRising self.old.cache series t }
         ensures noted { self.new ≡ record self.old { cache = record self.old.cache { noted = map.insert self.old.cache.noted series t } } }
@@ -129,7 +129,7 @@ impl Router {
         self.cache.note(series, t);
     }
 
-    /// The number of the series of a sample that would be sent, if it would: one of this reference, at this time. This takes no memory.
+    /// The number of the series in which a sample of `reference` at time `t` would be sent next; `None` where it would not be. This takes no memory.
     pub fn would_send(&self, reference: u64, t: i64) -> Option<u64>
         ensures some { (before : List Entry) → Knows before self.now.cache
             → IfSome result (WouldSend self.now.cache.choice before reference t) }

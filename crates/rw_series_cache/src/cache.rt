@@ -1,4 +1,4 @@
-//! The series of the references of a log.
+//! Which series the references of a log stand for.
 
 ghost use Rattle.std.specs.Prelude.{◌≡◌, ◌<◌, ◌∷◌, ◌++◌, [], List, length, true, OnOk, OnErr};
 ghost use Rattle.std.specs.FinMap as map;
@@ -19,8 +19,8 @@ use rw_types::{Entry, Names, RawLabels};
 use std::alloc::{AllocError, Global};
 use std::marker::Model;
 
-/// What the definitions of a log say of its references, and the latest timestamp that was noted of each series. Contracts see the
-/// rules, the definitions taken so far, and what is noted.
+/// What the definitions of a log say of its references, and the latest timestamp that was noted of each series. Contracts see the choice of
+/// series, the definitions taken so far, and what is noted.
 #[derive(Drop)]
 pub struct Cache {
     taken: History<Entry>,
@@ -47,7 +47,7 @@ impl Model for Cache {
 }
 
 impl Cache {
-    /// A cache that has taken no definition. This takes no memory.
+    /// A cache that has taken no definition. `choice` says which series are kept. This takes no memory.
     pub fn new(alloc: Global, choice: Choice) -> Cache
         ensures { result ≡ record { choice = choice; definitions = []; noted = map.empty } }
     {
@@ -59,15 +59,15 @@ impl Cache {
         }
     }
 
-    /// The names that are taken.
+    /// Which label names are accepted.
     pub fn names(&self) -> Names
         ensures { result ≡ self.now.choice.names }
     {
         self.sets.names()
     }
 
-    /// Takes the next definition of a log. A label set that was defined before is not stored again, and the rules are not
-    /// asked of it again.
+    /// Takes the next definition of the log: from here on `reference` stands for `labels`. A label set that came before is not stored again, and
+    /// the rules are not asked of it again. An `Err` changes nothing.
     pub fn define(&mut self, reference: u64, labels: RawLabels) -> Result<(), AllocError>
         ensures ok { OnOk result (self.new ≡ record self.old { definitions = self.old.definitions ++ Entry.Def reference labels ∷ [] }) }
         ensures err { OnErr result (self.new ≡ self.old) }
@@ -81,7 +81,7 @@ impl Cache {
         Ok(())
     }
 
-    /// What is known of a reference.
+    /// What is known of `reference`, by its last definition.
     pub fn look(&self, reference: u64) -> Known<'_>
         ensures answer { Answers self.now.choice self.now.definitions reference result }
 
@@ -97,7 +97,7 @@ impl Cache {
         }
     }
 
-    /// Whether nothing is noted of a series, or this timestamp, in milliseconds since the Unix epoch, is later. This takes no memory.
+    /// Whether `t`, in milliseconds since the Unix epoch, is later than what is noted of the series, or nothing is. This takes no memory.
     pub fn rises(&self, series: u64, t: i64) -> bool
         requires within { series < length (series_of self.now.choice self.now.definitions) }
         ensures { result ≡ is_after (map.get self.now.noted series) t }
@@ -108,7 +108,7 @@ impl Cache {
         }
     }
 
-    /// Notes this timestamp of a series. This takes no memory.
+    /// Notes `t`, in milliseconds since the Unix epoch, as the latest timestamp of the series. This takes no memory.
     pub fn note(&mut self, series: u64, t: i64)
         requires within { series < length (series_of self.old.choice self.old.definitions) }
         requires rising { is_after (map.get self.old.noted series) t ≡ true }
@@ -117,7 +117,7 @@ impl Cache {
         self.latest.set(series as usize, t);
     }
 
-    /// How many series the rules keep.
+    /// How many series the rules have kept so far.
     pub fn series_count(&self) -> usize
         ensures { result ≡ length (series_of self.now.choice self.now.definitions) }
     {

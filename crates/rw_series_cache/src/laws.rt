@@ -1,4 +1,5 @@
-//! Laws of what the entries of a log say of its series, for the crates that keep a cache beside a log.
+//! Laws of what the entries of a log say of its series, for the crates that keep a cache beside a log. Each function has an empty body: its
+//! contract is the law.
 
 ghost use Rattle.std.specs.Prelude.{◌≡◌, ◌≢◌, ◌++◌, ◌∷◌, [], ℕ, ℤ, true, false, List, length, take};
 ghost use Rattle.std.specs.Ordering.{nat_cmp};
@@ -13,7 +14,7 @@ ghost use Rattle.rw_series_cache.specs.Numbers.{series_of, HasNumber};
 ghost use Rattle.rw_series_cache.specs.Points.{kept_points, kept_points_below};
 ghost use Rattle.rw_series_cache.specs.Rising.{rises, IsNoted};
 
-/// Samples change nothing of what is known.
+/// Law: samples change nothing of what is known of references and series; only definitions do.
 pub fn samples_define_nothing()
     ensures known { (choice : Choice) (entries : List Entry) (reference : ℕ)
         → known choice (definitions_of entries) reference ≡ known choice entries reference }
@@ -24,13 +25,13 @@ pub fn samples_define_nothing()
         → definitions_of (entries ++ Sample reference t word ∷ []) ≡ definitions_of entries }
 {}
 
-/// What is known below a position goes by the labels there.
+/// Law: what is known of a reference after the first `position` entries of a log is what its labels there say.
 pub fn known_at_a_position()
     ensures { (choice : Choice) (entries : List Entry) (reference position : ℕ)
         → known choice (take position entries) reference ≡ standing_of choice (labels_of entries reference position) }
 {}
 
-/// A reference that stands for a kept label set stands for a series, and a series keeps its number as more entries come.
+/// Law: a reference whose label set is kept stands for a numbered series, and a series keeps its number as more entries come.
 pub fn numbers_stay()
     ensures numbered { (choice : Choice) (entries : List Entry) (reference : ℕ) (labels : Labels)
         → known choice entries reference ≡ Kept labels → (number : ℕ) × HasNumber (series_of choice entries) labels number }
@@ -38,7 +39,7 @@ pub fn numbers_stay()
         → HasNumber (series_of choice entries) labels number → HasNumber (series_of choice (entries ++ more)) labels number }
 {}
 
-/// A sample is one of the series for which its reference stands, where the rules keep it, and of no other.
+/// Law: a sample belongs to the series that its reference stands for, where the rules keep it, and to no other.
 pub fn points_entry_by_entry()
     ensures definition { (choice : Choice) (entries : List Entry) (labels other : Labels) (reference : ℕ)
         → kept_points choice (entries ++ Def reference other ∷ []) labels ≡ kept_points choice entries labels }
@@ -50,13 +51,13 @@ pub fn points_entry_by_entry()
         → kept_points choice (entries ++ Sample reference t word ∷ []) labels ≡ kept_points choice entries labels }
 {}
 
-/// The samples of a series below a position are those of the entries below it.
+/// Law: the samples of a series below a position are those among the entries below it.
 pub fn points_below_a_position()
     ensures { (choice : Choice) (entries : List Entry) (labels : Labels) (end : ℕ)
         → kept_points_below choice entries labels end ≡ kept_points choice (take end entries) labels }
 {}
 
-/// What is noted decides which samples rise, entry by entry: a sample that rises is noted, and nothing else.
+/// Law: the timestamps that are noted decide which samples rise, entry by entry: a sample that rises is noted, and nothing else.
 pub fn notes_entry_by_entry()
     ensures first { (choice : Choice) → IsNoted choice [] empty }
     ensures definition { (choice : Choice) (entries : List Entry) (reference : ℕ) (labels : Labels)

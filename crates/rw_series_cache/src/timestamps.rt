@@ -37,7 +37,7 @@ impl Timestamps {
         }
     }
 
-    /// Makes a place more, where there are only so many.
+    /// Makes one more place, where there are no more than `count`.
     pub(crate) fn make_place(&mut self, count: usize) -> Result<(), AllocError>
         requires { count ≤ self.old.places }
         ensures ok { OnOk result (count < self.new.places) }

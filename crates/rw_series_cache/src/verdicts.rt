@@ -22,7 +22,7 @@ pub(crate) struct Verdicts {
 }
 
 impl Verdicts {
-    /// Of no reference. This takes no memory.
+    /// No verdicts yet. This takes no memory.
     pub(crate) fn new(alloc: Global) -> Verdicts
         ensures { (r : ℕ) → verdict_in result r ≡ None }
     {
