@@ -1,4 +1,4 @@
-//! What workers send over.
+//! What workers send over, and what they wait by.
 
 ghost use Rattle.std.specs.Prelude.{◌≡◌, IfOk, []};
 
@@ -9,11 +9,13 @@ use std::alloc::AllocError;
 pub trait Connect {
     ghost use Rattle.std.specs.Prelude.{◌≡◌, IfOk, []};
 
+    /// What a worker sends over.
     type T: Transport + Send + Drop + 'static;
 
+    /// What a worker waits by.
     type P: Pause + Send + Drop + 'static;
 
-    /// For the worker of a shard of an epoch. The transport has made no exchange yet.
+    /// The transport and the pause for the worker of shard `shard` of epoch `epoch`. The transport has made no exchange yet.
     fn transport(&mut self, epoch: u64, shard: u32) -> Result<(Self::T, Self::P), AllocError>
         ensures unused { IfOk result (λ r. Self.T.seen r.0 ≡ []) }
         ensures made { IfOk result (λ r. Self.T.is_for epoch shard r.0) };

@@ -1,4 +1,4 @@
-//! The ends of a queue that was ended.
+//! The two ends of a queue that was ended.
 
 ghost use Rattle.std.specs.Prelude.{◌≡◌, ◌+◌, ◌≤◌, length, true, false};
 ghost use Rattle.rw_shard_queue.specs.Items.{samples_in, places_in};
@@ -9,21 +9,21 @@ use rw_ruled_queue::{Ended, Feed, Kind, Open, Whole, begins, compare};
 use rw_worker::TakingEnd;
 use std::sync::Wait;
 
-/// The end that puts.
+/// The end of a queue that puts, once an End was to be put.
 #[derive(Drop)]
 pub enum Fed {
-    /// No End could be put: the end that takes was gone.
+    /// No End could be put: nobody was at the other end.
     Open(Feed<Open>),
     /// An End was put.
     Ended(Feed<Ended>),
 }
 
-/// The ends of a queue whose worker has ended.
+/// Both ends of a queue whose worker has ended.
 #[derive(Drop)]
 pub enum Ends {
     /// All that was put was taken.
     Compared(Whole),
-    /// The worker has not taken the End, or there was none.
+    /// No End was put, or the worker has not taken it.
     Apart(Fed, TakingEnd),
 }
 
@@ -40,7 +40,7 @@ pub(crate) fn end_of<R: Wait>(rt: &R, feed: Feed<Open>, kind: Kind) -> Fed
     }
 }
 
-/// Brings the ends together: what was taken is a beginning of what was put, and all of it where an End was put and taken.
+/// Brings the ends of a queue together: what was taken is a beginning of what was put, and all of it where an End was put and taken.
 pub(crate) fn meet<R>(rt: &R, fed: Fed, end: TakingEnd) -> Ends
     requires { (feeding fed).queue ≡ (drain_of end).queue }
     ensures queue { queue_of result ≡ (feeding fed).queue }

@@ -1,4 +1,4 @@
-//! All shards of all epochs.
+//! The shards of all epochs.
 
 ghost use Rattle.std.specs.Prelude.{◌≡◌, ◌+◌, ◌<◌, ◌≤◌, ◌^◌, ℕ, List, [], ◌∷◌, ◌++◌, length, map, MatchResult, IfOk, IfErr, OnOk, OnErr, Some, Err, true, false, slice_get};
 ghost use Rattle.rw_types.specs.declared.place.Place.{Place};
@@ -26,7 +26,7 @@ use std::mem::replace;
 use std::sync::Wait;
 use std::thread::Threads;
 
-/// The shards at work, and those that have ended, in the order of their epochs. It has to be finished.
+/// The shards at work, and those that have ended, in the order of their epochs. A fleet has to be ended by `finish`.
 pub struct Fleet<C: Connect + Drop> {
     alloc: Global,
     config: Config,
@@ -64,7 +64,7 @@ impl<C: Connect + Drop> Model for Fleet<C> {
 }
 
 impl<C: Connect + Drop> Fleet<C> {
-    /// No shard, before epoch 0.
+    /// A fleet before epoch 0 is opened: it has no shard.
     pub fn new(alloc: Global, config: Config, connect: C) -> Result<Fleet<C>, AllocError>
         ensures { IfOk result (λ f. f ≡ record { config = config; epoch = 0; current = []; ended = [] }) }
     {
@@ -89,14 +89,14 @@ impl<C: Connect + Drop> Fleet<C> {
         self.running.len()
     }
 
-    /// How often the number of shards has changed.
+    /// The epoch: how often the number of shards has changed.
     pub fn epoch(&self) -> u64
         ensures { result ≡ self.now.epoch }
     {
         self.epoch
     }
 
-    /// How many of the samples that a shard was put may wait to be resolved.
+    /// How many of the samples that one shard was put may wait to be resolved: as many as its queue holds, and a batch.
     pub fn window(&self) -> usize
         ensures { result ≡ window_of self.now.config }
     {
@@ -104,7 +104,7 @@ impl<C: Connect + Drop> Fleet<C> {
         fields.capacity.get() as usize + fields.batch.get() as usize
     }
 
-    /// How far the samples have come, as far as the workers have told. Those that only wait for a batch to be full count as resolved.
+    /// How far the samples of all shards have come, as far as the workers have told. Those that only wait for a full batch count as resolved.
     pub fn load(&self) -> Load
         ensures { IsLoad self.now result }
     {
@@ -113,7 +113,7 @@ impl<C: Connect + Drop> Fleet<C> {
         load_at_work(ended, &self.running, batch, self.window() as u64)
     }
 
-    /// Opens the queues of so many shards, and starts their workers. Where that is refused some may be at work.
+    /// Opens the queues of `shards` shards, and starts a worker for each. After an `Err` some of them may be at work.
     pub fn open<R: Threads + Wait + Copy + Send + 'static>(
         &mut self,
         rt: &R,
@@ -147,7 +147,7 @@ impl<C: Connect + Drop> Fleet<C> {
         if all { Ok(()) } else { Err(AllocError) }
     }
 
-    /// Puts a sample into the queue of a shard. It may wait for room.
+    /// Puts a sample into the queue of shard number `shard`. It may wait for room. An `Err` changes nothing.
     pub fn put<R: Wait>(&mut self, rt: &R, shard: usize, sample: RoutedSample) -> Result<(), Fault>
         requires within { shard < length self.old.current }
         requires later { (lane : Lane) (k : ℕ) (o : Place) → slice_get self.old.current shard ≡ Some lane → slice_get (places_in lane.put) k ≡ Some o → o.pos < sample.pos }
@@ -162,7 +162,7 @@ impl<C: Connect + Drop> Fleet<C> {
         Ok(())
     }
 
-    /// Puts a Flush into each queue. It may wait for room.
+    /// Puts a Flush into the queue of each shard at work. It may wait for room. After an `Err` some may have one.
     pub fn mark<R: Wait>(&mut self, rt: &R) -> Result<(), Fault>
         ensures rest { self.new ≡ record self.old { current = self.new.current } }
         ensures marked { OnOk result (self.new.current ≡ map marked self.old.current) }
@@ -179,7 +179,8 @@ impl<C: Connect + Drop> Fleet<C> {
         hand_over_all(rt, &mut self.running);
     }
 
-    /// Ends all shards at work once all that was put is resolved, and waits for their workers: the next epoch has no shard yet. It answers whether all that was put in all epochs is resolved.
+    /// Ends all shards at work once all that was put is resolved, and waits for their workers; the next epoch has no shard yet. Returns whether
+    /// all that was put in all epochs is resolved.
     pub fn close<R: Threads + Wait>(&mut self, rt: &R) -> bool
         requires { self.old.epoch + 1 < 2 ^ 64 }
         ensures closed { HasClosed self.old self.new }
@@ -197,7 +198,8 @@ impl<C: Connect + Drop> Fleet<C> {
         all_resolved(&self.joined)
     }
 
-    /// Ends all shards at work and waits for their workers, which are told to stop where the end is hard. It answers whether all that was put in all epochs is resolved.
+    /// Ends all shards at work, and waits for their workers, which are told to stop where `kind` is `Hard`. Returns the shards of all epochs, and
+    /// whether all that was put into them is resolved.
     pub fn finish<R: Threads + Wait>(self, rt: &R, kind: Kind) -> (Vec<Joined<C::T>>, bool)
         ensures all { AreAll self result.0.items }
         ensures worked { AreWorked C.T.tells C.T.seen C.T.is_for result.0.items }

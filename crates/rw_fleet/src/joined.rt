@@ -8,14 +8,16 @@ use rw_ledger::Ledger;
 use rw_worker::{Stopped, Transport, Worker};
 use std::snapshot::Snapshot;
 
-/// One queue of one epoch, whose worker has ended.
+/// The queue of a shard whose worker has ended, and how far that has come.
 #[derive(Drop)]
 pub struct Finished<T> {
+    /// Both ends of the queue.
     pub ends: Ends,
+    /// What the worker sent over.
     pub transport: T,
     /// How many of the samples that were put are resolved, from the first on: the receiver has them, or has refused them.
     pub resolved: u64,
-    /// There where the worker read the stop flag as set.
+    /// Present where the worker read the stop flag as set.
     pub stopped: Option<Stopped>,
 }
 
@@ -28,11 +30,12 @@ pub struct Joined<T> {
     pub abandoned: Vec<u64>,
     /// The refused samples, each with the status of its batch.
     pub part: Ledger,
+    /// The queue, and how far the worker has come.
     pub finished: Finished<T>,
 }
 
 impl<T: Transport> Joined<T> {
-    /// Whether all that was put was taken, and is resolved.
+    /// Whether all samples that were put were taken, and are resolved.
     pub fn is_resolved(&self) -> bool
         ensures { result ≡ is_resolved self.now }
     {

@@ -1,4 +1,4 @@
-//! What is done to all shards of an epoch.
+//! Calls for all shards of an epoch.
 
 ghost use Rattle.std.specs.Prelude.{◌≡◌, ◌+◌, ◌≤◌, ℕ, List, [], ◌++◌, map, OnOk, Err, true, false, vec_len, vec_capacity};
 ghost use Rattle.std.specs.List.{sum_by};
@@ -17,7 +17,7 @@ use std::alloc::Global;
 use std::sync::Wait;
 use std::thread::Threads;
 
-/// Opens the queues of an epoch, and starts their workers. It answers false where one could not be had.
+/// Opens the queues of an epoch, and starts their workers. The result is false where one could not be had.
 pub(crate) fn open_all<C: Connect, R: Threads + Wait + Copy + Send + 'static>(
     rt: &R,
     alloc: Global,
@@ -148,7 +148,7 @@ pub(crate) fn load_of_ended<T: Transport>(joined: &Vec<Joined<T>>) -> Load
     load
 }
 
-/// A load with that of these shards at work, which send batches of so many samples. Of each as many samples may wait as `window` says.
+/// The load `ended`, and that of these shards at work, which send batches of `batch` samples. Of each shard at most `window` samples may wait.
 pub(crate) fn load_at_work<T: Transport + Send + Drop + 'static>(
     ended: Load,
     running: &Vec<Running<T>>,

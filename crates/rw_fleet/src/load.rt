@@ -3,12 +3,12 @@
 ghost use Rattle.std.specs.Prelude.{◌≡◌, ◌+◌, ℕ};
 ghost use Rattle.rw_fleet.specs.Loads.{load_of};
 
-/// How far the samples of all shards have come, as far as it is known: advice on how many shards are wanted.
+/// How far the samples of all shards have come, as far as is known: advice on how many shards are wanted.
 #[derive(Clone, Copy, Debug, PartialEq, Eq)]
 pub struct Load {
     /// How many samples were put into queues.
     pub placed: u64,
-    /// How many of them are resolved, or wait for a batch to be full.
+    /// How many of them are resolved, or only wait for a full batch.
     pub resolved: u64,
     /// How many of them wait to be resolved.
     pub backlog: u64,
@@ -25,7 +25,7 @@ impl Load {
         }
     }
 
-    /// With one shard more, of whose samples so many are resolved, and so many are left that may not be.
+    /// The load with one shard more, of whose samples `resolved` are resolved and `left` may not be.
     pub(crate) fn with(self, resolved: u64, left: u64) -> Load
         ensures { (r l : ℕ) → self ≡ load_of r l → result ≡ load_of (r + resolved) (l + left) }
     {

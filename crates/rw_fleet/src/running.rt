@@ -21,11 +21,12 @@ use std::snapshot::Snapshot;
 use std::sync::Wait;
 use std::thread::{PromisedHandle, Threads};
 
-/// Why a shard could not be put an item.
+/// Why an item was not put into the queue of a shard.
 #[derive(Clone, Copy, Debug, PartialEq, Eq)]
 pub enum Fault {
+    /// The shard was put 2^60 samples, and no more are counted.
     OutOfMemory,
-    /// The worker has gone.
+    /// The worker of the shard has gone.
     Gone,
 }
 
@@ -133,8 +134,7 @@ impl<T: Transport + Send + Drop + 'static> Running<T> {
         self.window.len()
     }
 
-    /// How many samples wait to be resolved, as far as the worker has told: `most` where there are more, and none where they do not make a
-    /// batch of so many.
+    /// How many samples wait to be resolved, as far as the worker has told: at most `most`, and none where they are fewer than the `batch` samples of a batch.
     pub(crate) fn waiting(&self, batch: u64, most: u64) -> u64
         ensures { result ≤ left_at_work most self.now }
     {

@@ -30,7 +30,7 @@ impl Model for Window {
 }
 
 impl Window {
-    /// No position yet. It takes the memory for as many as are kept.
+    /// A window without positions. It takes the memory for as many as are kept.
     pub(crate) fn new(alloc: Global, most: usize) -> Result<Window, AllocError>
         requires { 0 < most }
         ensures { IfOk result (λ w. w ≡ record { all = []; most = most }) }

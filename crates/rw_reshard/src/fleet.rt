@@ -12,7 +12,7 @@ use crate::stage::{Draining, Running, Stage};
 use std::alloc::{AllocError, Global};
 use std::marker::{Model, PhantomData};
 
-/// Why there is no next epoch yet.
+/// Why the next epoch has not begun.
 #[derive(Clone, Copy, Debug, PartialEq, Eq)]
 pub enum NextFault {
     /// Memory ran out, or there were 2^64 - 1 epochs.
@@ -21,7 +21,7 @@ pub enum NextFault {
     NotDrained,
 }
 
-/// The shards of one epoch. `G` is `Running` or `Draining`.
+/// The shards of one epoch. The type `G` says what they do: `Running` or `Draining`.
 #[derive(Drop)]
 pub struct Fleet<S, G: Stage> {
     alloc: Global,
@@ -43,7 +43,7 @@ impl<S, G: Stage> Model for Fleet<S, G> {
     ghost invariant = { λ f. G.allows (length f.made.items) f.wanted };
 }
 
-/// Makes the next shard, behind those that there are.
+/// Makes the next shard of `epoch`, behind those that there are.
 fn make_shard<M: Make>(make: &mut M, epoch: u64, shards: &mut Vec<M::S>) -> Result<(), AllocError>
     requires within { length shards.old.items < 1000 }
     requires fresh { AreNew M.is_new epoch shards.old.items }
@@ -58,7 +58,7 @@ fn make_shard<M: Make>(make: &mut M, epoch: u64, shards: &mut Vec<M::S>) -> Resu
     Ok(())
 }
 
-/// Makes shards, up to the number that is wanted, behind those that there are.
+/// Makes shards of `epoch` behind those that there are, until there are `wanted`.
 fn make_shards<M: Make>(
     make: &mut M,
     epoch: u64,
@@ -87,7 +87,7 @@ fn all_drained<S: Shard>(shards: &[S]) -> bool
 }
 
 impl<S, G: Stage> Fleet<S, G> {
-    /// The shards, in the order of their numbers.
+    /// The shards of this epoch, in the order of their numbers.
     pub fn shards_mut(&mut self) -> &mut [S]
         ensures* writes_back { sem 𝓛 (lends_shards S.row G.row G.Stage self.entry result) }
         ensures shards { result.now ≡ self.old.running }
@@ -95,7 +95,7 @@ impl<S, G: Stage> Fleet<S, G> {
         self.running.as_mut_slice()
     }
 
-    /// The shards, and those that a refused `next` made.
+    /// The shards of this epoch, and those of the next one that a refused `next` has made.
     pub fn into_shards(self) -> (Vec<S>, Vec<S>)
         ensures running { result.0.items ≡ self.running }
         ensures made { result.1.items ≡ self.made }
@@ -138,7 +138,7 @@ impl<S: Shard> Fleet<S, Running> {
         })
     }
 
-    /// From here on the shards work off what they have, until there are `n` new ones.
+    /// Begins the change to `n` shards: from here on the shards work off what they have.
     pub fn begin(self, n: u32) -> Fleet<S, Draining>
         requires some { 1 ≤ n }
         requires most { n ≤ 1000 }
@@ -164,8 +164,8 @@ impl<S: Shard> Fleet<S, Running> {
 }
 
 impl<S: Shard> Fleet<S, Draining> {
-    /// The next epoch's shards, in place of the old ones, which come too. No new shard is made before all old ones are drained.
-    /// Where memory runs out, the shards that were made so far are kept, and the next call goes on from there.
+    /// Makes the next epoch's shards, and returns them with the old ones. No new shard is made before all old ones are drained; until then the
+    /// error is `NotDrained`, and nothing changes. After `OutOfMemory` the shards that were made are kept, and the next call goes on from there.
     pub fn next<M: Make<S = S>>(
         self,
         make: &mut M,

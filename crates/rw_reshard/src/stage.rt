@@ -1,10 +1,10 @@
-//! What a fleet is doing, as a type.
+//! What the shards of a fleet do, as a type.
 
 ghost use Rattle.std.specs.Prelude.{◌≡◌, ◌≤◌, ℕ};
 
-/// What a fleet is doing.
+/// What the shards of a fleet do: `Running` or `Draining`.
 pub trait Stage {
-    /// How many shards of the next epoch there may be, where so many are wanted.
+    /// Whether the stage allows it that this many shards of the next epoch were made, where that many are wanted.
     ghost allows: { ℕ → ℕ → Type 0 };
 }
 
@@ -16,7 +16,7 @@ impl Stage for Running {
     ghost allows = { λ made wanted. made ≡ 0 };
 }
 
-/// The shards work off what they have, and a next epoch is to come.
+/// The shards work off what they have, and the next epoch is to come.
 #[derive(Debug)]
 pub struct Draining;
 

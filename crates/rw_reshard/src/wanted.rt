@@ -11,7 +11,7 @@ fn bring_within(n: u128, min: u32, max: u32) -> u32
     n.max(min as u128).min(max as u128) as u32
 }
 
-/// The shards that would have resolved what was placed, and the backlog with it.
+/// How many shards would have resolved what was placed, and the backlog with it.
 fn desire(now: u32, placed: u64, resolved: u64, backlog: u64, min: u32, max: u32) -> u32
     requires range { min ≤ max }
     requires some { 1 ≤ resolved }
@@ -21,8 +21,9 @@ fn desire(now: u32, placed: u64, resolved: u64, backlog: u64, min: u32, max: u32
     bring_within(work.div_ceil(resolved as u128), min, max)
 }
 
-/// How many shards are wanted where there are `n`, from `min` to `max`: as many more or fewer as would have resolved what was placed and
-/// what waits (`backlog`), in samples, where that differs by more than three tenths from what there is; else as many as there are. This takes no memory.
+/// How many shards are wanted, from `min` to `max`, where there are `n`: so many that they would have resolved the `placed` samples and the
+/// `backlog` while `n` shards resolved `resolved` samples. Where that differs from `n` by three tenths or less, or nothing is resolved yet, `n`
+/// itself, brought into the range. This takes no memory.
 pub fn want(n: u32, placed: u64, resolved: u64, backlog: u64, min: u32, max: u32) -> u32
     requires some { 1 ≤ n }
     requires least { 1 ≤ min }

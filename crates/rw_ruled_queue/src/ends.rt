@@ -1,4 +1,4 @@
-//! The two ends of a queue.
+//! The two ends of a queue: `Feed` puts, `Drain` takes.
 
 ghost use Rattle.std.specs.Prelude.{◌≡◌, ◌<◌, ℕ, [], ◌∷◌, ◌++◌, ◌≤◌, length, IfOk, OnOk, OnErr, MatchResult};
 ghost use Rattle.crossbeam_channel.specs.Claims.{IsSeatAt};
@@ -19,16 +19,16 @@ use std::marker::{Brand, Model, PhantomData};
 use std::mem;
 use std::sync::Wait;
 
-/// The call found nobody at the other end. Nothing is claimed of the cause.
+/// The error of a call that found nobody at the other end of the queue. Nothing is claimed of the cause.
 #[derive(Clone, Copy, Debug, PartialEq, Eq)]
 pub struct Gone;
 
-/// The end that puts. Contracts see its queue and what was put.
+/// The end of a queue that puts. Contracts see its queue, how many items that holds at most, and what was put.
 #[derive(Drop)]
 pub struct Feed<S: Stage> {
     pub(crate) sender: RuledSender<Block, Log, InOrder>,
     pub(crate) pass: Pass<Block, Log>,
-    /// What is held back.
+    /// What was put and is held back until a block is handed over.
     pub(crate) block: Block,
     pub(crate) stage: PhantomData<S>,
 }
@@ -59,7 +59,7 @@ impl<S: Stage> Model for Feed<S> {
         × S.held f.block.items };
 }
 
-/// The end that takes. Contracts see its queue and what was taken.
+/// The end of a queue that takes. Contracts see its queue and what was taken.
 #[derive(Drop)]
 pub struct Drain<S: Stage> {
     pub(crate) receiver: Option<RuledReceiver<Block, Log, InOrder>>,
@@ -90,18 +90,18 @@ impl<S: Stage> Model for Drain<S> {
         × (length d.block.items < (log_of d.pass).name.most) };
 }
 
-/// What a take gives, with the end as it then is.
+/// What `Drain::take` gives, with the end as it then is.
 #[derive(Drop)]
 pub enum Taken {
     /// A sample or a Flush.
     Item(Item, Drain<Open>),
-    /// The last item.
+    /// The End, which is the last item.
     End(Kind, Drain<Ended>),
-    /// Nothing, and nothing more will come.
+    /// Nothing, and nothing more will come: nobody is at the end that puts.
     Gone(Drain<Deserted>),
 }
 
-/// An empty block. It may wait for memory.
+/// An empty block with as much room as `like`. It may wait for memory.
 fn fresh_block<R: Wait>(rt: &R, like: &Block) -> Block
     ensures { result ≡ record { items = []; most = like.now.most } }
 {
@@ -141,7 +141,7 @@ fn send<R: Wait>(
 }
 
 impl Feed<Open> {
-    /// Puts a Flush or a sample at the back. It may wait for room. An item that was not put comes back.
+    /// Puts a sample or a Flush at the back. It may wait for room. Where nobody is at the other end the item comes back, and what was put stays as it was.
     pub fn put<R: Wait>(&mut self, rt: &R, item: Item) -> Result<(), (Item, Gone)>
         requires { MayFollow self.old.queue.epoch self.old.queue.shard self.old.put item }
         ensures queue { (self.new.queue ≡ self.old.queue) × (self.new.capacity ≡ self.old.capacity) }
@@ -162,7 +162,7 @@ impl Feed<Open> {
         Ok(())
     }
 
-    /// Hands over what is held back. It may wait for room.
+    /// Hands over the items that are held back, so that the other end can take them. It may wait for room.
     pub fn hand_over<R: Wait>(&mut self, rt: &R) -> Result<(), Gone>
         ensures { self.new ≡ self.old }
     {
@@ -172,7 +172,7 @@ impl Feed<Open> {
         send(rt, &self.sender, &mut self.pass, &mut self.block)
     }
 
-    /// Puts an End, the last item. It may wait for room.
+    /// Puts an End, the last item, of this kind. It may wait for room. Where nobody is at the other end, this end comes back as it was.
     pub fn end<R: Wait>(self, rt: &R, kind: Kind) -> Result<Feed<Ended>, (Feed<Open>, Gone)>
         ensures put { MatchResult result (λ f. (f.queue ≡ self.queue) × (f.capacity ≡ self.capacity) × (f.put ≡ self.put ++ Item.End kind ∷ [])) (λ e. e.0 ≡ self) }
         ensures history { IfOk result (λ f. IsHistory f.queue.epoch f.queue.shard f.put) }
@@ -282,7 +282,7 @@ impl Drain<Open> {
 }
 
 impl<S: Stage> Drain<S> {
-    /// Gives the end up: nothing more is taken, and the end that puts is told that this one is gone.
+    /// Gives this end up: nothing more is taken, and the end that puts finds nobody here.
     pub fn kill(self) -> Drain<Killed>
         ensures { result ≡ self }
     {
@@ -338,10 +338,10 @@ fn open_named<Q: Naming>(
     Ok((feed, drain))
 }
 
-/// How many items a block has at most.
+/// The most items of a block.
 const LONGEST: usize = 64;
 
-/// The two ends of a new queue, which holds at most so many items, marks included.
+/// The two ends of a new queue, for shard `shard` of epoch `epoch`. It holds at most `capacity` items, marks included.
 pub fn open(
     alloc: Global,
     epoch: u64,

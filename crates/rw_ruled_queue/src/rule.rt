@@ -6,7 +6,7 @@ use rw_shard_queue::Item;
 use std::collections::LinkedList;
 use std::marker::{Brand, PhantomData};
 
-/// Which queue it is, how many blocks the channel holds, and how many items a block has at most. No value of it is made.
+/// What names a queue: its epoch, shard and capacity, how many blocks the channel holds, and how many items a block has at most. No value of it is made.
 pub struct Name {
     pub epoch: u64,
     pub shard: u32,
@@ -37,7 +37,7 @@ impl Naming for Brand {
     ghost name = { no_name };
 }
 
-/// The rule.
+/// The rule that what was handed over is what was received, and then what the blocks of the channel hold.
 pub struct InOrder;
 
 impl Protocol<Block, Log> for InOrder {

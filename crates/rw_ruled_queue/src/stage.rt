@@ -1,6 +1,6 @@
 //! How far an end of a queue has come, as a type.
 
-/// How far an end has come.
+/// How far an end of a queue has come: `Open`, `Deserted`, `Ended` or `Killed`.
 pub trait Stage {
     ghost use Rattle.std.specs.Prelude.{List};
     ghost use Rattle.rw_shard_queue.specs.declared.item.Item.{Item};
@@ -15,16 +15,16 @@ pub trait Stage {
     ghost let_go: { Type 0 };
 }
 
-/// No End went through.
+/// No End has gone through the end of the queue.
 pub struct Open;
 
-/// Nothing more comes: a take found nobody at the end that puts.
+/// A take found nobody at the end that puts: nothing more comes, and no End has come.
 pub struct Deserted;
 
-/// An End went through, as the last item.
+/// An End has gone through, as the last item.
 pub struct Ended;
 
-/// The end was given up.
+/// The end was given up by `Drain::kill`.
 pub struct Killed;
 
 impl Stage for Open {

@@ -1,11 +1,12 @@
-//! What holds of each history by its definition.
+//! Laws of what may go through the queue of a shard. Each function has an empty body: its contract is the law.
 
 ghost use Rattle.std.specs.Prelude.{◌≡◌, ℕ, List, [], ◌∷◌, ◌++◌};
 ghost use Rattle.rw_shard_queue.specs.declared.item.Item.{Item};
 ghost use Rattle.rw_shard_queue.specs.declared.item.Kind.{Kind};
 ghost use Rattle.rw_shard_queue.specs.History.{IsHistory, IsOpen, IsEnded, MayFollow, EndIsLast};
 
-/// A history begins empty and goes on by what may follow, or by its End. Each beginning of one is a history, and where its End was taken all of it was taken.
+/// Law: the history of a queue begins empty, and goes on by an item that may follow or by an End. Each beginning of a history is one, and where
+/// its End was taken, all of it was.
 pub fn histories_go_on()
     ensures empty { (epoch shard : ℕ) → IsHistory epoch shard [] × IsOpen [] }
     ensures put { (epoch shard : ℕ) (put : List Item) (x : Item) → IsHistory epoch shard put → IsOpen put → MayFollow epoch shard put x → IsHistory epoch shard (put ++ x ∷ []) × IsOpen (put ++ x ∷ []) }

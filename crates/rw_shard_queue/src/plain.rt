@@ -1,4 +1,4 @@
-//! A queue within one thread.
+//! The queue of a shard within one thread.
 
 ghost use Rattle.std.specs.Prelude.{◌≡◌, ◌↔◌, ◌∷◌, [], ◌++◌, true, false, None, Some, length, ◌≤◌, IsTrue, IsOk, IfOk, IfErr, OnOk, OnErr};
 ghost use Rattle.std.specs.VecDeque.Iter.{deque_iter_rest};
@@ -14,13 +14,14 @@ use std::marker::Model;
 /// Why an item was not put.
 #[derive(Clone, Copy, Debug, PartialEq, Eq)]
 pub enum PutFault {
-    /// The queue holds as many items as it may.
+    /// The queue holds as many items as its capacity.
     Full = 1,
     /// The queue was closed or killed.
     Closed = 2,
 }
 
-/// A queue that takes no memory after it was made. Contracts see what was taken, what it holds, and so what was put.
+/// The queue of a shard within one thread. It takes no memory after it was made. Contracts see the items that were taken, those that it holds,
+/// and so those that were put.
 #[derive(Drop)]
 pub struct PlainQueue {
     items: VecDeque<Item>,
@@ -43,7 +44,7 @@ impl Model for PlainQueue {
 }
 
 impl PlainQueue {
-    /// An empty queue that holds at most so many items, marks included.
+    /// An empty queue that holds at most `capacity` items, marks included.
     pub fn new(alloc: Global, capacity: usize) -> Result<PlainQueue, AllocError>
         ensures { IfOk result (λ q. q ≡ record { taken = []; items = []; capacity = capacity; closed = false; killed = false }) }
     {
@@ -56,7 +57,7 @@ impl PlainQueue {
         })
     }
 
-    /// Why nothing can be put now, if so.
+    /// Why an item cannot be put now; `None` where it can.
     pub fn refusal(&self) -> Option<PutFault>
         ensures { result ≡ refusal self.now }
     {
@@ -69,7 +70,7 @@ impl PlainQueue {
         Some(PutFault::Full)
     }
 
-    /// Puts an item at the back. One that is refused comes back, and then nothing changes.
+    /// Puts an item at the back. A refused item comes back with the reason, and nothing changes.
     pub fn put(&mut self, item: Item) -> Result<(), (Item, PutFault)>
         ensures fine { IsOk result ↔ (refusal self.old ≡ None) }
         ensures ok { OnOk result (self.new ≡ record self.old { items = self.old.items ++ item ∷ [] }) }
@@ -85,7 +86,7 @@ impl PlainQueue {
         Ok(())
     }
 
-    /// Takes the item at the front. A killed queue gives none.
+    /// Takes the item at the front; `None` where the queue is empty or was killed.
     pub fn take(&mut self) -> Option<Item>
         ensures item { result ≡ next_item self.old }
         ensures rest { self.new ≡ after_take self.old }
@@ -103,28 +104,28 @@ impl PlainQueue {
         }
     }
 
-    /// From here on nothing is put.
+    /// Closes the queue: from here on nothing can be put. What it holds can still be taken.
     pub fn close(&mut self)
         ensures { self.new ≡ record self.old { closed = true } }
     {
         self.closed = true;
     }
 
-    /// From here on nothing is put or taken.
+    /// Kills the queue: from here on nothing can be put or taken.
     pub fn kill(&mut self)
         ensures { self.new ≡ record self.old { killed = true } }
     {
         self.killed = true;
     }
 
-    /// What the queue holds, the front first.
+    /// The items that the queue holds, the front first.
     pub fn iter(&self) -> Iter<'_, Item>
         ensures { deque_iter_rest result ≡ self.now.items }
     {
         self.items.iter()
     }
 
-    /// How many items the queue holds.
+    /// How many items the queue holds, marks included.
     pub fn len(&self) -> usize
         ensures len { result ≡ length self.now.items }
         ensures within { result ≤ self.now.capacity }
@@ -132,6 +133,7 @@ impl PlainQueue {
         self.items.len()
     }
 
+    /// Whether the queue holds no item.
     pub fn is_empty(&self) -> bool
         ensures { IsTrue result ↔ (self.now.items ≡ []) }
     {
