@@ -1,4 +1,4 @@
-//! A batch that was frozen.
+//! A batch that was frozen, and its id.
 
 ghost use Rattle.std.specs.Prelude.{◌≡◌, ◌<◌, length};
 ghost use Rattle.rw_batch.specs.Batches.{IsStretch, id_of};
@@ -10,13 +10,15 @@ use std::marker::Model;
 /// What names a batch: the place of its first sample.
 #[derive(Clone, Copy, Debug, PartialEq, Eq)]
 pub struct BatchId {
+    /// The epoch of its shard.
     pub epoch: u64,
+    /// The number of its shard in that epoch.
     pub shard: u32,
-    /// The number, from 0, of the first sample among those of the shard.
+    /// How many samples were put into that shard in that epoch before its first sample.
     pub seq: u64,
 }
 
-/// A stretch of one shard's samples. Its id and its body stay as they are: each attempt to send it uses the one body.
+/// Consecutive samples of one shard. Its id and its body stay as they are: each attempt to send it uses the one body.
 #[derive(Drop)]
 pub struct Batch {
     pub(crate) places: Vec<Place>,
@@ -35,6 +37,7 @@ impl Model for Batch {
 }
 
 impl Batch {
+    /// The id, which is the place of the first sample.
     pub fn id(&self) -> BatchId
         ensures { result ≡ id_of self.now.places }
     {
@@ -46,7 +49,7 @@ impl Batch {
         }
     }
 
-    /// Where its samples stand, in order.
+    /// The places of its samples, in order. There is at least one.
     pub fn places(&self) -> &[Place]
         ensures places { result.now ≡ self.now.places }
         ensures some { 0 < length self.now.places }

@@ -14,7 +14,7 @@ use crate::rows::Rows;
 use rw_write_request::{put_series_head, series_head_len};
 use std::alloc::AllocError;
 
-/// How many bytes the field of the series at this place takes, if that fits 64 bits.
+/// How many bytes the field of series number `place` of the message takes; `None` where the number does not fit 64 bits.
 fn series_len(rows: &Rows, place: usize) -> Option<usize>
     requires { place < length (message rows.now.samples) }
     ensures some { IfSome result (λ n. n ≡ parts_len (series_at rows.now.samples place)) }
@@ -25,7 +25,7 @@ fn series_len(rows: &Rows, place: usize) -> Option<usize>
     head.checked_add(bytes)
 }
 
-/// How many bytes the body takes, if that fits 64 bits.
+/// How many bytes the body takes; `None` where the number does not fit 64 bits.
 pub(crate) fn body_len(rows: &Rows) -> Option<usize>
     ensures some { IfSome result (λ n. n ≡ length (canon (message rows.now.samples))) }
     ensures none { IfNone result (2 ^ 64 ≤ length (canon (message rows.now.samples))) }
@@ -37,7 +37,7 @@ pub(crate) fn body_len(rows: &Rows) -> Option<usize>
     Some(total)
 }
 
-/// Copies bytes to the end.
+/// Appends bytes, for which there is room.
 fn put_bytes(out: &mut Vec<u8>, bytes: &[u8])
     requires room { vec_len out.old + length bytes.now ≤ vec_capacity out.old }
     ensures items { out.new.items ≡ out.old.items ++ bytes.now }
@@ -46,7 +46,7 @@ fn put_bytes(out: &mut Vec<u8>, bytes: &[u8])
     out.extend_from_slice(bytes).unwrap();
 }
 
-/// Copies the fields of the samples of these numbers to the end.
+/// Appends the fields of the samples of these numbers.
 fn put_numbered(out: &mut Vec<u8>, fields: &Fields, numbers: &[usize])
     requires within { AllByRecursion (λ j. j < length fields.now.samples) numbers.now }
     requires room { vec_len out.old + length (flat_map (field_at fields.now.samples) numbers.now) ≤ vec_capacity out.old }
@@ -58,7 +58,7 @@ fn put_numbered(out: &mut Vec<u8>, fields: &Fields, numbers: &[usize])
     }
 }
 
-/// Writes the field of the series at this place at the end. The row is room for the numbers of its samples.
+/// Appends the field of series number `place` of the message. `row` is room for the numbers of its samples.
 fn put_series(out: &mut Vec<u8>, rows: &Rows, fields: &Fields, place: usize, row: &mut Vec<usize>)
     requires same { fields.now.samples ≡ samples_alone rows.now.samples }
     requires place { place < length (message rows.now.samples) }
@@ -75,7 +75,7 @@ fn put_series(out: &mut Vec<u8>, rows: &Rows, fields: &Fields, place: usize, row
     put_numbered(out, fields, row);
 }
 
-/// Writes the fields of all series at the end.
+/// Appends the fields of all series.
 fn put_all_series(out: &mut Vec<u8>, rows: &Rows, fields: &Fields, row: &mut Vec<usize>)
     requires same { fields.now.samples ≡ samples_alone rows.now.samples }
     requires fits { length (canon (message rows.now.samples)) < 2 ^ 64 }
@@ -89,7 +89,7 @@ fn put_all_series(out: &mut Vec<u8>, rows: &Rows, fields: &Fields, row: &mut Vec
     }
 }
 
-/// Writes the canonical spelling of the message that groups the samples by label set at the end.
+/// Appends the canonical spelling of the message that groups the samples by label set.
 pub(crate) fn put_body(out: &mut Vec<u8>, rows: &Rows, fields: &Fields) -> Result<(), AllocError>
     requires same { fields.now.samples ≡ samples_alone rows.now.samples }
     requires room { vec_len out.old + length (canon (message rows.now.samples)) ≤ vec_capacity out.old }

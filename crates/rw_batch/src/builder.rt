@@ -18,10 +18,10 @@ use rw_types::Place;
 use std::alloc::{AllocError, Global};
 use std::marker::Model;
 
-/// The most samples of a batch.
+/// The most samples that a batch may have.
 pub const MAX_BATCH: usize = 10_000;
 
-/// The samples of one shard that will be a batch.
+/// Consecutive samples of one shard, which will be a batch.
 #[derive(Drop)]
 pub struct Builder {
     batch: usize,
@@ -54,7 +54,7 @@ fn follows(places: &[Place], place: &Place) -> bool
 }
 
 impl Builder {
-    /// A builder with room for so many samples.
+    /// An empty builder with room for `batch` samples.
     pub fn new(alloc: Global, batch: usize) -> Result<Builder, AllocError>
         requires some { 0 < batch }
         requires most { batch ≤ MAX_BATCH }
@@ -68,7 +68,7 @@ impl Builder {
         })
     }
 
-    /// How many samples were taken.
+    /// How many samples the builder has.
     pub fn len(&self) -> usize
         ensures len { result ≡ length self.now.samples }
         ensures within { result ≤ self.now.batch }
@@ -76,27 +76,28 @@ impl Builder {
         self.places.len()
     }
 
+    /// Whether the builder has no sample.
     pub fn is_empty(&self) -> bool
         ensures { IsTrue result ↔ (self.now.samples ≡ []) }
     {
         self.places.is_empty()
     }
 
-    /// Where the samples stand, in order.
+    /// The places of its samples, in order.
     pub fn places(&self) -> &[Place]
         ensures { result.now ≡ self.now.places }
     {
         self.places.as_slice()
     }
 
-    /// Whether no more samples fit.
+    /// Whether the builder has as many samples as it has room for.
     pub fn is_full(&self) -> bool
         ensures { IsTrue result ↔ (length self.now.samples ≡ self.now.batch) }
     {
         self.places.len() == self.batch
     }
 
-    /// Whether the item is the next sample of the shard, and fits.
+    /// Whether the item is a sample that fits: there is room, and it is the next one of the shard of those before it.
     pub fn can_take(&self, item: &Item) -> bool
         ensures { IsTrue result ↔ ((length self.now.samples < self.now.batch) × MayBeTaken self.now.places item.now) }
     {
@@ -108,7 +109,7 @@ impl Builder {
         }
     }
 
-    /// Takes the next sample of the shard. The number of its series is a hint, and need not be right. This takes no memory.
+    /// Takes the next sample of the shard. The number of its series is only a hint, and need not be right. This takes no memory.
     pub fn take(&mut self, item: Item)
         requires room { length self.old.samples < self.old.batch }
         requires sample { MayBeTaken self.old.places item }
@@ -126,7 +127,7 @@ impl Builder {
         }
     }
 
-    /// The field of the sample that was taken as number `k`, counted from 0, in the canonical spelling of its message. This takes no memory.
+    /// The field of sample number `k`, counted from 0, in the canonical spelling of the message. This takes no memory.
     pub fn field(&self, k: usize) -> &[u8]
         requires { k < length self.now.samples }
         ensures { (x : LabelledSample) → slice_get self.now.samples k ≡ Some x → result.now ≡ sample_field x.sample }
@@ -134,7 +135,7 @@ impl Builder {
         self.fields.get(k)
     }
 
-    /// How many bytes the body of the batch takes, if that fits 64 bits.
+    /// How many bytes the body of the batch takes; `None` where the number does not fit 64 bits.
     pub fn body_len(&self) -> Option<usize>
         ensures some { IfSome result (λ n. n ≡ length (batch_of self.now).body) }
         ensures none { IfNone result (2 ^ 64 ≤ length (batch_of self.now).body) }
@@ -142,7 +143,7 @@ impl Builder {
         body_len(&self.rows)
     }
 
-    /// Writes the body of the batch at the end of the bytes.
+    /// Appends the body of the batch to a vector that has room for it. An `Err` leaves `out` as it was.
     pub fn put_body(&self, out: &mut Vec<u8>) -> Result<(), AllocError>
         requires { vec_len out.old + length (batch_of self.now).body ≤ vec_capacity out.old }
         ensures ok { OnOk result (out.new.items ≡ out.old.items ++ (batch_of self.now).body) }
@@ -178,7 +179,7 @@ impl Builder {
         Ok(Bytes::from_vec(body)?)
     }
 
-    /// The batch of the samples, for each of which the ledger gets room for a name. Where memory is refused the builder comes back.
+    /// Makes the batch of the samples, and room in the ledger for a name of each. Where memory runs out, the builder comes back and the ledger is as it was.
     pub fn freeze(self, ledger: &mut Ledger) -> Result<Batch, (Builder, AllocError)>
         requires { 0 < length self.samples }
         ensures batch { IfOk result (λ b. b ≡ batch_of self) }
@@ -195,7 +196,8 @@ impl Builder {
         }
     }
 
-    /// The same with the body, which was made before.
+    /// Makes the batch of the samples as `freeze` does, with `body`, which was made before. Where memory runs out, the builder comes back and the
+    /// ledger is as it was.
     pub fn freeze_with(
         self,
         body: Bytes,

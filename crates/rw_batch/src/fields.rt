@@ -46,7 +46,7 @@ fn part(bytes: &[u8], start: usize, end: usize) -> &[u8]
 }
 
 impl Fields {
-    /// No fields, and room for those of so many samples.
+    /// No fields, and room for those of `room` samples.
     pub(crate) fn new(alloc: Global, room: usize) -> Result<Fields, AllocError>
         requires { room ≤ 10000 }
         ensures { IfOk result (λ f. f ≡ record { room = room; samples = [] }) }
@@ -61,7 +61,7 @@ impl Fields {
         })
     }
 
-    /// Writes the field of one more sample, and says how many bytes it takes.
+    /// Writes the field of one more sample, and returns how many bytes it takes.
     pub(crate) fn push(&mut self, word: Word, t: i64) -> usize
         requires { length self.old.samples < self.old.room }
         ensures fields { self.new ≡ record self.old { samples = self.old.samples ++ (word, t) ∷ [] } }
@@ -82,7 +82,7 @@ impl Fields {
         self.marks.len() - 1
     }
 
-    /// The field of the sample of this number.
+    /// The field of sample number `k`.
     pub(crate) fn get(&self, k: usize) -> &[u8]
         requires { k < length self.now.samples }
         ensures field { result.now ≡ field_at self.now.samples k }

@@ -1,4 +1,4 @@
-//! Where a label set stands among those that came before.
+//! Where a label set stands among those that came before it.
 
 ghost use Rattle.std.specs.Prelude.{◌≡◌, ◌+◌, ◌<◌, ◌≤◌, [], ◌∷◌, ◌++◌, true, not, Some, slice_get, IsTrue, if◌then◌else◌};
 ghost use Rattle.std.specs.Arc.{arc_value};
@@ -14,7 +14,7 @@ use std::sync::Arc;
 /// No place: a hint that tells nothing.
 pub(crate) const NOWHERE: usize = usize::MAX;
 
-/// Whether the label set at this place is the same.
+/// Whether the label set at this place is `labels`.
 fn is_at(sets: &IndexSet<Arc<LabelSet>>, place: usize, labels: &LabelSet) -> bool
     ensures { IsTrue result → (k : Shared) × (slice_get sets.now.keys place ≡ Some k) × (labels_eq labels.now (arc_value k) ≡ true) }
 {

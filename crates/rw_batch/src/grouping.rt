@@ -15,7 +15,7 @@ use std::marker::Model;
 
 /// Samples grouped by label set: a message that grows sample by sample.
 ///
-/// A sample comes with the number of its series, by which the series is found without a comparison of labels.
+/// Each sample comes with the number of its series, by which the series is found without comparing labels.
 #[derive(Debug, Drop)]
 pub struct Grouping {
     numbers: IndexSet<u64>,
@@ -68,7 +68,7 @@ fn push_sample(series: &mut Series, sample: (Word, i64)) -> Result<(), AllocErro
 }
 
 impl Grouping {
-    /// No samples yet.
+    /// A message without samples.
     pub fn new(alloc: Global) -> Grouping
         ensures { result ≡ record { numbers = []; series = [] } }
     {
@@ -94,7 +94,8 @@ impl Grouping {
         self.series.is_empty()
     }
 
-    /// Groups one more sample, at the time `t` in milliseconds since the Unix epoch. Its labels are copied where its series is new.
+    /// Adds a sample of value `word`, at time `t` in milliseconds since the Unix epoch, to the series that `number` stands for. Its labels are
+    /// copied where that series is new. An `Err` changes nothing.
     pub fn add(
         &mut self,
         number: u64,

@@ -1,4 +1,4 @@
-//! What holds of each message by its definition.
+//! Laws of the message of samples. Each function has an empty body: its contract is the law.
 
 ghost use Rattle.std.specs.Prelude.{◌≡◌, ℕ, List, [], ◌∷◌, ◌++◌, length, map};
 ghost use Rattle.std.specs.List.{IsDistinct};
@@ -8,19 +8,19 @@ ghost use Rattle.rw_write_request.specs.Message.{Sample, WriteRequest};
 ghost use Rattle.rw_batch.specs.Grouping.{LabelledSample, message, with_sample, labels_of, with_labels, sample_count};
 ghost use Rattle.rw_batch.specs.Groups.{Groups, StandsFor, IsAlone, with_number};
 
-/// A message grows by a sample at the end of the series with its labels, or by a new series behind the others.
+/// Law: one more sample goes to the end of the series with its labels, or into a new series behind the others.
 pub fn message_grows()
     ensures message { (xs : List LabelledSample) (x : LabelledSample) → message (xs ++ x ∷ []) ≡ with_sample x.labels x.sample (message xs) }
     ensures labels { (l : Labels) (s : Sample) (gs : WriteRequest) → labels_of (with_sample l s gs) ≡ with_labels l (labels_of gs) }
 {}
 
-/// No two series of a message have the same labels, and no sample is lost.
+/// Law: no two series of a message have the same labels, and no sample is lost.
 pub fn message_keeps_all()
     ensures distinct { (xs : List LabelledSample) → IsDistinct labels_eq (labels_of (message xs)) }
     ensures samples { (xs : List LabelledSample) → sample_count (message xs) ≡ length xs }
 {}
 
-/// Where each number has labels of its own, it stands for them, and one more sample leaves the series with the labels of their numbers.
+/// Law: where each number has labels of its own, series can be found by number, also after one more sample.
 pub fn numbers_stand_for_labels()
     ensures stands { (f : ℕ → Labels) (n : ℕ) (g : Groups) → labels_of g.series ≡ map f g.numbers → IsAlone f n g.numbers → StandsFor n (f n) g }
     ensures stays { (f : ℕ → Labels) (n : ℕ) (s : Sample) (g : Groups) → labels_of g.series ≡ map f g.numbers → IsAlone f n g.numbers → labels_of (with_sample (f n) s g.series) ≡ map f (with_number n g.numbers) }

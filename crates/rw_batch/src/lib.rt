@@ -1,4 +1,4 @@
-//! The batches that a shard sends (Remote-Write 1.0): their messages, their ids and their bodies.
+//! The batches that a shard sends (Remote-Write 1.0): their ids, their messages and their bodies.
 #![tactic(auto)]
 
 mod batch;

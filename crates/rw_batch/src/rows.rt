@@ -84,7 +84,7 @@ fn walk_back(before: &[usize], line: Line, row: &mut Vec<usize>)
 }
 
 impl Rows {
-    /// No samples, and room for so many.
+    /// No samples, and room for `room` of them.
     pub(crate) fn new(alloc: Global, room: usize) -> Result<Rows, AllocError>
         requires { room ≤ 10000 }
         ensures { IfOk result (λ r. r ≡ record { room = room; samples = [] }) }
@@ -99,7 +99,7 @@ impl Rows {
         })
     }
 
-    /// Puts one more sample, whose field takes so many bytes, behind those of its series. The number of the series is a hint.
+    /// Adds one more sample, whose field takes `bytes` bytes, behind those of its series. The number of the series is a hint.
     pub(crate) fn push(&mut self, series: u64, sample: Labelled, bytes: usize)
         requires room { length self.old.samples < self.old.room }
         requires bytes { bytes ≡ length (sample_fields (sample.sample ∷ [])) }
@@ -134,7 +134,7 @@ impl Rows {
         self.lines.len()
     }
 
-    /// The labels of the series at this place of the message.
+    /// The labels of series number `place` of the message.
     pub(crate) fn labels(&self, place: usize) -> &LabelSet
         requires { place < length (message self.now.samples) }
         ensures { result.now ≡ (series_at self.now.samples place).labels }
@@ -142,7 +142,7 @@ impl Rows {
         &self.series.as_slice()[place]
     }
 
-    /// How many bytes the fields of its samples take.
+    /// How many bytes the fields of the samples of series number `place` take.
     pub(crate) fn sample_bytes(&self, place: usize) -> usize
         requires { place < length (message self.now.samples) }
         ensures { result ≡ length (sample_fields (series_at self.now.samples place).samples) }
@@ -150,7 +150,7 @@ impl Rows {
         self.lines[place].bytes
     }
 
-    /// Puts the numbers of its samples into a row, in order.
+    /// Puts the numbers of the samples of series number `place` into `row`, in order.
     pub(crate) fn numbers(&self, place: usize, row: &mut Vec<usize>)
         requires place { place < length (message self.now.samples) }
         requires room { length self.now.samples ≤ vec_capacity row.old }

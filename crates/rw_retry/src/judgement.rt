@@ -1,4 +1,4 @@
-//! What a status means for a batch.
+//! What the status of a reply means for a batch.
 
 ghost use Rattle.std.specs.Prelude.{◌≡◌};
 ghost use Rattle.rw_retry.specs.Judgements.{judgement_of};
@@ -8,15 +8,15 @@ use http::StatusCode;
 /// What becomes of a batch after a reply.
 #[derive(Clone, Copy, Debug, PartialEq, Eq)]
 pub enum Judgement {
-    /// The receiver has it.
+    /// 2xx: the receiver has it.
     Done,
-    /// It is sent again, the same bytes.
+    /// 429 and 5xx: it is sent again, the same bytes.
     Again,
-    /// The receiver will never take it.
+    /// Any other status: the receiver will never take it.
     Refused,
 }
 
-/// What a reply of this status means for its batch. This takes no memory.
+/// What a reply of this status means for its batch (Remote-Write 1.0, "Retries & backoff"). This takes no memory.
 pub fn judge(status: StatusCode) -> Judgement
     ensures { result ≡ judgement_of status }
 {

@@ -1,4 +1,4 @@
-//! How a sender is set up.
+//! The configuration of a sender.
 
 ghost use Rattle.std.specs.Prelude.{◌≡◌, ◌≤◌, Some, None, codes, IfOk, if◌then◌else◌};
 ghost use Rattle.rw_sender.specs.Configs.{is_ordered, standard, choice_of};
@@ -8,16 +8,17 @@ use rw_types::{Bounded, HostName, Names, RequestPath};
 use std::alloc::{AllocError, Global};
 use std::marker::Model;
 
-/// Where messages are sent to.
+/// The host and the path that each request names.
 #[derive(Debug, Drop)]
 pub struct Target {
-    /// The field `Host` of each request.
+    /// The value of the field `Host` of each request.
     pub host: HostName,
+    /// The path of each request.
     pub path: RequestPath,
 }
 
 impl Target {
-    /// The receiver of a Prometheus on this machine.
+    /// `localhost:9090` and `/api/v1/write`: the receiver of a Prometheus on this machine.
     pub fn standard(alloc: Global) -> Result<Target, AllocError>
         ensures { IfOk result (λ t. t ≡ record { host = codes "localhost:9090"; path = codes "/api/v1/write" }) }
     {
@@ -28,31 +29,34 @@ impl Target {
     }
 }
 
-/// What a sender can be told, each number in its range.
+/// The fields of a configuration, each number in its range.
 #[derive(Debug, Drop)]
 pub struct ConfigFields {
+    /// The host and the path that requests name.
     pub target: Target,
-    /// The shards at the beginning.
+    /// How many shards there are at the beginning.
     pub shards: Bounded<1, 1_000>,
-    /// The fewest and the most shards that resharding picks.
+    /// The fewest shards that resharding picks.
     pub min_shards: Bounded<1, 1_000>,
+    /// The most shards that resharding picks.
     pub max_shards: Bounded<1, 1_000>,
-    /// The items that one shard's queue holds, marks included.
+    /// The most items that the queue of one shard holds, marks included.
     pub capacity: Bounded<1, 1_000_000>,
     /// The most samples of a batch.
     pub batch: Bounded<1, 10_000>,
-    /// The pause before the first retry of a batch, and the longest one, in milliseconds.
+    /// The pause before the first retry of a batch, in milliseconds.
     pub min_backoff_ms: Bounded<1, 3_600_000>,
+    /// The longest pause before a retry of a batch, in milliseconds.
     pub max_backoff_ms: Bounded<1, 3_600_000>,
-    /// How long a read or a write of a connection may take, in milliseconds.
+    /// How long an attempt may take, in milliseconds: to connect, to write the request and to read the reply, together.
     pub timeout_ms: Bounded<1, 3_600_000>,
-    /// Which names of labels are taken from the log.
+    /// Which label names are accepted from the log.
     pub names: Names,
-    /// Which series are sent.
+    /// The rules by which series are kept or dropped.
     pub rules: Rules,
 }
 
-/// How a sender is set up: `min_shards <= shards <= max_shards` and `min_backoff_ms <= max_backoff_ms`. Contracts see the fields.
+/// A configuration: `min_shards <= shards <= max_shards` and `min_backoff_ms <= max_backoff_ms`. Contracts see the fields.
 #[derive(Debug, Drop)]
 pub struct Config {
     fields: ConfigFields,
@@ -71,7 +75,7 @@ impl Model for Config {
 }
 
 impl ConfigFields {
-    /// One shard, at most 50, and what else a sender does when it is told nothing.
+    /// The defaults: one shard at first and at most 50, queues of 10,000 items, batches of 2,000 samples, legacy names, and no rules.
     pub fn standard(alloc: Global) -> Result<ConfigFields, AllocError>
         ensures { IfOk result (λ c. c ≡ standard) }
     {
@@ -100,7 +104,7 @@ impl ConfigFields {
         }
     }
 
-    /// Whether shards and backoff are between their bounds.
+    /// Whether `min_shards <= shards <= max_shards` and `min_backoff_ms <= max_backoff_ms`.
     pub fn is_ordered(&self) -> bool
         ensures { result ≡ is_ordered self.now }
     {
@@ -111,7 +115,7 @@ impl ConfigFields {
 }
 
 impl Config {
-    /// This configuration, where shards and backoff are between their bounds. This takes no memory.
+    /// The configuration with these fields; `None` where `is_ordered` does not hold. This takes no memory.
     pub fn new(fields: ConfigFields) -> Option<Config>
         ensures { result ≡ (if is_ordered fields then Some fields else None) }
     {
@@ -122,7 +126,7 @@ impl Config {
         }
     }
 
-    /// What a sender does when it is told nothing.
+    /// The configuration with the default fields.
     pub fn standard(alloc: Global) -> Result<Config, AllocError>
         ensures { IfOk result (λ c. c ≡ standard) }
     {
@@ -131,6 +135,7 @@ impl Config {
         })
     }
 
+    /// The fields of the configuration.
     pub fn fields(&self) -> &ConfigFields
         ensures fields { result.now ≡ self.now }
         ensures min_shards { self.now.min_shards ≤ self.now.shards }
@@ -140,6 +145,7 @@ impl Config {
         &self.fields
     }
 
+    /// The fields of the configuration, by value.
     pub fn into_fields(self) -> ConfigFields
         ensures { result ≡ self }
     {

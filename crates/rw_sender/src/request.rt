@@ -1,4 +1,4 @@
-//! The bytes of a request that carries a message.
+//! The bytes of the request that carries a message.
 
 ghost use Rattle.std.specs.Prelude.{◌≡◌, ◌+◌, ◌≤◌, ◌++◌, decimal, IfOk, OnOk};
 ghost use Rattle.std.specs.Vec.{vec_len, vec_capacity};
@@ -22,14 +22,14 @@ const FIELDS: &[u8] =
 
 const END_OF_HEAD: &[u8] = b"\r\n\r\n";
 
-/// Puts a part of a request behind what is there.
+/// Appends a part of a request.
 fn append(bytes: &mut Vec<u8>, part: &[u8]) -> Result<(), AllocError>
     ensures { OnOk result (bytes.new.items ≡ bytes.old.items ++ part.now) }
 {
     bytes.extend_from_slice(part)
 }
 
-/// Puts the head of a request behind what is there. The digits are the length of its body.
+/// Appends the head of a request. `digits` is the length of its body in decimal.
 fn put_head(bytes: &mut Vec<u8>, host: &[u8], path: &[u8], digits: &[u8]) -> Result<(), AllocError>
     ensures { OnOk result (bytes.new.items ≡ bytes.old.items ++ request_head host.now path.now digits.now) }
 {
@@ -43,7 +43,7 @@ fn put_head(bytes: &mut Vec<u8>, host: &[u8], path: &[u8], digits: &[u8]) -> Res
     Ok(())
 }
 
-/// The head of a request to the target whose body has so many bytes, and room for that body behind it.
+/// The head of a request to the target whose body has `len` bytes, and room for that body behind it.
 fn head_for(alloc: Global, target: &Target, len: usize) -> Result<Vec<u8>, AllocError>
     ensures head { IfOk result (λ v. v.items ≡ request_head target.now.host target.now.path (decimal len)) }
     ensures room { IfOk result (λ v. vec_len v + len ≤ vec_capacity v) }
@@ -63,7 +63,7 @@ fn head_for(alloc: Global, target: &Target, len: usize) -> Result<Vec<u8>, Alloc
     Ok(bytes)
 }
 
-/// The request that carries this body to the target, in one buffer that is reserved once.
+/// The HTTP/1.1 request that carries `body` to the target (Remote-Write 1.0, "Protocol"), in one buffer that is reserved once.
 pub fn request_bytes(alloc: Global, target: &Target, body: &[u8]) -> Result<Vec<u8>, AllocError>
     ensures { IfOk result (λ v. v.items ≡ request_of target.now.host target.now.path body.now) }
 {
@@ -72,7 +72,7 @@ pub fn request_bytes(alloc: Global, target: &Target, body: &[u8]) -> Result<Vec<
     Ok(bytes)
 }
 
-/// A request, and its body, which is a part of the same bytes.
+/// A request and its body, which is a part of its bytes.
 #[derive(Drop)]
 pub(crate) struct Carrying {
     pub(crate) request: Bytes,

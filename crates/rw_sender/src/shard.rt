@@ -1,4 +1,4 @@
-//! The state of one shard behind its queue.
+//! The state of one shard of a sender, behind its queue.
 
 ghost use Rattle.std.specs.Prelude.{◌≡◌, ◌↔◌, IsTrue, ◌+◌, ◌<◌, ◌≤◌, [], true, false, All, not, ◌&&◌, Some, None, if◌then◌else◌, IfOk, IfSome, OnOk, OnErr, length};
 ghost use Rattle.rw_retry.specs.Judgements.{judgement_of};
@@ -31,10 +31,10 @@ pub(crate) struct OpenBatch {
     pub(crate) waiting: bool,
 }
 
-/// An attempt to send a batch.
+/// An attempt to send the open batch of a shard.
 #[derive(Debug, Drop)]
 pub struct Attempt {
-    /// What a reply to it names.
+    /// The id of the batch, with which a reply to the attempt is handed to `ShardCore::reply`.
     pub id: BatchId,
     /// The bytes of the request, the same at each attempt.
     pub request: Bytes,
@@ -66,9 +66,10 @@ fn are_unnamed(ledger: &Ledger, places: &[Place]) -> bool
     true
 }
 
-/// The state of one shard behind its queue: what it has taken and not yet sent, and the batch that is being sent.
+/// The state of one shard behind its queue: the samples that it has taken and not yet sent, and the batch that is being sent.
 ///
-/// Samples are taken one after the other into a builder. When it is due it is frozen into a batch, which stays open, and is sent as often as it takes, until a reply resolves it.
+/// Samples are taken one after the other into a builder. When that is due it is frozen into a batch, which stays open and is sent as often as it
+/// takes, until a reply resolves it.
 #[derive(Drop)]
 pub struct ShardCore {
     alloc: Global,
@@ -137,7 +138,7 @@ fn copy_of(alloc: Global, target: &Target) -> Result<Target, AllocError>
 }
 
 impl ShardCore {
-    /// A shard that has taken nothing. A full builder has `batch` samples.
+    /// A shard that has taken nothing. Its builder is full at `batch` samples.
     pub fn new(
         alloc: Global,
         target: &Target,
@@ -167,14 +168,14 @@ impl ShardCore {
         })
     }
 
-    /// Whether the builder is full, or a mark was taken while it was not empty.
+    /// Whether the builder is to be frozen: it is full, or a mark was taken while it was not empty.
     pub fn due(&self) -> bool
         ensures { result ≡ is_due self.now }
     {
         self.builder.is_full() || self.marked
     }
 
-    /// Whether the next item may be taken: no batch is open, and the builder is not due.
+    /// Whether the next item may be taken: no batch is open, the builder is not due, and the shard was not killed.
     pub fn can_take(&self) -> bool
         ensures can { result ≡ can_take self.now }
         ensures core { IsCore self.now }
@@ -182,21 +183,21 @@ impl ShardCore {
         !self.killed && self.current.is_none() && !self.due()
     }
 
-    /// Whether nothing that was taken waits for its reply or for its batch.
+    /// Whether all samples that were taken are resolved: the builder is empty, and no batch is open.
     pub fn is_empty(&self) -> bool
         ensures { result ≡ is_empty (pending self.now) }
     {
         self.current.is_none() && self.builder.is_empty()
     }
 
-    /// Whether the End of its queue was taken.
+    /// Whether the End of the queue was taken.
     pub fn has_ended(&self) -> bool
         ensures { result ≡ self.now.ended }
     {
         self.ended
     }
 
-    /// The id of the open batch.
+    /// The id of the open batch; `None` where no batch is open.
     pub fn batch_id(&self) -> Option<BatchId>
         ensures { result ≡ (if is_empty self.now.batch then None else Some (batch_id self.now.batch)) }
     {
@@ -206,7 +207,7 @@ impl ShardCore {
         }
     }
 
-    /// Whether the item is a mark, or a sample of this shard of this epoch with the next number and a later position than the one before it.
+    /// Whether the item is a mark, or a sample of this shard of this epoch with the next number and a later position than the sample before it.
     pub fn may_take(&self, item: &Item) -> bool
         ensures { IsTrue result ↔ MayTake item.now self.now }
     {
@@ -228,7 +229,7 @@ impl ShardCore {
         }
     }
 
-    /// Where the samples stand that were taken and are not resolved, in order.
+    /// The places of the samples that were taken and are not resolved, in order.
     pub fn pending_places(&self) -> &[Place]
         ensures { result.now ≡ places_of (pending self.now) }
     {
@@ -251,14 +252,14 @@ impl ShardCore {
         }
     }
 
-    /// Closes a builder that is not empty.
+    /// Notes that a mark was taken: the builder is due, unless it is empty.
     fn mark(&mut self)
         ensures { self.new ≡ mark self.old }
     {
         self.marked = !self.builder.is_empty();
     }
 
-    /// Takes the next item of the queue.
+    /// Takes the next item of the queue. A sample goes into the builder; a mark makes a builder due that is not empty.
     pub fn take(&mut self, item: Item)
         requires guard { can_take self.old ≡ true }
         requires item { MayTake item self.old }
@@ -279,7 +280,8 @@ impl ShardCore {
         }
     }
 
-    /// Makes the builder the open batch, with its request, and for its samples the ledger gets room. False where a batch is open or the builder is empty.
+    /// Makes the builder the open batch, with its request, and makes room in the ledger for its samples. `Ok(false)`, and nothing changes, where
+    /// a batch is open, the builder is empty or the shard was killed. An `Err` changes nothing.
     pub fn freeze(&mut self, ledger: &mut Ledger) -> Result<bool, AllocError>
         ensures done { IfOk result (λ done. done ≡ can_freeze self.old) }
         ensures core { OnOk result (self.new ≡ freeze self.old) }
@@ -320,7 +322,8 @@ impl ShardCore {
         }
     }
 
-    /// Begins an attempt to send the open batch, with the request that was made when it was frozen. None where no batch is open, or an attempt is under way.
+    /// Begins an attempt to send the open batch, with the request that was made when it was frozen. `None` where no batch is open, an attempt is
+    /// under way, or the shard was killed. An `Err` changes nothing.
     pub fn attempt(&mut self) -> Result<Option<Attempt>, AllocError>
         ensures attempt { IfOk result (λ a. a ≡ (if can_send self.old then Some (attempt_for self.old) else None)) }
         // A receiver reads the message of the batch's samples.
@@ -339,7 +342,7 @@ impl ShardCore {
         Ok(Some(Attempt { id, request }))
     }
 
-    /// Whether an attempt is under way.
+    /// Whether an attempt to send the open batch is under way.
     pub fn is_waiting(&self) -> bool
         ensures { result ≡ self.now.waiting }
     {
@@ -359,7 +362,7 @@ impl ShardCore {
         }
     }
 
-    /// Gives up the attempt that is under way: the batch stays open. False where there is none.
+    /// Gives up the attempt that is under way; the batch stays open. `false`, and nothing changes, where there is none or the shard was killed.
     pub fn lost(&mut self) -> bool
         ensures lost { result ≡ awaits self.old }
         ensures core { self.new ≡ lose self.old }
@@ -406,9 +409,11 @@ impl ShardCore {
         }
     }
 
-    /// What a reply of this status to the batch `id` means. None, and nothing changes, where that is not the open batch or no attempt is under way.
+    /// What a reply of this status to the batch `id` means. `None`, and nothing changes, where that is not the open batch, no attempt is under
+    /// way, or the shard was killed.
     ///
-    /// A batch that is done gives its room in the ledger back, one that is refused uses it: each of its samples is named with the status. Else the batch stays open, to be sent again.
+    /// A batch that is done gives its room in the ledger back; one that is refused uses it, as each of its samples is named with the status. Any
+    /// other batch stays open, to be sent again.
     pub fn reply(
         &mut self,
         id: BatchId,
@@ -439,7 +444,7 @@ impl ShardCore {
         Some(judgement)
     }
 
-    /// Ends the work: from here on nothing is taken, sent or resolved.
+    /// Ends the work of the shard: from here on nothing is taken, sent or resolved.
     pub fn kill(&mut self)
         ensures { self.new ≡ kill self.old }
     {

@@ -1,21 +1,21 @@
-//! A time by the clock after which nothing is waited for.
+//! A deadline by the clock.
 
 ghost use Rattle.std.specs.Prelude.{◌<◌, IfSome};
 ghost use Rattle.std.specs.Duration.{as_nanos};
 
 use std::time::{Clock, Duration, Instant};
 
-/// A time by the clock after which nothing is waited for.
+/// A point in time by the clock, after which nothing is waited for.
 #[derive(Clone, Copy, Drop)]
 pub struct Deadline<C> {
     clock: C,
-    /// Not known where the clock could not be read.
+    /// When the deadline was set; `None` where the clock could not be read.
     begun: Option<Instant>,
     after: Duration,
 }
 
 impl<C: Clock> Deadline<C> {
-    /// So long after now.
+    /// The deadline `after` from now.
     pub fn new(clock: C, after: Duration) -> Deadline<C> {
         let begun = Instant::now(&clock).ok();
         Deadline {
@@ -25,7 +25,7 @@ impl<C: Clock> Deadline<C> {
         }
     }
 
-    /// The time that is left, where some is. None is left where the clock cannot be read.
+    /// The time that is left; `None` once the deadline has passed, and where the clock cannot be read.
     pub fn left(&self) -> Option<Duration>
         ensures { IfSome result (λ left. 0 < as_nanos left) }
     {

@@ -1,4 +1,4 @@
-//! Connections that are waited for up to a time.
+//! TCP connections that are read and written up to a deadline.
 #![tactic(auto)]
 
 mod deadline;

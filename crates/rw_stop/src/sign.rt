@@ -4,7 +4,7 @@ ghost use Rattle.std.specs.Prelude.{◌≡◌, ◌≤◌};
 
 use std::sync::atomic::{AtomicIn, Ordering, Rule};
 
-/// What is wished of the work.
+/// What is asked of the work.
 #[derive(Clone, Copy, Debug, PartialEq, Eq)]
 pub enum Wish {
     /// To go on.
@@ -24,7 +24,7 @@ impl Rule for Level {
     ghost invariant = { λ n. n ≤ 2 };
 }
 
-/// A sign to stop. It only ever goes up: from `Work` to `End`, and to `Hard`.
+/// A sign to stop, which threads share. It only ever goes up: from `Work` to `End`, and to `Hard`.
 #[derive(Drop)]
 pub struct Sign {
     level: AtomicIn<Level>,
@@ -45,19 +45,19 @@ fn wish_at(level: u64) -> Wish
 }
 
 impl Sign {
-    /// A sign that nobody has set.
+    /// A sign that nobody has set: it says `Work`.
     pub fn new() -> Sign {
         Sign {
             level: AtomicIn::new(0),
         }
     }
 
-    /// What is wished now.
+    /// What is asked for now.
     pub fn wish(&self) -> Wish {
         wish_at(self.level.load(Ordering::SeqCst))
     }
 
-    /// Asks for an end in order, where nothing more was asked for.
+    /// Asks for an end in order, unless an end was asked for before.
     pub fn end(&self) {
         let _ = self
             .level

@@ -1,4 +1,4 @@
-//! What sets a sign.
+//! What sets a sign to stop: an input, or a file.
 
 ghost use Rattle.std.specs.Prelude.{◌≡◌, ◌↔◌, ◌∷◌, [], IsTrue};
 
@@ -9,14 +9,14 @@ use std::io::{BufRead, ErrorKind};
 use std::thread;
 use std::time::{Clock, Duration};
 
-/// Of a line only so many bytes are kept. A longer one is none that asks for something.
+/// How many bytes of a line are kept. A longer line asks for nothing.
 const LONGEST: usize = 64;
 
-/// How long is waited between two looks.
+/// How many milliseconds pass between two looks.
 const LOOK_MS: u64 = 200;
 
-/// Reads to the end of the input, where it asks for an end in order. Each line `hard` before it asks for an end at once. An
-/// input that cannot be read has ended. What is kept of it is at most 64 bytes.
+/// Reads `input` to its end, and then asks for an end in order. Each line `hard` before the end asks for an end at once. An input that cannot be
+/// read counts as ended, and so it does where there is no memory for a line. At most 64 bytes of the input are kept.
 pub fn watch_input<B: BufRead>(alloc: Global, input: &mut B, sign: &Sign) {
     let mut line = Vec::new(alloc);
     if line.reserve(LONGEST).is_err() {
@@ -41,7 +41,7 @@ pub fn watch_input<B: BufRead>(alloc: Global, input: &mut B, sign: &Sign) {
     sign.end();
 }
 
-/// Looks five times a second for a file, and asks for an end in order once it is there. It ends sooner where another has asked.
+/// Looks five times a second for the file at `path`, and asks for an end in order once it is there. Returns sooner where the sign was set by another.
 pub fn watch_file<R: Clock + Files>(rt: &R, path: &str, sign: &Sign) {
     for _ in 0..u64::MAX {
         if matches!(fs::exists(rt, path), Ok(true)) {
@@ -55,7 +55,7 @@ pub fn watch_file<R: Clock + Files>(rt: &R, path: &str, sign: &Sign) {
     sign.end();
 }
 
-/// The next byte, where there is one.
+/// The next byte; `None` at the end of the input, and where it cannot be read.
 fn next_byte<B: BufRead>(input: &mut B) -> Option<u8> {
     let mut byte = [0u8; 1];
     for _ in 0..u64::MAX {

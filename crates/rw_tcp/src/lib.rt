@@ -1,4 +1,4 @@
-//! Requests over TCP: one connection for each.
+//! Requests over TCP, with one connection for each.
 #![tactic(auto)]
 
 mod reply;

@@ -16,16 +16,16 @@ use std::alloc::{AllocError, Global};
 /// How many bytes one read asks for.
 const CHUNK: usize = 1024;
 
-/// Why a request has no reply. The receiver may have the request or not.
+/// Why a request has no reply. The receiver may have taken it or not.
 #[derive(Clone, Copy, Debug, PartialEq, Eq)]
 pub enum NoReply {
     /// Memory ran out.
     OutOfMemory,
     /// The reader or the writer failed.
     Device,
-    /// The input ended before the status.
+    /// The input ended before the status of a reply.
     Ended,
-    /// What came is no reply.
+    /// What came is not a reply.
     Bad,
 }
 
@@ -54,7 +54,7 @@ impl From<ReadFault> for NoReply {
     }
 }
 
-/// Adds what one read gives, and answers how many bytes came.
+/// Appends what one read gives, and returns how many bytes came.
 fn read_more<R: Source>(reader: &mut R, text: &mut Vec<u8>) -> Result<usize, ReadFault>
     ensures onto { IfOk result (λ _. ReadsOnto (R.remaining reader.old) (R.remaining reader.new) text.old.items text.new.items) }
     ensures len { IfOk result (λ n. vec_len text.new ≡ vec_len text.old + n) }
@@ -91,7 +91,7 @@ fn hear<R: Source>(reader: &mut R, text: &mut Vec<u8>) -> Result<ReplyRead, Read
     }
 }
 
-/// What a status answers to a request, of which not all bytes may have been written.
+/// The reply with this status to a request, of which not all bytes may have been written.
 fn answer_of(status: StatusCode, sent: bool) -> Result<Reply, NoReply>
     ensures reply { IfOk result (λ r. r.status ≡ status) }
     ensures sent { IfOk result (λ r. judgement_of r.status ≡ Judgement.Done → sent ≡ true) }
@@ -110,10 +110,10 @@ fn no_status(fault: NoReply, sent: bool) -> NoReply
     if sent { fault } else { NoReply::Device }
 }
 
-/// Writes a request, and reads until its status has come.
+/// Writes a request, and reads until the status of its reply has come.
 ///
-/// A receiver may answer by the head of a request, and let go of the connection before the body has come. So the reply is read also where
-/// the writer failed; a status that takes the request counts only for one that was written whole.
+/// A receiver may answer by the head of a request, and close the connection before the body has come. So the reply is read also where the writer
+/// failed; a status that takes the request counts only where the request was written whole.
 pub fn ask<R: Source, W: Sink>(
     alloc: Global,
     reader: &mut R,

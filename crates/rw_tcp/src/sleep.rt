@@ -4,13 +4,14 @@ use rw_worker::Pause;
 use std::thread;
 use std::time::{Clock, Duration};
 
-/// Lets the thread sleep.
+/// A pause in which the thread sleeps.
 #[derive(Clone, Copy)]
 pub struct Sleep<C> {
     clock: C,
 }
 
 impl<C> Sleep<C> {
+    /// A pause by this clock.
     pub fn new(clock: C) -> Sleep<C> {
         Sleep { clock }
     }

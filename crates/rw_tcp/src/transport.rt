@@ -1,4 +1,4 @@
-//! Requests over TCP connections.
+//! A transport over TCP connections.
 
 ghost use Rattle.std.specs.Prelude.{◌≡◌, ◌<◌, ◌*◌, Ok, IfOk, IsOk, IsSome, vec_len};
 ghost use Rattle.std.specs.Io.KnownBytes.{Appends};
@@ -20,10 +20,11 @@ use std::net::{Net, SocketAddr, TcpStream, ToSocketAddrs};
 use std::sync::Arc;
 use std::time::{Clock, Duration};
 
-/// How many addresses are tried.
+/// The most addresses that are tried.
 const MOST_ADDRESSES: usize = 1_000;
 
-/// The addresses of a host, at least one. An `Err` of another kind than `OutOfMemory` is a failed look-up.
+/// Looks up the addresses of a host; there is at least one. An error of the kind `OutOfMemory` means that memory ran out, one of another kind
+/// that the look-up failed.
 pub fn look_up<N: Net>(net: &N, alloc: Global, host: &str, port: u16) -> io::Result<Vec<SocketAddr>>
     ensures { IfOk result (λ v. 0 < vec_len v) }
 {
@@ -37,10 +38,11 @@ pub fn look_up<N: Net>(net: &N, alloc: Global, host: &str, port: u16) -> io::Res
     Ok(addresses)
 }
 
-/// Sends each request over a connection of its own, to the first of its addresses that answers.
+/// Sends each request over a connection of its own, to the first of the addresses that answers.
 ///
-/// Whatever fails is `Lost`: to connect, to write and to read, whatever is not done when the timeout has passed since the attempt began,
-/// and a reply that is none. It tells of no exchange, since nobody can know what a socket really took. Contracts see the addresses and the timeout.
+/// Whatever fails is `Lost`: a connect, a write or a read, whatever is not done when the timeout has passed since the attempt began, and bytes
+/// that are not a reply. The transport tells of no exchange, since nobody can know what a socket really took. Contracts see the addresses and the
+/// timeout.
 #[derive(Drop)]
 pub struct TcpTransport<N> {
     alloc: Global,
@@ -60,8 +62,8 @@ impl<N> Model for TcpTransport<N> {
 }
 
 impl<N: Net<Stream = TcpStream> + Clock + Copy> TcpTransport<N> {
-    /// A transport to these addresses of one receiver, tried in turn. The timeout is in milliseconds, for a whole attempt: the connects,
-    /// all writes and all reads together. The counters are told of each attempt, and why it failed.
+    /// A transport to these addresses of one receiver, which are tried in turn. The timeout is in milliseconds, for a whole attempt: the
+    /// connects, all writes and all reads together. `counters` are told of each attempt, and why it failed.
     pub fn new(
         alloc: Global,
         net: N,
@@ -95,7 +97,7 @@ impl<N: Net<Stream = TcpStream> + Clock + Copy> TcpTransport<N> {
     }
 }
 
-/// Why an attempt failed that has no reply.
+/// Why an attempt without a reply failed.
 fn cause_of(fault: NoReply) -> Cause {
     match fault {
         NoReply::OutOfMemory => Cause::Memory,
@@ -105,7 +107,7 @@ fn cause_of(fault: NoReply) -> Cause {
     }
 }
 
-/// The same cause, or that the time was over.
+/// This cause; or `Timeout`, where the deadline has passed.
 fn cause_at<C: Clock>(cause: Cause, deadline: &Deadline<C>) -> Cause {
     match deadline.left() {
         Some(_) => cause,

@@ -7,20 +7,20 @@ ghost use Rattle.rw_write_request.specs.declared.fault.WireFault.TheVariants.{Ou
 use rw_codes::CodeFault;
 use std::alloc::{AllocError, AllocFailed};
 
-/// What is wrong with the bytes: the first fault in reading order.
+/// Why bytes are not a message: the first fault in reading order.
 #[derive(Clone, Copy, Debug, PartialEq, Eq)]
 pub enum WireFault {
-    /// No fault of the bytes: memory ran out.
+    /// Memory ran out. Nothing is said of the bytes.
     OutOfMemory = 0,
-    /// A varint, a length or a fixed number passes the end of its message.
+    /// A varint, a length-delimited field or a fixed-size number passes the end of its message.
     Truncated = 1,
-    /// A varint has over 64 bits or more than ten bytes.
+    /// A varint has more than 64 bits, or more than ten bytes.
     VarintTooBig = 2,
-    /// A known field has another wire type.
+    /// A known field has another wire type than its own.
     WrongWire = 3,
-    /// The wire type is 3, 4, 6 or 7.
+    /// A field has the wire type 3, 4, 6 or 7.
     BadWire = 4,
-    /// The field number is 0.
+    /// A field has the number 0.
     FieldZero = 5,
     /// A string is not UTF-8.
     NotUtf8 = 6,

@@ -10,7 +10,7 @@ use crate::message::{Message, Series};
 use rw_codes::uvarint_len;
 use rw_types::Word;
 
-/// The length of a field that holds so many bytes, if it fits 64 bits.
+/// The length of a length-delimited field of `len` bytes, with a tag of one byte; `None` where it does not fit 64 bits.
 pub fn bytes_field_len(len: usize) -> Option<usize>
     ensures some { IfSome result (λ n. n ≡ 1 + length (uvarint len) + len) }
     ensures none { IfNone result (2 ^ 64 ≤ 1 + length (uvarint len) + len) }
@@ -39,7 +39,7 @@ pub(crate) fn label_len(name: &str, value: &str) -> Option<usize>
     name.checked_add(value)
 }
 
-/// The length of a label's field in its series, if it fits 64 bits.
+/// The length of the field of a label in its series, in the canonical spelling; `None` where it does not fit 64 bits.
 #[tactic(auto, unfolding(crate::specs::Canon::label_field))]
 pub fn label_field_len(name: &str, value: &str) -> Option<usize>
     ensures some { IfSome result (λ n. n ≡ length (label_field (name.now, value.now))) }
@@ -102,8 +102,8 @@ pub(crate) fn parts_len(labels: &[(String, String)], samples: &[(Word, i64)]) ->
     labels.checked_add(samples)
 }
 
-/// The length of what stands before the sample fields of a series with these labels, if it fits 64 bits with those fields,
-/// which take `len` bytes.
+/// The length of what stands before the sample fields of a series with these labels, where these fields take `len` bytes; `None` where both
+/// together do not fit 64 bits.
 #[tactic(auto, unfolding(crate::specs::Canon::series_head))]
 pub fn series_head_len(labels: &[(String, String)], len: usize) -> Option<usize>
     ensures some { IfSome result (λ n. n ≡ length (series_head (map text_label labels.now) len)) }
@@ -114,7 +114,7 @@ pub fn series_head_len(labels: &[(String, String)], len: usize) -> Option<usize>
     fields.checked_add(1 + uvarint_len(inner as u64))
 }
 
-/// The length of the field of a series with these labels and samples, if it fits 64 bits.
+/// The length of the field of a series with these labels and samples, in the canonical spelling; `None` where it does not fit 64 bits.
 #[tactic(auto, unfolding(crate::specs::Canon::series_field))]
 pub fn series_field_len(labels: &[(String, String)], samples: &[(Word, i64)]) -> Option<usize>
     ensures some { IfSome result (λ n. n ≡ length (series_field (series_of labels.now samples.now))) }
@@ -145,7 +145,7 @@ fn all_series_len(list: &[Series]) -> Option<usize>
     Some(total)
 }
 
-/// How many bytes `encode` writes, if that fits 64 bits.
+/// How many bytes `encode` writes for the message; `None` where the number does not fit 64 bits.
 pub fn encoded_len(message: &Message) -> Option<usize>
     ensures some { IfSome result (λ n. n ≡ length (canon message.now)) }
     ensures none { IfNone result (2 ^ 64 ≤ length (canon message.now)) }

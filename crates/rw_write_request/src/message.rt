@@ -3,10 +3,12 @@
 use rw_types::Word;
 use std::marker::Model;
 
-/// Labels, and samples in order.
+/// A series of a message (`TimeSeries`): its labels, and samples in order.
 #[derive(Debug, Drop)]
 pub struct Series {
+    /// The labels as (name, value).
     pub labels: Vec<(String, String)>,
+    /// The samples as (value, timestamp in milliseconds since the Unix epoch).
     pub samples: Vec<(Word, i64)>,
 }
 
@@ -19,9 +21,10 @@ impl Model for Series {
     ghost view = { λ s. series_of s.labels.items s.samples.items };
 }
 
-/// A write request: its series in order.
+/// A write request (`WriteRequest`): its series in order.
 #[derive(Debug, Drop)]
 pub struct Message {
+    /// The series, in order.
     pub series: Vec<Series>,
 }
 

@@ -138,7 +138,7 @@ fn field_counts(kind: Kind, bytes: &[u8]) -> (usize, usize)
     (ones, twos)
 }
 
-/// Room for so many items of which each stands in some of the bytes, and for no more than there are bytes.
+/// Room for `count` items, each of which stands in some of the bytes, and for no more than there are bytes.
 fn room_for<T>(alloc: Global, count: usize, bytes: &[u8]) -> Result<Vec<T>, AllocError>
     ensures items { IfOk result (λ v. v.items ≡ []) }
     ensures room { IfOk result (λ v. vec_capacity v ≤ length bytes.now) }
@@ -337,8 +337,8 @@ fn read_message(alloc: Global, bytes: &[u8]) -> Result<Message, WireFault>
     Ok(Message { series })
 }
 
-/// The message that the bytes spell: fields in any order, unknown ones passed over, the last of a scalar or string counts,
-/// and one that is absent is zero or empty. Nothing is kept where memory runs out.
+/// The message that the bytes spell. Fields may come in any order, and unknown ones are passed over; of a scalar or a string the last one counts,
+/// and one that is absent is zero or empty. Where memory runs out nothing is kept.
 pub fn decode(alloc: Global, bytes: &[u8]) -> Result<Message, WireFault>
     // What is read is spelled so.
     ensures found { IfOk result (λ m. Spells bytes.now m) }

@@ -1,4 +1,4 @@
-//! The canonical spelling of a message, written into room that was made before.
+//! The canonical spelling of messages, written into room that was made before.
 
 ghost use Rattle.std.specs.Prelude.{◌≡◌, ◌≤◌, ◌<◌, ◌+◌, ◌^◌, ◌++◌, length, map, IfOk};
 ghost use Rattle.std.specs.Vec.{vec_len, vec_capacity};
@@ -24,7 +24,7 @@ fn put_bytes(out: &mut Vec<u8>, bytes: &[u8])
     out.extend_from_slice(bytes).unwrap();
 }
 
-/// The front of a field that holds so many bytes: its tag and its length.
+/// Appends the front of a field that holds `len` bytes: its tag and its length.
 fn put_field_front(out: &mut Vec<u8>, number: u8, len: usize)
     requires number { number < 16 }
     requires room { vec_len out.old + 1 + length (uvarint len) ≤ vec_capacity out.old }
@@ -47,7 +47,7 @@ fn put_string_field(out: &mut Vec<u8>, number: u8, text: &str)
     }
 }
 
-/// Writes a label's field of its series at the end. This takes no memory.
+/// Appends the field of a label in its series to a vector that has room for it. This takes no memory.
 #[tactic(auto, unfolding(crate::specs::Canon::label_field, crate::specs::Canon::label))]
 pub fn put_label_field(out: &mut Vec<u8>, name: &str, value: &str)
     requires room { vec_len out.old + length (label_field (name.now, value.now)) ≤ vec_capacity out.old }
@@ -86,7 +86,7 @@ fn put_timestamp(out: &mut Vec<u8>, timestamp: i64)
     }
 }
 
-/// Writes a sample's field of its series at the end: at most 22 bytes. This takes no memory.
+/// Appends the field of a sample in its series, at most 22 bytes, to a vector that has room for it. This takes no memory.
 #[tactic(auto, unfolding(crate::specs::Canon::sample_field, crate::specs::Canon::sample))]
 pub fn put_sample_field(out: &mut Vec<u8>, word: Word, timestamp: i64)
     requires room { vec_len out.old + length (sample_field (word, timestamp)) ≤ vec_capacity out.old }
@@ -99,8 +99,7 @@ pub fn put_sample_field(out: &mut Vec<u8>, word: Word, timestamp: i64)
     put_timestamp(out, timestamp);
 }
 
-/// Writes what stands before the labels' and the samples' fields of a series, which take so many bytes in all.
-/// This takes no memory.
+/// Appends the tag and the length of a series whose label and sample fields take `len` bytes in all, to a vector that has room for them. This takes no memory.
 pub fn put_series_front(out: &mut Vec<u8>, len: usize)
     requires room { vec_len out.old + 1 + length (uvarint len) ≤ vec_capacity out.old }
     ensures items { out.new.items ≡ out.old.items ++ tag 1 2 ++ uvarint len }
@@ -120,7 +119,8 @@ fn put_label_fields(out: &mut Vec<u8>, labels: &[(String, String)])
     }
 }
 
-/// Writes what stands before the sample fields of a series with these labels, which take `len` bytes. This takes no memory.
+/// Appends what stands before the sample fields of a series with these labels, where these fields take `len` bytes, to a vector that has room for
+/// it. This takes no memory.
 #[tactic(auto, unfolding(crate::specs::Canon::series_head))]
 pub fn put_series_head(out: &mut Vec<u8>, labels: &[(String, String)], len: usize)
     requires fits { length (series_head (map text_label labels.now) len) + len < 2 ^ 64 }
@@ -145,7 +145,7 @@ fn put_sample_fields(out: &mut Vec<u8>, samples: &[(Word, i64)])
     }
 }
 
-/// Writes the field of a series with these labels and samples at the end. This takes no memory.
+/// Appends the field of a series with these labels and samples to a vector that has room for it. This takes no memory.
 #[tactic(auto, unfolding(crate::specs::Canon::series_field, crate::specs::Canon::series))]
 pub fn put_series(out: &mut Vec<u8>, labels: &[(String, String)], samples: &[(Word, i64)])
     requires room { vec_len out.old + length (series_field (series_of labels.now samples.now)) ≤ vec_capacity out.old }
@@ -179,8 +179,9 @@ fn put_all_series(out: &mut Vec<u8>, list: &[Series])
     }
 }
 
-/// The canonical spelling of a message, in one buffer of exactly its length. Memory is refused for that buffer alone, or
-/// where the length does not fit 64 bits.
+/// The canonical spelling of a message: fields in the order of their numbers, the shortest varints, and neither scalars whose bits are all zero
+/// nor empty strings. It stands in one buffer of exactly its length; an `Err` is for that buffer alone, or for a length that does not fit 64
+/// bits.
 pub fn encode(alloc: Global, message: &Message) -> Result<Vec<u8>, AllocError>
     ensures canonical { IfOk result (λ v. v.items ≡ canon message.now) }
     // A reader finds the message again.
