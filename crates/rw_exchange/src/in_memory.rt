@@ -13,9 +13,9 @@ use std::alloc::{AllocError, Global};
 /// The most bytes of a reply.
 const REPLY_ROOM: usize = 86;
 
-/// The status that the endpoint replies to one request, as a sender reads it.
+/// The status with which the endpoint replies to one request, as a sender reads it. Both work in memory, without a connection.
 ///
-/// The request is lent, and its reply never leaves memory. Memory is refused before `answer` is asked or not at all.
+/// An `Err` means that memory ran out, and then `answer` was not asked.
 pub fn exchange<A: Answer>(
     alloc: Global,
     request: &[u8],

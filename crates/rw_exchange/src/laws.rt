@@ -1,4 +1,4 @@
-//! Laws of the requests and of the replies.
+//! Laws of requests and replies. Each function has an empty body: its contract is the law.
 
 ghost use Rattle.std.specs.Prelude.{◌≡◌, ◌<◌, ◌≤◌, ◌^◌, ◌||◌, ℕ, List, length, true, IsTrue};
 ghost use Rattle.rw_types.specs.Requests.{is_host_name, is_request_path};
@@ -11,7 +11,7 @@ ghost use Rattle.rw_recv_http.specs.Judgement.{is_refusal};
 ghost use Rattle.rw_recv_http.specs.Replies.{reply, is_verdict};
 ghost use Rattle.rw_exchange.specs.Exchanges.{IsRequest};
 
-/// The endpoint reads a request as the sender makes it: one request, with the body that it carries, or a body over the limit.
+/// Law: the endpoint reads a request as the sender makes it, as one request with the body that it carries; where that is over the limit, it answers 413.
 pub fn requests_are_read()
     ensures read { (host path body : List ℕ) (limit : ℕ) → is_host_name host ≡ true → is_request_path path ≡ true
         → length body < 2 ^ 63 → length body ≤ limit → IsOneRequest path limit (request_of host path body) body }
@@ -21,7 +21,7 @@ pub fn requests_are_read()
         → length body < 2 ^ 63 → IsRequest path limit (request_of host path body) }
 {}
 
-/// The sender reads each reply of the endpoint as its status.
+/// Law: the sender reads each reply of the endpoint as its status.
 pub fn replies_are_read()
     ensures { (status : ℕ) (read : ReplyRead) → IsTrue (is_verdict status || is_refusal status)
         → Reads 8192 (reply status true) read → read ≡ Status status }

@@ -1,4 +1,4 @@
-//! Requests of the sender at the endpoint, and an exchange with it in memory.
+//! The requests of the sender as the endpoint of the receiver reads them, and an exchange between the two in memory.
 #![tactic(auto)]
 
 mod in_memory;

@@ -1,4 +1,4 @@
-//! Samples of a series in a full block.
+//! A full block of the samples of a series.
 
 ghost use Rattle.std.specs.Prelude.{◌≡◌, IfOk, length};
 ghost use Rattle.rw_recv_head.specs.Blocks.{first_time};
@@ -7,7 +7,7 @@ use rw_types::Word;
 use std::alloc::{AllocError, Global};
 use std::marker::Model;
 
-/// 120 samples of a series, one after the other. They never change. Contracts see their list.
+/// A full block: 120 samples of one series, one after the other, which never change. Contracts see their list.
 #[derive(Debug, Drop)]
 pub struct Block {
     samples: [(i64, Word); 120],
@@ -36,7 +36,7 @@ impl Block {
         }
     }
 
-    /// Its samples in order, as (timestamp in milliseconds, value). This takes no memory.
+    /// The samples in order, as (timestamp in milliseconds since the Unix epoch, value). This takes no memory.
     pub fn samples(&self) -> &[(i64, Word); 120]
         ensures samples { result.now ≡ self.now }
         ensures full { length self.now ≡ 120 }
@@ -44,7 +44,7 @@ impl Block {
         &self.samples
     }
 
-    /// The timestamp of its first sample.
+    /// The timestamp of the first sample.
     pub(crate) fn first(&self) -> i64
         ensures { result ≡ first_time self.now }
     {

@@ -32,7 +32,7 @@ impl Model for Blocks {
     ghost invariant = { λ s. AreBlocks (map (λ b. b.value) s.sealed.items) s.rest.items (vec_capacity s.rest) };
 }
 
-/// Whether a timestamp is later than the last of the samples, or there is none.
+/// Whether `t` is later than the last of the samples, or there is none.
 fn is_later(samples: &[(i64, Word)], t: i64) -> bool
     ensures { result ≡ is_later t samples.now }
 {
@@ -42,7 +42,7 @@ fn is_later(samples: &[(i64, Word)], t: i64) -> bool
     }
 }
 
-/// Whether the first of the samples is later than a timestamp, or there is none.
+/// Whether the first of the samples is later than `t`, or there is none.
 fn begins_after(samples: &[(i64, Word)], t: i64) -> bool
     ensures { result ≡ begins_after t samples.now }
 {
@@ -63,7 +63,7 @@ fn holds(samples: &[(i64, Word)], t: i64, word: Word) -> bool
     }
 }
 
-/// How many of the blocks begin at a timestamp or before it.
+/// How many of the blocks begin at `t` or before it.
 fn count_begun(sealed: &[Box<Block>], t: i64) -> usize
     requires rises { Rises (joined (map (λ b. b.value) sealed.now)) }
     requires full { AreFull (map (λ b. b.value) sealed.now) }
@@ -86,7 +86,7 @@ fn seal(sealed: &mut Vec<Box<Block>>, samples: &[(i64, Word)]) -> Result<(), All
     Ok(())
 }
 
-/// Makes the open block these samples, in the room that it has.
+/// Overwrites the open block with these samples, in the room that it has.
 fn refill(rest: &mut Vec<(i64, Word)>, samples: &[(i64, Word)])
     requires { length samples.now ≤ vec_capacity rest.old }
     ensures samples { rest.new.items ≡ samples.now }
@@ -136,7 +136,7 @@ impl Blocks {
         sealed
     }
 
-    /// Keeps the first samples alone. This takes no memory.
+    /// Keeps the first `len` samples alone. This takes no memory.
     pub(crate) fn truncate(&mut self, len: usize)
         requires { len ≤ length self.old }
         ensures { self.new ≡ take len self.old }

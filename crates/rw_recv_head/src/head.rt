@@ -1,4 +1,4 @@
-//! The receiving head.
+//! The head of a receiver.
 
 ghost use Rattle.std.specs.Prelude.{◌≡◌, ◌≢◌, ◌+◌, ◌^◌, ◌<◌, ◌≤◌, ◌++◌, length, Ok, OnOk, IfOk, map};
 ghost use Rattle.std.specs.FinMap.{empty};
@@ -39,7 +39,7 @@ fn stage_all(
     Ok(())
 }
 
-/// The receiving head: the samples of each label set, and what it takes.
+/// The head of a receiver: the samples of each label set, and the limits on what it takes.
 #[derive(Debug, Drop)]
 pub struct Head {
     alloc: Global,
@@ -66,7 +66,7 @@ impl Model for Head {
     ghost invariant = { λ h. IsReady h.table × HoldsNoneRefused h.bounds h.table.kept };
 }
 
-/// The status that tells a verdict.
+/// The HTTP status that tells a verdict.
 fn status_of(verdict: Verdict) -> u16
     ensures { result ≡ status_of verdict }
 {
@@ -78,7 +78,7 @@ fn status_of(verdict: Verdict) -> u16
 }
 
 impl Head {
-    /// A head without samples. This takes no memory.
+    /// A head without samples, with these limits. This takes no memory.
     pub fn new(alloc: Global, limits: &Limits) -> Head
         ensures store { result.store ≡ empty }
         ensures names { result.limits.names ≡ limits.now.names }
@@ -100,8 +100,8 @@ impl Head {
         }
     }
 
-    /// Takes a message whole or not at all: its series in order, each by its labels, then by this head's limits, and then by its samples.
-    /// `NoMemory` is for a want of memory: its contract leaves open when that is, and says that nothing is stored then.
+    /// Takes a message whole or not at all. Its series are judged in order, each by its labels, then by the limits of the head, and then by its
+    /// samples. `NoMemory` means that memory ran out, and nothing is stored; when that is, its contract leaves open.
     pub fn apply(&mut self, message: &Message) -> Verdict
         ensures verdict { result ≢ NoMemory → result ≡ (apply self.old.limits self.old.store message.now).verdict }
         ensures store { result ≢ NoMemory → self.new.store ≡ (apply self.old.limits self.old.store message.now).store }
@@ -129,9 +129,9 @@ impl Head {
         }
     }
 
-    /// The status for a request's body: 429 for as many requests as the head is busy for first, whatever they hold. Then 204 where the body is
-    /// a message that is stored, and 400 where it is refused. 503 is for a want of memory: its contract leaves open when that is, and says that
-    /// nothing is stored then.
+    /// The HTTP status for the body of a request. It is 429 for as many requests as the head is busy for at first, whatever they hold; then 204
+    /// where the body is a message that is stored, and 400 where it is refused. 503 means that memory ran out, and nothing is stored; when that
+    /// is, its contract leaves open.
     pub fn answer(&mut self, body: &[u8]) -> u16
         ensures status { result ≢ 503 → result ≡ (answer self.old body.now).status }
         ensures head { result ≢ 503 → self.new ≡ (answer self.old body.now).head }
@@ -155,7 +155,7 @@ impl Head {
         }
     }
 
-    /// How many samples there are. This takes no memory, and its time does not grow.
+    /// How many samples there are, of all label sets. This takes no memory, and its time does not grow.
     pub fn total(&self) -> u64
         ensures total { result ≡ total self.now.store }
         ensures rises { EachRises self.now.store }
@@ -170,16 +170,16 @@ impl Head {
         self.table.places()
     }
 
-    /// The samples of a label set in order, as (timestamp in milliseconds, value).
+    /// A copy of the samples of a label set in order, as (timestamp in milliseconds since the Unix epoch, value). It is empty where the label set has none.
     pub fn samples(&self, labels: &LabelSet) -> Result<Vec<(i64, Word)>, AllocError>
         ensures { IfOk result (λ v. v.items ≡ list_of self.now.store labels.now) }
     {
         self.table.to_vec(self.alloc, labels)
     }
 
-    /// The full blocks of a label set, each of 120 samples, in order. They hold the first samples of the label set, and stay as they are, in
-    /// their places, whatever the head takes later. There are none where the label set has no samples. This takes no memory, and time that grows
-    /// with the number of label sets.
+    /// The full blocks of a label set, each of 120 samples, in order. They hold its first samples and stay as they are, in their places, whatever
+    /// the head takes later. There are none where the label set has no samples. This takes no memory, and time that grows with the number of
+    /// label sets.
     pub fn sealed(&self, labels: &LabelSet) -> &[Box<Block>]
         ensures blocks { map (λ b. b.value) result.now ≡ sealed_of (list_of self.now.store labels.now) }
         ensures full { AreFull (map (λ b. b.value) result.now) }
@@ -187,7 +187,8 @@ impl Head {
         self.table.sealed(labels)
     }
 
-    /// The samples of a label set behind its full blocks, at most 119. This takes no memory, and time that grows with the number of label sets.
+    /// The samples of a label set behind its full blocks, at most 119, as (timestamp in milliseconds since the Unix epoch, value). This takes no
+    /// memory, and time that grows with the number of label sets.
     pub fn open(&self, labels: &LabelSet) -> &[(i64, Word)]
         ensures samples { joined (sealed_of (list_of self.now.store labels.now)) ++ result.now ≡ list_of self.now.store labels.now }
         ensures few { length result.now < 120 }

@@ -1,4 +1,4 @@
-//! Which label sets are taken.
+//! Which label sets a head takes.
 
 ghost use Rattle.std.specs.Prelude.{◌≡◌, ◌≢◌, None, Some, OnOk, IfErr, map};
 ghost use Rattle.rw_types.specs.Labels.{text_label, label_fault};
@@ -30,7 +30,7 @@ impl Model for LabelBounds {
 }
 
 impl LabelBounds {
-    /// Writes the labels of a series down, where the head takes them.
+    /// Overwrites `labels` with the label set of these texts, where the head takes it.
     pub(crate) fn take(
         &self,
         labels: &mut LabelSet,

@@ -10,7 +10,7 @@ use rw_types::LabelSet;
 use std::collections::btree_map;
 use std::marker::Model;
 
-/// The label sets that have samples, by byte order of their lists of (name, value). Contracts see those that are left.
+/// An iterator over the label sets that have samples, by byte order of their lists of (name, value). Contracts see those that are still to come.
 #[derive(Drop)]
 pub struct LabelSets<'a> {
     places: btree_map::Iter<'a, Name, usize>,

@@ -1,4 +1,4 @@
-//! The head of a receiver of samples: requests are taken whole or not at all, each sample once, in order.
+//! The head of a receiver of samples: messages are taken whole or not at all, and each sample once, in order.
 #![tactic(auto)]
 
 mod block;

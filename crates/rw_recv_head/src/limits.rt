@@ -1,4 +1,4 @@
-//! What a receiving head takes.
+//! The limits on what a head and its endpoint take.
 
 ghost use Rattle.std.specs.Prelude.{◌≡◌, codes, IfOk};
 ghost use Rattle.rw_types.specs.declared.names.Names.TheVariants.{Legacy};
@@ -6,26 +6,25 @@ ghost use Rattle.rw_types.specs.declared.names.Names.TheVariants.{Legacy};
 use rw_types::{Bounded, Names, RequestPath};
 use std::alloc::{AllocError, Global};
 
-/// The limits of a receiving head and of its endpoint.
+/// The limits on what a head and its HTTP endpoint take.
 #[derive(Debug, Drop)]
 pub struct Limits {
-    /// The path of the endpoint.
+    /// The path of the endpoint. Requests for any other are refused.
     pub path: RequestPath,
-    /// The most bytes of a request's body.
+    /// The most bytes of the body of a request.
     pub max_body_bytes: Bounded<1, 67_108_864>,
-    /// Which names of labels are taken.
+    /// Which label names are accepted.
     pub names: Names,
-    /// The most labels of a label set.
+    /// The most labels that a label set may have.
     pub max_labels: Bounded<1, 64>,
-    /// The most bytes of the names and values of a label set together.
+    /// The most bytes that the names and values of a label set may have together.
     pub max_label_bytes: Bounded<1, 16_384>,
     /// How many requests are answered with 429 before the first one is judged.
     pub busy_first: Bounded<0, 1_000_000>,
 }
 
 impl Limits {
-    /// The limits of a head that is given none: `/api/v1/write`, 16 MiB, legacy names, and what a label set may have at
-    /// most.
+    /// The default limits: path `/api/v1/write`, bodies of at most 16 MiB, legacy names, 64 labels and 16,384 bytes for a label set, and never busy.
     pub fn standard(alloc: Global) -> Result<Limits, AllocError>
         ensures { IfOk result (λ l. l ≡ record {
           path = codes "/api/v1/write";

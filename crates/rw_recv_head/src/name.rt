@@ -24,7 +24,7 @@ impl Model for Name {
 }
 
 impl Name {
-    /// The name that is this label set.
+    /// The name of this label set.
     pub(crate) fn of(alloc: Global, labels: LabelSet) -> Result<Name, AllocError>
         ensures { IfOk result (λ n. n ≡ labels) }
     {
@@ -33,7 +33,7 @@ impl Name {
         })
     }
 
-    /// The name that is a copy of a label set.
+    /// The name of a copy of the label set.
     pub(crate) fn copy_of(alloc: Global, labels: &LabelSet) -> Result<Name, AllocError>
         ensures { IfOk result (λ n. n ≡ labels.now) }
     {
@@ -44,7 +44,7 @@ impl Name {
         }
     }
 
-    /// The same name for one owner more.
+    /// The name once more, for another owner.
     pub(crate) fn share(&self) -> Result<Name, AllocError>
         ensures { IfOk result (λ n. n ≡ self.now) }
     {

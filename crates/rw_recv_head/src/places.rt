@@ -18,7 +18,7 @@ use std::alloc::{AllocError, Global};
 use std::collections::{BTreeMap, btree_map};
 use std::mem;
 
-/// The places of label sets: each has its own, in the order in which they came. It is noted which one came after which the last time.
+/// The places of label sets: each has its own, in the order in which they came. It is noted which one came behind which the last time.
 #[derive(Debug, Drop)]
 pub(crate) struct Places {
     tree: BTreeMap<Name, usize>,
@@ -39,7 +39,7 @@ pub(crate) fn put<T: Drop>(items: &mut Vec<T>, item: T)
     }
 }
 
-/// What is known of a label set.
+/// What was found of a label set.
 #[derive(Drop)]
 pub(crate) enum Found {
     /// It has this place.
@@ -164,7 +164,7 @@ impl Places {
         Ok(())
     }
 
-    /// Takes out the places from this one on.
+    /// Removes the places from number `len` on.
     pub(crate) fn truncate(&mut self, len: usize)
         ensures below { (l : Labels) → get labels_cmp self.new.tree l ≡ below len (get labels_cmp self.old.tree l) }
         ensures names { length self.new.names.items ≡ min len (length self.old.names.items) }

@@ -55,7 +55,7 @@ impl Model for Table {
     ghost invariant = { λ t. IsSound t.places.tree t.lists.items t.touched.items t.fresh.items t.count t.staged_count × (length t.places.names.items ≡ length t.lists.items) };
 }
 
-/// Whether there is room for so many samples more.
+/// Whether there is room for `more` samples beside `count`.
 fn has_room(count: u64, more: usize) -> bool
     requires { count ≤ 2 ^ 60 }
     ensures { IsTrue result ↔ (count + more ≤ 2 ^ 60) }
@@ -222,7 +222,7 @@ impl Table {
         }
     }
 
-    /// Keeps what is staged, and answers how many samples that is. This takes no memory.
+    /// Keeps what is staged, and returns how many samples that is. This takes no memory.
     pub(crate) fn commit(&mut self) -> u64
         ensures kept { self.new.kept ≡ self.old.staged }
         ensures staged { self.new.staged ≡ self.old.staged }

@@ -2,20 +2,20 @@
 
 use std::alloc::AllocError;
 
-/// What becomes of a message: it is stored whole, or refused and nothing changes.
+/// What becomes of a message: it is stored whole, or it is refused and nothing changes.
 #[derive(Clone, Copy, Debug, PartialEq, Eq)]
 pub enum Verdict {
-    /// It is stored, and so many samples were appended. The others were repeats.
+    /// It is stored. The number is how many samples were appended; the others were repeats.
     Stored(u64),
-    /// The body is no message.
+    /// The body of the request is not a message.
     BadBody,
-    /// The labels of a series are no label set.
+    /// The labels of a series are not a label set.
     BadLabels,
-    /// A label set has more labels or more bytes than this head takes.
+    /// A label set has more labels or more bytes than the head takes.
     OverLimit,
     /// A sample is neither later than the last of its series nor a repeat.
     OutOfOrder,
-    /// Memory ran out.
+    /// Memory ran out, and nothing is stored.
     NoMemory,
 }
 

@@ -1,13 +1,14 @@
-//! What answers a body.
+//! What answers the bodies of requests.
 
 ghost use Rattle.std.specs.Prelude.{ℕ, List, IsTrue};
 ghost use Rattle.rw_recv_http.specs.Replies.{is_verdict};
 
-/// What answers the body of a sound request with a status: 204, 400, 429 or 503.
+/// Answers the body of a sound request with an HTTP status: 204, 400, 429 or 503.
 pub trait Answer {
     /// From the first state, the body has this status and leaves the second state.
     ghost answers: { Self → List ℕ → ℕ → Self → Type 0 };
 
+    /// The status for this body.
     fn answer(&mut self, body: &[u8]) -> u16
         ensures given { answers self.old body.now result self.new }
         ensures verdict { IsTrue (is_verdict result) };

@@ -22,7 +22,7 @@ pub(crate) fn has_field(buf: &[u8], headers: &[HeaderSpan], name: &[u8]) -> bool
     false
 }
 
-/// The first announced length.
+/// The length that the first `Content-Length` announces.
 fn first_length(buf: &[u8], headers: &[HeaderSpan]) -> Option<u64>
     requires { All (IsHeaderWithin (length buf.now)) headers.now }
     ensures { result ≡ first_length (map (header_bytes buf.now) headers.now) }
@@ -35,7 +35,7 @@ fn first_length(buf: &[u8], headers: &[HeaderSpan]) -> Option<u64>
     None
 }
 
-/// Whether each announced length is this one.
+/// Whether each `Content-Length` announces this length.
 fn are_lengths(buf: &[u8], headers: &[HeaderSpan], n: u64) -> bool
     requires { All (IsHeaderWithin (length buf.now)) headers.now }
     ensures { result ≡ each_value (codes "content-length") (is_length n) (map (header_bytes buf.now) headers.now) }
@@ -55,7 +55,7 @@ fn are_lengths(buf: &[u8], headers: &[HeaderSpan], n: u64) -> bool
     true
 }
 
-/// The length that the fields announce.
+/// The length of the body that the fields announce, where they agree on one.
 pub(crate) fn announced(buf: &[u8], headers: &[HeaderSpan]) -> Option<u64>
     requires { All (IsHeaderWithin (length buf.now)) headers.now }
     ensures { result ≡ announced (map (header_bytes buf.now) headers.now) }
@@ -68,7 +68,7 @@ pub(crate) fn announced(buf: &[u8], headers: &[HeaderSpan]) -> Option<u64>
     }
 }
 
-/// Whether the body is said to be as it is.
+/// Whether the fields name no content coding but `identity`.
 pub(crate) fn are_identity(buf: &[u8], headers: &[HeaderSpan]) -> bool
     requires { All (IsHeaderWithin (length buf.now)) headers.now }
     ensures { result ≡ each_value (codes "content-encoding") is_identity (map (header_bytes buf.now) headers.now) }
@@ -83,7 +83,7 @@ pub(crate) fn are_identity(buf: &[u8], headers: &[HeaderSpan]) -> bool
     true
 }
 
-/// Whether the body is said to be a write request.
+/// Whether the fields name no media type but that of a write request.
 pub(crate) fn are_protobuf(buf: &[u8], headers: &[HeaderSpan]) -> bool
     requires { All (IsHeaderWithin (length buf.now)) headers.now }
     ensures { result ≡ each_value (codes "content-type") is_protobuf (map (header_bytes buf.now) headers.now) }
@@ -98,7 +98,7 @@ pub(crate) fn are_protobuf(buf: &[u8], headers: &[HeaderSpan]) -> bool
     true
 }
 
-/// Whether the sender closes.
+/// Whether the sender asks to close the connection.
 pub(crate) fn has_close(buf: &[u8], headers: &[HeaderSpan]) -> bool
     requires { All (IsHeaderWithin (length buf.now)) headers.now }
     ensures { result ≡ some_value (codes "connection") is_close (map (header_bytes buf.now) headers.now) }

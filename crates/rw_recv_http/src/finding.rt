@@ -13,11 +13,11 @@ use httparse::spans::HeaderSpan;
 pub enum Finding {
     /// It is answered with this status, and the connection closes.
     Refused(u16),
-    /// A body of `len` bytes follows, which is to be answered.
+    /// A body of `len` bytes follows, which is to be answered. `closes` says whether the connection closes after the reply.
     Body { len: u64, closes: bool },
 }
 
-/// What the fields say of the body.
+/// What the fields of a head say of the body behind it.
 pub(crate) fn judge_body(buf: &[u8], fields: &[HeaderSpan], minor: u8, limit: u64) -> Finding
     requires { All (IsHeaderWithin (length buf.now)) fields.now }
     ensures { let fields = map (header_bytes buf.now) fields.now in

@@ -1,4 +1,4 @@
-//! The head that bytes begin with.
+//! The head of a request, read.
 
 ghost use Rattle.std.specs.Prelude.{◌≡◌, ◌≤◌, length, map, All};
 ghost use Rattle.httparse.specs.Spans.{IsHeaderWithin, header_bytes};
@@ -15,18 +15,18 @@ pub(crate) const MAX_HEAD_BYTES: usize = 8192;
 /// The most fields of a head.
 const MAX_FIELDS: usize = 64;
 
-/// What the bytes that have come say.
+/// What the bytes that have come of a request say.
 #[derive(Clone, Copy, Debug, PartialEq, Eq)]
 pub enum Reading {
-    /// A whole head, and its length.
+    /// A whole head: what is found by it, and how many bytes it takes.
     Head(Finding, usize),
     /// More has to come.
     More,
-    /// No head within the limits, whatever follows.
+    /// There is no head within the limits, whatever follows.
     Never,
 }
 
-/// The judgement of the request that these bytes begin.
+/// Reads the head of the request that these bytes begin.
 pub(crate) fn read_head(buf: &[u8], path: &[u8], limit: u64) -> Reading
     requires { length buf.now ≤ 8192 }
     ensures { Judges path.now limit buf.now result }

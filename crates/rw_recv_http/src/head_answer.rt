@@ -1,4 +1,4 @@
-//! The head answers bodies.
+//! The head of a receiver, as what answers bodies.
 
 use crate::answer::Answer;
 use rw_recv_head::Head;

@@ -12,7 +12,7 @@ use std::alloc::{AllocError, Global};
 /// How many bytes one read asks for at most.
 const CHUNK: usize = 64 * 1024;
 
-/// Why nothing was read.
+/// Why nothing could be read.
 #[derive(Clone, Copy, Debug, PartialEq, Eq)]
 pub(crate) enum Stop {
     Device,
@@ -22,7 +22,7 @@ pub(crate) enum Stop {
 /// What stands at the front of the input.
 #[derive(Clone, Copy, Debug, PartialEq, Eq)]
 pub(crate) enum Front {
-    /// A head, and its length.
+    /// A whole head: what is found by it, and how many bytes it takes.
     Head(Finding, usize),
     /// No head, whatever follows.
     Never,
@@ -37,7 +37,7 @@ pub(crate) fn new_chunk(alloc: Global) -> Result<Vec<u8>, AllocError>
     vec![in alloc; 0; CHUNK]
 }
 
-/// Reads some bytes behind those that wait, and answers how many. None come only at the end of the input.
+/// Appends some bytes to those that wait, at most `most`, and returns how many. None come only at the end of the input.
 fn read_more<R: Source>(
     reader: &mut R,
     chunk: &mut [u8],
@@ -95,7 +95,7 @@ pub(crate) fn read_front<R: Source>(
     }
 }
 
-/// Takes the first bytes away.
+/// Removes the first `n` bytes.
 pub(crate) fn drop_front(pending: &mut Vec<u8>, n: usize)
     requires { n ≤ vec_len pending.old }
     ensures items { pending.new.items ≡ drop n pending.old.items }
@@ -130,7 +130,7 @@ fn make_room(body: &mut Vec<u8>, n: usize) -> Result<usize, Stop>
     }
 }
 
-/// Reads a body of this length, or finds that the input ends before.
+/// Reads a body of `n` bytes; `None` where the input ends before.
 pub(crate) fn read_body<R: Source>(
     alloc: Global,
     reader: &mut R,

@@ -118,7 +118,7 @@ fn serve_one<R: Source, W: Sink, A: Answer>(
     }
 }
 
-/// Replies to the requests of the input, in order, up to its end or to the first reply that closes.
+/// Replies to the requests of a connection in order, up to the end of the input or to the first reply that closes it.
 fn serve_all<R: Source, W: Sink, A: Answer>(
     alloc: Global,
     reader: &mut R,
@@ -158,11 +158,10 @@ fn serve_all<R: Source, W: Sink, A: Answer>(
     ServeEnd::Device
 }
 
-/// Replies to the requests of the input, in order, up to its end or to the first reply that closes.
+/// Replies to the requests of a connection in order, up to the end of the input or to the first reply that closes it.
 ///
-/// A body over the limit is refused by its announced length; that none of it is read before the reply no contract says. A body's memory
-/// grows with what has come of it.
-/// Once `answer` was asked, no memory is taken until its reply is written.
+/// A body over the limit is refused by the length that its head announces; that none of it is read before the reply no contract says. The memory
+/// for a body grows with what has come of it. Once `answer` was asked, no memory is taken until its reply is written.
 pub fn serve<R: Source, W: Sink, A: Answer>(
     alloc: Global,
     reader: &mut R,

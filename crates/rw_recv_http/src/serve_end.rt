@@ -1,16 +1,16 @@
 //! How a connection ends.
 
-/// How a connection ended.
+/// How the serving of a connection ended.
 #[derive(Clone, Copy, Debug, PartialEq, Eq)]
 pub enum ServeEnd {
-    /// The input ended before a request's first byte.
+    /// The input ended before the first byte of a request.
     Eof,
-    /// A reply closed it.
+    /// A reply closed the connection.
     Closed,
     /// The input ended inside a request, which has no reply.
     Torn,
     /// The reader or the writer failed.
     Device,
-    /// Memory was refused before a body was asked for its answer. That request has no reply.
+    /// Memory ran out before a body was asked for its answer. That request has no reply.
     OutOfMemory,
 }
