@@ -9,7 +9,9 @@ use rw_text::read_number;
 /// A host, to be looked up, and a port from 1 to 65,535.
 #[derive(Clone, Copy, Debug)]
 pub struct Address<'a> {
+    /// The host as it was written, with any brackets.
     pub host: &'a str,
+    /// The port.
     pub port: u16,
 }
 
@@ -40,7 +42,8 @@ impl<'a> Address<'a> {
     }
 }
 
-/// Reads HOST:PORT, which is split at its last colon, so that a host may hold colons (`::1`, `[::1]`). The port is in decimal digits.
+/// Reads HOST:PORT, which is split at its last colon, so that a host may hold colons (`::1`, `[::1]`). The port is 1 to 65,535, in decimal
+/// digits; `None` for any other text.
 pub fn read_address(text: &str) -> Option<Address<'_>>
     ensures { MatchOption result
         ((host : List ℕ) (port : ℕ) → IsAddress text.now host port → ⊥)
@@ -55,7 +58,7 @@ pub fn read_address(text: &str) -> Option<Address<'_>>
     Some(Address { host, port })
 }
 
-/// A text is one address at most.
+/// Law: a text is at most one address. The call does nothing.
 pub fn address_is_one()
     ensures { (text host other : List ℕ) (port another : ℕ) → IsAddress text host port → IsAddress text other another → (host ≡ other) × (port ≡ another) }
 {}

@@ -7,7 +7,7 @@ use std::alloc::AllocError;
 pub enum ScriptFault {
     /// Memory ran out.
     OutOfMemory,
-    /// This line, counted from 1, is no script line, or mixes `log` with `feed` or `segment`.
+    /// The line of this number, counted from 1, is not a script line, or mixes `log` with `feed` or `segment`.
     Line(u64),
 }
 

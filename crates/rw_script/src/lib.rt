@@ -1,4 +1,4 @@
-//! The text of `rwship replay`: event scripts read, and the state at their end printed.
+//! The text of `rwship replay`: event scripts are read, and the state at their end is printed.
 #![tactic(auto)]
 
 mod command;

@@ -1,4 +1,4 @@
-//! Whole scripts read.
+//! Whole scripts, read.
 
 ghost use Rattle.std.specs.Prelude.{◌≡◌, ◌<◌, [], ◌∷◌, ◌++◌, map, length, true, false, Err, IfOk, OnOk, IfErr, MatchOption};
 ghost use Rattle.rw_script.specs.ScriptText.{Order, IsOrder, order_of};
@@ -39,8 +39,8 @@ fn add(commands: &mut Vec<Command>, command: Command) -> Result<(), AllocError>
     }
 }
 
-/// The commands of a script (one a line; only LF ends a line, and empty lines are passed over).
-/// A script lets the log grow by `log` lines or by `feed` and `segment` lines, and not by both.
+/// Reads the commands of a script: one a line, only LF ends a line, and empty lines are passed over. A script lets the log grow by `log` lines or
+/// by `feed` and `segment` lines, and not by both.
 pub fn read_script(alloc: Global, text: &[u8]) -> Result<Vec<Command>, ScriptFault>
     ensures ok { IfOk result (λ commands. IsScript text.now (map order_of commands.items)) }
     ensures err { IfErr result (IsFaultOfScript text.now) }

@@ -1,4 +1,4 @@
-//! The state of a sender and a receiver printed.
+//! The state of a sender and a receiver, printed.
 
 ghost use Rattle.std.specs.Prelude.{◌≡◌, ◌∷◌, [], ◌++◌, decimal, flat_map, OnOk, OnErr};
 ghost use Rattle.std.specs.FinMap.{entries};
@@ -35,7 +35,8 @@ fn push_points(out: &mut Vec<u8>, points: &[(i64, Word)]) -> Result<(), AllocErr
     Ok(())
 }
 
-/// Adds the line of a label set that has these samples: `received LABELS T=VALUE ..`. Without a sample there is no line.
+/// Appends the line of a label set with these samples: `received LABELS T=VALUE ..`; no line where there is no sample. After an `Err` a part of
+/// it may stand in `out`.
 pub fn push_received(
     out: &mut Vec<u8>,
     labels: &LabelSet,
@@ -53,7 +54,8 @@ pub fn push_received(
     out.extend_from_slice(b"\n")
 }
 
-/// Adds a `received` line for each label set that has samples, by byte order of their lists of (name, value).
+/// Appends a `received` line for each label set that has samples, by byte order of their lists of (name, value). After an `Err` a part of them
+/// may stand in `out`.
 pub fn push_store(out: &mut Vec<u8>, head: &Head) -> Result<(), AllocError>
     ensures ok { OnOk result (out.new.items ≡ out.old.items ++ store_text head.now.store) }
     ensures err { OnErr result (Grown out.old.items out.new.items) }
@@ -85,7 +87,8 @@ fn push_reason(out: &mut Vec<u8>, reason: Reason) -> Result<(), AllocError>
     }
 }
 
-/// Adds the line of a dropped sample: `dropped POS status S`, `dropped POS labels N`, `dropped POS noseries` or `dropped POS notrising`.
+/// Appends the line of a dropped sample: `dropped POS status S`, `dropped POS labels N`, `dropped POS noseries` or `dropped POS notrising`. After
+/// an `Err` a part of it may stand in `out`.
 pub fn push_dropped(out: &mut Vec<u8>, name: &(u64, Reason)) -> Result<(), AllocError>
     ensures ok { OnOk result (out.new.items ≡ out.old.items ++ dropped_text name.now) }
     ensures err { OnErr result (Grown out.old.items out.new.items) }
@@ -108,7 +111,7 @@ fn push_all_dropped(out: &mut Vec<u8>, names: &[(u64, Reason)]) -> Result<(), Al
     Ok(())
 }
 
-/// Adds the line that tells how many samples the rules have filtered: `filtered COUNT`.
+/// Appends the line that tells how many samples the rules have filtered: `filtered COUNT`. After an `Err` a part of it may stand in `out`.
 pub fn push_filtered(out: &mut Vec<u8>, count: u64) -> Result<(), AllocError>
     ensures ok { OnOk result (out.new.items ≡ out.old.items ++ filtered_text count) }
     ensures err { OnErr result (Grown out.old.items out.new.items) }
@@ -149,8 +152,8 @@ fn push_report(out: &mut Vec<u8>, report: &[u8], number: u64) -> Result<(), Allo
     out.extend_from_slice(b"\n")
 }
 
-/// Adds what is said of the end: an `abandoned` line for each sample that was put and not resolved, by position, and the report,
-/// which is `report running` where there is no outcome.
+/// Appends an `abandoned` line for each sample that was put and not resolved, by position, and then the report, which is `report running` where
+/// there is no outcome. After an `Err` a part of it may stand in `out`.
 pub fn push_ending(out: &mut Vec<u8>, outcome: Option<&Outcome>) -> Result<(), AllocError>
     ensures ok { OnOk result (out.new.items ≡ out.old.items ++ ending_text (option_map (λ o. ending_of o.now) outcome.entry)) }
     ensures err { OnErr result (Grown out.old.items out.new.items) }
@@ -168,7 +171,8 @@ pub fn push_ending(out: &mut Vec<u8>, outcome: Option<&Outcome>) -> Result<(), A
     }
 }
 
-/// Adds what a sender tells of its work: the dropped samples by position, how many the rules have filtered, and its end.
+/// Appends what a sender tells of its work: the dropped samples by position, how many the rules have filtered, and its end. After an `Err` a part
+/// of it may stand in `out`.
 pub fn push_work(
     out: &mut Vec<u8>,
     ledger: &Ledger,

@@ -401,7 +401,7 @@ fn refusal_as_used(alloc: Global, pattern: &str) -> Result<Option<&'static str>,
     }
 }
 
-/// The pattern that a rule writes, where it writes one.
+/// The pattern that a rule sets; `None` where it sets none.
 fn pattern_of(rule: &Value) -> Option<&str> {
     match rule.as_table() {
         None => None,
@@ -503,8 +503,8 @@ fn notes_of_text(alloc: Global, text: &str) -> Result<Vec<SettingsNote>, AllocEr
     }
 }
 
-/// Explains what is wrong with a text of settings: a note for each fault, `send` and `receive` first, key by key, and then the rules in their order,
-/// at last the patterns that are refused. No note stands for settings that `read_settings` reads.
+/// A note for each fault of a text of settings: those of `send` and `receive` first, key by key, then those of the rules in their order, and at
+/// last the patterns that are refused. Settings that `read_settings` reads get no note.
 #[tactic(auto, unfolding(crate::specs::Settings::settings_in))]
 pub fn explain_settings(alloc: Global, text: &[u8]) -> Result<Vec<SettingsNote>, AllocError>
     ensures { IfOk result (λ v. IsNoted (result_err (settings_in text.now)) (noted v.items)) }

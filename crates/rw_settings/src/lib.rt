@@ -1,4 +1,4 @@
-//! The settings of the program, as TOML.
+//! The settings of the program, read from TOML.
 #![tactic(auto)]
 
 mod explain;

@@ -1,4 +1,4 @@
-//! Notes on what is wrong with settings, for the one who wrote them.
+//! Notes on what is wrong with settings, for those who wrote them.
 
 ghost use Rattle.std.specs.Prelude.{◌≡◌, Some, map, OnOk};
 ghost use Rattle.toml.specs.View.{table_view};
@@ -76,7 +76,7 @@ pub(crate) fn note_value(
     push_note(notes, fault, place, text)
 }
 
-/// The known key that is nearest, where one is within two letters.
+/// The known key that is nearest to `key`, where one differs in at most two letters.
 fn nearest<'a>(alloc: Global, known: &[&'a str], key: &str) -> Result<Option<&'a str>, AllocError> {
     let mut found = None;
     let mut least = 3;

@@ -1,4 +1,4 @@
-//! The settings of a text.
+//! Reads the settings of a text.
 
 ghost use Rattle.std.specs.Prelude.{◌≡◌, ◌⊎◌, All, Any, Some, None, Ok, Err, codes, map, is_some, IfOk, IfErr, IfSome};
 ghost use Rattle.std.specs.Str.{is_utf8};
@@ -115,8 +115,8 @@ pub(crate) fn text_in(bytes: &[u8]) -> Option<&str>
     }
 }
 
-/// Reads the settings of a text. A key that it does not have has its default. The fault is the least one that holds anywhere in the text:
-/// what is no TOML has no other fault, and a rule's regular expression is compiled only where nothing else is wrong.
+/// Reads the settings of a TOML text. A key that is missing has its default. The error is the least fault that holds anywhere in the text: a text
+/// that is not TOML has no other fault, and the regular expressions of rules are compiled only where nothing else is wrong.
 #[tactic(auto, unfolding(crate::specs::Settings::settings_in))]
 pub fn read_settings(alloc: Global, text: &[u8]) -> Result<Settings, SettingsFault>
     ensures ok { IfOk result (λ s. settings_in text.now ≡ Ok s) }
@@ -129,7 +129,8 @@ pub fn read_settings(alloc: Global, text: &[u8]) -> Result<Settings, SettingsFau
     }
 }
 
-/// The rules of a text, as it writes them. Of a text with a fault other than `NotToml` nothing is said.
+/// The rules of a text as it writes them, with their defaults, and without compiling their patterns. What a text with a fault other than
+/// `NotToml` gives is not said.
 #[tactic(auto, unfolding(crate::specs::Settings::settings_in))]
 pub fn read_rules(alloc: Global, text: &[u8]) -> Result<Vec<RuleFields>, SettingsFault>
     ensures ok { IfOk result (λ v. IfOk (settings_in text.now) (λ s. map written_rule v.items ≡ s.config.rules)) }

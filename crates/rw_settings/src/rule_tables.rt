@@ -126,9 +126,13 @@ fn texts_of(alloc: Global, values: &[Value]) -> Result<Vec<String>, AllocError>
 /// A rule as settings write it, with the defaults of what they leave out.
 #[derive(Debug, Drop)]
 pub struct RuleFields {
+    /// What the rule does with a series.
     pub action: Action,
+    /// The names of the labels whose values the pattern is held against.
     pub source_labels: Vec<String>,
+    /// What stands between these values.
     pub separator: String,
+    /// The regular expression (`regex`), as it is written.
     pub pattern: String,
 }
 

@@ -3,11 +3,11 @@
 use rw_recv_head::Limits;
 use rw_sender::Config;
 
-/// The settings of the program.
+/// The settings of the program, as a text sets them or by default.
 #[derive(Debug, Drop)]
 pub struct Settings {
-    /// The table `send`, and the rules.
+    /// How the program sends: the table `send`, and the tables `rule`.
     pub config: Config,
-    /// The table `receive`.
+    /// What the program receives: the table `receive`.
     pub limits: Limits,
 }

@@ -1,4 +1,4 @@
-//! The text of settings: each key with its value, as TOML that reads back to the same settings.
+//! The text of settings: each key with its value, as TOML that reads back as the same settings.
 #![tactic(auto)]
 
 mod print;
