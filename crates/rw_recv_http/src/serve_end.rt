@@ -1,4 +1,4 @@
-//! How a connection ends.
+//! How the serving of a connection ends.
 
 /// How the serving of a connection ended.
 #[derive(Clone, Copy, Debug, PartialEq, Eq)]

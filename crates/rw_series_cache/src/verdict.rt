@@ -5,7 +5,7 @@ use rw_types::LabelFault;
 /// What was found of labels.
 #[derive(Clone, Copy, Debug)]
 pub(crate) enum Verdict {
-    /// They are no label set.
+    /// They are not a label set.
     Bad(LabelFault),
     /// They are a label set that the rules drop.
     Filtered,

@@ -1,4 +1,4 @@
-//! All settings.
+//! The settings of the program.
 
 use rw_recv_head::Limits;
 use rw_sender::Config;

@@ -1,4 +1,4 @@
-//! The whole text.
+//! Settings printed as one text.
 
 ghost use Rattle.std.specs.Prelude.{◌≡◌, map, string_bytes, IsOkAnd, IfOk, IfErr};
 ghost use Rattle.rw_settings.specs.RuleTables.{written_rule};

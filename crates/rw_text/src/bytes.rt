@@ -1,4 +1,4 @@
-//! Parts of a text.
+//! Parts of texts, and bytes appended to texts.
 
 ghost use Rattle.std.specs.Prelude.{◌≡◌, ◌==◌, ℕ, List, [], ◌∷◌, ◌++◌, All, false, MatchOption, OnOk, OnErr};
 

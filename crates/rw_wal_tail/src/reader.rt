@@ -1,4 +1,4 @@
-//! The steps of a reader.
+//! The steps in which a log is read.
 
 ghost use Rattle.std.specs.Prelude.{◌≡◌, ◌+◌, ◌<◌, ◌≤◌, ◌^◌, [], ◌∷◌, true, length, drop, take, MatchResult, IfOk, OnOk, OnErr};
 ghost use Rattle.rw_codes.specs.Records as grammar;

@@ -1,4 +1,4 @@
-//! A reader of a log that grows.
+//! Follows a log that grows.
 
 ghost use Rattle.std.specs.Prelude.{◌≡◌, ◌⊎◌, ◌≤◌, ◌<◌, ◌^◌, [], ◌∷◌, ◌++◌, length, Err, Some, None, IfOk, OnOk, OnErr};
 ghost use Rattle.rw_codes.specs.Laws.{Extends};
@@ -39,7 +39,7 @@ pub struct Tail {
     given: History<Entry>,
     count: u64,
     skipped: u64,
-    /// The fault that was answered, if one was.
+    /// The fault that was reported, if one was.
     told: Option<TailFault>,
 }
 

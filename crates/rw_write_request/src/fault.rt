@@ -1,4 +1,4 @@
-//! Why a message could not be read.
+//! Why bytes are not a message.
 
 ghost use Rattle.std.specs.Prelude.{◌≡◌};
 ghost use Rattle.rw_write_request.specs.Read.{varint_fault};
@@ -18,7 +18,7 @@ pub enum WireFault {
     VarintTooBig = 2,
     /// A known field has another wire type than its own.
     WrongWire = 3,
-    /// A field has the wire type 3, 4, 6 or 7.
+    /// A field has the wire type 3 or 4, which are groups, or 6 or 7, which do not exist.
     BadWire = 4,
     /// A field has the number 0.
     FieldZero = 5,

@@ -1,4 +1,4 @@
-//! Reading a message from its bytes.
+//! Messages, read from their bytes.
 
 ghost use Rattle.std.specs.Prelude.{◌≡◌, ℕ, ◌+◌, ◌*◌, ◌^◌, ◌<◌, ◌≤◌, List, [], ◌∷◌, length, vec_capacity, IfOk, IfErr, MatchResult, ◌≢◌, Err};
 ghost use Rattle.rw_write_request.specs.Message.{WriteRequest};
