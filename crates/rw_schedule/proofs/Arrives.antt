@@ -30,7 +30,7 @@ use Rattle.rw_schedule.specs.declared.event.How.TheVariants.{Busy, Plain, Short}
 use Rattle.rw_sender.specs.Shard.{batch_id, is_empty}
 use Rattle.rw_shard_queue.specs.Items.{Placed}
 use Rattle.rw_types.specs.LabelOrder.{labels_eq}
-use Rattle.rw_types.specs.Labels.{Labels, label_fault}
+use Rattle.rw_types.specs.Labels.{Labels}
 
 off : {P : Type 0} → true ≡ false → P
 off e = cc

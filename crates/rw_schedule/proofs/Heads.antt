@@ -22,7 +22,7 @@ use Rattle.rw_shard_queue.specs.Items.{Placed}
 use Rattle.rw_schedule.specs.Steps.{endpoint_answer}
 use Rattle.rw_schedule.specs.Worlds.{Setup}
 use Rattle.rw_schedule.proofs.Names.{one_answer}
-use Rattle.rw_schedule.proofs.Steps.{either, AllOf, all_filter, all_map, is_same, same_is, and_left, and_right, and_both, not_true}
+use Rattle.rw_schedule.proofs.Steps.{either, AllOf, all_filter, is_same, same_is, and_left, and_right, and_both, not_true}
 use Rattle.rw_schedule.proofs.Views.{Pairs, Store, Series, of, pairs, series_of, message, is_refused, is_fit, is_let_in}
 
 abbrev pub store_at : Labels → Pairs → Store → Store

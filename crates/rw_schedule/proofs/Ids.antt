@@ -13,7 +13,7 @@ use Rattle.rw_schedule.proofs.Keeps.{some_is}
 use Rattle.rw_schedule.proofs.Views.{shard_again, shard_resolve}
 use Rattle.rw_schedule.specs.Promises.{HasOneBatchEachId}
 use Rattle.rw_schedule.specs.Shards.{Shard, has_room, pending, samples_in, shard_put, shard_send, shard_freeze, shard_take, shard_lost, with_core}
-use Rattle.rw_schedule.specs.Steps.{act, arrive, change, changed, flush_shard, next_sample, place, place_entry, place_kept, place_sample, put_if_room, reply_to, restart_as, run, send_batch, shard_of, take_reply}
+use Rattle.rw_schedule.specs.Steps.{act, arrive, change, changed, flush_shard, next_sample, place, place_entry, place_kept, place_sample, put_if_room, reply_to, request_by, restart_as, run, send_batch, shard_of, take_reply}
 use Rattle.rw_schedule.specs.Worlds.{Reply, Request, Setup, World, is_finished, log, new_shards, start}
 use Rattle.rw_schedule.specs.declared.event.Event.{Event}
 use Rattle.rw_schedule.specs.declared.event.Event.TheVariants as event
@@ -150,7 +150,7 @@ send_ids w i None e at = at
 send_ids w i (Some s) e at = either Ids (can_send s.core) _ w (λ h. sent (not_true (is_empty s.core.batch) (and_left (not (is_empty s.core.batch)) (not s.core.waiting) (and_right (not s.core.killed) (not (is_empty s.core.batch) && not s.core.waiting) h)))) (λ _. at)
   where
     new : Request
-    new = record { id = batch_id s.core.batch; batch = s.core.batch }
+    new = request_by s
 
     same_batch : is_empty s.core.batch ≡ false → (r : Request) (j : ℕ) → slice_get w.requests j ≡ Some r → r.id ≡ batch_id s.core.batch → s.core.batch ≡ r.batch
     same_batch full r j at_j ids = open_batch w.epoch i w.shards s e (at.rows i s e) full r (all_get (Fate w.epoch w.shards) w.requests j r at.fates at_j) ids

@@ -16,6 +16,7 @@ pub mod OrderRule
 pub mod Others
 pub mod Owed
 pub mod Places
+pub mod Requests
 pub mod Resolves
 pub mod Risen
 pub mod Rounds

@@ -20,7 +20,7 @@ use Rattle.rw_retry.specs.declared.judgement.Judgement.{Judgement}
 use Rattle.rw_retry.specs.declared.judgement.Judgement.TheVariants.{Again, Done, Refused}
 use Rattle.rw_schedule.proofs.Views.{shard_again, shard_resolve}
 use Rattle.rw_schedule.specs.Shards.{EndMark, FlushMark, One, Queued, Shard, has_room, new_shard, pending, samples_in, shard_end, shard_flush, shard_freeze, shard_lost, shard_put, shard_send, shard_take, take_front, with_core}
-use Rattle.rw_schedule.specs.Steps.{act, arrive, change, changed, flush_shard, mark, next_sample, place, place_entry, place_kept, place_sample, put_if_room, reply_to, restart_as, run, send_batch, settled, shard_of, take_reply}
+use Rattle.rw_schedule.specs.Steps.{act, arrive, change, changed, flush_shard, mark, next_sample, place, place_entry, place_kept, place_sample, put_if_room, reply_to, request_by, restart_as, run, send_batch, settled, shard_of, take_reply}
 use Rattle.rw_schedule.specs.Worlds.{Reply, Request, Setup, World, is_finished, log, new_shards, start}
 use Rattle.rw_schedule.specs.declared.event.Event.{Event}
 use Rattle.rw_schedule.specs.declared.event.How.{How}
@@ -288,7 +288,7 @@ send_live c w i (Some s) e at = either (LiveIf c) (can_send s.core) (record w { 
     (λ _ _. at)
   where
     r : Request
-    r = record { id = batch_id s.core.batch; batch = s.core.batch }
+    r = request_by s
 
 reply_live : (c : Setup) (w : World) (o : Option Reply) → Live c w → LiveIf c (take_reply w o)
 reply_live c w None at = λ ends. at

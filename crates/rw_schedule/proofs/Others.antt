@@ -24,7 +24,7 @@ use Rattle.rw_shard_queue.specs.declared.item.Kind.TheVariants as kind
 use Rattle.rw_batch.specs.Grouping.{distinct}
 use Rattle.rw_batch.specs.Grouping as grouping
 use Rattle.rw_write_request.specs.Message.{TimeSeries, WriteRequest}
-use Rattle.rw_sender.specs.Shard.{Core, body_of, labelled, batch_id, can_freeze, can_send, can_take, awaits, is_empty, settle}
+use Rattle.rw_sender.specs.Shard.{Core, body_of, labelled, can_freeze, can_send, can_take, awaits, is_empty, settle}
 use Rattle.rw_sender.specs.Shard as core
 use Rattle.rw_recv_head.specs.Head.{Answer, State, answer_to, answered, judged_body}
 use Rattle.rw_recv_head.specs.Store.{Store, list_of}
@@ -36,7 +36,7 @@ use Rattle.rw_schedule.specs.declared.event.Event.TheVariants as event
 use Rattle.rw_schedule.specs.declared.event.How.{How}
 use Rattle.rw_schedule.specs.declared.event.How.TheVariants.{Busy, Plain, Short}
 use Rattle.rw_schedule.specs.Shards.{EndMark, FlushMark, One, Queued, Shard, has_room, pending, samples_in, shard_end, shard_flush, shard_freeze, shard_lost, shard_put, shard_send, shard_take, take_front, with_core}
-use Rattle.rw_schedule.specs.Steps.{act, arrive, changed, endpoint_answer, flush_shard, mark, next_sample, place, place_entry, place_kept, place_sample, put_if_room, reply_to, restart_as, run, send_batch, shard_of, take_reply}
+use Rattle.rw_schedule.specs.Steps.{act, arrive, changed, endpoint_answer, flush_shard, mark, next_sample, place, place_entry, place_kept, place_sample, put_if_room, reply_to, request_by, restart_as, run, send_batch, shard_of, take_reply}
 use Rattle.rw_schedule.specs.Worlds.{Reply, Request, Setup, World, is_finished, log, start}
 use Rattle.rw_schedule.specs.Promises.{HoldsNothingElse, Point}
 use Rattle.rw_schedule.proofs.Views.{IsKept, logged_points, logged_from, shard_resolve}
@@ -289,7 +289,7 @@ others_send c w i None e at = at
 others_send c w i (Some s) e at = either (OnlyLogged c) (can_send s.core) _ w
     (λ _. record {
       pending_logged = each_change (λ i s. AllOf (IsLogged c (log w)) (pending s)) shard_send i w.shards at.pending_logged (λ u _ all. subst (AllOf (IsLogged c (log w))) (sym (pending_send u)) all);
-      requests_logged = all_append (λ (r : Request). AllOf (IsLogged c (log w)) r.batch) w.requests (record { id = batch_id s.core.batch; batch = s.core.batch } ∷ []) at.requests_logged (batch_part (IsLogged c (log w)) s (at.pending_logged i s e), tt);
+      requests_logged = all_append (λ (r : Request). AllOf (IsLogged c (log w)) r.batch) w.requests (request_by s ∷ []) at.requests_logged (batch_part (IsLogged c (log w)) s (at.pending_logged i s e), tt);
       nothing_else = at.nothing_else;
     })
     (λ _. at)

@@ -23,7 +23,7 @@ use Rattle.rw_retry.specs.declared.judgement.Judgement.TheVariants.{Again, Done,
 use Rattle.rw_schedule.proofs.Views.{IsKept, Ledger, is_let_in, of, owed_by, pairs, points, shard_again, shard_resolve}
 use Rattle.rw_schedule.specs.Promises.{Point, pair_of}
 use Rattle.rw_schedule.specs.Shards.{Shard, is_drained, pending, samples_in, shard_send, with_core}
-use Rattle.rw_schedule.specs.Steps.{change, reply_to, restart_as, send_batch, take_reply}
+use Rattle.rw_schedule.specs.Steps.{change, reply_to, request_by, restart_as, send_batch, take_reply}
 use Rattle.rw_schedule.specs.Worlds.{Reply, Request, Setup, World, all_drained, is_finished, log, new_shards}
 use Rattle.rw_sender.specs.Shard.{awaits, batch_id, can_send, is_answer, is_empty, name_all, positions, same_id, settle, settle_names}
 use Rattle.rw_shard_queue.specs.Items.{Placed}
@@ -55,7 +55,7 @@ send_keeps c w i (Some s) e at = either (Inv c) (can_send s.core) _ w (λ h. qui
     full_of h = not_true (is_empty s.core.batch) (and_left (not (is_empty s.core.batch)) (not s.core.waiting) (and_right (not s.core.killed) (not (is_empty s.core.batch) && not s.core.waiting) h))
 
     r : Request
-    r = record { id = batch_id s.core.batch; batch = s.core.batch }
+    r = request_by s
 
     ok : ShardOk c w.epoch w.placed at.width w.series (get w.names) at.ident i s
     ok = at.shards_ok i s e

@@ -29,7 +29,7 @@ use Rattle.rw_write_request.specs.Message.{TimeSeries, WriteRequest}
 use Rattle.rw_router.specs.Fates.{kept_fate}
 use Rattle.rw_schedule.specs.Settling.{can_place, can_place_as, can_place_entry, can_place_known, newest_from, room_at}
 use Rattle.rw_schedule.specs.Shards.{EndMark, FlushMark, One, Queued, Shard, has_room, samples_in, shard_end, shard_flush, shard_freeze, shard_put, shard_send, shard_take, take_front, with_core}
-use Rattle.rw_schedule.specs.Steps.{act, answered, arrive, change, changed, endpoint_answer, flush_shard, happens, mark, next_sample, place, place_entry, place_kept, place_sample, put_if_room, reply_to, run, send_batch, settled, shard_of, take_reply, unless_over}
+use Rattle.rw_schedule.specs.Steps.{act, answered, arrive, change, changed, endpoint_answer, flush_shard, happens, mark, next_sample, place, place_entry, place_kept, place_sample, put_if_room, reply_to, request_by, run, send_batch, settled, shard_of, take_reply, unless_over}
 use Rattle.rw_schedule.specs.Worlds.{Reply, Request, Setup, World, is_finished, is_over, log}
 use Rattle.rw_schedule.specs.declared.event.Event.{Event}
 use Rattle.rw_schedule.specs.declared.event.How.TheVariants.{Plain}
@@ -186,7 +186,7 @@ sent_less (x ∷ b) h = omega arith
 pub send_round : (w : World) (i : ℕ) (s : Shard) → slice_get w.shards i ≡ Some s → s.core.killed ≡ false → is_empty s.core.batch ≡ false → s.core.waiting ≡ false → Round w (send_batch w i (slice_get w.shards i))
 send_round w i s e alive full still =
     let can : can_send s.core ≡ true = and_both (not s.core.killed) (not (is_empty s.core.batch) && not s.core.waiting) (ap not alive) (and_both (not (is_empty s.core.batch)) (not s.core.waiting) (ap not full) (ap not still)) in
-    let is : send_batch w i (slice_get w.shards i) ≡ record w { requests = w.requests ++ record { id = batch_id s.core.batch; batch = s.core.batch } ∷ []; shards = change i shard_send w.shards } = ap (send_batch w i) e ∙ cond_true (can_send s.core) _ w can in
+    let is : send_batch w i (slice_get w.shards i) ≡ record w { requests = w.requests ++ request_by s ∷ []; shards = change i shard_send w.shards } = ap (send_batch w i) e ∙ cond_true (can_send s.core) _ w can in
     let t : Shard = record s { core = record s.core { waiting = true } } in
     let sent : shard_send s ≡ t = ap (λ (k : Core). record s { core = k }) (cond_true (can_send s.core) _ s.core can) in
     let was : batch_work s.core.batch s.core.waiting ≡ batch_work s.core.batch false = ap (batch_work s.core.batch) still in

@@ -15,7 +15,8 @@ use Rattle.rw_ledger.specs.declared.ledger.Reason.TheVariants.{Status, BadLabels
 use Rattle.rw_retry.specs.Judgements.{judgement_of}
 use Rattle.rw_retry.specs.declared.judgement.Judgement.{Judgement}
 use Rattle.rw_retry.specs.declared.judgement.Judgement.TheVariants.{Done, Again, Refused}
-use Rattle.rw_sender.specs.Shard.{is_answer, positions}
+use Rattle.rw_sender.specs.Shard.{is_answer, positions, body_of}
+use Rattle.rw_sender.specs.SentRequest.{request_of}
 use Rattle.rw_recv_head.specs.Order.{holds}
 use Rattle.rw_recv_head.specs.Store.{list_of}
 use Rattle.rw_schedule.specs.Shards.{Shard, samples_in}
@@ -113,6 +114,17 @@ CountsFiltered c w = w.filtered ≡ length (filter (is_filtered_at c (log w)) (u
 -- one id, one batch: what is sent again under an id is what was sent first
 abbrev pub HasOneBatchEachId : World → Type 0
 HasOneBatchEachId w = (i j : ℕ) (r q : Request) → slice_get w.requests i ≡ Some r → slice_get w.requests j ≡ Some q → r.id ≡ q.id → r.batch ≡ q.batch
+
+-- the bytes of each request are those that carry its batch to the target (RFC 9112)
+abbrev pub CarriesItsBatch : Setup → Request → Type 0
+CarriesItsBatch c r = r.bytes ≡ request_of c.target.host c.target.path (body_of r.batch)
+
+abbrev pub CarriesEachBatch : Setup → World → Type 0
+CarriesEachBatch c w = (k : ℕ) (r : Request) → slice_get w.requests k ≡ Some r → CarriesItsBatch c r
+
+-- and under one id the same bytes are sent each time
+abbrev pub SendsSameBytes : World → Type 0
+SendsSameBytes w = (i j : ℕ) (r q : Request) → slice_get w.requests i ≡ Some r → slice_get w.requests j ≡ Some q → r.id ≡ q.id → r.bytes ≡ q.bytes
 
 -- no batch is both taken and refused for good, in whatever order: two replies to one id never say so
 abbrev pub NeverTakesAndRefuses : Setup → World → Type 0

@@ -90,12 +90,16 @@ mark w s =
 abbrev pub flush_shard : Setup → World → Shard → Shard
 flush_shard c w s = if not s.end_put && has_room c.capacity s then mark w s else s
 
+-- the open batch of a shard, and the bytes of its request
+abbrev pub request_by : Shard → Request
+request_by s = record { id = batch_id s.core.batch; batch = s.core.batch; bytes = core.request_for s.core }
+
 -- Send: the request of the open batch goes out
 abbrev pub send_batch : World → ℕ → Option Shard → World
 send_batch w i None = w
 send_batch w i (Some s) =
     if core.can_send s.core then record w {
-      requests = w.requests ++ record { id = batch_id s.core.batch; batch = s.core.batch } ∷ [];
+      requests = w.requests ++ request_by s ∷ [];
       shards = change i shard_send w.shards;
     }
     else w

@@ -29,10 +29,11 @@ pub record Setup : Type 0 where
   pub max_body : ℕ  -- the most bytes of a body that the receiver reads
   pub busy : ℕ  -- how many requests it answers as busy, before it judges one
 
--- a batch that was sent; its body is that of these samples
+-- a batch that was sent
 pub record Request : Type 0 where
   pub id : BatchId
   pub batch : List Placed
+  pub bytes : List ℕ  -- what goes over the network: the request of the batch (RFC 9112)
 
 pub record Reply : Type 0 where
   pub id : BatchId

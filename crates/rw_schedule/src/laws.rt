@@ -4,7 +4,7 @@ ghost use Rattle.std.specs.Prelude.{◌≡◌, ℕ, List};
 ghost use Rattle.rw_schedule.specs.Worlds.{Setup, World, start};
 ghost use Rattle.rw_schedule.specs.Steps.{run};
 ghost use Rattle.rw_schedule.specs.Settling.{settle, settle_events};
-ghost use Rattle.rw_schedule.specs.Promises.{CanWork, IsInOrder, IsWhole, IsWholeBeforeDamage, HoldsNothingElse, IsClosedForGood, HasOneClassEach, CountsFiltered, NamesRefusals, HasOneBatchEachId, NeverTakesAndRefuses, StoresResolved, HasShardLists, SettleEnds};
+ghost use Rattle.rw_schedule.specs.Promises.{CanWork, IsInOrder, IsWhole, IsWholeBeforeDamage, HoldsNothingElse, IsClosedForGood, HasOneClassEach, CountsFiltered, NamesRefusals, HasOneBatchEachId, CarriesEachBatch, SendsSameBytes, NeverTakesAndRefuses, StoresResolved, HasShardLists, SettleEnds};
 ghost use Rattle.rw_schedule.specs.declared.event.Event.{Event};
 
 /// For each label set the receiving head holds a beginning of its logged samples in log order, each once, less exactly those that are
@@ -36,6 +36,12 @@ pub fn each_batch_has_one_fate()
     ensures one_batch { (c : Setup) (events : List Event) → HasOneBatchEachId (run c events (start c)) }
     ensures one_fate { (c : Setup) (events : List Event) → NeverTakesAndRefuses c (run c events (start c)) }
     ensures resolved { (c : Setup) (events : List Event) → StoresResolved c (run c events (start c)) }
+{}
+
+/// What is sent is the request that carries a batch to the target, as bytes: the same bytes each time.
+pub fn requests_carry_their_batches()
+    ensures bytes { (c : Setup) (events : List Event) → CarriesEachBatch c (run c events (start c)) }
+    ensures again { (c : Setup) (events : List Event) → SendsSameBytes (run c events (start c)) }
 {}
 
 /// What a shard was put is what it has taken and what its queue holds, and what it has taken is what is resolved, its open batch and its

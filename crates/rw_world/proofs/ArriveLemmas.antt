@@ -1,8 +1,9 @@
 -- What a request's exchange comes to.
 use Rattle.std.proofs.Common.{◌≡◌, ◌≢◌, ℕ, ◌+◌, ◌-◌, ◌<◌, ◌≤◌, ◌^◌, inl, inr, ⊎_elim, Bool, true, false, cond, List, [], ◌∷◌, ◌++◌, length, map, Option, None, Some, Result, Ok, Err, refl, sym, ap, subst, ◌∙◌, arith, length-append}
 use Rattle.std.proofs.lemmas.Bool.Decides.{nat_tests}
-use Rattle.std.proofs.lemmas.List.Elements.{All-push}
-use Rattle.std.specs.Prelude.{nat_lt, decimal, IsTrue, IfSome}
+use Rattle.std.proofs.lemmas.List.Elements.{All-push, All-get_or}
+use Rattle.std.proofs.lemmas.Option.{get_or_from_slice_get, slice_get_within}
+use Rattle.std.specs.Prelude.{nat_lt, decimal, slice_get, IsTrue, IfSome}
 use Rattle.std.specs.declared.alloc.AllocError.{AllocError}
 use Rattle.http.specs.StatusCode.{IsStatusCode}
 use Rattle.rw_types.specs.Requests.{is_host_name, is_request_path}
@@ -10,7 +11,7 @@ use Rattle.rw_batch.specs.Grouping.{message}
 use Rattle.rw_shard_queue.specs.Items.{Placed}
 use Rattle.rw_write_request.specs.Message.{WriteRequest}
 use Rattle.rw_sender.specs.declared.config.Target.{Target}
-use Rattle.rw_sender.specs.Shard.{labelled, body_of, IsReadAgain, can_send, batch_id, request_for}
+use Rattle.rw_sender.specs.Shard.{labelled, body_of, IsReadAgain, can_send, request_for}
 use Rattle.rw_schedule.specs.Shards.{Shard}
 use Rattle.rw_sender.specs.SentRequest.{request_of, request_head}
 use Rattle.rw_recv_head.specs.Head.{State, Answer, answer, answer_to, answered, judged_body}
@@ -21,8 +22,12 @@ use Rattle.rw_recv_http.specs.Alone.{IsOneRequest, IsOneRefusal}
 use Rattle.rw_recv_http.specs.HeadAnswers.{HasAnswered}
 use Rattle.rw_recv_http.specs.Replies.{is_verdict}
 use Rattle.rw_exchange.specs.Exchanges.{IsAnswered, IsRefused}
-use Rattle.rw_world.specs.Held.{SentBatch, sent_by}
-use Rattle.rw_world.specs.Arriving.{IsSentTo, IsReplied, IsServed, answer_within}
+use Rattle.rw_schedule.specs.Worlds.{Setup, Request, World}
+use Rattle.rw_schedule.specs.Steps.{arrive, endpoint_answer, request_by}
+use Rattle.rw_schedule.specs.Promises.{CarriesItsBatch}
+use Rattle.rw_schedule.specs.declared.event.How.TheVariants.{Plain}
+use Rattle.rw_world.specs.Held.{sent_by}
+use Rattle.rw_world.specs.Arriving.{IsSentTo, IsReplied, IsServed, IsAnswerTo, IsAnsweredAsBytes, AnswersBytes, answer_within}
 
 -- a status of a verdict is one of HTTP's
 verdict_code : (n : ℕ) → IsTrue (is_verdict n) → IsStatusCode n
@@ -90,7 +95,7 @@ body_small host path body request e small =
     let len : length request ≡ length (request_head host path (decimal (length body))) + length body = ap length e ∙ length-append (request_head host path (decimal (length body))) body in
     omega arith
 
-asked_if : (b : Bool) (host path : List ℕ) (limit : ℕ) (s : SentBatch) (request : List ℕ) (old new : State) (r : Result ℕ AllocError) → nat_lt limit (length (body_of s.batch)) ≡ b →
+asked_if : (b : Bool) (host path : List ℕ) (limit : ℕ) (s : Request) (request : List ℕ) (old new : State) (r : Result ℕ AllocError) → nat_lt limit (length (body_of s.batch)) ≡ b →
     IsReadAgain s.batch → request ≡ request_of host path (body_of s.batch) → is_host_name host ≡ true → is_request_path path ≡ true → length request ≤ 2 ^ 62 → ReadsSound → RefusesLong →
     ((body : List ℕ) → IsOneRequest path limit request body → IsAnswered HasAnswered body old r new) → ((status : ℕ) → IsOneRefusal path limit request status → IsRefused status old r new) →
     IsReplied (cond b (record { status = 413; head = old }) (answer_to old (Ok (message (map labelled s.batch))))) old r new
@@ -101,31 +106,59 @@ asked_if false host path limit s request old new r b is e h p small reads refuse
     let short : length (body_of s.batch) ≤ limit = grind (arith, nat_tests) in
     answered_by old new s.batch r is (a (body_of s.batch) (subst (λ x. IsOneRequest path limit x (body_of s.batch)) (sym e) (reads host path (body_of s.batch) limit h p (body_small host path (body_of s.batch) request e small) short)))
 
-pub asked : (host path : List ℕ) (limit : ℕ) (s : SentBatch) (request : List ℕ) (old new : State) (r : Result ℕ AllocError) → IsSentTo host path s → request ≡ s.bytes → is_host_name host ≡ true → is_request_path path ≡ true →
+pub asked : (host path : List ℕ) (limit : ℕ) (s : Request) (request : List ℕ) (old new : State) (r : Result ℕ AllocError) → IsSentTo host path s → request ≡ s.bytes → is_host_name host ≡ true → is_request_path path ≡ true →
     length request ≤ 2 ^ 62 → ReadsSound → RefusesLong →
     ((body : List ℕ) → IsOneRequest path limit request body → IsAnswered HasAnswered body old r new) → ((status : ℕ) → IsOneRefusal path limit request status → IsRefused status old r new) →
     IsReplied (answer_within limit old s.batch) old r new
 asked host path limit s request old new r i e h p small reads refuses a f =
     asked_if (nat_lt limit (length (body_of s.batch))) host path limit s request old new r refl i.read (e ∙ i.bytes) h p small reads refuses a f
 
-sent_if : (b : Bool) (host path : List ℕ) (s : SentBatch) (r : Option SentBatch) → r ≡ cond b (Some s) None → IsSentTo host path s → IfSome r (λ q. IsSentTo host path q)
+-- an arrival is answered as the endpoint answers the bytes
+pub answers_one : (c : Setup) (w : World) (k : ℕ) (r : Request) → is_host_name c.target.host ≡ true → is_request_path c.target.path ≡ true → ReadsSound → RefusesLong →
+    CarriesItsBatch c r → IsReadAgain r.batch → slice_get w.requests k ≡ Some r → length r.bytes < 2 ^ 63 → IsAnsweredAsBytes c w k r
+answers_one c w k r h p reads refuses bytes again at few =
+    (endpoint_answer c w.head r.batch, by_limit (nat_lt c.max_body (length (body_of r.batch))) refl, ap (arrive c w Plain) at)
+  where
+    head : List ℕ
+    head = request_head c.target.host c.target.path (decimal (length (body_of r.batch)))
+
+    small : length (body_of r.batch) < 2 ^ 63
+    small = let long : length r.bytes ≡ length head + length (body_of r.batch) = ap length bytes ∙ length-append head (body_of r.batch) in omega arith
+
+    by_limit : (b : Bool) → nat_lt c.max_body (length (body_of r.batch)) ≡ b →
+        IsAnswerTo c.target.path c.max_body w.head r.bytes (cond b (record { status = 413; head = w.head }) (answer_to w.head (Ok (message (map labelled r.batch)))))
+    by_limit true e =
+        let over : c.max_body < length (body_of r.batch) = grind (arith, nat_tests) in
+        inr (413, subst (λ x. IsOneRefusal c.target.path c.max_body x 413) (sym bytes) (refuses c.target.host c.target.path (body_of r.batch) c.max_body h p small over), refl)
+    by_limit false e =
+        let within : length (body_of r.batch) ≤ c.max_body = grind (arith, nat_tests) in
+        inl (body_of r.batch, subst (λ x. IsOneRequest c.target.path c.max_body x (body_of r.batch)) (sym bytes) (reads c.target.host c.target.path (body_of r.batch) c.max_body h p small within), ap (answer_to w.head) (sym again))
+
+-- so is each of the requests to a receiver
+pub answers : (c : Setup) (w : World) (host path : List ℕ) → is_host_name host ≡ true → is_request_path path ≡ true → ReadsSound → RefusesLong → IsServed c.target host path w.requests → AnswersBytes c w
+answers c w host path h p reads refuses s k r at few =
+    let sent : IsSentTo host path r = subst (IsSentTo host path) (get_or_from_slice_get w.requests k r r at) (All-get_or (IsSentTo host path) w.requests k r (slice_get_within w.requests k r at) s.sent) in
+    let bytes : CarriesItsBatch c r = sent.bytes ∙ ap (λ x. request_of x path (body_of r.batch)) (sym s.host_is) ∙ ap (λ x. request_of c.target.host x (body_of r.batch)) (sym s.path_is) in
+    answers_one c w k r (ap is_host_name s.host_is ∙ h) (ap is_request_path s.path_is ∙ p) reads refuses bytes sent.read at few
+
+sent_if : (b : Bool) (host path : List ℕ) (s : Request) (r : Option Request) → r ≡ cond b (Some s) None → IsSentTo host path s → IfSome r (λ q. IsSentTo host path q)
 sent_if true host path s None e i = absurd (cc)
 sent_if true host path s (Some q) e i = let same : s ≡ q = cc in subst (IsSentTo host path) same i
 sent_if false host path s None e i = tt
 sent_if false host path s (Some q) e i = absurd (cc)
 
 -- what a shard sends is a request to its target
-pub sent_to : (target : Target) (h : Shard) (r : Option SentBatch) → r ≡ sent_by h → h.core.target ≡ target → IsReadAgain h.core.batch → IfSome r (λ q. IsSentTo target.host target.path q)
+pub sent_to : (target : Target) (h : Shard) (r : Option Request) → r ≡ sent_by h → h.core.target ≡ target → IsReadAgain h.core.batch → IfSome r (λ q. IsSentTo target.host target.path q)
 sent_to target h r e t is =
     let bytes : request_for h.core ≡ request_of target.host target.path (body_of h.core.batch) = ap (λ (x : Target). request_of x.host x.path (body_of h.core.batch)) t in
-    sent_if (can_send h.core) target.host target.path (record { id = batch_id h.core.batch; batch = h.core.batch; bytes = request_for h.core }) r e (record { bytes = bytes; read = is })
+    sent_if (can_send h.core) target.host target.path (request_by h) r e (record { bytes = bytes; read = is })
 
 -- the target stays
-pub same_target : (target target' : Target) (host path : List ℕ) (requests : List SentBatch) → target' ≡ target → IsServed target host path requests → IsServed target' host path requests
+pub same_target : (target target' : Target) (host path : List ℕ) (requests : List Request) → target' ≡ target → IsServed target host path requests → IsServed target' host path requests
 same_target target target' host path requests e s = subst (λ t. IsServed t host path requests) (sym e) s
 
 -- one more request
-pub one_more : (target target' : Target) (host path : List ℕ) (requests : List SentBatch) (s : SentBatch) → target' ≡ target → IsServed target host path requests → IsSentTo target.host target.path s → IsServed target' host path (requests ++ s ∷ [])
+pub one_more : (target target' : Target) (host path : List ℕ) (requests : List Request) (s : Request) → target' ≡ target → IsServed target host path requests → IsSentTo target.host target.path s → IsServed target' host path (requests ++ s ∷ [])
 one_more target target' host path requests s e v i =
     let sent : IsSentTo host path s = subst (λ x. IsSentTo x path s) v.host_is (subst (λ x. IsSentTo target.host x s) v.path_is i) in
     same_target target target' host path (requests ++ s ∷ []) e (record { host_is = v.host_is; path_is = v.path_is; sent = All-push (IsSentTo host path) requests s v.sent sent })

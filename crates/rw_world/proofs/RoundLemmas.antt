@@ -1,7 +1,7 @@
 -- A round of an orderly shutdown.
 use Rattle.std.proofs.Common.{◌≡◌, ℕ, ℤ, suc, zero, ◌+◌, ◌%◌, ◌<◌, Bool, true, false, not, ◌||◌, ◌&&◌, cond, List, [], ◌∷◌, ◌++◌, length, take, get_or, Option, None, Some, is_some, refl, sym, ap, subst, ◌∙◌, arith}
 use Rattle.std.proofs.lemmas.Bool.{ltb-true}
-use Rattle.std.proofs.lemmas.List.{take_more, map-append}
+use Rattle.std.proofs.lemmas.List.{take_more}
 use Rattle.std.specs.Prelude.{slice_get, nat_lt}
 use Rattle.std.specs.List.{position, position_or_len}
 use Rattle.rw_batch.specs.declared.batch.BatchId.{BatchId}
@@ -20,10 +20,8 @@ use Rattle.rw_schedule.specs.Settling as settling
 use Rattle.rw_schedule.specs.declared.event.How.TheVariants.{Plain}
 use Rattle.rw_schedule.specs.declared.event.Event.{Event}
 use Rattle.rw_schedule.specs.declared.event.Event.TheVariants as event
-use Rattle.rw_world.specs.Held.{SentBatch}
 use Rattle.rw_world.specs.Sending.{room_at}
 use Rattle.rw_world.specs.Guards.{is_open, is_ready, may_take, may_flush, IsOpen, waiting_id_at}
-use Rattle.rw_world.specs.Machine.{request_seen, requests_seen}
 use Rattle.rw_world.specs.Rounds.{ahead_of}
 use Rattle.rw_world.specs.declared.log.Ahead.TheVariants as ahead
 
@@ -33,32 +31,29 @@ newest_snoc id k (x ∷ xs) r f =
     let n : suc k + length xs ≡ k + suc (length xs) = omega arith in
     newest_snoc id (suc k) xs r (cond (same_id id x.id) k f) ∙ ap (λ m. cond (same_id id r.id) m (newest_from id (suc k) xs (cond (same_id id x.id) k f))) n
 
-seen_more : (sent : List SentBatch) (i : ℕ) (d : SentBatch) → i < length sent → requests_seen (take (i + 1) sent) ≡ requests_seen (take i sent) ++ request_seen (get_or sent i d) ∷ []
-seen_more sent i d lt = ap requests_seen (take_more sent i d lt) ∙ map-append request_seen (take i sent) (get_or sent i d ∷ [])
-
-length_seen : (sent : List SentBatch) (i : ℕ) → i < length sent → length (requests_seen (take i sent)) ≡ i
-length_seen [] i lt = absurd (omega arith)
-length_seen (s ∷ ss) zero lt = refl
-length_seen (s ∷ ss) (suc i) lt = ap suc (length_seen ss i (omega arith))
+length_taken : (sent : List Request) (i : ℕ) → i < length sent → length (take i sent) ≡ i
+length_taken [] i lt = absurd (omega arith)
+length_taken (s ∷ ss) zero lt = refl
+length_taken (s ∷ ss) (suc i) lt = ap suc (length_taken ss i (omega arith))
 
 pick_same : (b : Bool) (m n f : ℕ) → m ≡ n → cond b m f ≡ cond b n f
 pick_same b m n f e = ap (λ k. cond b k f) e
 
 -- one more request
-pub newest_more : (id : BatchId) (sent : List SentBatch) (i : ℕ) (d : SentBatch) → i < length sent →
-    newest_from id 0 (requests_seen (take (i + 1) sent)) 0 ≡ cond (same_id id (get_or sent i d).id) i (newest_from id 0 (requests_seen (take i sent)) 0)
+pub newest_more : (id : BatchId) (sent : List Request) (i : ℕ) (d : Request) → i < length sent →
+    newest_from id 0 (take (i + 1) sent) 0 ≡ cond (same_id id (get_or sent i d).id) i (newest_from id 0 (take i sent) 0)
 newest_more id sent i d lt =
-    let n : 0 + length (requests_seen (take i sent)) ≡ i = let l = length_seen sent i lt in omega (arith, l) in
-    ap (λ rs. newest_from id 0 rs 0) (seen_more sent i d lt) ∙ newest_snoc id 0 (requests_seen (take i sent)) (request_seen (get_or sent i d)) 0 ∙ pick_same (same_id id (get_or sent i d).id) (0 + length (requests_seen (take i sent))) i (newest_from id 0 (requests_seen (take i sent)) 0) n
+    let n : 0 + length (take i sent) ≡ i = let l = length_taken sent i lt in omega (arith, l) in
+    ap (λ rs. newest_from id 0 rs 0) (take_more sent i d lt) ∙ newest_snoc id 0 (take i sent) (get_or sent i d) 0 ∙ pick_same (same_id id (get_or sent i d).id) (0 + length (take i sent)) i (newest_from id 0 (take i sent) 0) n
 
 -- the last of so many requests is it, or is passed
-pub newest_found : (id : BatchId) (sent : List SentBatch) (i k : ℕ) (d : SentBatch) → i ≡ k + 1 → k < length sent → newest_from id 0 (requests_seen sent) 0 ≡ newest_from id 0 (requests_seen (take i sent)) 0 →
-    same_id id (get_or sent k d).id ≡ true → k ≡ newest_from id 0 (requests_seen sent) 0
-newest_found id sent i k d n lt e h = sym (e ∙ ap (λ j. newest_from id 0 (requests_seen (take j sent)) 0) n ∙ newest_more id sent k d lt ∙ ap (λ b. cond b k (newest_from id 0 (requests_seen (take k sent)) 0)) h)
+pub newest_found : (id : BatchId) (sent : List Request) (i k : ℕ) (d : Request) → i ≡ k + 1 → k < length sent → newest_from id 0 sent 0 ≡ newest_from id 0 (take i sent) 0 →
+    same_id id (get_or sent k d).id ≡ true → k ≡ newest_from id 0 sent 0
+newest_found id sent i k d n lt e h = sym (e ∙ ap (λ j. newest_from id 0 (take j sent) 0) n ∙ newest_more id sent k d lt ∙ ap (λ b. cond b k (newest_from id 0 (take k sent) 0)) h)
 
-pub newest_passed : (id : BatchId) (sent : List SentBatch) (i k : ℕ) (d : SentBatch) → i ≡ k + 1 → k < length sent → newest_from id 0 (requests_seen sent) 0 ≡ newest_from id 0 (requests_seen (take i sent)) 0 →
-    same_id id (get_or sent k d).id ≡ false → newest_from id 0 (requests_seen sent) 0 ≡ newest_from id 0 (requests_seen (take k sent)) 0
-newest_passed id sent i k d n lt e h = e ∙ ap (λ j. newest_from id 0 (requests_seen (take j sent)) 0) n ∙ newest_more id sent k d lt ∙ ap (λ b. cond b k (newest_from id 0 (requests_seen (take k sent)) 0)) h
+pub newest_passed : (id : BatchId) (sent : List Request) (i k : ℕ) (d : Request) → i ≡ k + 1 → k < length sent → newest_from id 0 sent 0 ≡ newest_from id 0 (take i sent) 0 →
+    same_id id (get_or sent k d).id ≡ false → newest_from id 0 sent 0 ≡ newest_from id 0 (take k sent) 0
+newest_passed id sent i k d n lt e h = e ∙ ap (λ j. newest_from id 0 (take j sent) 0) n ∙ newest_more id sent k d lt ∙ ap (λ b. cond b k (newest_from id 0 (take k sent) 0)) h
 
 -- the first shard that passes
 hit : (p : Shard → Bool) (ss : List Shard) → position_or_len p ss < length ss → (s : Shard) × (slice_get ss (position_or_len p ss) ≡ Some s) × (p s ≡ true)

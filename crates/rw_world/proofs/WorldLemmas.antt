@@ -17,16 +17,16 @@ use Rattle.rw_router.specs.Routing.{Routing, Knows}
 use Rattle.rw_sender.specs.Shard.{can_send, new_core}
 use Rattle.rw_sender.specs.declared.config.Target.{Target}
 use Rattle.rw_schedule.specs.Shards.{Shard, new_shard, shard_send}
-use Rattle.rw_schedule.specs.Worlds.{Setup, Reply, World, new_shards, start, is_finished, all_drained}
+use Rattle.rw_schedule.specs.Worlds.{Setup, Request, Reply, World, new_shards, start, is_finished, all_drained}
 use Rattle.rw_schedule.specs.Steps.{change, send_batch, restart}
 use Rattle.std.specs.FinMap.{empty}
 use Rattle.rw_recv_head.specs.Head.{State}
 use Rattle.rw_recv_head.specs.declared.limits.Limits.{Limits}
 use Rattle.rw_sender.specs.Configs.{choice_of}
 use Rattle.rw_sender.specs.declared.config.ConfigFields.{ConfigFields}
-use Rattle.rw_world.specs.Held.{Held, SentBatch}
+use Rattle.rw_world.specs.Held.{Held}
 use Rattle.rw_world.specs.Sending.{Sending, new_held, sent_at}
-use Rattle.rw_world.specs.Machine.{Machine, IsWorld, label_limits, setup_of, requests_seen}
+use Rattle.rw_world.specs.Machine.{Machine, IsWorld, label_limits, setup_of}
 use Rattle.rw_world.proofs.ReadingLemmas.{taken_more}
 
 fold_snoc : {A B : Type 0} (f : A → B → A) (z : A) (xs : List B) (x : B) → fold f z (xs ++ x ∷ []) ≡ f (fold f z xs) x
@@ -88,7 +88,7 @@ new_seen c target capacity batch epoch i zero t b = refl
 new_seen c target capacity batch epoch i (suc n) t b = rw (t, b) (ap (λ ss. new_shard (new_core target epoch i batch) ∷ ss) (new_seen c target capacity batch epoch (suc i) n t b))
 
 -- a shard that may not send stays
-unsent_if : (b : Bool) (s : Shard) (r : SentBatch) → cond b (Some r) None ≡ None → record s { core = cond b (record s.core { waiting = true }) s.core } ≡ s
+unsent_if : (b : Bool) (s : Shard) (r : Request) → cond b (Some r) None ≡ None → record s { core = cond b (record s.core { waiting = true }) s.core } ≡ s
 unsent_if true s r e = absurd (cc)
 unsent_if false s r e = refl
 
@@ -97,7 +97,7 @@ unsent [] i e = refl
 unsent (s ∷ ss) zero e = ap (λ t. t ∷ ss) (unsent_if (can_send s.core) s _ e)
 unsent (s ∷ ss) (suc i) e = ap (λ xs. s ∷ xs) (unsent ss i e)
 
-send_if : (b : Bool) (r : SentBatch) (v w : World) → cond b (Some r) None ≡ None → cond b v w ≡ w
+send_if : (b : Bool) (r : Request) (v w : World) → cond b (Some r) None ≡ None → cond b v w ≡ w
 send_if true r v w e = absurd (cc)
 send_if false r v w e = refl
 
@@ -106,7 +106,7 @@ send_none w i None e = refl
 send_none w i (Some s) e = send_if (can_send s.core) _ _ w e
 
 -- before the first event
-pub started : (cfg : ConfigFields) (l : Limits) (v : Sending) (pieces : List Piece) (router : Routing) (requests : List SentBatch) (replies : List Reply) (head : State) →
+pub started : (cfg : ConfigFields) (l : Limits) (v : Sending) (pieces : List Piece) (router : Routing) (requests : List Request) (replies : List Reply) (head : State) →
     v ≡ record {
       target = cfg.target;
       capacity = cfg.capacity;
@@ -135,7 +135,7 @@ pub started : (cfg : ConfigFields) (l : Limits) (v : Sending) (pieces : List Pie
         series = series_of router.cache.choice router.cache.definitions;
         epoch = v.epoch;
         shards = v.shards;
-        requests = requests_seen requests;
+        requests = requests;
         replies = replies;
         head = head;
         names = v.names;

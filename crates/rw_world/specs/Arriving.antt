@@ -1,5 +1,5 @@
 -- The requests of a sender, and the answers of a receiver to them.
-use Rattle.std.specs.Prelude.{◌≡◌, ℕ, ◌⊎◌, List, map, length, nat_lt, if◌then◌else◌, All, Option, None, Some, Result, Ok, Err}
+use Rattle.std.specs.Prelude.{◌≡◌, ℕ, ◌<◌, ◌^◌, ◌⊎◌, List, map, length, nat_lt, if◌then◌else◌, All, Option, None, Some, Result, Ok, Err, slice_get}
 use Rattle.std.specs.declared.alloc.AllocError.{AllocError}
 use Rattle.http.specs.StatusCode.{IsStatusCode}
 use Rattle.rw_batch.specs.Grouping.{message}
@@ -7,13 +7,15 @@ use Rattle.rw_shard_queue.specs.Items.{Placed}
 use Rattle.rw_sender.specs.declared.config.Target.{Target}
 use Rattle.rw_sender.specs.Shard.{labelled, body_of, IsReadAgain}
 use Rattle.rw_sender.specs.SentRequest.{request_of}
-use Rattle.rw_recv_head.specs.Head.{State, Answer, answer_to}
-use Rattle.rw_schedule.specs.Worlds.{World, Request}
-use Rattle.rw_schedule.specs.Steps.{answered}
-use Rattle.rw_world.specs.Held.{SentBatch}
+use Rattle.rw_recv_head.specs.Head.{State, Answer, answer, answer_to}
+use Rattle.rw_recv_http.specs.Alone.{IsOneRequest, IsOneRefusal}
+use Rattle.rw_schedule.specs.Worlds.{Setup, World, Request}
+use Rattle.rw_schedule.specs.Steps.{answered, happens}
+use Rattle.rw_schedule.specs.declared.event.Event.TheVariants as event
+use Rattle.rw_schedule.specs.declared.event.How.TheVariants.{Plain}
 
 -- these bytes are the request of the batch, whose message a receiver reads
-pub record IsSentTo (host path : List ℕ) (s : SentBatch) : Type 0 where
+pub record IsSentTo (host path : List ℕ) (s : Request) : Type 0 where
   pub bytes : s.bytes ≡ request_of host path (body_of s.batch)
   pub read : IsReadAgain s.batch
 
@@ -29,7 +31,7 @@ IsReplied a old (Ok status) new = ((status ≡ a.status) × (new ≡ a.head) × 
 IsReplied a old (Err e) new = new ≡ old
 
 -- the receiver stands where requests are sent, and all of them are requests to it
-pub record IsServed (target : Target) (host path : List ℕ) (requests : List SentBatch) : Type 0 where
+pub record IsServed (target : Target) (host path : List ℕ) (requests : List Request) : Type 0 where
   pub host_is : target.host ≡ host
   pub path_is : target.path ≡ path
   pub sent : All (IsSentTo host path) requests
@@ -38,3 +40,21 @@ pub record IsServed (target : Target) (host path : List ℕ) (requests : List Se
 abbrev pub turned_away : World → ℕ → Option Request → World
 turned_away w status None = w
 turned_away w status (Some r) = answered w r.id (record { status = status; head = w.head })
+
+-- what the endpoint answers to these bytes: they are one request, and the head answers its body; or its head is refused with a status
+abbrev pub IsAnswerTo : List ℕ → ℕ → State → List ℕ → Answer → Type 0
+IsAnswerTo path limit h bytes a =
+    ((body : List ℕ) × IsOneRequest path limit bytes body × (a ≡ answer h body))
+    ⊎ ((status : ℕ) × IsOneRefusal path limit bytes status × (a ≡ record { status = status; head = h }))
+
+-- the request of this number, which arrives, is answered as the endpoint answers its bytes
+abbrev pub IsAnsweredAsBytes : Setup → World → ℕ → Request → Type 0
+IsAnsweredAsBytes c w k r = (a : Answer) × IsAnswerTo c.target.path c.max_body w.head r.bytes a × (happens c w (event.Arrive k Plain) ≡ answered w r.id a)
+
+-- so is each one of fewer than 2^63 bytes
+abbrev pub AnswersBytes : Setup → World → Type 0
+AnswersBytes c w = (k : ℕ) (r : Request) → slice_get w.requests k ≡ Some r → length r.bytes < 2 ^ 63 → IsAnsweredAsBytes c w k r
+
+-- and each one whose body is read as the message of its batch
+abbrev pub AnswersRead : Setup → World → Type 0
+AnswersRead c w = (k : ℕ) (r : Request) → slice_get w.requests k ≡ Some r → IsReadAgain r.batch → length r.bytes < 2 ^ 63 → IsAnsweredAsBytes c w k r

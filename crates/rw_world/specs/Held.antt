@@ -6,9 +6,10 @@ use Rattle.rw_shard_queue.specs.Queue.{Queue, put_in}
 use Rattle.rw_shard_queue.specs.declared.item.Kind.{Kind}
 use Rattle.rw_shard_queue.specs.declared.item.Item.{Item}
 use Rattle.rw_shard_queue.specs.declared.item.Item.TheVariants.{Sample, Flush, End}
-use Rattle.rw_sender.specs.Shard.{Core, AreInRow, last_of, can_send, batch_id, request_for}
-use Rattle.rw_batch.specs.declared.batch.BatchId.{BatchId}
+use Rattle.rw_sender.specs.Shard.{Core, AreInRow, last_of, can_send}
 use Rattle.rw_schedule.specs.Shards.{Shard, Queued, One, FlushMark, EndMark, has_room, shard_flush, shard_end}
+use Rattle.rw_schedule.specs.Worlds.{Request}
+use Rattle.rw_schedule.specs.Steps.{request_by}
 
 -- a shard, and how many items its queue holds at most
 pub record Held : Type 0 where
@@ -24,15 +25,9 @@ put_mark (Some kind) s = shard_end kind s
 abbrev pub flushed : ℕ → Option Kind → Shard → Shard
 flushed capacity kind s = if not s.end_put && has_room capacity s then put_mark kind s else s
 
--- a batch that was sent, with the bytes of its request
-pub record SentBatch : Type 0 where
-  pub id : BatchId
-  pub batch : List Placed
-  pub bytes : List ℕ
-
 -- what a shard sends, if it may
-abbrev pub sent_by : Shard → Option SentBatch
-sent_by s = if can_send s.core then Some (record { id = batch_id s.core.batch; batch = s.core.batch; bytes = request_for s.core }) else None
+abbrev pub sent_by : Shard → Option Request
+sent_by s = if can_send s.core then Some (request_by s) else None
 
 -- an item of a queue, as the machine has it
 abbrev pub queued_of : Item → Queued

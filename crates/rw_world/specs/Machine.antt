@@ -1,6 +1,6 @@
 -- The machine that a world is, and what its parts keep.
 use Rattle.std.specs.Arc.{arc_value}
-use Rattle.std.specs.Prelude.{◌≡◌, ℕ, ℤ, ◌≤◌, List, map, length, take, Bool, true, false, Option, Some, None, if◌then◌else◌, is_some, slice_get}
+use Rattle.std.specs.Prelude.{◌≡◌, ℕ, ℤ, ◌≤◌, List, length, take, Bool, true, false, Option, Some, None, if◌then◌else◌, is_some, slice_get}
 use Rattle.rw_types.specs.declared.entry.Entry.{Entry}
 use Rattle.rw_types.specs.declared.entry.Entry.TheVariants.{Sample}
 use Rattle.rw_codes.specs.Pieces.{Piece, entries}
@@ -15,11 +15,10 @@ use Rattle.rw_sender.specs.Configs.{choice_of}
 use Rattle.rw_sender.specs.declared.config.ConfigFields.{ConfigFields}
 use Rattle.rw_recv_head.specs.declared.limits.Limits.{Limits}
 use Rattle.rw_recv_head.specs.Verdicts.{LabelLimits}
-use Rattle.rw_schedule.specs.Worlds.{Setup, Request, World, is_finished}
+use Rattle.rw_schedule.specs.Worlds.{Setup, World, is_finished}
 use Rattle.rw_schedule.specs.Steps.{place_as, place_entry}
 use Rattle.rw_schedule.specs.declared.event.Event.{Event}
 use Rattle.rw_schedule.specs.declared.event.Event.TheVariants as event
-use Rattle.rw_world.specs.Held.{SentBatch}
 
 -- what a world was set to, and what it has come to
 pub record Machine : Type 0 where
@@ -42,12 +41,6 @@ setup_of c l = record {
   max_body = l.max_body_bytes;
   busy = l.busy_first;
 }
-
-abbrev pub request_seen : SentBatch → Request
-request_seen s = record { id = s.id; batch = s.batch }
-
-abbrev pub requests_seen : List SentBatch → List Request
-requests_seen sent = map request_seen sent
 
 -- the End that a shard is put, or else a Flush
 abbrev pub mark_kind : World → Option Kind

@@ -3,7 +3,8 @@ use Rattle.std.specs.Prelude.{◌≡◌, List}
 use Rattle.rw_schedule.specs.declared.event.Event.{Event}
 use Rattle.rw_schedule.specs.Worlds.{Setup, World, start}
 use Rattle.rw_schedule.specs.Steps.{run}
-use Rattle.rw_schedule.specs.Promises.{CanWork, IsInOrder, IsWhole, IsWholeBeforeDamage, HoldsNothingElse, IsClosedForGood, HasOneClassEach, CountsFiltered, NamesRefusals, HasOneBatchEachId, NeverTakesAndRefuses, StoresResolved, HasShardLists}
+use Rattle.rw_schedule.specs.Promises.{CanWork, IsInOrder, IsWhole, IsWholeBeforeDamage, HoldsNothingElse, IsClosedForGood, HasOneClassEach, CountsFiltered, NamesRefusals, HasOneBatchEachId, CarriesEachBatch, SendsSameBytes, NeverTakesAndRefuses, StoresResolved, HasShardLists}
+use Rattle.rw_world.specs.Arriving.{AnswersBytes}
 use Rattle.rw_world.specs.Machine.{Machine}
 
 -- there are events that led to it, from a beginning that leaves room to work
@@ -29,6 +30,9 @@ pub record IsKept (c : Setup) (w : World) : Type 0 where
   pub filtered : CountsFiltered c w
   pub refusals : NamesItsRefusals c w
   pub one_batch : HasOneBatchEachId w
+  pub bytes : CarriesEachBatch c w  -- what is sent is the request of a batch, as bytes
+  pub same_bytes : SendsSameBytes w
+  pub answers : AnswersBytes c w  -- and what arrives is answered as the endpoint answers these bytes
   pub one_fate : NeverTakesAndRefuses c w
   pub resolved : StoresResolved c w
   pub lists : HasShardLists c w

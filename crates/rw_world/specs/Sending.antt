@@ -12,7 +12,8 @@ use Rattle.rw_batch.specs.declared.batch.BatchId.{BatchId}
 use Rattle.rw_types.specs.Labels.{Labels}
 use Rattle.rw_schedule.specs.Shards.{Shard, pending, new_shard, has_room, shard_put, with_core}
 use Rattle.rw_schedule.specs.Steps.{change, names_after}
-use Rattle.rw_world.specs.Held.{Held, SentBatch, sent_by}
+use Rattle.rw_schedule.specs.Worlds.{Request}
+use Rattle.rw_world.specs.Held.{Held, sent_by}
 
 -- nothing at the position `next` or behind it was put or named
 pub record Sending : Type 0 where
@@ -83,7 +84,7 @@ pub record IsSending (target : Target) (capacity batch epoch : ℕ) (hs : List H
   pub room : open_samples hs ≤ l.room
 
 -- what a shard sends, if there is one and it may
-abbrev pub sent_at : Option Shard → Option SentBatch
+abbrev pub sent_at : Option Shard → Option Request
 sent_at None = None
 sent_at (Some s) = sent_by s
 

@@ -1,18 +1,40 @@
 //! A request arrives.
 
 ghost use Rattle.std.specs.Prelude.{◌≡◌, ◌<◌, length, slice_get, OnOk, OnErr};
+ghost use Rattle.std.specs.Option.{option_map};
+ghost use Rattle.rw_schedule.specs.Worlds.{Request};
 ghost use Rattle.rw_schedule.specs.Steps.{arrive};
 ghost use Rattle.rw_schedule.specs.declared.event.How.TheVariants.{Plain};
-ghost use Rattle.rw_world.specs.Arriving.{turned_away};
+ghost use Rattle.rw_world.specs.Arriving.{turned_away, AnswersBytes};
 
 use crate::engine::Engine;
 use crate::receiver::answer_to;
 use crate::sent::Answer;
 use http::StatusCode;
+use rw_exchange::requests_are_read;
 use rw_schedule::How;
 use std::alloc::AllocError;
 
 impl Engine {
+    /// What arrives is answered as the endpoint answers its bytes.
+    pub(crate) fn answers_bytes(&self)
+        ensures { AnswersBytes self.now.setup self.now.world }
+    {
+        let _host = self.host.as_str();
+        let _path = self.limits.path.as_str();
+        requests_are_read();
+    }
+
+    /// The bytes of the request with this number.
+    pub(crate) fn request(&self, k: usize) -> Option<&[u8]>
+        ensures { option_map (λ b. b.now) result ≡ option_map (λ (r : Request). r.bytes) (slice_get self.now.world.requests k) }
+    {
+        match self.requests.get(k) {
+            Some(sent) => Some(sent.request.as_slice()),
+            None => None,
+        }
+    }
+
     /// The receiver judges this request.
     fn judge(&mut self, k: usize) -> Result<(), AllocError>
         requires { k < length self.old.world.requests }

@@ -45,7 +45,7 @@ impl Model for Engine {
     ghost use Rattle.std.specs.Coded.{codes};
     ghost use Rattle.std.specs.FinMap as map;
     ghost use Rattle.rw_series_cache.specs.Numbers.{series_of};
-    ghost use Rattle.rw_world.specs.Machine.{Machine, label_limits, requests_seen, IsWorld};
+    ghost use Rattle.rw_world.specs.Machine.{Machine, label_limits, IsWorld};
     ghost use Rattle.rw_world.specs.Arriving.{IsServed};
 
     ghost Value = { Machine };
@@ -69,7 +69,7 @@ impl Model for Engine {
         series = series_of w.router.cache.choice w.router.cache.definitions;
         epoch = w.senders.epoch;
         shards = w.senders.shards;
-        requests = requests_seen w.requests.items;
+        requests = w.requests.items;
         replies = w.replies.items;
         head = w.head;
         names = w.senders.names;

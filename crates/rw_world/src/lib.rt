@@ -3,6 +3,7 @@
 
 mod arrive;
 mod engine;
+mod laws;
 mod log;
 mod place;
 mod receiver;
@@ -14,4 +15,5 @@ mod shard;
 mod step;
 mod world;
 
+pub use laws::requests_are_answered_as_bytes;
 pub use world::{Refused, World};

@@ -9,7 +9,7 @@ ghost use Rattle.rw_schedule.specs.Worlds.{is_finished, is_over};
 ghost use Rattle.rw_schedule.specs.declared.event.Event.TheVariants as event;
 ghost use Rattle.rw_sender.specs.Shard.{same_id};
 ghost use Rattle.rw_world.specs.Guards.{is_open, is_ready, may_take, may_flush, IsOpen};
-ghost use Rattle.rw_world.specs.Machine.{placed_entries, requests_seen};
+ghost use Rattle.rw_world.specs.Machine.{placed_entries};
 ghost use Rattle.rw_world.specs.Rounds.{events_of, HasSettled};
 
 use crate::engine::Engine;
@@ -40,7 +40,7 @@ fn is_same(a: BatchId, b: BatchId) -> bool
 
 /// The number of the newest request with this id.
 fn newest(requests: &[Sent], id: BatchId) -> u64
-    ensures { result ≡ newest_from id 0 (requests_seen requests.now) 0 }
+    ensures { result ≡ newest_from id 0 requests.now 0 }
 {
     let mut k = requests.len();
     while k > 0 {

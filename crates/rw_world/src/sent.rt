@@ -21,9 +21,9 @@ pub(crate) struct Sent {
 
 impl Model for Sent {
     ghost use Rattle.rw_shard_queue.specs.Items.{samples_in};
-    ghost use Rattle.rw_world.specs.Held.{SentBatch};
+    ghost use Rattle.rw_schedule.specs.Worlds.{Request};
 
-    ghost Value = { SentBatch };
+    ghost Value = { Request };
 
     ghost view = { λ s. record { id = s.id; batch = samples_in s.samples; bytes = s.request } };
 }

@@ -1,9 +1,9 @@
 //! The world: whatever happens, each logged sample arrives once and in order.
 
-ghost use Rattle.std.specs.Prelude.{◌≡◌, ◌<◌, ◌^◌, true, false, Some, length, take, IsOk, IfOk, IfErr, OnOk, OnErr};
+ghost use Rattle.std.specs.Prelude.{◌≡◌, ◌<◌, ◌^◌, true, false, Some, length, take, slice_get, IsOk, IfOk, IfErr, OnOk, OnErr};
 ghost use Rattle.rw_recv_head.specs.Store.{list_of, label_sets};
 ghost use Rattle.std.specs.Option.{option_map};
-ghost use Rattle.rw_schedule.specs.Worlds.{start, report, is_over};
+ghost use Rattle.rw_schedule.specs.Worlds.{Request, start, report, is_over};
 ghost use Rattle.rw_schedule.specs.Promises.{IsSettled};
 ghost use Rattle.rw_world.specs.Endings.{ending_of};
 ghost use Rattle.rw_schedule.specs.Steps.{happens, run};
@@ -16,7 +16,8 @@ use rw_ledger::Ledger;
 use rw_recv_head::{LabelSets, Limits};
 use rw_schedule::{
     Event, closed_queues_hand_out_nothing, each_batch_has_one_fate, each_sample_has_one_class,
-    logged_samples_arrive_in_order, shards_keep_their_lists, shutdown_comes_to_its_report,
+    logged_samples_arrive_in_order, requests_carry_their_batches, shards_keep_their_lists,
+    shutdown_comes_to_its_report,
 };
 use rw_sender::{Config, Outcome};
 use rw_types::{LabelSet, Word};
@@ -73,11 +74,12 @@ impl World {
     pub fn promises(&self)
         ensures { IsKept self.now.setup self.now.world }
     {
-        let _ = self.engine.filtered();
+        self.engine.answers_bytes();
         logged_samples_arrive_in_order();
         closed_queues_hand_out_nothing();
         each_sample_has_one_class();
         each_batch_has_one_fate();
+        requests_carry_their_batches();
         shards_keep_their_lists();
     }
 
@@ -177,6 +179,16 @@ impl World {
         ensures fits { length result < 2 ^ 63 }
     {
         self.engine.label_sets()
+    }
+
+    /// The bytes of the request with this number, from 0, of all that were sent: what goes over the network.
+    pub fn request(&self, k: usize) -> Option<&[u8]>
+        ensures bytes { option_map (λ b. b.now) result ≡ option_map (λ (r : Request). r.bytes) (slice_get self.now.world.requests k) }
+        // What holds of every world.
+        ensures kept { IsKept self.now.setup self.now.world }
+    {
+        self.promises();
+        self.engine.request(k)
     }
 
     /// How many samples were placed whose series the rules drop.

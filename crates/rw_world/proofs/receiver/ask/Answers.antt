@@ -2,7 +2,7 @@ use Rattle.std.proofs.Common.{◌≡◌, ◌∙◌, true, ap, sym, subst}
 use Rattle.rw_types.specs.Requests.{is_host_name, is_request_path}
 use Rattle.rw_sender.specs.Shard.{body_of}
 use Rattle.rw_exchange.specs.Exchanges.{IsRequest}
-use Rattle.rw_world.specs.Held.{SentBatch}
+use Rattle.rw_schedule.specs.Worlds.{Request}
 use Rattle.rw_world.proofs.ArriveLemmas.{asked, body_small}
 use Rattle.rw_world.proofs.receiver.ask.Goals as goal
 
@@ -11,7 +11,7 @@ exchange-requires c =
     let s = c.args.sent.now in
     let host : is_host_name c.args.host.now ≡ true = ap is_host_name (sym c.as_str-host.ensures.text) ∙ c.as_str-host.ensures.host in
     let path : is_request_path c.args.limits.now.path ≡ true = ap is_request_path (sym c.as_str-path.ensures.text) ∙ c.as_str-path.ensures.path in
-    let e = c.as_slice-request.ensures ∙ ap (λ (x : SentBatch). x.bytes) c.sent.view_is ∙ c.requires.bytes in
+    let e = c.as_slice-request.ensures ∙ ap (λ (x : Request). x.bytes) c.sent.view_is ∙ c.requires.bytes in
     let small = body_small c.args.host.now c.args.limits.now.path (body_of s.batch) c.as_slice-request.result.now e c.if-request-gt-MOST_BYTES.false in
     subst (IsRequest c.args.limits.now.path c.args.limits.now.max_body_bytes) (sym e) (c.requests_are_read.ensures.either c.args.host.now c.args.limits.now.path (body_of s.batch) c.args.limits.now.max_body_bytes host path small)
 
@@ -20,6 +20,6 @@ returns c =
     let s = c.args.sent.now in
     let host : is_host_name c.args.host.now ≡ true = ap is_host_name (sym c.as_str-host.ensures.text) ∙ c.as_str-host.ensures.host in
     let path : is_request_path c.args.limits.now.path ≡ true = ap is_request_path (sym c.as_str-path.ensures.text) ∙ c.as_str-path.ensures.path in
-    let e = c.as_slice-request.ensures ∙ ap (λ (x : SentBatch). x.bytes) c.sent.view_is in
+    let e = c.as_slice-request.ensures ∙ ap (λ (x : Request). x.bytes) c.sent.view_is in
     asked c.args.host.now c.args.limits.now.path c.args.limits.now.max_body_bytes s c.as_slice-request.result.now c.args.head.now c.exchange.new.answer c.exchange.result c.requires e host path
     c.if-request-gt-MOST_BYTES.false c.requests_are_read.ensures.read c.requests_are_read.ensures.refused c.exchange.ensures.answered c.exchange.ensures.refused

@@ -3,9 +3,9 @@ use Rattle.std.specs.Prelude.{slice_get, vec_len}
 use Rattle.rw_schedule.specs.declared.event.How.TheVariants.{Plain}
 use Rattle.rw_schedule.specs.declared.event.Event.TheVariants as event
 use Rattle.rw_schedule.specs.Settling.{newest_from, exchange_at}
+use Rattle.rw_schedule.specs.Worlds.{Request}
 use Rattle.rw_world.specs.Guards.{IsOpen, waiting_id_at}
-use Rattle.rw_world.specs.Held.{SentBatch}
-use Rattle.rw_world.specs.Machine.{Machine, requests_seen}
+use Rattle.rw_world.specs.Machine.{Machine}
 use Rattle.rw_world.specs.contracts.engine.Engine.{the_view}
 use Rattle.rw_world.proofs.RoundLemmas.{exchange_waits, exchange_rests}
 use Rattle.rw_world.proofs.engine.Engine.exchange.Goals as goal
@@ -20,7 +20,7 @@ returns-in-Some c =
     let waits : waiting_id_at (slice_get u.world.shards i) ≡ Some id = sym c.in-Some.ensures in
     let n : vec_len s.replies ≡ length s.replies.items = omega (arith, s.replies.ok.0) in
     ap (λ (r : ℕ). event.Arrive c.newest.result Plain ∷ event.Reply r ∷ []) (c.len.ensures ∙ n)
-    ∙ ap (λ (k : ℕ). event.Arrive k Plain ∷ event.Reply (length s.replies.items) ∷ []) (c.newest.ensures ∙ ap (λ (xs : List SentBatch). newest_from id 0 (requests_seen xs) 0) c.deref.ensures.value)
+    ∙ ap (λ (k : ℕ). event.Arrive k Plain ∷ event.Reply (length s.replies.items) ∷ []) (c.newest.ensures ∙ ap (λ (xs : List Request). newest_from id 0 xs 0) c.deref.ensures.value)
     ∙ exchange_waits u.world i (slice_get u.world.shards i) id opened waits
     ∙ ap (λ (m : Machine). exchange_at m.world i (slice_get m.world.shards i)) c.self.view_is
 

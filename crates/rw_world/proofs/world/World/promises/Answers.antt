@@ -1,5 +1,5 @@
 use Rattle.std.proofs.Common.{sym, subst}
-use Rattle.rw_schedule.specs.Promises.{IsInOrder, IsWhole, IsWholeBeforeDamage, HoldsNothingElse, IsClosedForGood, HasOneClassEach, CountsFiltered, HasOneBatchEachId, NeverTakesAndRefuses, StoresResolved, HasShardLists}
+use Rattle.rw_schedule.specs.Promises.{IsInOrder, IsWhole, IsWholeBeforeDamage, HoldsNothingElse, IsClosedForGood, HasOneClassEach, CountsFiltered, HasOneBatchEachId, CarriesEachBatch, SendsSameBytes, NeverTakesAndRefuses, StoresResolved, HasShardLists}
 use Rattle.rw_world.specs.Machine.{Machine}
 use Rattle.rw_world.specs.Reached.{IsKept}
 use Rattle.rw_world.proofs.world.World.promises.Goals as goal
@@ -20,6 +20,9 @@ returns c =
       filtered = subst (CountsFiltered m.setup) back (c.each_sample_has_one_class.ensures.filtered m.setup es);
       refusals = record { events = es; reached = r.reached; refusals = c.each_sample_has_one_class.ensures.refusals m.setup es };
       one_batch = subst HasOneBatchEachId back (c.each_batch_has_one_fate.ensures.one_batch m.setup es);
+      bytes = subst (CarriesEachBatch m.setup) back (c.requests_carry_their_batches.ensures.bytes m.setup es);
+      same_bytes = subst SendsSameBytes back (c.requests_carry_their_batches.ensures.again m.setup es);
+      answers = c.answers_bytes.ensures;
       one_fate = subst (NeverTakesAndRefuses m.setup) back (c.each_batch_has_one_fate.ensures.one_fate m.setup es);
       resolved = subst (StoresResolved m.setup) back (c.each_batch_has_one_fate.ensures.resolved m.setup es);
       lists = subst (HasShardLists m.setup) back (c.shards_keep_their_lists.ensures m.setup es);
