@@ -41,6 +41,10 @@ abandoned 3
 report abandoned 4
 "#;
 
+/// The request of the first batch: 1 at 10 ms and 2 at 20 ms of the series `up`.
+const REQUEST: &[u8] =
+    b"POST /api/v1/write HTTP/1.1\r\nHost: localhost:9090\r\nUser-Agent: rwship/1.0\r\nContent-Type: application/x-protobuf\r\nX-Prometheus-Remote-Write-Version: 0.1.0\r\nConnection: close\r\nContent-Length: 44\r\n\r\n\x0a\x2a\x0a\x0e\x0a\x08__name__\x12\x02up\x12\x0b\x09\x00\x00\x00\x00\x00\x00\xf0\x3f\x10\x0a\x12\x0b\x09\x00\x00\x00\x00\x00\x00\x00\x40\x10\x14";
+
 /// Logs the records, and adds the events.
 fn put_events(
     commands: Vec<Command>,
@@ -100,17 +104,29 @@ fn lead_to(alloc: Global, world: &mut World, events: &[Event], state: &[u8]) -> 
         && text.as_slice() == state
 }
 
+/// Whether the request with this number has these bytes.
+fn has_sent(world: &World, k: usize, bytes: &[u8]) -> bool {
+    match world.request(k) {
+        Some(request) => request == bytes,
+        None => false,
+    }
+}
+
 fn standard_world(alloc: Global) -> Result<World, AllocError> {
     let limits = Limits::standard(alloc)?;
     let config = Config::standard(alloc)?;
     World::new(alloc, config, limits)
 }
 
-/// Whether a script leads a standard world to this state, by one call.
+/// Whether a script leads a standard world to this state, by one call, and has sent the request twice.
 fn leads_to(alloc: Global, script: &[u8], state: &[u8]) -> Result<bool, AllocError> {
     let events = read(alloc, script)?;
     let mut world = standard_world(alloc)?;
-    Ok(lead_to(alloc, &mut world, &events, state))
+    Ok(
+        lead_to(alloc, &mut world, &events, state)
+            && has_sent(&world, 0, REQUEST)
+            && has_sent(&world, 1, REQUEST),
+    )
 }
 
 #[test]
