@@ -21,15 +21,13 @@ use Rattle.rw_worker.specs.declared.tally.Tally.{Tally}
 use Rattle.rw_worker.specs.declared.state.Intake.{Intake}
 use Rattle.rw_worker.specs.declared.state.Intake.TheVariants as intake
 use Rattle.rw_worker.specs.declared.state.Sending.{Sending}
-use Rattle.rw_worker.specs.declared.state.State.{State}
-use Rattle.rw_worker.specs.declared.state.Progress.{Progress}
-use Rattle.rw_worker.specs.declared.state.Progress.TheVariants.{Goes, Stops}
+use Rattle.rw_worker.specs.declared.state.Progress.TheVariants.{Stops}
 use Rattle.rw_worker.specs.Transcript.{Exchange, exchange_of, Adds}
 use Rattle.rw_worker.specs.Steps.{Working, working, Step, Takes, Freezes, Sends, Waits, MayStep, after, after_step, items_of, exchanges_of, WasSent}
 use Rattle.rw_worker.specs.Pauses.{pause_after, retries_after, retries_of}
 use Rattle.rw_retry.specs.Backoff.{delay_of}
 use Rattle.rw_worker.specs.Setups.{Setup, start_of}
-use Rattle.rw_worker.specs.Report.{is_hard, drain_of, IsOrderly, StopsAtHard, IsLast, intake_drain, given_back, report_of, IsClosed, counted_to, HasMade, HasStepped, HasPaused, IsSending, IsState, HasRun, IsNotStopped, IsStoppedAt}
+use Rattle.rw_worker.specs.Report.{is_hard, drain_of, IsOrderly, StopsAtHard, IsLast, intake_drain, given_back, report_of, IsClosed, counted_to, HasMade, HasStepped, HasPaused, IsSending, IsState, HasRun, IsStoppedAt}
 use Rattle.rw_worker.proofs.StepLemmas.{steps-push, after-push, items-append, exchanges-append}
 use Rattle.rw_worker.proofs.PauseLemmas.{pauses-push, retries-push, same-pause, counted-after, counted-same}
 use Rattle.rw_worker.proofs.TranscriptLemmas.{adds-append}
@@ -72,8 +70,8 @@ module _ {T P : Type 0} (tells : T → Type 0) (seen : T → List Exchange) (wai
   abbrev Going : Draining → Sending T → P → Type 0
   Going drain s p = IsSending tells seen waits paused setup begun first drain s p
 
-  abbrev At : State T → P → Type 0
-  At s p = IsState tells seen waits paused setup begun first s p
+  abbrev At : Intake → Sending T → P → Type 0
+  At i s p = IsState tells seen waits paused setup begun first i s p
 
   abbrev Ran : WorkerReport T → P → Type 0
   Ran r p = HasRun tells seen waits paused setup begun first r p
@@ -101,7 +99,7 @@ module _ {T P : Type 0} (tells : T → Type 0) (seen : T → List Exchange) (wai
 
   -- no step was made
   pub state-begun : (drain : Draining) (core : Core) (ledger : Named) (backoff : ℕ × ℕ) (tally : Tally) → 0 < setup.batch → setup.max_backoff < 2 ^ 64 → backoff ≡ (setup.min_backoff, setup.max_backoff) → drain.queue ≡ setup.queue → drain.taken ≡ [] → working core ledger ≡ start_of setup
-      → At (record { intake = intake.Open drain; sending = record { core = core; ledger = ledger; backoff = backoff; resolved = 0; tally = tally; retries = 0; transport = begun } }) first
+      → At (intake.Open drain) (record { core = core; ledger = ledger; backoff = backoff; resolved = 0; tally = tally; retries = 0; transport = begun }) first
   state-begun drain core ledger backoff tally some fits pair queue none fresh = record {
     sending = record {
       some = some;
@@ -171,8 +169,8 @@ module _ {T P : Type 0} (tells : T → Type 0) (seen : T → List Exchange) (wai
     backoff = backoff;
   }
 
-  pub state-waited : (i : Intake) (s v : Sending T) (p q : P) → At (record { intake = i; sending = s }) p → can_take s.core ≡ false → v.core ≡ s.core → v.ledger ≡ s.ledger → v.transport ≡ s.transport → v.retries ≡ s.retries → v.backoff ≡ s.backoff
-      → v.resolved ≡ s.resolved → Adds (waits p) (waits q) (paused p) (paused q) (s.backoff.0 ∷ []) → At (record { intake = i; sending = v }) q
+  pub state-waited : (i : Intake) (s v : Sending T) (p q : P) → At i s p → can_take s.core ≡ false → v.core ≡ s.core → v.ledger ≡ s.ledger → v.transport ≡ s.transport → v.retries ≡ s.retries → v.backoff ≡ s.backoff
+      → v.resolved ≡ s.resolved → Adds (waits p) (waits q) (paused p) (paused q) (s.backoff.0 ∷ []) → At i v q
   unfolding steps-waited
   state-waited i s v p q h full core ledger transport retries backoff resolved waited = record {
     sending = sending-more (intake_drain i) (intake_drain i) s v p q h.sending (steps-waited (intake_drain i) s v p q h.sending full core ledger transport retries backoff waited) refl h.sending.made.history (sym (append-nil (intake_drain i).taken))
@@ -182,7 +180,7 @@ module _ {T P : Type 0} (tells : T → Type 0) (seen : T → List Exchange) (wai
   }
 
   -- a builder that is not to be taken into is to be frozen
-  due_at : (i : Intake) (s : Sending T) (p : P) → At (record { intake = i; sending = s }) p → can_take s.core ≡ false → is_empty s.core.batch ≡ true → (is_due s.core ≡ true) × (can_freeze s.core ≡ true)
+  due_at : (i : Intake) (s : Sending T) (p : P) → At i s p → can_take s.core ≡ false → is_empty s.core.batch ≡ true → (is_due s.core ≡ true) × (can_freeze s.core ≡ true)
   due_at i s p h full none =
       let k = keeps-of (intake_drain i) s p h.sending in
       let due = due_of s.core.killed (is_empty s.core.batch) (is_due s.core) k.alive none full in
@@ -192,7 +190,7 @@ module _ {T P : Type 0} (tells : T → Type 0) (seen : T → List Exchange) (wai
       may a b c = rw (a, b, c) refl
 
   -- a builder that is due was frozen
-  pub steps-frozen : (i : Intake) (s : Sending T) (p : P) (core : Core) (ledger : Named) → At (record { intake = i; sending = s }) p → can_take s.core ≡ false → is_empty s.core.batch ≡ true
+  pub steps-frozen : (i : Intake) (s : Sending T) (p : P) (core : Core) (ledger : Named) → At i s p → can_take s.core ≡ false → is_empty s.core.batch ≡ true
       → core ≡ freeze s.core → ledger ≡ freeze_room s.core s.ledger → Stepped s (record s { core = core; ledger = ledger }) p p
   steps-frozen i s p core ledger h full none ok room = record {
     step = Freezes;
@@ -204,8 +202,8 @@ module _ {T P : Type 0} (tells : T → Type 0) (seen : T → List Exchange) (wai
     backoff = refl;
   }
 
-  pub state-frozen : (i : Intake) (s : Sending T) (p : P) (core : Core) (ledger : Named) → At (record { intake = i; sending = s }) p → can_take s.core ≡ false → is_empty s.core.batch ≡ true
-      → core ≡ freeze s.core → ledger ≡ freeze_room s.core s.ledger → At (record { intake = i; sending = record s { core = core; ledger = ledger } }) p
+  pub state-frozen : (i : Intake) (s : Sending T) (p : P) (core : Core) (ledger : Named) → At i s p → can_take s.core ≡ false → is_empty s.core.batch ≡ true
+      → core ≡ freeze s.core → ledger ≡ freeze_room s.core s.ledger → At i (record s { core = core; ledger = ledger }) p
   unfolding steps-frozen
   state-frozen i s p core ledger h full none ok room =
       let can = (due_at i s p h full none).1 in record {
@@ -265,7 +263,7 @@ module _ {T P : Type 0} (tells : T → Type 0) (seen : T → List Exchange) (wai
   abbrev WaitsOn : Sending T → P → P → Bool → Type 0
   WaitsOn s p q settled = Adds (waits p) (waits q) (paused p) (paused q) (cond (not settled) (delay_of s.backoff.0 s.backoff.1 s.retries ∷ []) [])
 
-  steps-sent : (i : Intake) (s v : Sending T) (p q : P) (settled : Bool) → At (record { intake = i; sending = s }) p → is_empty s.core.batch ≡ false → Sent s v settled → CountsOn s v settled → v.backoff ≡ s.backoff → WaitsOn s p q settled
+  steps-sent : (i : Intake) (s v : Sending T) (p q : P) (settled : Bool) → At i s p → is_empty s.core.batch ≡ false → Sent s v settled → CountsOn s v settled → v.backoff ≡ s.backoff → WaitsOn s p q settled
       → Stepped s v p q
   steps-sent i s v p q settled h some sent counts backoff waited = record {
     step = Sends (exchange_of (request_for s.core) sent.answer);
@@ -277,8 +275,8 @@ module _ {T P : Type 0} (tells : T → Type 0) (seen : T → List Exchange) (wai
     backoff = backoff;
   }
 
-  state-sent : (i : Intake) (s v : Sending T) (p q : P) (settled : Bool) → At (record { intake = i; sending = s }) p → is_empty s.core.batch ≡ false → Sent s v settled → CountsOn s v settled → v.backoff ≡ s.backoff → WaitsOn s p q settled
-      → v.resolved ≡ length v.core.resolved → At (record { intake = i; sending = v }) q
+  state-sent : (i : Intake) (s v : Sending T) (p q : P) (settled : Bool) → At i s p → is_empty s.core.batch ≡ false → Sent s v settled → CountsOn s v settled → v.backoff ≡ s.backoff → WaitsOn s p q settled
+      → v.resolved ≡ length v.core.resolved → At i v q
   unfolding steps-sent
   state-sent i s v p q settled h some sent counts backoff waited counted =
       let k = keeps-of (intake_drain i) s p h.sending in
@@ -295,12 +293,12 @@ module _ {T P : Type 0} (tells : T → Type 0) (seen : T → List Exchange) (wai
       closed_after (intake.Ended Reshard d) c e = λ _. e
 
   -- the batch was settled
-  pub steps-settled : (i : Intake) (s v : Sending T) (p q : P) (b : Bool) → b ≡ true → At (record { intake = i; sending = s }) p → is_empty s.core.batch ≡ false → Sent s v b → CountsOn s v true → v.backoff ≡ s.backoff → WaitsOn s p q true
+  pub steps-settled : (i : Intake) (s v : Sending T) (p q : P) (b : Bool) → b ≡ true → At i s p → is_empty s.core.batch ≡ false → Sent s v b → CountsOn s v true → v.backoff ≡ s.backoff → WaitsOn s p q true
       → Stepped s v p q
   steps-settled i s v p q b is h some given counts backoff waited = steps-sent i s v p q true h some (sent-settled s v b is given) counts backoff waited
 
-  pub state-settled : (i : Intake) (s v : Sending T) (p q : P) (b : Bool) → b ≡ true → At (record { intake = i; sending = s }) p → is_empty s.core.batch ≡ false → Sent s v b → CountsOn s v true → v.backoff ≡ s.backoff → WaitsOn s p q true
-      → v.resolved ≡ s.resolved + length (places_of (pending s.core)) → At (record { intake = i; sending = v }) q
+  pub state-settled : (i : Intake) (s v : Sending T) (p q : P) (b : Bool) → b ≡ true → At i s p → is_empty s.core.batch ≡ false → Sent s v b → CountsOn s v true → v.backoff ≡ s.backoff → WaitsOn s p q true
+      → v.resolved ≡ s.resolved + length (places_of (pending s.core)) → At i v q
   state-settled i s v p q b is h some given counts backoff waited sum =
       let sent = sent-settled s v b is given in
       let k = keeps-of (intake_drain i) s p h.sending in
@@ -313,12 +311,12 @@ module _ {T P : Type 0} (tells : T → Type 0) (seen : T → List Exchange) (wai
       state-sent i s v p q true h some sent counts backoff waited (omega arith)
 
   -- the batch was sent in vain
-  pub steps-again : (i : Intake) (s v : Sending T) (p q : P) (b : Bool) → b ≡ false → At (record { intake = i; sending = s }) p → is_empty s.core.batch ≡ false → Sent s v b → CountsOn s v false → v.backoff ≡ s.backoff → WaitsOn s p q false
+  pub steps-again : (i : Intake) (s v : Sending T) (p q : P) (b : Bool) → b ≡ false → At i s p → is_empty s.core.batch ≡ false → Sent s v b → CountsOn s v false → v.backoff ≡ s.backoff → WaitsOn s p q false
       → Stepped s v p q
   steps-again i s v p q b is h some given counts backoff waited = steps-sent i s v p q false h some (sent-again s v b is given) counts backoff waited
 
-  pub state-again : (i : Intake) (s v : Sending T) (p q : P) (b : Bool) → b ≡ false → At (record { intake = i; sending = s }) p → is_empty s.core.batch ≡ false → Sent s v b → CountsOn s v false → v.backoff ≡ s.backoff → WaitsOn s p q false
-      → v.resolved ≡ s.resolved → At (record { intake = i; sending = v }) q
+  pub state-again : (i : Intake) (s v : Sending T) (p q : P) (b : Bool) → b ≡ false → At i s p → is_empty s.core.batch ≡ false → Sent s v b → CountsOn s v false → v.backoff ≡ s.backoff → WaitsOn s p q false
+      → v.resolved ≡ s.resolved → At i v q
   state-again i s v p q b is h some given counts backoff waited same =
       let sent = sent-again s v b is given in
       state-sent i s v p q false h some sent counts backoff waited (same ∙ h.sending.counted ∙ ap length (sym sent.resolved))
@@ -359,12 +357,12 @@ module _ {T P : Type 0} (tells : T → Type 0) (seen : T → List Exchange) (wai
       (h.counted ∙ ap length (sym (take_resolved x s.core) ∙ ap (λ (c : Core). c.resolved) (sym is)))
 
   pub state-taken : (drain later : Draining) (s : Sending T) (p : P) (x : Item) (core : Core) → Going drain s p → can_take s.core ≡ true → later.queue ≡ drain.queue → later.taken ≡ drain.taken ++ x ∷ []
-      → IsHistory drain.queue.epoch drain.queue.shard later.taken → core ≡ take_item x s.core → At (record { intake = intake.Open later; sending = record s { core = core } }) p
+      → IsHistory drain.queue.epoch drain.queue.shard later.taken → core ≡ take_item x s.core → At (intake.Open later) (record s { core = core }) p
   state-taken drain later s p x core h can queue taken history is = record { sending = sending-taken drain later s p x core h can queue taken history is; closed = tt; last = tt }
 
   -- an End was taken, which closes the builder
   pub state-ended : (drain later : Draining) (s : Sending T) (p : P) (kind : Kind) (core : Core) → is_hard kind ≡ false → Going drain s p → can_take s.core ≡ true → later.queue ≡ drain.queue → later.taken ≡ drain.taken ++ item.End kind ∷ []
-      → IsHistory drain.queue.epoch drain.queue.shard later.taken → core ≡ take_item (item.End kind) s.core → At (record { intake = intake.Ended kind later; sending = record s { core = core } }) p
+      → IsHistory drain.queue.epoch drain.queue.shard later.taken → core ≡ take_item (item.End kind) s.core → At (intake.Ended kind later) (record s { core = core }) p
   state-ended drain later s p kind core soft h can queue taken history is = record {
     sending = sending-taken drain later s p (item.End kind) core h can queue taken history is;
     closed = closed_at kind soft (λ d. ap (λ (c : Core). c.builder) is ∙ nothing (sym (ap is_due is) ∙ d));
@@ -410,28 +408,26 @@ module _ {T P : Type 0} (tells : T → Type 0) (seen : T → List Exchange) (wai
       (λ going orderly. ap (λ (w : Working). w.core.resolved) h.now ∙ whole going orderly) hard last h.waited
 
   -- the state where the end is open
-  pub opened : (i : Intake) (d : Draining) (s : Sending T) (p : P) → At (record { intake = i; sending = s }) p → i ≡ intake.Open d → Going d s p
+  pub opened : (i : Intake) (d : Draining) (s : Sending T) (p : P) → At i s p → i ≡ intake.Open d → Going d s p
   opened i d s p h is = subst (λ (x : Draining). Going x s p) (ap intake_drain is) h.sending
 
   -- the end was given up
-  pub report-killed : (drain killed : Draining) (stopped : Option ℕ) (s : Sending T) (p : P) (r : WorkerReport T) → Going drain s p → killed ≡ drain → r ≡ report_of (end.Killed killed) stopped s → Ran r p
-  report-killed drain killed stopped s p r h same is =
-      subst (λ (x : WorkerReport T). Ran x p) (sym is)
-      (subst (λ (d : Draining). Ran (report_of (end.Killed d) stopped s) p) (sym same) (stops (end.Killed drain) stopped s p h (λ going orderly. absurd orderly) tt tt))
+  pub report-killed : (drain killed : Draining) (stopped : Option ℕ) (s : Sending T) (p : P) → Going drain s p → killed ≡ drain → Ran (report_of (end.Killed killed) stopped s) p
+  report-killed drain killed stopped s p h same = subst (λ (d : Draining). Ran (report_of (end.Killed d) stopped s) p) (sym same) (stops (end.Killed drain) stopped s p h (λ going orderly. absurd orderly) tt tt)
 
   -- the stop flag was set
-  pub report-stopped : (i : Intake) (e : TakingEnd) (flag : ℕ) (s : Sending T) (p : P) (r : WorkerReport T) → At (record { intake = i; sending = s }) p → e ≡ given_back i → r ≡ report_of e (Some flag) s → Ran r p
-  report-stopped i e flag s p r h same is = subst (λ (x : WorkerReport T). Ran x p) (sym is) (subst (λ (x : TakingEnd). Ran (report_of x (Some flag) s) p) (sym same) (at i h))
+  pub report-stopped : (i : Intake) (e : TakingEnd) (flag : ℕ) (s : Sending T) (p : P) → At i s p → e ≡ given_back i → Ran (report_of e (Some flag) s) p
+  report-stopped i e flag s p h same = subst (λ (x : TakingEnd). Ran (report_of x (Some flag) s) p) (sym same) (at i h)
     where
-      at : (j : Intake) → At (record { intake = j; sending = s }) p → Ran (report_of (given_back j) (Some flag) s) p
+      at : (j : Intake) → At j s p → Ran (report_of (given_back j) (Some flag) s) p
       at (intake.Open d) k = stops (end.Killed d) (Some flag) s p k.sending (λ going orderly. absurd orderly) tt tt
       at (intake.Ended Hard d) k = absurd k.closed
       at (intake.Ended Orderly d) k = stops (end.Ended Orderly d) (Some flag) s p k.sending (λ going. absurd (cc)) tt k.last
       at (intake.Ended Reshard d) k = stops (end.Ended Reshard d) (Some flag) s p k.sending (λ going. absurd (cc)) tt k.last
 
   -- everything was sent
-  pub report-whole : (i : Intake) (kind : Kind) (d : Draining) (s : Sending T) (p : P) (r : WorkerReport T) → At (record { intake = i; sending = s }) p → i ≡ intake.Ended kind d → can_take s.core ≡ true → r ≡ report_of (end.Ended kind d) None s → Ran r p
-  report-whole i kind d s p r h ended can is = subst (λ (x : WorkerReport T). Ran x p) (sym is) (at kind (subst (λ (j : Intake). At (record { intake = j; sending = s }) p) ended h))
+  pub report-whole : (i : Intake) (kind : Kind) (d : Draining) (s : Sending T) (p : P) → At i s p → i ≡ intake.Ended kind d → can_take s.core ≡ true → Ran (report_of (end.Ended kind d) None s) p
+  report-whole i kind d s p h ended can = at kind (subst (λ (j : Intake). At j s p) ended h)
     where
       all : Going d s p → s.core.builder ≡ [] → s.core.resolved ≡ samples_in d.taken
       all k none =
@@ -439,33 +435,22 @@ module _ {T P : Type 0} (tells : T → Type 0) (seen : T → List Exchange) (wai
           let batch = none_of s.core.batch (can_take-parts s.core can).0 in
           sym (append-nil s.core.resolved) ∙ ap (λ xs. s.core.resolved ++ xs) (sym none) ∙ ap (λ xs. s.core.resolved ++ (xs ++ s.core.builder)) (sym batch) ∙ sym kept.whole ∙ kept.taken_is
 
-      at : (j : Kind) → At (record { intake = intake.Ended j d; sending = s }) p → Ran (report_of (end.Ended j d) None s) p
+      at : (j : Kind) → At (intake.Ended j d) s p → Ran (report_of (end.Ended j d) None s) p
       at Hard k = absurd k.closed
       at Orderly k = stops (end.Ended Orderly d) None s p k.sending (λ going orderly. all k.sending (k.closed (can_take-not_due s.core can))) tt k.last
       at Reshard k = stops (end.Ended Reshard d) None s p k.sending (λ going orderly. all k.sending (k.closed (can_take-not_due s.core can))) tt k.last
 
   -- a hard End was taken
-  pub report-hard : (kind : Kind) (drain later : Draining) (s : Sending T) (p : P) (r : WorkerReport T) → is_hard kind ≡ true → Going drain s p → can_take s.core ≡ true → later.queue ≡ drain.queue → later.taken ≡ drain.taken ++ item.End kind ∷ []
-      → IsHistory drain.queue.epoch drain.queue.shard later.taken → r ≡ report_of (end.Ended kind later) None s → Ran r p
+  pub report-hard : (kind : Kind) (drain later : Draining) (s : Sending T) (p : P) → is_hard kind ≡ true → Going drain s p → can_take s.core ≡ true → later.queue ≡ drain.queue → later.taken ≡ drain.taken ++ item.End kind ∷ []
+      → IsHistory drain.queue.epoch drain.queue.shard later.taken → Ran (report_of (end.Ended kind later) None s) p
   unfolding sending-taken sending-more steps-taken
-  report-hard Orderly drain later s p r hard h can queue taken history is = absurd (true≢false (sym hard))
-  report-hard Reshard drain later s p r hard h can queue taken history is = absurd (true≢false (sym hard))
-  report-hard Hard drain later s p r hard h can queue taken history is =
+  report-hard Orderly drain later s p hard h can queue taken history = absurd (true≢false (sym hard))
+  report-hard Reshard drain later s p hard h can queue taken history = absurd (true≢false (sym hard))
+  report-hard Hard drain later s p hard h can queue taken history =
       let more = sending-taken drain later s p (item.End Hard) (take_item (item.End Hard) s.core) h can queue taken history refl in
-      subst (λ (x : WorkerReport T). Ran x p) (sym is) (stops (end.Ended Hard later) None (record s { core = take_item (item.End Hard) s.core }) p more (λ going orderly. absurd orderly) (h.steps, refl) (drain.taken, taken))
+      stops (end.Ended Hard later) None (record s { core = take_item (item.End Hard) s.core }) p more (λ going orderly. absurd orderly) (h.steps, refl) (drain.taken, taken)
 
--- a report of a stop flag, or of none
+-- a stop flag that was read
 module _ {T : Type 0} where
-  pub stopped-at : (flag : ℕ) (i : Intake) (s : Sending T) (e : TakingEnd) (f : ℕ) (r : WorkerReport T) → r ≡ report_of e (Some f) s → e ≡ given_back i → f ≡ flag → IsStoppedAt flag (record { intake = i; sending = s }) (Stops r)
-  stopped-at flag i s e f r is same one = rw is (one, ap (λ (x : TakingEnd). report_of x (Some f) s) same)
-
-  pub not-stopped : (e : TakingEnd) (s : Sending T) (r : WorkerReport T) → r ≡ report_of e None s → r.stopped ≡ None
-  not-stopped e s r is = ap (λ (x : WorkerReport T). x.stopped) is
-
-  pub not-stopped-at : (flag : ℕ) (before : State T) (e : TakingEnd) (s : Sending T) (r : WorkerReport T) → r ≡ report_of e None s → IsStoppedAt flag before (Stops r)
-  not-stopped-at flag before e s r is = rw is tt
-
-  -- so is what a take gives
-  pub goes-on : (flag : ℕ) (before : State T) (p : Progress T) → IsNotStopped p → IsStoppedAt flag before p
-  goes-on flag before (Goes s) h = tt
-  goes-on flag before (Stops r) h = rw h tt
+  pub stopped-at : (flag : ℕ) (i : Intake) (s : Sending T) (e : TakingEnd) (f : ℕ) → e ≡ given_back i → f ≡ flag → IsStoppedAt flag i s (Stops e (Some f)) s
+  stopped-at flag i s e f same one = (one, same, refl)

@@ -1,5 +1,5 @@
 -- How far a worker is, and what it reports of its run.
-use Rattle.std.specs.Prelude.{◌≡◌, ℕ, ◌+◌, ◌-◌, ◌^◌, ◌<◌, ◌≤◌, min, Bool, true, false, List, [], ◌∷◌, ◌++◌, length, Option, None, Some, IfSome, ⊤}
+use Rattle.std.specs.Prelude.{◌≡◌, ℕ, ◌+◌, ◌-◌, ◌^◌, ◌<◌, ◌≤◌, min, Bool, true, false, List, [], ◌∷◌, ◌++◌, length, Option, None, IfSome, ⊤}
 use Rattle.rw_shard_queue.specs.Items.{samples_in}
 use Rattle.rw_shard_queue.specs.declared.item.Item.{Item}
 use Rattle.rw_shard_queue.specs.History.{IsHistory}
@@ -15,7 +15,6 @@ use Rattle.rw_worker.specs.declared.state.Intake.{Intake}
 use Rattle.rw_worker.specs.declared.state.Intake.TheVariants as intake
 use Rattle.rw_worker.specs.declared.state.Sending.{Sending}
 use Rattle.rw_worker.specs.declared.state.Start.{Start}
-use Rattle.rw_worker.specs.declared.state.State.{State}
 use Rattle.rw_worker.specs.declared.state.Progress.{Progress}
 use Rattle.rw_worker.specs.declared.state.Progress.TheVariants.{Goes, Stops}
 use Rattle.rw_worker.specs.Transcript.{Exchange, Adds}
@@ -110,9 +109,9 @@ module _ {T P : Type 0} (tells : T → Type 0) (seen : T → List Exchange) (wai
     pub backoff : v.backoff ≡ s.backoff
 
   -- a worker that goes on made a step
-  abbrev pub StepsOn : Sending T → Progress T → P → P → Type 0
-  StepsOn s (Goes v) p q = HasStepped s v.sending p q
-  StepsOn s (Stops r) p q = ⊤
+  abbrev pub StepsOn : Sending T → Progress → Sending T → P → P → Type 0
+  StepsOn s (Goes i) v p q = HasStepped s v p q
+  StepsOn s (Stops end stopped) v p q = ⊤
 
   module _ (setup : Setup) (begun : T) (first : P) where
     -- these pauses were made, which are those after the steps
@@ -131,39 +130,37 @@ module _ {T P : Type 0} (tells : T → Type 0) (seen : T → List Exchange) (wai
       pub backoff : s.backoff ≡ (setup.min_backoff, setup.max_backoff)
       pub retries : s.retries ≡ counted_to (retries_of 0 steps)
 
-    pub record IsState (s : State T) (pause : P) : Type 0 where
-      pub sending : IsSending (intake_drain s.intake) s.sending pause
-      pub closed : IsClosed s.intake s.sending.core
-      pub last : IsLast (given_back s.intake)
+    pub record IsState (i : Intake) (s : Sending T) (pause : P) : Type 0 where
+      pub sending : IsSending (intake_drain i) s pause
+      pub closed : IsClosed i s.core
+      pub last : IsLast (given_back i)
 
     -- What a worker reports, and how it waited: the pauses are those after the steps of its report.
     pub record HasRun (r : WorkerReport T) (pause : P) : Type 0 where
       pub report : IsReport tells seen setup begun r
       pub waited : HasPaused pause report.steps
 
-    abbrev pub IsProgress : Progress T → P → Type 0
-    IsProgress (Goes s) pause = IsState s pause
-    IsProgress (Stops r) pause = HasRun r pause
+    -- so far after a step, or what is then to be reported
+    abbrev pub IsProgress : Progress → Sending T → P → Type 0
+    IsProgress (Goes i) s pause = IsState i s pause
+    IsProgress (Stops end stopped) s pause = HasRun (report_of end stopped s) pause
 
   -- the same of what a worker began with
   abbrev pub IsSendingFrom : Start T P → Draining → Sending T → P → Type 0
   IsSendingFrom b drain s pause = IsSending b.worker.value b.transport.value b.pause.value drain s pause
 
-  abbrev pub IsStateFrom : Start T P → State T → P → Type 0
-  IsStateFrom b s pause = IsState b.worker.value b.transport.value b.pause.value s pause
+  abbrev pub IsStateFrom : Start T P → Intake → Sending T → P → Type 0
+  IsStateFrom b i s pause = IsState b.worker.value b.transport.value b.pause.value i s pause
 
-  abbrev pub HasRunFrom : Start T P → WorkerReport T → P → Type 0
-  HasRunFrom b r pause = HasRun b.worker.value b.transport.value b.pause.value r pause
-
-  abbrev pub IsProgressFrom : Start T P → Progress T → P → Type 0
-  IsProgressFrom b p pause = IsProgress b.worker.value b.transport.value b.pause.value p pause
+  abbrev pub IsProgressFrom : Start T P → Progress → Sending T → P → Type 0
+  IsProgressFrom b n s pause = IsProgress b.worker.value b.transport.value b.pause.value n s pause
 
 -- no stop flag was read as set
-abbrev pub IsNotStopped : {T : Type 0} → Progress T → Type 0
-IsNotStopped (Goes s) = ⊤
-IsNotStopped (Stops r) = r.stopped ≡ None
+abbrev pub IsNotStopped : Progress → Type 0
+IsNotStopped (Goes i) = ⊤
+IsNotStopped (Stops end stopped) = stopped ≡ None
 
 -- a worker that tells of a stop flag read this one, and has done nothing since
-abbrev pub IsStoppedAt : {T : Type 0} → ℕ → State T → Progress T → Type 0
-IsStoppedAt flag s (Goes v) = ⊤
-IsStoppedAt flag s (Stops r) = IfSome r.stopped (λ (f : ℕ). (f ≡ flag) × (r ≡ report_of (given_back s.intake) (Some f) s.sending))
+abbrev pub IsStoppedAt : {T : Type 0} → ℕ → Intake → Sending T → Progress → Sending T → Type 0
+IsStoppedAt flag i s (Goes j) v = ⊤
+IsStoppedAt flag i s (Stops end stopped) v = IfSome stopped (λ (f : ℕ). (f ≡ flag) × (end ≡ given_back i) × (v ≡ s))

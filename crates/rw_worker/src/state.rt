@@ -76,14 +76,11 @@ impl<T: Drop> Sending<T> {
     }
 }
 
+/// What a step gives.
 #[derive(Drop)]
-pub(crate) struct State<T> {
-    pub(crate) intake: Intake,
-    pub(crate) sending: Sending<T>,
-}
-
-#[derive(Drop)]
-pub(crate) enum Progress<T> {
-    Goes(State<T>),
-    Stops(WorkerReport<T>),
+pub(crate) enum Progress {
+    /// There is more to do.
+    Goes(Intake),
+    /// The worker reports this end, and the stop flag that it read as set.
+    Stops(TakingEnd, Option<Stopped>),
 }

@@ -5,7 +5,7 @@ ghost use Rattle.rw_worker.specs.Report.{IsState, HasRun};
 
 use crate::backoff::Backoff;
 use crate::report::WorkerReport;
-use crate::state::{Intake, Progress, Sending, Start, State};
+use crate::state::{Intake, Progress, Sending, Start};
 use crate::step::step;
 use crate::stop::StopFlag;
 use crate::tally::Tally;
@@ -108,19 +108,19 @@ impl Worker {
             transport: Snapshot::of(&transport),
             pause: Snapshot::of(pause),
         };
-        let mut state = self.begin(transport, pause);
+        let (mut intake, mut sending) = self.begin(transport, pause);
         for _ in rt.forever() {
-            match step(rt, &start, state, pause, stop) {
-                Progress::Goes(next) => state = next,
-                Progress::Stops(report) => return report,
+            match step(rt, &start, intake, &mut sending, pause, stop) {
+                Progress::Goes(next) => intake = next,
+                Progress::Stops(end, stopped) => return sending.report(end, stopped),
             }
         }
         unreachable!()
     }
 
     /// The state before the first step.
-    fn begin<T: Transport, P: Pause>(self, transport: T, _pause: &P) -> State<T>
-        ensures { IsState T.tells T.seen P.tells P.paused self transport _pause.now result _pause.now }
+    fn begin<T: Transport, P: Pause>(self, transport: T, _pause: &P) -> (Intake, Sending<T>)
+        ensures { IsState T.tells T.seen P.tells P.paused self transport _pause.now result.0 result.1 _pause.now }
     {
         let Worker {
             drain,
@@ -129,17 +129,15 @@ impl Worker {
             backoff,
             tally,
         } = self;
-        State {
-            intake: Intake::Open(drain),
-            sending: Sending {
-                core,
-                ledger,
-                backoff,
-                resolved: 0,
-                tally,
-                retries: 0,
-                transport,
-            },
-        }
+        let sending = Sending {
+            core,
+            ledger,
+            backoff,
+            resolved: 0,
+            tally,
+            retries: 0,
+            transport,
+        };
+        (Intake::Open(drain), sending)
     }
 }

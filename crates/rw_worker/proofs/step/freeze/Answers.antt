@@ -2,30 +2,19 @@ use Rattle.std.proofs.Common.{refl}
 use Rattle.rw_worker.specs.Report.{intake_drain}
 use Rattle.rw_worker.proofs.StateLemmas.{adds-due, steps-frozen, steps-waited, state-frozen, state-waited}
 use Rattle.rw_worker.proofs.step.freeze.Goals as goal
-use Rattle.rw_worker.proofs.step.freeze.Goals.{in-Ok, in-Err}
 
-pub returns-clause-state : goal.returns-clause-state
-returns-clause-state g c =
-    let i = c.args.state.intake in
-    let s = c.args.state.sending in
-    let p = c.args.pause.now in
-    let h = c.requires.state in
-    elim c.match-freeze.branch [
-      | in-Ok w ↦
-          rw w.pause-is (state-frozen _ _ _ _ _ _ _ i s p c.freeze.new.self c.freeze.new.ledger h c.requires.full c.requires.none w.in-Ok.ensures.core w.in-Ok.ensures.ledger)
-      | in-Err w ↦
-          rw w.pause-is (state-waited _ _ _ _ _ _ _ i s _ p _ h c.requires.full w.in-Err.ensures.err w.in-Err.ensures.err_ledger refl refl refl refl (adds-due _ _ _ _ _ _ w.pause.ensures w.least.ensures))
-    ]
+pub returns-in-Ok-clause-state : goal.returns-in-Ok-clause-state
+returns-in-Ok-clause-state g c = state-frozen _ _ _ _ _ _ _ c.args._intake.now c.args.sending.now c.args.pause.now c.freeze.new.self c.freeze.new.ledger c.requires.state c.requires.full c.requires.none c.in-Ok.ensures.core c.in-Ok.ensures.ledger
 
-pub returns-clause-steps : goal.returns-clause-steps
-returns-clause-steps g c =
-    let i = c.args.state.intake in
-    let s = c.args.state.sending in
-    let p = c.args.pause.now in
-    let h = c.requires.state in
-    elim c.match-freeze.branch [
-      | in-Ok w ↦
-          rw w.pause-is (steps-frozen _ _ _ _ _ _ _ i s p c.freeze.new.self c.freeze.new.ledger h c.requires.full c.requires.none w.in-Ok.ensures.core w.in-Ok.ensures.ledger)
-      | in-Err w ↦
-          rw w.pause-is (steps-waited _ _ _ _ _ _ _ (intake_drain i) s _ p _ h.sending c.requires.full w.in-Err.ensures.err w.in-Err.ensures.err_ledger refl refl refl (adds-due _ _ _ _ _ _ w.pause.ensures w.least.ensures))
-    ]
+pub returns-in-Ok-clause-steps : goal.returns-in-Ok-clause-steps
+returns-in-Ok-clause-steps g c = steps-frozen _ _ _ _ _ _ _ c.args._intake.now c.args.sending.now c.args.pause.now c.freeze.new.self c.freeze.new.ledger c.requires.state c.requires.full c.requires.none c.in-Ok.ensures.core c.in-Ok.ensures.ledger
+
+pub returns-in-Err-clause-state : goal.returns-in-Err-clause-state
+returns-in-Err-clause-state g c =
+    state-waited _ _ _ _ _ _ _ c.args._intake.now c.args.sending.now _ c.args.pause.now _ c.requires.state c.requires.full c.in-Err.ensures.err c.in-Err.ensures.err_ledger refl refl refl refl
+    (adds-due _ _ _ _ _ _ c.pause.ensures c.least.ensures)
+
+pub returns-in-Err-clause-steps : goal.returns-in-Err-clause-steps
+returns-in-Err-clause-steps g c =
+    steps-waited _ _ _ _ _ _ _ (intake_drain c.args._intake.now) c.args.sending.now _ c.args.pause.now _ c.requires.state.sending c.requires.full c.in-Err.ensures.err c.in-Err.ensures.err_ledger refl refl refl
+    (adds-due _ _ _ _ _ _ c.pause.ensures c.least.ensures)

@@ -1,17 +1,14 @@
 use Rattle.std.proofs.Common.{Some, sym, ap, ◌∙◌}
 use Rattle.rw_worker.specs.declared.report.TakingEnd.TheVariants as end
 use Rattle.rw_worker.specs.Report.{given_back}
-use Rattle.rw_worker.proofs.StateLemmas.{opened, report-killed, report-whole, stopped-at, not-stopped-at}
+use Rattle.rw_worker.proofs.StateLemmas.{opened, report-killed, report-whole, stopped-at}
 use Rattle.rw_worker.proofs.step.go_on.Goals as goal
 
 pub returns-in-Some-clause-progress : goal.returns-in-Some-clause-progress
-returns-in-Some-clause-progress g c = report-killed _ _ _ _ _ _ _ c.in-Open.drain c.kill.result (Some c.in-Some.stopped) c.args.state.sending c.args.pause.now c.report-in-Some.result (opened _ _ _ _ _ _ _ c.args.state.intake c.in-Open.drain c.args.state.sending c.args.pause.now c.requires.state c.in-Open.is) c.kill.ensures c.report-in-Some.ensures
+returns-in-Some-clause-progress g c = report-killed _ _ _ _ _ _ _ c.in-Open.drain c.kill.result (Some c.in-Some.stopped) c.args.sending.now c.args.pause.now (opened _ _ _ _ _ _ _ c.args.intake c.in-Open.drain c.args.sending.now c.args.pause.now c.requires.state c.in-Open.is) c.kill.ensures
 
 pub returns-in-Ended-clause-progress : goal.returns-in-Ended-clause-progress
-returns-in-Ended-clause-progress g c = report-whole _ _ _ _ _ _ _ c.args.state.intake c.in-Ended.kind c.in-Ended.drain c.args.state.sending c.args.pause.now c.report.result c.requires.state c.in-Ended.is c.requires.can c.report.ensures
+returns-in-Ended-clause-progress g c = report-whole _ _ _ _ _ _ _ c.args.intake c.in-Ended.kind c.in-Ended.drain c.args.sending.now c.args.pause.now c.requires.state c.in-Ended.is c.requires.can
 
 pub returns-in-Some-clause-stopped : goal.returns-in-Some-clause-stopped
-returns-in-Some-clause-stopped g c = stopped-at c.args.stop.now c.args.state.intake c.args.state.sending _ _ c.report-in-Some.result c.report-in-Some.ensures (ap end.Killed c.kill.ensures ∙ sym (ap given_back c.in-Open.is)) c.in-Some.ensures
-
-pub returns-in-Ended-clause-stopped : goal.returns-in-Ended-clause-stopped
-returns-in-Ended-clause-stopped g c = not-stopped-at c.args.stop.now (record { intake = c.args.state.intake; sending = c.args.state.sending }) _ c.args.state.sending c.report.result c.report.ensures
+returns-in-Some-clause-stopped g c = stopped-at c.args.stop.now c.args.intake c.args.sending.now _ _ (ap end.Killed c.kill.ensures ∙ sym (ap given_back c.in-Open.is)) c.in-Some.ensures

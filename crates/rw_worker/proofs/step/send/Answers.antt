@@ -2,62 +2,54 @@ use Rattle.std.proofs.Common.{◌≡◌, ◌+◌, ◌-◌, ◌^◌, min, length,
 use Rattle.rw_worker.specs.Report.{intake_drain}
 use Rattle.rw_worker.proofs.StateLemmas.{adds-none, adds-due, open-full, state-can_send, state-room, pending-few, steps-settled, steps-again, steps-waited, state-settled, state-again, state-waited}
 use Rattle.rw_worker.proofs.step.send.Goals as goal
-use Rattle.rw_worker.proofs.step.send.Goals.{in-Ok-true, in-Ok-false, in-Err}
 
 pub send_once-requires-clause-guard : goal.send_once-requires-clause-guard
-send_once-requires-clause-guard g c = state-can_send _ _ _ _ _ _ _ (intake_drain c.args.state.intake) c.args.state.sending _ c.requires.state.sending c.requires.some
+send_once-requires-clause-guard g c = state-can_send _ _ _ _ _ _ _ (intake_drain c.args._intake.now) c.args.sending.now _ c.requires.state.sending c.requires.some
 
 pub send_once-requires-clause-room : goal.send_once-requires-clause-room
-send_once-requires-clause-room g c = state-room _ _ _ _ _ _ _ (intake_drain c.args.state.intake) c.args.state.sending _ c.requires.state.sending c.requires.core
+send_once-requires-clause-room g c = state-room _ _ _ _ _ _ _ (intake_drain c.args._intake.now) c.args.sending.now _ c.requires.state.sending c.requires.core
 
 pub overflow_add-sending : goal.overflow_add-sending
 overflow_add-sending g c =
-    let few = pending-few _ _ _ _ _ _ _ (intake_drain c.args.state.intake) c.args.state.sending _ c.requires.state.sending in
+    let few = pending-few _ _ _ _ _ _ _ (intake_drain c.args._intake.now) c.args.sending.now _ c.requires.state.sending in
     let same = ap length c.pending_places.ensures in
     omega arith
 
-pub returns-clause-state : goal.returns-clause-state
-returns-clause-state g c =
-    let i = c.args.state.intake in
-    let s = c.args.state.sending in
+pub returns-in-Ok-true-clause-state : goal.returns-in-Ok-true-clause-state
+returns-in-Ok-true-clause-state g c =
+    let s = c.args.sending.now in
     let p = c.args.pause.now in
-    let h = c.requires.state in
-    let some = c.requires.some in
-    elim c.match-send_once.branch [
-      | in-Ok-true w ↦
-          rw (w.sending-is, w.pause-is)
-          (state-settled _ _ _ _ _ _ _ i s _ p p w.in-Ok-true.field-0 w.in-Ok-true.field-0-test h some w.in-Ok-true.ensures.ok refl refl
-          (adds-none (g.P.Pause.tells p) (g.P.Pause.paused p)) (ap (λ ps. s.resolved + length ps) c.pending_places.ensures))
-      | in-Ok-false w ↦
-          let counts : w.saturating_add.result ≡ min (s.retries + 1) (2 ^ 64 - 1) = search rules in
-          rw (w.sending-is, w.pause-is)
-          (state-again _ _ _ _ _ _ _ i s _ p _ w.in-Ok-false.field-0 w.in-Ok-false.field-0-test h some w.in-Ok-false.ensures.ok counts refl
-          (adds-due _ _ _ _ _ _ w.pause.ensures w.before-in-Ok-false.ensures) refl)
-      | in-Err w ↦
-          rw (w.sending-is, w.pause-is)
-          (state-waited _ _ _ _ _ _ _ i s _ p _ h (open-full s.core some) w.in-Err.ensures.err w.in-Err.ensures.err_ledger w.in-Err.ensures.err_transport refl refl refl
-          (adds-due _ _ _ _ _ _ w.pause-in-Err.ensures w.least.ensures))
-    ]
+    state-settled _ _ _ _ _ _ _ c.args._intake.now s _ p p c.in-Ok-true.field-0 c.in-Ok-true.field-0-test c.requires.state c.requires.some c.in-Ok-true.ensures.ok refl refl
+    (adds-none (g.P.Pause.tells p) (g.P.Pause.paused p)) (ap (λ ps. s.resolved + length ps) c.pending_places.ensures)
 
-pub returns-clause-steps : goal.returns-clause-steps
-returns-clause-steps g c =
-    let i = c.args.state.intake in
-    let s = c.args.state.sending in
+pub returns-in-Ok-true-clause-steps : goal.returns-in-Ok-true-clause-steps
+returns-in-Ok-true-clause-steps g c =
     let p = c.args.pause.now in
-    let h = c.requires.state in
-    let some = c.requires.some in
-    elim c.match-send_once.branch [
-      | in-Ok-true w ↦
-          rw (w.sending-is, w.pause-is)
-          (steps-settled _ _ _ _ _ _ _ i s _ p p w.in-Ok-true.field-0 w.in-Ok-true.field-0-test h some w.in-Ok-true.ensures.ok refl refl
-          (adds-none (g.P.Pause.tells p) (g.P.Pause.paused p)))
-      | in-Ok-false w ↦
-          let counts : w.saturating_add.result ≡ min (s.retries + 1) (2 ^ 64 - 1) = search rules in
-          rw (w.sending-is, w.pause-is)
-          (steps-again _ _ _ _ _ _ _ i s _ p _ w.in-Ok-false.field-0 w.in-Ok-false.field-0-test h some w.in-Ok-false.ensures.ok counts refl
-          (adds-due _ _ _ _ _ _ w.pause.ensures w.before-in-Ok-false.ensures))
-      | in-Err w ↦
-          rw (w.sending-is, w.pause-is)
-          (steps-waited _ _ _ _ _ _ _ (intake_drain i) s _ p _ h.sending (open-full s.core some) w.in-Err.ensures.err w.in-Err.ensures.err_ledger w.in-Err.ensures.err_transport refl refl
-          (adds-due _ _ _ _ _ _ w.pause-in-Err.ensures w.least.ensures))
-    ]
+    steps-settled _ _ _ _ _ _ _ c.args._intake.now c.args.sending.now _ p p c.in-Ok-true.field-0 c.in-Ok-true.field-0-test c.requires.state c.requires.some c.in-Ok-true.ensures.ok refl refl
+    (adds-none (g.P.Pause.tells p) (g.P.Pause.paused p))
+
+pub returns-in-Ok-false-clause-state : goal.returns-in-Ok-false-clause-state
+returns-in-Ok-false-clause-state g c =
+    let s = c.args.sending.now in
+    let counts : c.saturating_add-sending.result ≡ min (s.retries + 1) (2 ^ 64 - 1) = search rules in
+    state-again _ _ _ _ _ _ _ c.args._intake.now s _ c.args.pause.now _ c.in-Ok-false.field-0 c.in-Ok-false.field-0-test c.requires.state c.requires.some c.in-Ok-false.ensures.ok counts refl
+    (adds-due _ _ _ _ _ _ c.pause.ensures c.before-in-Ok-false.ensures) refl
+
+pub returns-in-Ok-false-clause-steps : goal.returns-in-Ok-false-clause-steps
+returns-in-Ok-false-clause-steps g c =
+    let s = c.args.sending.now in
+    let counts : c.saturating_add-sending.result ≡ min (s.retries + 1) (2 ^ 64 - 1) = search rules in
+    steps-again _ _ _ _ _ _ _ c.args._intake.now s _ c.args.pause.now _ c.in-Ok-false.field-0 c.in-Ok-false.field-0-test c.requires.state c.requires.some c.in-Ok-false.ensures.ok counts refl
+    (adds-due _ _ _ _ _ _ c.pause.ensures c.before-in-Ok-false.ensures)
+
+pub returns-in-Err-clause-state : goal.returns-in-Err-clause-state
+returns-in-Err-clause-state g c =
+    let s = c.args.sending.now in
+    state-waited _ _ _ _ _ _ _ c.args._intake.now s _ c.args.pause.now _ c.requires.state (open-full s.core c.requires.some) c.in-Err.ensures.err c.in-Err.ensures.err_ledger c.in-Err.ensures.err_transport refl refl refl
+    (adds-due _ _ _ _ _ _ c.pause-in-Err.ensures c.least.ensures)
+
+pub returns-in-Err-clause-steps : goal.returns-in-Err-clause-steps
+returns-in-Err-clause-steps g c =
+    let s = c.args.sending.now in
+    steps-waited _ _ _ _ _ _ _ (intake_drain c.args._intake.now) s _ c.args.pause.now _ c.requires.state.sending (open-full s.core c.requires.some) c.in-Err.ensures.err c.in-Err.ensures.err_ledger c.in-Err.ensures.err_transport refl refl
+    (adds-due _ _ _ _ _ _ c.pause-in-Err.ensures c.least.ensures)

@@ -15,7 +15,12 @@ returns g c =
     let backoff = c.self.inside.backoff in
     let tally = c.self.inside.tally in
     let setup : Setup = record { queue = drain.queue; target = core.target; batch = core.full; min_backoff = backoff.0; max_backoff = backoff.1 } in
-    subst (λ (s : Setup). IsState g.T.Transport.tells g.T.Transport.seen g.P.Pause.tells g.P.Pause.paused s c.args.transport c.args._pause.now (record {
-      intake = intake.Open drain;
-      sending = record { core = core; ledger = ledger; backoff = backoff; resolved = 0; tally = tally; retries = 0; transport = c.args.transport };
+    subst (λ (s : Setup). IsState g.T.Transport.tells g.T.Transport.seen g.P.Pause.tells g.P.Pause.paused s c.args.transport c.args._pause.now (intake.Open drain) (record {
+      core = core;
+      ledger = ledger;
+      backoff = backoff;
+      resolved = 0;
+      tally = tally;
+      retries = 0;
+      transport = c.args.transport;
     }) c.args._pause.now) c.self.view_is (state-begun g.T.Transport.tells g.T.Transport.seen g.P.Pause.tells g.P.Pause.paused setup c.args.transport c.args._pause.now drain core ledger backoff tally i.3 i.4 refl refl i.0 (λ j. working (i.1 j) (i.2 j)))
