@@ -1,5 +1,5 @@
 -- Lines of progress.
-use Rattle.std.specs.Prelude.{ℕ, List, [], ◌++◌, Option, None, Some, flat_map, codes, decimal}
+use Rattle.std.specs.Prelude.{ℕ, List, [], ◌++◌, ◌*◌, ◌/◌, ◌==◌, min, if◌then◌else◌, Option, None, Some, flat_map, codes, decimal}
 use Rattle.rw_metrics.specs.declared.cause.Cause.{Cause}
 use Rattle.rw_metrics.specs.declared.cause.Cause.TheVariants as cause
 use Rattle.rw_metrics.specs.declared.send_numbers.Drops.{Drops}
@@ -31,6 +31,14 @@ unfoldable pub last_told : Option Cause → List ℕ
 last_told None = []
 last_told (Some c) = codes " last " ++ cause_text c
 
+-- how many hundredths of so many bytes were read
+abbrev pub percent : ℕ → ℕ → ℕ
+percent bytes all = min (bytes * 100 / all) 100
+
+-- ` percent N` of a folder, where its bytes are known
+unfoldable pub percent_told : ℕ → ℕ → List ℕ
+percent_told bytes all = if all == 0 then [] else told (codes "percent") (percent bytes all)
+
 -- of a sender
 abbrev pub samples_line : SendNumbers → List ℕ
 samples_line n =
@@ -49,6 +57,7 @@ work_line n =
     ++ last_told n.failures.last
     ++ told (codes "segment") n.segment
     ++ told (codes "bytes") n.segment_bytes
+    ++ percent_told n.bytes n.folder_bytes
 
 abbrev pub send_line : SendNumbers → List ℕ
 send_line n = samples_line n ++ work_line n

@@ -16,6 +16,11 @@ requests_page n =
     counters (codes "rwship_receive_requests_total") (codes "Requests that the head has answered, by status.")
     ++ by_status (codes "rwship_receive_requests_total") (codes "code") (codes "") n.statuses.items
 
+-- what is held
+abbrev pub held_page : ReceiveNumbers → List ℕ
+held_page n =
+    gauge (codes "rwship_receive_samples_held") (codes "Samples that are held.") n.samples
+    ++ gauge (codes "rwship_receive_label_sets") (codes "Label sets of which samples are held.") n.label_sets
+
 abbrev pub receive_page : ReceiveNumbers → List ℕ
-receive_page n = connections_page n ++ requests_page n
-    ++ gauge (codes "rwship_receive_samples_held") (codes "Samples that are held.") n.samples
+receive_page n = connections_page n ++ requests_page n ++ held_page n

@@ -10,6 +10,7 @@ abbrev pub reading_page : SendNumbers → List ℕ
 reading_page n =
     counter (codes "rwship_send_entries_read_total") (codes "Entries of the log that were read.") n.entries
     ++ counter (codes "rwship_send_bytes_read_total") (codes "Bytes of the log that were read.") n.bytes
+    ++ gauge (codes "rwship_send_folder_bytes") (codes "Bytes of the segments in the folder; 0 where they are not known.") n.folder_bytes
     ++ gauge (codes "rwship_send_segment") (codes "Number of the segment that is read.") n.segment
     ++ gauge (codes "rwship_send_segment_bytes_read") (codes "Bytes of that segment that were read.") n.segment_bytes
 

@@ -1,7 +1,7 @@
 //! Lines of progress.
 
-ghost use Rattle.std.specs.Prelude.{◌≡◌, ◌++◌, IfOk, OnOk};
-ghost use Rattle.rw_metrics.specs.Lines.{cause_text, drops_line, last_told, receive_line, samples_line, send_line, status_told, statuses_told, told, work_line};
+ghost use Rattle.std.specs.Prelude.{◌≡◌, ◌++◌, ◌<◌, IfOk, OnOk};
+ghost use Rattle.rw_metrics.specs.Lines.{cause_text, drops_line, last_told, percent, percent_told, receive_line, samples_line, send_line, status_told, statuses_told, told, work_line};
 
 use crate::cause::Cause;
 use crate::exposition::push_text;
@@ -74,6 +74,25 @@ fn push_last_told(out: &mut Vec<u8>, last: Option<Cause>) -> Result<(), AllocErr
     }
 }
 
+/// How many hundredths of so many bytes were read, at most 100.
+fn percent(bytes: u64, all: u64) -> u64
+    requires { 0 < all }
+    ensures { result ≡ percent bytes all }
+{
+    (bytes as u128 * 100 / all as u128).min(100) as u64
+}
+
+/// Adds ` percent N` of a folder, where its bytes are known.
+#[tactic(auto, unfolding(crate::specs::Lines::percent_told))]
+fn push_percent_told(out: &mut Vec<u8>, bytes: u64, all: u64) -> Result<(), AllocError>
+    ensures { OnOk result (out.new.items ≡ out.old.items ++ percent_told bytes all) }
+{
+    if all == 0 {
+        return Ok(());
+    }
+    push_told(out, "percent", percent(bytes, all))
+}
+
 fn push_samples_line(out: &mut Vec<u8>, n: &SendNumbers) -> Result<(), AllocError>
     ensures { OnOk result (out.new.items ≡ out.old.items ++ samples_line n.now) }
 {
@@ -96,11 +115,12 @@ fn push_work_line(out: &mut Vec<u8>, n: &SendNumbers) -> Result<(), AllocError>
     push_last_told(out, n.failures.last)?;
     push_told(out, "segment", n.segment)?;
     push_told(out, "bytes", n.segment_bytes)?;
+    push_percent_told(out, n.bytes, n.folder_bytes)?;
     Ok(())
 }
 
 /// The progress of a sender with these numbers, in one line: `entries N placed N resolved N dropped N filtered N waiting N shards N attempts N failed N`,
-/// where an attempt has failed ` last CAUSE`, and ` segment N bytes N`.
+/// where an attempt has failed ` last CAUSE`, ` segment N bytes N`, and where the bytes of the folder are known ` percent N`.
 pub fn send_line(alloc: Global, numbers: &SendNumbers) -> Result<Vec<u8>, AllocError>
     ensures { IfOk result (λ line. line.items ≡ send_line numbers.now) }
 {

@@ -13,6 +13,7 @@ pub struct ReceiveCounters {
     refused: AtomicU64,
     statuses: Codes,
     samples: AtomicU64,
+    label_sets: AtomicU64,
 }
 
 fn read(counter: &AtomicU64) -> u64 {
@@ -33,6 +34,7 @@ impl ReceiveCounters {
             refused: AtomicU64::new(0),
             statuses,
             samples: AtomicU64::new(0),
+            label_sets: AtomicU64::new(0),
         })
     }
 
@@ -57,6 +59,11 @@ impl ReceiveCounters {
         add(&self.samples, stored);
     }
 
+    /// The head holds samples of so many label sets. They never become fewer.
+    pub fn hold_label_sets(&self, count: usize) {
+        self.label_sets.fetch_max(count as u64, Ordering::Relaxed);
+    }
+
     /// What was counted.
     pub fn numbers(&self, alloc: Global) -> Result<ReceiveNumbers, AllocError> {
         let statuses = self.statuses.read(alloc)?;
@@ -68,6 +75,7 @@ impl ReceiveCounters {
             refused: read(&self.refused),
             statuses,
             samples: read(&self.samples),
+            label_sets: read(&self.label_sets),
         })
     }
 }

@@ -13,4 +13,6 @@ pub struct ReceiveNumbers {
     pub statuses: Vec<(u16, u64)>,
     /// Samples that are held.
     pub samples: u64,
+    /// Label sets that they are of.
+    pub label_sets: u64,
 }

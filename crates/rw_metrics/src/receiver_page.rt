@@ -1,7 +1,7 @@
 //! The page of a receiver.
 
 ghost use Rattle.std.specs.Prelude.{◌≡◌, ◌++◌, IfOk, OnOk};
-ghost use Rattle.rw_metrics.specs.ReceivePage.{connections_page, receive_page, requests_page};
+ghost use Rattle.rw_metrics.specs.ReceivePage.{connections_page, held_page, receive_page, requests_page};
 
 use crate::exposition::{push_counter, push_counters, push_gauge, push_statuses};
 use crate::receive_numbers::ReceiveNumbers;
@@ -47,6 +47,25 @@ fn push_requests(out: &mut Vec<u8>, n: &ReceiveNumbers) -> Result<(), AllocError
     Ok(())
 }
 
+/// Adds what is held.
+fn push_held(out: &mut Vec<u8>, n: &ReceiveNumbers) -> Result<(), AllocError>
+    ensures { OnOk result (out.new.items ≡ out.old.items ++ held_page n.now) }
+{
+    push_gauge(
+        out,
+        "rwship_receive_samples_held",
+        "Samples that are held.",
+        n.samples,
+    )?;
+    push_gauge(
+        out,
+        "rwship_receive_label_sets",
+        "Label sets of which samples are held.",
+        n.label_sets,
+    )?;
+    Ok(())
+}
+
 /// The page of a receiver with these numbers.
 pub fn receive_page(alloc: Global, numbers: &ReceiveNumbers) -> Result<Vec<u8>, AllocError>
     ensures { IfOk result (λ page. page.items ≡ receive_page numbers.now) }
@@ -54,11 +73,6 @@ pub fn receive_page(alloc: Global, numbers: &ReceiveNumbers) -> Result<Vec<u8>, 
     let mut out = Vec::new(alloc);
     push_connections(&mut out, numbers)?;
     push_requests(&mut out, numbers)?;
-    push_gauge(
-        &mut out,
-        "rwship_receive_samples_held",
-        "Samples that are held.",
-        numbers.samples,
-    )?;
+    push_held(&mut out, numbers)?;
     Ok(out)
 }

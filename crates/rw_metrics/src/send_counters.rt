@@ -28,6 +28,13 @@ impl DropCounters {
         })
     }
 
+    /// How many of them were never sent.
+    fn unsent(&self) -> u64 {
+        read(&self.no_series)
+            .saturating_add(read(&self.bad_labels))
+            .saturating_add(read(&self.not_rising))
+    }
+
     fn numbers(&self, alloc: Global) -> Result<Drops, AllocError> {
         Ok(Drops {
             all: read(&self.all),
@@ -88,6 +95,7 @@ impl FailureCounters {
 pub struct SendCounters {
     entries: AtomicU64,
     bytes: AtomicU64,
+    folder_bytes: AtomicU64,
     segment: AtomicU64,
     segment_bytes: AtomicU64,
     placed: AtomicU64,
@@ -120,6 +128,7 @@ impl SendCounters {
         Ok(SendCounters {
             entries: AtomicU64::new(0),
             bytes: AtomicU64::new(0),
+            folder_bytes: AtomicU64::new(0),
             segment: AtomicU64::new(0),
             segment_bytes: AtomicU64::new(0),
             placed: AtomicU64::new(0),
@@ -137,6 +146,11 @@ impl SendCounters {
     pub fn begin_segment(&self, number: u64) {
         set(&self.segment, number);
         set(&self.segment_bytes, 0);
+    }
+
+    /// The segments of the folder have so many bytes.
+    pub fn set_folder_bytes(&self, bytes: u64) {
+        set(&self.folder_bytes, bytes);
     }
 
     /// So many bytes more were read.
@@ -184,6 +198,16 @@ impl SendCounters {
         }
     }
 
+    /// These are the samples that were dropped so far as the log was read, in order: those behind the ones that were told before are told.
+    pub fn drop_unsent(&self, names: &[(u64, Reason)]) {
+        let told = self.drops.unsent() as usize;
+        if let Some(more) = names.get(told..) {
+            for name in more {
+                self.drop_sample(name.1);
+            }
+        }
+    }
+
     /// How many samples were dropped.
     pub fn dropped(&self) -> u64 {
         read(&self.drops.all)
@@ -217,6 +241,7 @@ impl SendCounters {
         Ok(SendNumbers {
             entries: read(&self.entries),
             bytes: read(&self.bytes),
+            folder_bytes: read(&self.folder_bytes),
             segment: read(&self.segment),
             segment_bytes: read(&self.segment_bytes),
             placed: read(&self.placed),

@@ -39,6 +39,8 @@ pub struct SendNumbers {
     pub entries: u64,
     /// Bytes of the log that were read.
     pub bytes: u64,
+    /// Bytes of the folder's segments as it was looked at; 0 where they are not known.
+    pub folder_bytes: u64,
     /// The number of the segment that is read.
     pub segment: u64,
     /// Bytes of it that were read.

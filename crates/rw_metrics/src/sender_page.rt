@@ -29,6 +29,12 @@ fn push_reading(out: &mut Vec<u8>, n: &SendNumbers) -> Result<(), AllocError>
     )?;
     push_gauge(
         out,
+        "rwship_send_folder_bytes",
+        "Bytes of the segments in the folder; 0 where they are not known.",
+        n.folder_bytes,
+    )?;
+    push_gauge(
+        out,
         "rwship_send_segment",
         "Number of the segment that is read.",
         n.segment,

@@ -8,10 +8,13 @@ use std::alloc::{AllocError, Global};
 use std::net::{Shutdown, TcpListener, TcpStream};
 use std::thread;
 use std::thread::Threads;
-use std::time::Duration;
+use std::time::{Clock, Duration};
 
 /// How many bytes of a head are read.
 const LONGEST_HEAD: usize = 4_096;
+
+/// For how many milliseconds nothing is accepted where an accept has failed, as for want of descriptors.
+const NAP_MS: u64 = 200;
 
 /// For how many seconds a read or a write waits.
 const PATIENCE_SECONDS: u64 = 2;
@@ -87,22 +90,25 @@ fn serve_one(alloc: Global, stream: &TcpStream, counters: &Counters) {
 }
 
 /// Serves one connection after another, as long as the listener accepts.
-fn serve(alloc: Global, listener: &TcpListener, counters: &Counters) {
+fn serve<C: Clock>(clock: &C, alloc: Global, listener: &TcpListener, counters: &Counters) {
     for stream in listener.incoming() {
-        if let Ok(stream) = stream {
-            serve_one(alloc, &stream, counters);
+        match stream {
+            Ok(stream) => serve_one(alloc, &stream, counters),
+            Err(_) => thread::sleep(clock, Duration::from_millis(NAP_MS)),
         }
     }
 }
 
 /// Answers `GET /metrics` with the page of the counters, over one connection after another, in a thread that nobody joins: it ends with the process.
-pub fn serve_metrics<R: Threads>(
+/// An accept that fails is made again after a nap.
+pub fn serve_metrics<R: Threads, C: Clock + Copy + Send + 'static>(
     rt: &R,
+    clock: C,
     alloc: Global,
     listener: TcpListener,
     counters: Counters,
 ) -> Result<(), AllocError> {
-    match thread::spawn(rt, move || serve(alloc, &listener, &counters)) {
+    match thread::spawn(rt, move || serve(&clock, alloc, &listener, &counters)) {
         Ok(server) => {
             drop(server);
             Ok(())

@@ -24,9 +24,10 @@ impl<R: Wait, L: Ledger> Answer for Counting<'_, R, L> {
 
     fn answer(&mut self, body: &[u8]) -> u16 {
         let before = self.seat.stored();
-        let status = self.seat.answer(self.rt, self.shared, body);
+        let asked = self.seat.ask(self.rt, self.shared, body);
         let stored = self.seat.stored().saturating_sub(before);
-        self.counters.answer(status, stored);
-        status
+        self.counters.answer(asked.status, stored);
+        self.counters.hold_label_sets(asked.label_sets);
+        asked.status
     }
 }

@@ -1,8 +1,8 @@
 -- What a request through a seat does to the number of samples that the seat stored.
-use Rattle.std.specs.Prelude.{◌≡◌, ◌≢◌, ℕ, ◌+◌, ◌-◌, ◌^◌, ◌≤◌, List, Ok}
+use Rattle.std.specs.Prelude.{◌≡◌, ◌≢◌, ℕ, ◌+◌, ◌-◌, ◌^◌, ◌≤◌, List, length, Ok}
 use Rattle.rw_write_request.specs.Message.{WriteRequest}
 use Rattle.rw_write_request.specs.Read.{read}
-use Rattle.rw_recv_head.specs.Store.{Store, total}
+use Rattle.rw_recv_head.specs.Store.{Store, total, label_sets}
 use Rattle.rw_recv_head.specs.Growth.{EachRises, sample_count}
 
 -- the body spells a message, and at most its samples were stored
@@ -14,6 +14,13 @@ pub record HasAsked (old : ℕ) (body : List ℕ) (status new : ℕ) : Type 0 wh
   pub never_falls : old ≤ new
   pub refused : status ≢ 204 → new ≡ old
   pub taken : status ≡ 204 → HasStored body old new
+
+-- a head has samples of so many label sets, and at least so many samples, in lists whose timestamps rise
+pub record HasLabelSets (least count : ℕ) : Type 0 where
+  pub store : Store
+  pub rises : EachRises store
+  pub samples : least ≤ total store
+  pub counted : count ≡ length (label_sets store)
 
 -- how many samples a head held when it was shared, and among how many seats
 pub record Opening : Type 0 where

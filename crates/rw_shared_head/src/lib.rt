@@ -7,5 +7,5 @@ mod seat;
 mod shared_head;
 
 pub use asking::Asking;
-pub use seat::Seat;
+pub use seat::{Asked, Seat};
 pub use shared_head::SharedHead;

@@ -1,8 +1,8 @@
 //! What the lock keeps.
 
-ghost use Rattle.std.specs.Prelude.{◌≡◌, ◌≢◌, ◌+◌, ◌≤◌};
+ghost use Rattle.std.specs.Prelude.{◌≡◌, ◌≢◌, ◌+◌, ◌≤◌, length};
 ghost use Rattle.rw_recv_head.specs.Head.{answer, IsStatus};
-ghost use Rattle.rw_recv_head.specs.Store.{total};
+ghost use Rattle.rw_recv_head.specs.Store.{total, label_sets};
 ghost use Rattle.rw_recv_head.specs.Growth.{EachRises};
 ghost use Rattle.rw_shared_head.specs.Seats.{most, HasAsked};
 
@@ -67,5 +67,19 @@ impl<L: Ledger> Locked<L> {
         let status = self.head.answer(body);
         seat.take(all, &mut self.rest, self.head.total() - before);
         status
+    }
+
+    /// Of how many label sets the head has samples. At that moment it has what it had at the start, and what this seat stored.
+    pub(crate) fn label_sets(&mut self, all: &Total<L>, seat: &mut Seat<L>) -> usize
+        requires fits { all.now.amount ≤ most }
+        ensures counted { result ≡ length (label_sets self.old.store) }
+        ensures rises { EachRises self.old.store }
+        ensures held { most + seat.old ≤ total self.old.store + all.now.amount }
+        ensures head { self.new ≡ self.old }
+        ensures seat { seat.new ≡ seat.old }
+    {
+        let left = u64::MAX - self.head.total();
+        seat.compare(all, &mut self.rest, left);
+        self.head.places()
     }
 }

@@ -2,12 +2,21 @@
 
 ghost use Rattle.std.specs.Prelude.{◌≡◌, ◌+◌, ◌≤◌, ◌<◌};
 ghost use Rattle.rw_recv_head.specs.Head.{IsStatus};
-ghost use Rattle.rw_shared_head.specs.Seats.{most, HasAsked};
+ghost use Rattle.rw_shared_head.specs.Seats.{most, HasAsked, HasLabelSets};
 
 use crate::shared_head::SharedHead;
 use std::marker::Model;
 use std::sync::Wait;
 use std::sync::ledger::{Ledger, Share, Total};
+
+/// How a request was answered.
+#[derive(Clone, Copy, Debug, PartialEq, Eq)]
+pub struct Asked {
+    /// 204, 400, 429 or 503.
+    pub status: u16,
+    /// Of how many label sets the head has samples from then on.
+    pub label_sets: usize,
+}
 
 /// The right of one thread to ask a shared head. Contracts see how many samples its requests stored.
 #[derive(Drop)]
@@ -50,6 +59,20 @@ impl<L: Ledger> Seat<L> {
         self.stored += count;
     }
 
+    /// What is left in the ledger, with what this seat stored, is no more than all.
+    pub(crate) fn compare(&mut self, all: &Total<L>, rest: &mut Share<L>, left: u64)
+        requires amount { left ≡ rest.old.amount }
+        requires part { 0 < rest.old.parts }
+        ensures within { left + self.old ≤ all.now.amount }
+        ensures seat { self.new ≡ self.old }
+        ensures parts { rest.new.parts ≡ rest.old.parts }
+        ensures rest { rest.new.amount ≡ rest.old.amount }
+    {
+        rest.transfer(&mut self.share, left);
+        all.audit(&mut self.share);
+        self.share.transfer(rest, left);
+    }
+
     /// Gives the share back.
     pub(crate) fn into_share(self) -> Share<L>
         ensures parts { result.parts ≡ 1 }
@@ -70,6 +93,16 @@ impl<L: Ledger> Seat<L> {
         ensures statuses { IsStatus result }
         ensures asked { HasAsked self.old body.now result self.new }
     {
-        shared.answer(rt, self, body)
+        self.ask(rt, shared, body).status
+    }
+
+    /// The same, with the number of label sets of which the head has samples from then on: those that it had at the start, and those of what
+    /// this seat stored, are among them.
+    pub fn ask<R: Wait>(&mut self, rt: &R, shared: &SharedHead<L>, body: &[u8]) -> Asked
+        ensures statuses { IsStatus result.status }
+        ensures asked { HasAsked self.old body.now result.status self.new }
+        ensures label_sets { HasLabelSets (shared.now.start + self.new) result.label_sets }
+    {
+        shared.ask(rt, self, body)
     }
 }

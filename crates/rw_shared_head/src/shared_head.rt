@@ -4,10 +4,10 @@ ghost use Rattle.std.specs.Prelude.{◌≡◌, ◌+◌, ◌<◌, All, IfOk, IfEr
 ghost use Rattle.rw_recv_head.specs.Head.{IsStatus};
 ghost use Rattle.rw_recv_head.specs.Store.{total};
 ghost use Rattle.rw_recv_head.specs.Growth.{EachRises};
-ghost use Rattle.rw_shared_head.specs.Seats.{HasAsked};
+ghost use Rattle.rw_shared_head.specs.Seats.{HasAsked, HasLabelSets};
 
 use crate::locked::Locked;
-use crate::seat::Seat;
+use crate::seat::{Asked, Seat};
 use rw_recv_head::Head;
 use std::alloc::{AllocError, Global};
 use std::marker::Model;
@@ -67,11 +67,15 @@ impl<L: Ledger> SharedHead<L> {
     }
 
     /// The answer to a body from a seat, under the lock.
-    pub(crate) fn answer<R: Wait>(&self, rt: &R, seat: &mut Seat<L>, body: &[u8]) -> u16
-        ensures statuses { IsStatus result }
-        ensures asked { HasAsked seat.old body.now result seat.new }
+    pub(crate) fn ask<R: Wait>(&self, rt: &R, seat: &mut Seat<L>, body: &[u8]) -> Asked
+        ensures statuses { IsStatus result.status }
+        ensures asked { HasAsked seat.old body.now result.status seat.new }
+        ensures label_sets { HasLabelSets (self.now.start + seat.new) result.label_sets }
     {
-        self.locked.lock(rt).answer(&self.all, seat, body)
+        let mut locked = self.locked.lock(rt);
+        let status = locked.answer(&self.all, seat, body);
+        let label_sets = locked.label_sets(&self.all, seat);
+        Asked { status, label_sets }
     }
 
     /// Gives the head back, once all seats are back. This takes no memory and waits for nobody.

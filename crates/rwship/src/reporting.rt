@@ -33,7 +33,7 @@ fn serve_at<R: Threads>(
 ) -> Result<(), ToolFault> {
     match TcpListener::bind(rt, (address.name(), address.port)) {
         Ok(listener) => {
-            serve_metrics(threads, rt.alloc(), listener, counters.share()?)?;
+            serve_metrics(threads, *rt, rt.alloc(), listener, counters.share()?)?;
             Ok(())
         }
         Err(_) => Err(ToolFault::Device),

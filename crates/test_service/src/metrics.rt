@@ -12,6 +12,7 @@ use std::net::{Net, SocketAddr, TcpListener, TcpStream};
 use std::sync::Arc;
 use std::test::Fail;
 use std::thread::Threads;
+use std::time::Clock;
 
 /// A request, and how its reply begins.
 type Row<'a> = (&'a [u8], &'a [u8]);
@@ -46,6 +47,9 @@ rwship_receive_requests_total{code=\"429\"} 1
 # HELP rwship_receive_samples_held Samples that are held.
 # TYPE rwship_receive_samples_held gauge
 rwship_receive_samples_held 17
+# HELP rwship_receive_label_sets Label sets of which samples are held.
+# TYPE rwship_receive_label_sets gauge
+rwship_receive_label_sets 3
 ";
 
 /// What is replied to a request that is all that a client writes.
@@ -64,14 +68,13 @@ fn reply_to<N: Net<Stream = TcpStream>>(
 }
 
 /// The first request that is answered otherwise, by the page of a receiver that has done nothing.
-fn wrong_reply<N: Net<Stream = TcpStream, Listener = TcpListener> + Threads>(
-    rt: &N,
-    alloc: Global,
-) -> io::Result<Option<usize>> {
+fn wrong_reply<
+    N: Net<Stream = TcpStream, Listener = TcpListener> + Threads + Clock + Copy + Send + 'static,
+>(rt: &N, alloc: Global) -> io::Result<Option<usize>> {
     let listener = TcpListener::bind(rt, "127.0.0.1:0")?;
     let address = listener.local_addr()?;
     let counters = Arc::new(alloc, ReceiveCounters::new(alloc)?)?;
-    serve_metrics(rt, alloc, listener, Counters::Receive(counters))?;
+    serve_metrics(rt, *rt, alloc, listener, Counters::Receive(counters))?;
     for (i, row) in ASKED.iter().enumerate() {
         let reply = reply_to(rt, alloc, address, row.0)?;
         if !reply.starts_with(row.1) || reply.is_empty() != row.1.is_empty() {
@@ -98,6 +101,8 @@ fn is_counted(alloc: Global) -> Result<bool, AllocError> {
     counters.answer(204, 10);
     counters.answer(204, 7);
     counters.answer(429, 0);
+    counters.hold_label_sets(3);
+    counters.hold_label_sets(2);
     let page = receive_page(alloc, &counters.numbers(alloc)?)?;
     Ok(page.as_slice() == PAGE)
 }
@@ -108,6 +113,9 @@ fn a_receiver_counts(rt: HostRuntime) -> Result<(), Fail> {
     Ok(())
 }
 
+/// What is dropped of a log.
+static DROPPED: [(u64, Reason); 2] = [(3, Reason::NoSeries), (5, Reason::NotRising)];
+
 /// Whether these are the lines of a sender that has done something.
 fn are_told(alloc: Global) -> Result<bool, AllocError> {
     let counters = SendCounters::new(alloc)?;
@@ -117,8 +125,10 @@ fn are_told(alloc: Global) -> Result<bool, AllocError> {
     counters.set_shards(4);
     counters.set_load(1200, 1100, 100);
     counters.set_load(1200, 1000, 200);
+    counters.set_folder_bytes(1000);
+    counters.drop_unsent(&DROPPED[..1]);
+    counters.drop_unsent(&DROPPED);
     counters.drop_sample(Reason::Status(400));
-    counters.drop_sample(Reason::NotRising);
     counters.attempt();
     counters.fail(Cause::Connect);
     counters.fail(Cause::Status(503));
@@ -126,11 +136,11 @@ fn are_told(alloc: Global) -> Result<bool, AllocError> {
     let line = send_line(alloc, &numbers)?;
     let drops = drops_line(alloc, &numbers.drops)?;
     Ok(
-        counters.dropped() == 2
+        counters.dropped() == 3
             && drops.as_slice()
-                == b"dropped 2 noseries 0 badlabels 0 notrising 1 status_400 1".as_slice()
+                == b"dropped 3 noseries 1 badlabels 0 notrising 1 status_400 1".as_slice()
             && line.as_slice()
-                == b"entries 1234 placed 1200 resolved 1100 dropped 2 filtered 0 waiting 200 shards 4 attempts 1 failed 2 last status_503 segment 7 bytes 456".as_slice(),
+                == b"entries 1234 placed 1200 resolved 1100 dropped 3 filtered 0 waiting 200 shards 4 attempts 1 failed 2 last status_503 segment 7 bytes 456 percent 45".as_slice(),
     )
 }
 

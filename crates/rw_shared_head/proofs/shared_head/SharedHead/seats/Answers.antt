@@ -1,4 +1,4 @@
-use Rattle.std.proofs.Common.{◌≡◌, ℕ, All, rules, subst, sym}
+use Rattle.std.proofs.Common.{◌≡◌, All, rules, subst, sym}
 use Rattle.std.proofs.lemmas.List.Elements.{All-push}
 use Rattle.rw_shared_head.proofs.shared_head.SharedHead.seats.Goals as goal
 
