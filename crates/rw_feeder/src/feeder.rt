@@ -142,6 +142,20 @@ impl Feeder {
         self.count
     }
 
+    /// The samples that were dropped so far. This takes no memory, and its time does not grow.
+    pub fn dropped(&self) -> &Ledger
+        ensures { result.now.names ≡ named (dropped self.now.choice self.now.placed) }
+    {
+        &self.part
+    }
+
+    /// How many samples were placed so far whose series the rules drop.
+    pub fn filtered(&self) -> u64
+        ensures { result ≡ length (filtered self.now.choice self.now.placed) }
+    {
+        self.router.filtered()
+    }
+
     /// The samples that were dropped, and how many samples were placed whose series the rules drop.
     pub fn finish(self) -> (Ledger, u64)
         ensures names { result.0.names ≡ named (dropped self.choice self.placed) }

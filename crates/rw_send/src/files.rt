@@ -40,6 +40,16 @@ impl<R> SegmentFile<R> {
     }
 }
 
+impl<R: Files> SegmentFile<R> {
+    /// How many bytes it has now; none where that cannot be asked.
+    fn bytes(&self) -> u64 {
+        match fs::metadata(&self.rt, self.path.as_path()) {
+            Ok(metadata) => metadata.len(),
+            Err(_) => 0,
+        }
+    }
+}
+
 impl<R: Files<File = File>> Open for SegmentFile<R> {
     type S = Std<File>;
 
@@ -144,7 +154,7 @@ fn file_of<R: Files + AllocGlobal + Copy>(
 
 /// The segments of a log in a folder, in the order of their numbers: the files whose names are one to eight decimal digits, and of two names
 /// of one number the shorter first. Other names are passed over. Of a folder that cannot be read there is one segment, which cannot be read.
-/// Counters are told of each segment that is opened.
+/// Counters are told how many bytes the segments have, and of each one that is opened.
 pub fn segment_files<R: Files<File = File> + AllocGlobal + Copy>(
     rt: &R,
     dir: &str,
@@ -154,8 +164,14 @@ pub fn segment_files<R: Files<File = File> + AllocGlobal + Copy>(
     let mut files = Vec::new(alloc);
     match names_in(rt, dir) {
         Ok(names) => {
+            let mut bytes = 0u64;
             for segment in names {
-                files.push(Opened::new(file_of(rt, dir, segment, counters)?))?;
+                let file = file_of(rt, dir, segment, counters)?;
+                bytes = bytes.saturating_add(file.bytes());
+                files.push(Opened::new(file))?;
+            }
+            if let Some(counters) = counters {
+                counters.set_folder_bytes(bytes);
             }
         }
         Err(ToolFault::OutOfMemory) => return Err(AllocError),

@@ -14,7 +14,7 @@ use crate::printing::print_report;
 use crate::send::{Sent, stopped};
 use crate::sharding::Sharding;
 use crate::shipping::zeros;
-use crate::telling::{Counted, Means, tell_report};
+use crate::telling::{Counted, Means, tell, tell_report};
 use rw_follow::{Broken, Segments, Stop, Watch};
 use rw_sender::Config;
 use rw_settings::Settings;
@@ -93,6 +93,7 @@ fn ship_on<
     let mut shipper = Shipper::start(rt, alloc, config, connect)?;
     let means = Means { alloc, counters };
     let ended = ship_live(rt, means, &mut shipper, sharding, segments, watch, &mut buf);
+    tell(counters, &shipper);
     let Sent { report, answer } = stopped(rt, shipper, shipped_by(ended));
     tell_report(counters, &report);
     Ok(Followed {

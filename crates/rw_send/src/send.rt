@@ -12,7 +12,7 @@ use crate::halt::Halt;
 use crate::printing::print_report;
 use crate::sharding::Sharding;
 use crate::shipping::ship_all;
-use crate::telling::{Counted, Means, tell_report};
+use crate::telling::{Counted, Means, tell, tell_report};
 use rw_sender::Config;
 use rw_settings::Settings;
 use rw_shipper::{Connect, Outcome, Report, Shipper};
@@ -94,6 +94,7 @@ fn ship<R: Threads + Wait + Clock + Copy + Send + 'static, S: Source + Drop, C: 
     let mut shipper = Shipper::start(rt, alloc, config, connect)?;
     let means = Means { alloc, counters };
     let shipped = ship_all(rt, means, &mut shipper, sharding, segments);
+    tell(counters, &shipper);
     let sent = stopped(rt, shipper, shipped);
     tell_report(counters, &sent.report);
     Ok(sent)

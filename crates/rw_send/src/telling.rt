@@ -1,5 +1,6 @@
 //! Counters are told what a shipper does.
 
+use rw_ledger::{Ledger, Reason};
 use rw_metrics::SendCounters;
 use rw_shipper::{Connect, Report, Shipper};
 use std::alloc::Global;
@@ -18,20 +19,28 @@ pub(crate) struct Means<'a> {
     pub(crate) counters: &'a SendCounters,
 }
 
-/// Tells how far a shipper has come.
+/// Tells how far a shipper has come, and what it has dropped and filtered of the log so far.
 pub(crate) fn tell<C: Connect + Drop>(counters: &SendCounters, shipper: &Shipper<C>) {
     let load = shipper.load();
     counters.set_entries(shipper.entries_read());
     counters.set_load(load.placed, load.resolved, load.backlog);
+    counters.set_filtered(shipper.filtered());
+    counters.drop_unsent(shipper.dropped().iter().as_slice());
 }
 
-/// Tells how far a shipper came that has stopped, and what it dropped.
-pub(crate) fn tell_report<T>(counters: &SendCounters, report: &Report<T>) {
-    counters.set_filtered(report.filtered);
-    for part in &report.parts {
-        for name in part.iter() {
+/// Tells what a worker has dropped that has stopped: the samples of the batches that were refused.
+fn tell_refused(counters: &SendCounters, part: &Ledger) {
+    for name in part.iter() {
+        if let Reason::Status(_) = name.1 {
             counters.drop_sample(name.1);
         }
+    }
+}
+
+/// Tells how far a shipper came that has stopped, and what its workers dropped. What was dropped and filtered of the log was told before.
+pub(crate) fn tell_report<T>(counters: &SendCounters, report: &Report<T>) {
+    for part in &report.parts {
+        tell_refused(counters, part);
     }
     let mut resolved = 0u64;
     for worker in &report.workers {

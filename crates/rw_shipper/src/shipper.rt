@@ -8,6 +8,7 @@ ghost use Rattle.rw_fleet.specs.Fleets.{EndBy};
 ghost use Rattle.rw_fleet.specs.Loads.{IsLoad};
 ghost use Rattle.rw_types.specs.declared.entry.Entry.{Entry};
 ghost use Rattle.rw_codes.specs.Pieces.{entries};
+ghost use Rattle.rw_feeder.specs.Logs.{named, dropped, filtered};
 ghost use Rattle.rw_sender.specs.Configs.{choice_of};
 ghost use Rattle.rw_shipper.specs.Reports.{IsAbandoned, IsAbandonedAt, ListsCut, end_of, kind_of};
 ghost use Rattle.rw_shipper.specs.Shipping.{answer_to, FailsBy, Feeds, Joins, HasCompared, HasStopped, PlacesAll};
@@ -263,6 +264,21 @@ impl<C: Connect + Drop> Shipper<C> {
         ensures { result ≡ length self.now.log.placed }
     {
         self.feeder.count()
+    }
+
+    /// The samples that were dropped so far without being put into a queue, as the report will name them. Those of a batch that the receiver has
+    /// refused are not among them: their workers name them, and the report has them.
+    pub fn dropped(&self) -> &Ledger
+        ensures { result.now.names ≡ named (dropped self.now.log.choice self.now.log.placed) }
+    {
+        self.feeder.dropped()
+    }
+
+    /// How many samples were placed so far whose series the rules drop, as the report will count them.
+    pub fn filtered(&self) -> u64
+        ensures { result ≡ length (filtered self.now.log.choice self.now.log.placed) }
+    {
+        self.feeder.filtered()
     }
 
     /// How far the samples have come, as far as the workers have told: advice on how many shards are wanted. Samples that only wait for a

@@ -1,7 +1,11 @@
 use Rattle.std.proofs.Common.{refl, ap, ◌∙◌}
 use Rattle.rw_feeder.specs.Feeders.{Sorting}
-use Rattle.rw_send.proofs.FollowLemmas.{follow_so}
+use Rattle.rw_send.proofs.FollowLemmas.{follow_so, halts_so}
 use Rattle.rw_send.proofs.following.ship_on.Goals as goal
+
+pub stopped-report-requires-clause-halted : goal.stopped-report-requires-clause-halted
+stopped-report-requires-clause-halted g c κs within =
+    halts_so c.ship_live-ended.new.shipper _ c.ship_live-ended.result c.shipped_by.result c.shipped_by.ensures c.ship_live-ended.ensures.cut
 
 pub returns : goal.returns
 returns g c =
