@@ -17,18 +17,48 @@ pub struct Timed<K, G> {
     patience: Duration,
     /// Since when something waits.
     waits_since: Option<Instant>,
+    /// Between two times that the number of shards is asked for.
+    reshard: Duration,
+    /// When it was asked for.
+    asked_at: Option<Instant>,
     said: Wish,
 }
 
+/// Whether so much time has passed since a moment, which is forgotten then. Where there is no moment, it is now. None where the clock cannot be read.
+fn has_passed<K: Clock>(clock: &K, since: &mut Option<Instant>, time: Duration) -> Option<bool> {
+    let Ok(now) = Instant::now(clock) else {
+        return None;
+    };
+    match *since {
+        Some(moment) if now.saturating_duration_since(moment) >= time => {
+            *since = None;
+            Some(true)
+        }
+        Some(_) => Some(false),
+        None => {
+            *since = Some(now);
+            Some(false)
+        }
+    }
+}
+
 impl<K: Clock, G: Sign> Timed<K, G> {
-    /// Looks as often as `poll` says, and has what waits flushed after `patience`.
-    pub fn new(clock: K, sign: G, poll: Duration, patience: Duration) -> Timed<K, G> {
+    /// Looks as often as `poll` says, has what waits flushed after `patience`, and the number of shards asked for as often as `reshard` says.
+    pub fn new(
+        clock: K,
+        sign: G,
+        poll: Duration,
+        patience: Duration,
+        reshard: Duration,
+    ) -> Timed<K, G> {
         Timed {
             clock,
             sign,
             poll,
             patience,
             waits_since: None,
+            reshard,
+            asked_at: None,
             said: Wish::Work,
         }
     }
@@ -48,19 +78,11 @@ impl<K: Clock, G: Sign> Watch for Timed<K, G> {
 
     /// What cannot be timed is flushed.
     fn is_flush_due(&mut self) -> bool {
-        let Ok(now) = Instant::now(&self.clock) else {
-            return true;
-        };
-        match self.waits_since {
-            Some(since) if now.saturating_duration_since(since) >= self.patience => {
-                self.waits_since = None;
-                true
-            }
-            Some(_) => false,
-            None => {
-                self.waits_since = Some(now);
-                false
-            }
-        }
+        has_passed(&self.clock, &mut self.waits_since, self.patience).unwrap_or(true)
+    }
+
+    /// What cannot be timed is not asked for.
+    fn is_reshard_due(&mut self) -> bool {
+        has_passed(&self.clock, &mut self.asked_at, self.reshard).unwrap_or(false)
     }
 }

@@ -19,7 +19,7 @@ pub trait Sign {
     fn wish(&mut self) -> Wish;
 }
 
-/// What a follower asks between two looks at a log.
+/// What is asked between two looks at a log, by a follower and by what is fed with what it gives.
 pub trait Watch {
     ghost use Rattle.rw_follow.specs.declared.watch.Wish.{Wish};
 
@@ -35,4 +35,7 @@ pub trait Watch {
 
     /// Whether what was fed since the last flush has waited long enough. It is asked while something waits.
     fn is_flush_due(&mut self) -> bool;
+
+    /// Whether the number of shards is to be asked for again. It is asked at each turn.
+    fn is_reshard_due(&mut self) -> bool;
 }

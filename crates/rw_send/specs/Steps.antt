@@ -1,5 +1,5 @@
 -- How the segments of a log are shipped one after another, and how many shards there are for each.
-use Rattle.std.specs.Prelude.{◌≡◌, ◌⊎◌, ℕ, ◌+◌, Bool, true, false, List, [], ◌∷◌, Option, length}
+use Rattle.std.specs.Prelude.{◌≡◌, ◌⊎◌, ℕ, ◌+◌, ◌-◌, Bool, true, false, List, [], ◌∷◌, Option, length}
 use Rattle.rw_codes.specs.Pieces.{Piece, entries}
 use Rattle.rw_fleet.specs.Fleets.{Shards}
 use Rattle.rw_fleet.specs.Lanes.{AreFresh}
@@ -20,6 +20,10 @@ pub record StaysOpen {T : Type 0} (old new : Shipping T) : Type 0 where
 -- how many shards are wanted where there are n, under this load
 abbrev pub wanted_under : (fewest most n : ℕ) → Load → ℕ
 wanted_under fewest most n load = wanted n load.placed load.resolved load.backlog fewest most
+
+-- the same, by what was placed and resolved beyond so much
+abbrev pub wanted_since : (fewest most n placed resolved : ℕ) → Load → ℕ
+wanted_since fewest most n placed resolved load = wanted n (load.placed - placed) (load.resolved - resolved) load.backlog fewest most
 
 -- the next epoch has begun, once all that was put in those before it was resolved
 pub record IsNextEpoch {T : Type 0} (old new : Shards T) : Type 0 where

@@ -10,7 +10,7 @@ ghost use Rattle.rw_send.specs.Segments.{AreShort};
 ghost use Rattle.rw_send.specs.Sending.{IsHalted, IsKept};
 
 use crate::halt::Halt;
-use crate::sharding::{Sharding, resharded};
+use crate::sharding::{Sharding, resharded, retuned};
 use crate::shipping::begin_segment;
 use crate::telling::{Means, tell};
 use rw_follow::{Broken, Follower, Segments, Stop, Turn, Watch};
@@ -148,6 +148,34 @@ fn obey<R: Threads + Wait + Clock + Copy + Send + 'static, C: Connect + Drop>(
     }
 }
 
+/// Sets the number of shards where that is due, and does what a turn of a follower asks for.
+fn step<R: Threads + Wait + Clock + Copy + Send + 'static, C: Connect + Drop>(
+    rt: &R,
+    alloc: Global,
+    shipper: &mut Shipper<C>,
+    sharding: Sharding,
+    is_reshard_due: bool,
+    turn: Turn,
+    buf: &[u8],
+) -> Result<Sharding, Halt>
+    requires live { shipper.old.fault ≡ None }
+    requires shards { length shipper.old.fleet.current ≡ sharding.shards }
+    requires within { IsWithin turn (length buf.now) }
+    requires short { length buf.now ≤ 65_536 }
+    ensures kept { IsKept shipper.old shipper.new }
+    ensures shards { IfOk result (λ s. length shipper.new.fleet.current ≡ s.shards) }
+    ensures short { AreShort shipper.old.log.pieces → AreShort shipper.new.log.pieces }
+    ensures live { OnOk result (shipper.new.fault ≡ None) }
+    ensures fed { OnOk result (meal_of shipper.new.log.pieces ≡ given_by turn buf.now (meal_of shipper.old.log.pieces)) }
+    ensures part { OnErr result ((meal_of shipper.new.log.pieces ≡ meal_of shipper.old.log.pieces)
+        ⊎ (meal_of shipper.new.log.pieces ≡ given_by turn buf.now (meal_of shipper.old.log.pieces))) }
+
+    ensures halted { IfErr result (IsHalted shipper.new) }
+{
+    let next = retuned(rt, shipper, sharding, is_reshard_due)?;
+    obey(rt, alloc, shipper, next, turn, buf)
+}
+
 /// Tells of a turn that was done.
 fn tell_turn<C: Connect + Drop>(means: Means<'_>, shipper: &Shipper<C>, shards: u32, turn: Turn) {
     if let Turn::Piece(count) = turn {
@@ -193,7 +221,8 @@ pub(crate) fn ship_live<
         if let Turn::Stopped(stop) = turn {
             return Ok(stop);
         }
-        sharding = obey(rt, means.alloc, shipper, sharding, turn, buf)?;
+        let is_due = watch.is_reshard_due();
+        sharding = step(rt, means.alloc, shipper, sharding, is_due, turn, buf)?;
         tell_turn(means, shipper, sharding.shards, turn);
     }
     unreachable!()

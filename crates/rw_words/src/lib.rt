@@ -42,6 +42,8 @@ pub struct Following<'a> {
     pub poll_ms: Bounded<10, 60_000>,
     /// So many milliseconds may a sample wait for a full batch.
     pub flush_ms: Bounded<10, 3_600_000>,
+    /// So many milliseconds lie between two times that the number of shards is asked for within a segment.
+    pub reshard_ms: Bounded<10, 3_600_000>,
 }
 
 /// How far a log is read.

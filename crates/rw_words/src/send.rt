@@ -61,6 +61,16 @@ fn flush_ms<'a>(alloc: Global) -> Result<Arg<'a>, AllocError> {
         .requires_arg("follow")
 }
 
+fn reshard_ms<'a>(alloc: Global) -> Result<Arg<'a>, AllocError> {
+    Arg::new(alloc, "reshard-ms")
+        .long("reshard-ms")
+        .value_name("N")
+        .value_parser(value_parser!(u32).range(10..=3_600_000))
+        .default_value("10000")
+        .help("With --follow: ask every N milliseconds how many shards are wanted, 10 to 3600000")
+        .requires_arg("follow")
+}
+
 fn fail_on_drop<'a>(alloc: Global) -> Arg<'a> {
     Arg::new(alloc, "fail-on-drop")
         .long("fail-on-drop")
@@ -80,6 +90,7 @@ pub(crate) fn send_command<'a>(alloc: Global) -> Result<Command<'a>, AllocError>
         .arg(stop_file(alloc)?)?
         .arg(poll_ms(alloc)?)?
         .arg(flush_ms(alloc)?)?
+        .arg(reshard_ms(alloc)?)?
         .arg(fail_on_drop(alloc))?
         .arg(progress(alloc))?
         .arg(metrics(alloc))
@@ -94,11 +105,13 @@ pub(crate) fn send_task<'a>(
     let to = read_address(options.get_str("to")?)?;
     let poll_ms = Bounded::new(options.get_one::<u32>("poll-ms")? as u64)?;
     let flush_ms = Bounded::new(options.get_one::<u32>("flush-ms")? as u64)?;
+    let reshard_ms = Bounded::new(options.get_one::<u32>("reshard-ms")? as u64)?;
     let reading = if options.get_flag("follow") {
         Reading::Follow(Following {
             stop_file: options.get_str("stop-file"),
             poll_ms,
             flush_ms,
+            reshard_ms,
         })
     } else {
         Reading::Whole

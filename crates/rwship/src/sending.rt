@@ -58,7 +58,8 @@ fn watch_of<R: Threads>(
     let told = Told::new(sign_of(rt, threads, following.stop_file)?);
     let poll = Duration::from_millis(following.poll_ms.get());
     let patience = Duration::from_millis(following.flush_ms.get());
-    Ok(Timed::new(*rt, told, poll, patience))
+    let reshard = Duration::from_millis(following.reshard_ms.get());
+    Ok(Timed::new(*rt, told, poll, patience, reshard))
 }
 
 /// Ships the segments of a folder while they grow, until told to stop, and prints the report.

@@ -2,12 +2,13 @@
 
 use rw_follow::{Sign, Watch, Wish};
 
-/// Says this wish once it was asked so often. What was fed is flushed at once, or never.
+/// Says this wish once it was asked so often. What was fed is flushed at once, or never, and so is the number of shards asked for.
 #[derive(Drop)]
 pub(crate) struct Countdown {
     pub(crate) looks: u32,
     pub(crate) wish: Wish,
     pub(crate) flushes: bool,
+    pub(crate) reshards: bool,
     pub(crate) said: Wish,
 }
 
@@ -34,6 +35,10 @@ impl Watch for Countdown {
 
     fn is_flush_due(&mut self) -> bool {
         self.flushes
+    }
+
+    fn is_reshard_due(&mut self) -> bool {
+        self.reshards
     }
 }
 

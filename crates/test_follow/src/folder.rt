@@ -114,7 +114,7 @@ fn followed<W: Wait>(
         at: 0,
     };
     let moment = Duration::from_millis(1);
-    let mut watch = Timed::new(*rt, writer, moment, moment);
+    let mut watch = Timed::new(*rt, writer, moment, moment, moment);
     let mut kept = Kept::new(alloc);
     let end = match follow_into(waits, &mut kept, &mut folder, &mut watch, &mut buf)? {
         Ok(_) => None,

@@ -72,6 +72,7 @@ fn followed<R: Wait>(
         looks: row.1,
         wish: row.2,
         flushes: true,
+        reshards: false,
         said: Wish::Work,
     };
     Ok(match follow_into(rt, kept, log, &mut watch, buf)? {

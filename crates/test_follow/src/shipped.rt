@@ -118,11 +118,12 @@ fn settings_of(alloc: Global) -> Result<Settings, AllocError> {
 /// What happens, after how many looks it is to stop, by which wish; the answer, and what is printed.
 type Row<'a> = (&'a [Part<'a>], u32, Wish, Result<(), FollowFault>, &'a [u8]);
 
-/// Whether a run does as a row says.
+/// Whether a run does as a row says, where the number of shards is asked for at each turn, or never.
 fn does<R: Threads + Wait + Clock + Copy + Send + 'static>(
     rt: &R,
     alloc: Global,
     row: &Row<'_>,
+    reshards: bool,
 ) -> Result<bool, AllocError> {
     let settings = settings_of(alloc)?;
     let mut log = log_of(alloc, row.0)?;
@@ -131,6 +132,7 @@ fn does<R: Threads + Wait + Clock + Copy + Send + 'static>(
         looks: row.1,
         wish: row.2,
         flushes: false,
+        reshards,
         said: Wish::Work,
     };
     let counters = SendCounters::new(alloc)?;
@@ -158,7 +160,7 @@ fn wrong_row<R: Threads + Wait + Clock + Copy + Send + 'static>(
     rows: &[Row<'_>],
 ) -> Result<Option<usize>, AllocError> {
     for (i, row) in rows.iter().enumerate() {
-        if !does(rt, alloc, row)? {
+        if !does(rt, alloc, row, false)? || !does(rt, alloc, row, true)? {
             return Ok(Some(i));
         }
     }
@@ -256,10 +258,12 @@ fn flushed<R: Threads + Wait + Clock + Copy + Send + 'static>(
         looks: 200,
         wish: Wish::Hard,
         flushes: false,
+        reshards: false,
         said: Wish::Work,
     };
     let poll = Duration::from_millis(5);
-    let mut watch = Timed::new(*rt, sign, poll, Duration::from_millis(20));
+    let patience = Duration::from_millis(20);
+    let mut watch = Timed::new(*rt, sign, poll, patience, patience);
     let counters = SendCounters::new(alloc)?;
     let line = Counted {
         connect: Receivers {
