@@ -1,5 +1,6 @@
 //! A body with each byte changed to each other value, and cut at each length.
 
+use crate::changed::{Readings, wrong_byte};
 use crate::plain_body::plain_spelling;
 use rw_write_request::{WireFault, decode, encode};
 use std::alloc::Global;
@@ -25,38 +26,15 @@ fn is_read(alloc: Global, body: &[u8]) -> bool {
     }
 }
 
-/// The first length of a body, more than so many bytes, at which it is read otherwise.
-fn wrong_length(alloc: Global, body: &[u8], least: usize) -> Option<usize> {
-    for len in 0..=body.len() {
-        if len > least && !is_read(alloc, &body[..len]) {
-            return Some(len);
-        }
-    }
-    None
-}
+struct Bodies;
 
-/// The first value of this byte with which the body, or a front of it that has the byte, is read otherwise.
-fn wrong_value(alloc: Global, at: usize) -> Option<u8> {
-    let mut body = ONE;
-    for value in 0..=255u8 {
-        body[at % 32] = value;
-        if wrong_length(alloc, &body, at).is_some() {
-            return Some(value);
-        }
+impl Readings for Bodies {
+    fn agree(&self, alloc: Global, text: &[u8]) -> bool {
+        is_read(alloc, text)
     }
-    None
-}
-
-fn wrong_byte(alloc: Global) -> Option<usize> {
-    for at in 0..32usize {
-        if wrong_value(alloc, at).is_some() {
-            return Some(at);
-        }
-    }
-    None
 }
 
 #[test]
 fn each_byte_changed_and_cut(rt: HostRuntime) {
-    assert_eq!(rt; wrong_byte(rt.alloc()), None);
+    assert_eq!(rt; wrong_byte(&Bodies, rt.alloc(), &ONE), Ok(None));
 }

@@ -7,15 +7,21 @@ mod bodies;
 #[cfg(test)]
 mod broken;
 #[cfg(test)]
+mod changed;
+#[cfg(test)]
 mod devices;
 #[cfg(test)]
 mod line;
 #[cfg(test)]
 mod plain_body;
 #[cfg(test)]
+mod plain_reply;
+#[cfg(test)]
 mod plain_segment;
 #[cfg(test)]
 mod refused;
+#[cfg(test)]
+mod replies;
 #[cfg(test)]
 mod requests;
 #[cfg(test)]

@@ -1,5 +1,6 @@
 //! A segment with each byte changed to each other value, and cut at each length.
 
+use crate::changed::{Readings, wrong_byte};
 use crate::plain_segment::{Reading, plain_reading};
 use rw_types::Entry;
 use rw_wal_tail::{Tail, TailFault};
@@ -48,38 +49,15 @@ fn is_read(alloc: Global, page: &[u8]) -> bool {
         && given(&mut tail) == Some(plain_reading(page, &[&UP[7..29], &UP[36..63]]))
 }
 
-/// The first length of a page, more than so many bytes, at which it is read otherwise.
-fn wrong_length(alloc: Global, page: &[u8], least: usize) -> Option<usize> {
-    for len in 0..=page.len() {
-        if len > least && !is_read(alloc, &page[..len]) {
-            return Some(len);
-        }
-    }
-    None
-}
+struct Segments;
 
-/// The first value of this byte with which the segment, or a front of it that has the byte, is read otherwise.
-fn wrong_value(alloc: Global, at: usize) -> Option<u8> {
-    let mut page = UP;
-    for value in 0..=255u8 {
-        page[at % 63] = value;
-        if wrong_length(alloc, &page, at).is_some() {
-            return Some(value);
-        }
+impl Readings for Segments {
+    fn agree(&self, alloc: Global, text: &[u8]) -> bool {
+        is_read(alloc, text)
     }
-    None
-}
-
-fn wrong_byte(alloc: Global) -> Option<usize> {
-    for at in 0..63usize {
-        if wrong_value(alloc, at).is_some() {
-            return Some(at);
-        }
-    }
-    None
 }
 
 #[test]
 fn each_byte_changed_and_cut(rt: HostRuntime) {
-    assert_eq!(rt; wrong_byte(rt.alloc()), None);
+    assert_eq!(rt; wrong_byte(&Segments, rt.alloc(), &UP), Ok(None));
 }
