@@ -9,7 +9,7 @@ use Rattle.rw_fleet.specs.Lanes.{Lane, AreSame, AreFresh, IsPut, put_as}
 use Rattle.rw_router.specs.declared.sample.RoutedSample.{RoutedSample}
 use Rattle.rw_feeder.specs.Feeders.{sent_by}
 use Rattle.rw_feeder.specs.Logs.{Sent}
-use Rattle.rw_shipper.specs.Placement.{as_sent, put_in, shard_of, of_shard, IsDealt, Places, joined, IsPlacing, ArePlaced}
+use Rattle.rw_shipper.specs.Placement.{as_sent, put_in, shard_of, of_shard, IsKept, AreKept, IsDealt, Places, joined, IsPlacing, ArePlaced}
 
 pub same_length : (ps qs : List Lane) → AreSame ps qs → length qs ≡ length ps
 same_length [] [] h = refl
@@ -27,6 +27,36 @@ same_get (x ∷ xs) [] k q h e = absurd h
 same_get (x ∷ xs) (y ∷ ys) zero q h e =
     let is : y ≡ q = some_is y q e in (x, refl, ap (λ (f : Lane). f.setup) (sym is) ∙ h.0, ap (λ (f : Lane). put_in f) (sym is) ∙ ap (map as_sent) h.1)
 same_get (x ∷ xs) (y ∷ ys) (suc k) q h e = same_get xs ys k q h.2 e
+
+pub same_self : (qs : List Lane) → AreSame qs qs
+same_self [] = tt
+same_self (q ∷ qs) = (refl, refl, same_self qs)
+
+kept_one : (q : Lane) → IsKept q q
+kept_one q = (refl, [], sym (append-nil (samples_in q.put)))
+
+pub kept_self : (qs : List Lane) → AreKept qs qs
+kept_self [] = tt
+kept_self (q ∷ qs) = (kept_one q, kept_self qs)
+
+kept_both : (p q r : Lane) → IsKept p q → IsKept q r → IsKept p r
+kept_both p q r h g = (g.0 ∙ h.0, h.1 ++ g.1, g.2 ∙ ap (λ l. l ++ g.1) h.2 ∙ append_assoc (samples_in p.put) h.1 g.1)
+
+pub kept_on : (ps qs rs : List Lane) → AreKept ps qs → AreKept qs rs → AreKept ps rs
+kept_on [] [] rs h g = g
+kept_on [] (q ∷ qs) rs h g = absurd h
+kept_on (p ∷ ps) [] rs h g = absurd h
+kept_on (p ∷ ps) (q ∷ qs) [] h g = absurd g
+kept_on (p ∷ ps) (q ∷ qs) (r ∷ rs) h g = (kept_both p q r h.0 g.0, kept_on ps qs rs h.1 g.1)
+
+-- one shard has more
+kept_set : (qs : List Lane) (k : ℕ) (was now : Lane) → slice_get qs k ≡ Some was → IsKept was now → AreKept qs (set qs k now)
+kept_set [] k was now at h = tt
+kept_set (q ∷ qs) zero was now at h = (subst (λ p. IsKept p now) (sym (some_is q was at)) h, kept_self qs)
+kept_set (q ∷ qs) (suc k) was now at h = (kept_one q, kept_set qs k was now at h)
+
+pub kept_put : (k : ℕ) (x : RoutedSample) (old new : List Lane) → IsPut k x old new → AreKept old new
+kept_put k x old new put = subst (λ qs. AreKept old qs) (sym put.is) (kept_set old k put.was put.now put.at (put.setup, put_as put.was x ∷ [], put.put))
 
 same_nil : (ps qs : List Lane) → AreSame ps qs → qs ≡ [] → ps ≡ []
 same_nil [] qs h e = refl

@@ -19,7 +19,7 @@ use Rattle.rw_router.specs.declared.sample.RoutedSample.{RoutedSample}
 use Rattle.rw_feeder.specs.Feeders.{Sorting, HasPlaced, HasRead, sent_by}
 use Rattle.rw_router.specs.Fates.{Fate, Drops, Filters, Sends, fate}
 use Rattle.rw_feeder.specs.Logs.{Sent, gather_from, kept_sample, sent_by_fate, sent_of, sent}
-use Rattle.rw_shipper.specs.Placement.{shard_of, IsPlacing, ArePlaced}
+use Rattle.rw_shipper.specs.Placement.{shard_of, IsPlacing, ArePlaced, AreKept}
 use Rattle.rw_codes.specs.Pieces.{Piece, reading}
 use Rattle.rw_codes.specs.Segments.{segment}
 use Rattle.rw_codes.specs.declared.tail_fault.TailFault.{TailFault}
@@ -27,7 +27,7 @@ use Rattle.rw_sender.specs.declared.outcome.Outcome.{Outcome}
 use Rattle.rw_sender.specs.declared.outcome.Outcome.TheVariants as outcome
 use Rattle.rw_shipper.specs.Reports.{abandoned_in, end_of, IsAbandoned, IsAbandonedAt, ListsCut}
 use Rattle.rw_shipper.specs.Shipping.{Shipping, PlacesAll, IsReady, IsRead, GoesOn, HasCompared, Ends, HasStopped}
-use Rattle.rw_shipper.proofs.PlacementLemmas.{same_length, placing_put, placing_closed, placing_whole, placing_opened, placing_begun, placing_same, set_length}
+use Rattle.rw_shipper.proofs.PlacementLemmas.{same_length, placing_put, placing_closed, placing_whole, placing_opened, placing_begun, placing_same, set_length, kept_self, kept_on, kept_put}
 use Rattle.rw_shipper.proofs.BelowLemmas.{placing_below}
 use Rattle.rw_shipper.proofs.ListingLemmas.{lanes_append}
 
@@ -71,11 +71,12 @@ module _ {T : Type 0} where
     grown = ap (λ (s : Sorting). s.placed) same ∙ sym (append-nil old.placed);
     fleet = refl;
     len = refl;
+    kept = kept_self was.current;
     marks = refl;
   }
 
-  pub goes_placed : (old held new : Sorting) (was now : Shards T) → held ≡ old → HasPlaced held new → now ≡ record was { current = now.current } → length now.current ≡ length was.current → map marks_of now.current ≡ map marks_of was.current → GoesOn old new was now
-  goes_placed old held new was now same placed rest len marks =
+  pub goes_placed : (old held new : Sorting) (was now : Shards T) → held ≡ old → HasPlaced held new → now ≡ record was { current = now.current } → length now.current ≡ length was.current → AreKept was.current now.current → map marks_of now.current ≡ map marks_of was.current → GoesOn old new was now
+  goes_placed old held new was now same placed rest len kept marks =
       let after : HasPlaced old new = placed ∙ ap (λ (s : Sorting). record s { placed = s.placed ++ s.hand; hand = [] }) same in record {
         choice = ap (λ (s : Sorting). s.choice) after;
         pieces = ap (λ (s : Sorting). s.pieces) after;
@@ -83,6 +84,7 @@ module _ {T : Type 0} where
         grown = ap (λ (s : Sorting). s.placed) after;
         fleet = rest;
         len = len;
+        kept = kept;
         marks = marks;
       }
 
@@ -94,6 +96,7 @@ module _ {T : Type 0} where
     grown = g.grown ∙ ap (λ l. l ++ g.more) h.grown ∙ append_assoc a.placed h.more g.more;
     fleet = g.fleet ∙ ap (λ (s : Shards T). record s { current = z.current }) h.fleet;
     len = g.len ∙ h.len;
+    kept = kept_on x.current y.current z.current h.kept g.kept;
     marks = g.marks ∙ h.marks;
   }
 
@@ -106,6 +109,7 @@ module _ {T : Type 0} where
     grown = ap (λ (s : Sorting). s.placed) is ∙ sym (append-nil old.placed);
     fleet = refl;
     len = refl;
+    kept = kept_self was.current;
     marks = refl;
   }
 
@@ -123,6 +127,10 @@ put_length k l old new put = ap length put.is ∙ set_length old k put.now
 module _ {T : Type 0} where
   pub put_len : (k : ℕ) (l : RoutedSample) (was now : Shards T) → IsPut k l was.current now.current → length now.current ≡ length was.current
   put_len k l was now put = put_length k l was.current now.current put
+
+  -- a sample more leaves those before it
+  pub put_kept : (k : ℕ) (l : RoutedSample) (was now : Shards T) → IsPut k l was.current now.current → AreKept was.current now.current
+  put_kept k l was now put = kept_put k l was.current now.current put
 
   -- a sample more leaves the marks
   pub put_marks : (k : ℕ) (l : RoutedSample) (was now : Shards T) → IsPut k l was.current now.current → map marks_of now.current ≡ map marks_of was.current
@@ -196,6 +204,10 @@ module _ {T : Type 0} (tells : T → Type 0) (seen : T → List Exchange) (is_fo
 -- what was handed over is as it was put
 pub rest_as : {T : Type 0} (old now new : Shards T) → new ≡ now → now ≡ record old { current = now.current } → new ≡ record old { current = new.current }
 rest_as {T} old now new e h = subst (λ (f : Shards T). f ≡ record old { current = f.current }) (sym e) h
+
+module _ {T : Type 0} where
+  pub kept_still : (s t : Shipping T) → s ≡ t → AreKept t.fleet.current s.fleet.current
+  kept_still s t is = subst (λ (x : Shipping T). AreKept x.fleet.current s.fleet.current) is (kept_self s.fleet.current)
 
 pub on_ok : {A E : Type 0} (r : Result A E) (P : Type 0) → is_err r ≡ false → OnOk r P → P
 on_ok (Ok x) P e h = h

@@ -1,5 +1,5 @@
 -- Where the samples of a log went (Remote-Write 1.0: the samples of a series go out in order): each to the shard of its series, epoch after epoch.
-use Rattle.std.specs.Prelude.{◌≡◌, ℕ, suc, ◌%◌, ◌==◌, List, [], ◌∷◌, ◌++◌, length, map, filter, Some, slice_get}
+use Rattle.std.specs.Prelude.{◌≡◌, ℕ, suc, ◌%◌, ◌==◌, List, [], ◌∷◌, ◌++◌, length, map, filter, Some, slice_get, ⊤}
 use Rattle.rw_shard_queue.specs.Items.{Placed, samples_in}
 use Rattle.rw_fleet.specs.Lanes.{Lane}
 use Rattle.rw_feeder.specs.Logs.{Sent}
@@ -11,6 +11,17 @@ as_sent p = record { pos = p.place.pos; series = p.place.series; t = p.t; word =
 -- the samples that a shard was put
 abbrev pub put_in : Lane → List Sent
 put_in lane = map as_sent (samples_in lane.put)
+
+-- the same shard with the samples that it had, and maybe more behind them
+abbrev pub IsKept : Lane → Lane → Type 0
+IsKept old new = (new.setup ≡ old.setup) × (more : List Placed) × (samples_in new.put ≡ samples_in old.put ++ more)
+
+-- the same for each of the shards: what was put is not taken back
+abbrev pub AreKept : List Lane → List Lane → Type 0
+AreKept [] [] = ⊤
+AreKept [] (q ∷ qs) = ⊥
+AreKept (p ∷ ps) [] = ⊥
+AreKept (p ∷ ps) (q ∷ qs) = IsKept p q × AreKept ps qs
 
 -- the shard of a series, among so many
 abbrev pub shard_of : ℕ → ℕ → ℕ

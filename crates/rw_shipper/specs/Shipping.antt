@@ -16,7 +16,7 @@ use Rattle.rw_sender.specs.declared.outcome.Outcome.TheVariants as outcome
 use Rattle.rw_fleet.specs.declared.joined.Joined.{Joined}
 use Rattle.rw_feeder.specs.Feeders.{Sorting, HasRead}
 use Rattle.rw_feeder.specs.Logs.{sent, named, dropped, filtered}
-use Rattle.rw_shipper.specs.Placement.{IsPlacing, ArePlaced}
+use Rattle.rw_shipper.specs.Placement.{IsPlacing, ArePlaced, AreKept}
 use Rattle.rw_shipper.specs.declared.place.Progress.{Progress}
 use Rattle.rw_shipper.specs.declared.place.Progress.TheVariants.{Placed, End}
 use Rattle.rw_shipper.specs.declared.place.Progress.TheVariants as progress
@@ -57,6 +57,7 @@ pub record GoesOn {T : Type 0} (old new : Sorting) (was now : Shards T) : Type 0
   pub grown : new.placed ≡ old.placed ++ more
   pub fleet : now ≡ record was { current = now.current }
   pub len : length now.current ≡ length was.current
+  pub kept : AreKept was.current now.current
   pub marks : map marks_of now.current ≡ map marks_of was.current
 
 -- what one step of the feeder came to

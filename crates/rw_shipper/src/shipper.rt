@@ -2,7 +2,7 @@
 
 ghost use Rattle.std.specs.Prelude.{◌≡◌, ◌⊎◌, List, true, false, ◌+◌, ◌≤◌, ◌<◌, [], ◌∷◌, ◌++◌, length, map, None, Some, Err, IfOk, IfErr, IfSome, OnOk, is_some};
 ghost use Rattle.rw_wal_tail.specs.Fed.{piece_of};
-ghost use Rattle.rw_fleet.specs.Lanes.{AreFresh, marked, marks_of};
+ghost use Rattle.rw_fleet.specs.Lanes.{AreFresh, AreSame, marked, marks_of};
 ghost use Rattle.rw_fleet.specs.Work.{AreResolved, HasCut};
 ghost use Rattle.rw_fleet.specs.Fleets.{EndBy};
 ghost use Rattle.rw_fleet.specs.Loads.{IsLoad};
@@ -10,6 +10,7 @@ ghost use Rattle.rw_types.specs.declared.entry.Entry.{Entry};
 ghost use Rattle.rw_codes.specs.Pieces.{entries};
 ghost use Rattle.rw_feeder.specs.Logs.{named, dropped, filtered};
 ghost use Rattle.rw_sender.specs.Configs.{choice_of};
+ghost use Rattle.rw_shipper.specs.Placement.{AreKept};
 ghost use Rattle.rw_shipper.specs.Reports.{IsAbandoned, IsAbandonedAt, ListsCut, end_of, kind_of};
 ghost use Rattle.rw_shipper.specs.Shipping.{answer_to, FailsBy, Feeds, Joins, HasCompared, HasStopped, PlacesAll};
 
@@ -178,6 +179,8 @@ impl<C: Connect + Drop> Shipper<C> {
         ensures choice { self.new.log.choice ≡ self.old.log.choice }
         ensures rest { self.new.fleet ≡ record self.old.fleet { current = self.new.fleet.current } }
         ensures len { length self.new.fleet.current ≡ length self.old.fleet.current }
+        ensures placed { PlacesAll self.new.log self.new.fleet }
+        ensures kept { AreKept self.old.fleet.current self.new.fleet.current }
         ensures marks { map marks_of self.new.fleet.current ≡ map marks_of self.old.fleet.current }
     {
         if let Some(fault) = self.fault {
@@ -211,6 +214,8 @@ impl<C: Connect + Drop> Shipper<C> {
         ensures marked { OnOk result (self.new ≡ record self.old { fleet = record self.old.fleet { current = map marked self.old.fleet.current } }) }
         ensures log { self.new.log ≡ self.old.log }
         ensures rest { self.new.fleet ≡ record self.old.fleet { current = self.new.fleet.current } }
+        ensures placed { PlacesAll self.new.log self.new.fleet }
+        ensures same { AreSame self.old.fleet.current self.new.fleet.current }
         ensures fails { IfErr result (FailsBy self.new.fault) }
     {
         if let Some(fault) = self.fault {
@@ -237,6 +242,7 @@ impl<C: Connect + Drop> Shipper<C> {
         ensures opened { OnOk result ((self.new.fleet.epoch ≡ self.old.fleet.epoch + 1) × (length self.new.fleet.current ≡ shards) × AreFresh self.new.fleet.epoch self.new.fleet.current) }
         ensures drained { OnOk result (AreResolved self.new.fleet.ended) }
         ensures gone { self.old.fault ≡ None → result ≡ Err FeedFault.Gone → HasCut self.new.fleet.ended }
+        ensures placed { PlacesAll self.new.log self.new.fleet }
         ensures compared { (self.new.fleet ≡ self.old.fleet) ⊎ HasCompared self.old.fleet self.new.fleet }
         ensures fault { OnOk result (self.new.fault ≡ None) }
         ensures fails { IfErr result (FailsBy self.new.fault) }

@@ -1,7 +1,8 @@
 use Rattle.std.proofs.Common.{length, sym, ap, ◌∙◌, subst}
 use Rattle.rw_fleet.specs.Fleets.{Shards}
 use Rattle.rw_shipper.specs.Shipping.{Shipping, PlacesAll}
-use Rattle.rw_shipper.proofs.ShippingLemmas.{rest_as}
+use Rattle.rw_shipper.proofs.PlacementLemmas.{kept_self}
+use Rattle.rw_shipper.proofs.ShippingLemmas.{rest_as, kept_still}
 use Rattle.rw_shipper.proofs.shipper.Shipper.feed.Goals as goal
 
 pub invariant_of-self-in-Err : goal.invariant_of-self-in-Err
@@ -27,3 +28,9 @@ returns-clause-rest g c = rest_as c.args.self.now.fleet _ _ c.hand_over.ensures 
 pub returns-clause-len : goal.returns-clause-len
 returns-clause-len g c =
     ap (λ (f : Shards _). length f.current) c.hand_over.ensures ∙ c.place_all-read.ensures.goes.len ∙ ap (λ (s : Shipping _). length s.fleet.current) c.self.view_is
+
+pub returns-in-Some-clause-kept : goal.returns-in-Some-clause-kept
+returns-in-Some-clause-kept g c = kept_self c.args.self.now.fleet.current
+
+pub returns-then-is_err-clause-kept : goal.returns-then-is_err-clause-kept
+returns-then-is_err-clause-kept g c = kept_still _ c.args.self.now c.self.view_is

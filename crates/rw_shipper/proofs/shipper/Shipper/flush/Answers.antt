@@ -1,3 +1,4 @@
+use Rattle.rw_shipper.proofs.PlacementLemmas.{same_self}
 use Rattle.rw_shipper.proofs.ShippingLemmas.{places_same, ready_same}
 use Rattle.rw_shipper.proofs.shipper.Shipper.flush.Goals as goal
 
@@ -7,3 +8,12 @@ invariant_of-self g c = (places_same c.self.inside.feeder c.self.inside.fleet c.
 pub invariant_of-self-in_default-mark : goal.invariant_of-self-in_default-mark
 invariant_of-self-in_default-mark g c =
     (places_same c.self.inside.feeder c.self.inside.fleet c.mark.new.self c.self.invariant.0 c.mark.ensures.rest c.mark.ensures.same, ready_same c.self.inside.feeder c.self.inside.fleet c.mark.new.self c.self.inside.fault c.self.invariant.1 c.mark.ensures.same, c.self.invariant.2)
+
+pub returns-in-Some-clause-same : goal.returns-in-Some-clause-same
+returns-in-Some-clause-same g c = same_self c.args.self.now.fleet.current
+
+pub returns-in-Err-clause-placed : goal.returns-in-Err-clause-placed
+returns-in-Err-clause-placed g c = places_same c.self.inside.feeder c.self.inside.fleet c.mark.new.self c.self.invariant.0 c.mark.ensures.rest c.mark.ensures.same
+
+pub returns-clause-placed : goal.returns-clause-placed
+returns-clause-placed g c = places_same c.self.inside.feeder c.self.inside.fleet c.mark.new.self c.self.invariant.0 c.mark.ensures.rest c.mark.ensures.same

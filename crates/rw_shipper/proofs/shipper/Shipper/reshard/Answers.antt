@@ -15,3 +15,16 @@ invariant_of-self-else-is_err g c =
     let shut = c.close.ensures.closed in
     let all = on_ok c.open.result _ (sym c.is_err.ensures.value ∙ c.if-is_err.false) c.open.ensures.all in
     (places_opened c.self.inside.feeder c.close.new.self c.open.new.self (places_shut c.self.inside.feeder c.self.inside.fleet c.close.new.self c.self.invariant.0 shut) shut.2 c.open.ensures.rest c.open.ensures.fresh, ready_next c.self.inside.feeder c.self.inside.fleet c.open.new.self c.self.inside.fault c.args.shards c.self.invariant.1 all c.requires.some, c.self.invariant.2)
+
+pub returns-then-not-close-clause-placed : goal.returns-then-not-close-clause-placed
+returns-then-not-close-clause-placed g c = places_shut c.self.inside.feeder c.self.inside.fleet c.close.new.self c.self.invariant.0 c.close.ensures.closed
+
+pub returns-then-is_err-clause-placed : goal.returns-then-is_err-clause-placed
+returns-then-is_err-clause-placed g c =
+    let shut = c.close.ensures.closed in
+    places_opened c.self.inside.feeder c.close.new.self c.open.new.self (places_shut c.self.inside.feeder c.self.inside.fleet c.close.new.self c.self.invariant.0 shut) shut.2 c.open.ensures.rest c.open.ensures.fresh
+
+pub returns-clause-placed : goal.returns-clause-placed
+returns-clause-placed g c =
+    let shut = c.close.ensures.closed in
+    places_opened c.self.inside.feeder c.close.new.self c.open.new.self (places_shut c.self.inside.feeder c.self.inside.fleet c.close.new.self c.self.invariant.0 shut) shut.2 c.open.ensures.rest c.open.ensures.fresh
