@@ -10,7 +10,7 @@ use rw_ruled_queue::{Feed, Item, Kind, Open, open};
 use rw_sender::Config;
 use rw_types::{LabelFault, LabelSet, Place, RawLabels, Word};
 use rw_worker::{StopFlag, Worker, WorkerReport};
-use std::alloc::{AllocError, Global};
+use std::alloc::Global;
 use std::cell::Cell;
 use std::sync::{Arc, Wait};
 
@@ -76,83 +76,81 @@ fn shown_by(report: &WorkerReport<Line<'_>>) -> Shown {
     }
 }
 
-/// Runs a worker over a line; none where memory is refused.
-fn run<R: Wait>(
-    rt: &R,
-    alloc: Global,
-    config: &Config,
-    labels: Arc<LabelSet>,
-    line: Line<'_>,
-) -> Result<Option<Shown>, AllocError> {
-    let stop = StopFlag::new(alloc)?;
-    let (feed, drain) = open(alloc, 0, 0, 4)?;
-    let Ok(worker) = Worker::new(alloc, config, 0, 0, drain) else {
-        return Ok(None);
-    };
+/// A worker with such a queue; none where memory is refused.
+fn worker_of<R: Wait>(rt: &R, alloc: Global, config: &Config) -> Option<Worker> {
+    let labels = up(alloc).ok()?;
+    let (feed, drain) = open(alloc, 0, 0, 4).ok()?;
     if !is_fed(rt, feed, labels) {
-        return Ok(None);
+        return None;
     }
-    Ok(Some(shown_by(&worker.run(rt, line, &mut Quick, &stop))))
+    Worker::new(alloc, config, 0, 0, drain).ok()
 }
 
-/// What a worker shows where this call fails, counted from 1, and whether it came to that call.
-fn shown_at<R: Wait>(
+/// What a worker shows over a line where this call fails, counted from 1, and whether it came to that call.
+fn shown_over_line<R: Wait>(
     rt: &R,
     alloc: Global,
+    limits: Limits,
+    worker: Worker,
+    stop: &StopFlag,
     failing: usize,
-) -> Result<(Option<Shown>, bool), LabelFault> {
+) -> (Shown, bool) {
     let calls = Cell::new(failing);
-    let labels = up(alloc)?;
-    let config = Config::standard(alloc)?;
-    let line = Line::new(alloc, Limits::standard(alloc)?, &calls);
-    let shown = run(rt, alloc, &config, labels, line)?;
-    Ok((shown, calls.get() == 0))
+    let line = Line::new(alloc, limits, &calls);
+    let shown = shown_by(&worker.run(rt, line, &mut Quick, stop));
+    (shown, calls.get() == 0)
+}
+
+/// The same of a new worker; none where memory is refused before it runs.
+fn shown_at<R: Wait>(rt: &R, alloc: Global, failing: usize) -> Option<(Shown, bool)> {
+    let stop = StopFlag::new(alloc).ok()?;
+    let limits = Limits::standard(alloc).ok()?;
+    let config = Config::standard(alloc).ok()?;
+    let worker = worker_of(rt, alloc, &config)?;
+    Some(shown_over_line(rt, alloc, limits, worker, &stop, failing))
+}
+
+/// What the worker is to show.
+fn wanted(has_failed: bool) -> Shown {
+    Shown {
+        exchanges: if has_failed { 3 } else { 2 },
+        resolved: 2,
+        held: 2,
+        is_same: true,
+        is_named: false,
+    }
 }
 
 /// The first call with whose failure a worker shows something else; MANY where all are well, and 0 where there are few.
-fn wrong_call<R: Wait>(rt: &R, alloc: Global) -> Result<usize, LabelFault> {
+fn wrong_call<R: Wait>(rt: &R, alloc: Global) -> usize {
     for failing in 1..MANY {
-        let (shown, has_failed) = shown_at(rt, alloc, failing)?;
-        let wanted = Shown {
-            exchanges: if has_failed { 3 } else { 2 },
-            resolved: 2,
-            held: 2,
-            is_same: true,
-            is_named: false,
-        };
-        if shown != Some(wanted) {
-            return Ok(failing);
-        }
-        if !has_failed {
-            return Ok(if failing > 20 { MANY } else { 0 });
+        match shown_at(rt, alloc, failing) {
+            Some((shown, true)) if shown == wanted(true) => {}
+            Some((shown, false)) if shown == wanted(false) && failing > 20 => return MANY,
+            Some((shown, false)) if shown == wanted(false) => return 0,
+            _ => return failing,
         }
     }
-    Ok(0)
+    0
 }
 
 #[test]
 fn each_call_may_fail(rt: HostRuntime) {
-    assert_eq!(rt; wrong_call(&rt, rt.alloc()), Ok(MANY));
+    assert_eq!(rt; wrong_call(&rt, rt.alloc()), MANY);
 }
 
 /// What a worker shows where no call fails; again where memory is refused before it begins.
 fn shown_whole<R: Wait>(rt: &R, alloc: Global) -> Option<Shown> {
     match shown_at(rt, alloc, 0) {
-        Ok((Some(shown), _)) => Some(shown),
-        _ => shown_at(rt, alloc, 0).ok()?.0,
+        Some((shown, _)) => Some(shown),
+        None => Some(shown_at(rt, alloc, 0)?.0),
     }
 }
 
 /// Whether all is sent, and one request again at most.
 fn goes_on<R: Wait>(rt: &R, alloc: Global) -> bool {
     match shown_whole(rt, alloc) {
-        Some(shown) => {
-            (shown.exchanges == 2 || shown.exchanges == 3)
-                && shown.resolved == 2
-                && shown.held == 2
-                && shown.is_same
-                && !shown.is_named
-        }
+        Some(shown) => shown == wanted(false) || shown == wanted(true),
         None => false,
     }
 }

@@ -154,10 +154,9 @@ fn limits_of(alloc: Global, labels: u64) -> Option<Limits> {
 }
 
 fn world_of(alloc: Global, row: &Row<'_>) -> Option<World> {
-    match (config_of(alloc, row.shards), limits_of(alloc, row.labels)) {
-        (Some(config), Some(limits)) => World::new(alloc, config, limits).ok(),
-        _ => None,
-    }
+    let limits = limits_of(alloc, row.labels)?;
+    let config = config_of(alloc, row.shards)?;
+    World::new(alloc, config, limits).ok()
 }
 
 fn new_world(alloc: Global, row: &Row<'_>) -> Option<World> {
