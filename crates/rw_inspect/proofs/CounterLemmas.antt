@@ -24,6 +24,14 @@ sums_of-push : (es : List Entry) (e : Entry) → sums_of (es ++ e ∷ []) ≡ wi
 unfolding sums_of
 sums_of-push es e = fold-append with_entry no_sums es (e ∷ [])
 
+-- the entries of the segment at hand
+pub here_none : (es : List Entry) (s : Sums) → es ≡ [] → s ≡ no_sums → s ≡ sums_of es
+unfolding sums_of
+here_none es s e n = rw e n
+
+pub here_more : (es now : List Entry) (e : Entry) (s more : Sums) → s ≡ sums_of es → more ≡ with_entry s e → now ≡ es ++ e ∷ [] → more ≡ sums_of now
+here_more es now e s more h m is = m ∙ ap (λ x. with_entry x e) h ∙ sym (sums_of-push es e) ∙ ap sums_of (sym is)
+
 -- before the first entry
 pub counter_none : (es here : List Entry) (choice : Choice) (cache : Taken) (sums hand : Sums) (troubles : List (ℕ × Trouble)) → es ≡ [] → here ≡ [] → choice ≡ legacy
     → cache ≡ record { choice = choice; definitions = []; noted = empty } → sums ≡ no_sums → hand ≡ no_sums → troubles ≡ [] → IsCounter es here 0 cache sums hand troubles

@@ -3,6 +3,7 @@ use Rattle.std.proofs.Common.{◌≡◌, ℕ, ◌+◌, ◌<◌, ◌≤◌, List,
 use Rattle.std.specs.Prelude.{flat_map, take, is_some, nat_eq}
 use Rattle.std.proofs.lemmas.Grind.{flat_map-append}
 use Rattle.std.proofs.lemmas.Bool.Decides.{nat_tests}
+use Rattle.rw_types.specs.declared.entry.Entry.{Entry}
 use Rattle.rw_codes.specs.Laws.{Extends}
 use Rattle.rw_codes.specs.Pieces.{Piece, bytes, next_segment, entries, fault, fault_at, page_size, reading, skipped}
 use Rattle.rw_codes.specs.Segments.{Reading, segment}
@@ -12,10 +13,11 @@ use Rattle.rw_wal_tail.specs.Fed.{Fed}
 use Rattle.rw_feeder.specs.Feeders.{HasTaken}
 use Rattle.rw_feeder.proofs.TailLemmas.{took_again}
 use Rattle.rw_inspect.specs.Counting.{Counted, counts_of}
-use Rattle.rw_inspect.specs.Inspecting.{AreRead, AreRows, IsInspected, IsRead, IsReportOf, IsReportOfFirst, IsRow, ReadsFirst, ReadsSegment, begun, behind, fault_in, log_of}
+use Rattle.rw_inspect.specs.Inspecting.{AreRead, AreRows, IsInspected, IsRead, IsReportOfFirst, IsRow, ReadsFirst, ReadsInto, ReadsSegment, Reports, begun, behind, fault_in, log_of}
 use Rattle.rw_inspect.specs.Reading.{HasTakenAll, ReadsText}
 use Rattle.rw_inspect.specs.Sums.{sums_of}
 use Rattle.rw_inspect.specs.Troubles.{not_rising, troubles_of}
+use Rattle.rw_inspect.specs.declared.report.Damage.{Damage}
 use Rattle.rw_inspect.specs.declared.report.Report.{Report}
 use Rattle.rw_inspect.specs.declared.report.Segment.{Segment}
 
@@ -202,24 +204,34 @@ passed_grows is_first left_before left_after old begun_at new before anew after 
     more_passed false ps text =
         subst (λ qs. skipped ps ≤ skipped qs) (sym (append_assoc ps (next_segment ∷ []) (bytes text ∷ []))) (reading-append page_size ps (next_segment ∷ bytes text ∷ []) (omega arith)).skipped
 
--- the report of what was read
-pub reported : (texts : List (List ℕ)) (t : Fed) (counted : Counted) (rows : List Segment) (found : Option TailFault) (r : Report) → IsInspected texts t counted rows found → r.segments.items ≡ rows → r.counts ≡ counts_of counted.entries
-    → r.first_not_rising.items ≡ take 10 (not_rising (troubles_of counted.entries)) → fault_in r.damage ≡ found → IsReportOf texts r
-reported texts t counted rows found r h rows_are counts_are first_are damage =
-    let alike = alike_entries texts t h.same in
-    let all : counted.entries ≡ entries (log_of texts) = h.all.read.all ∙ ap (λ (x : Reading). x.entries) alike in
-    record {
-      rows_are = subst (AreRows [] texts) (sym rows_are) h.rows_are;
-      counts_are = counts_are ∙ ap counts_of all;
-      first_are = first_are ∙ ap (λ es. take 10 (not_rising (troubles_of es))) all;
-      fault_is = damage ∙ sym h.all.read.fault_is ∙ ap (λ (x : Reading). fault_at x.stop) alike;
+-- the fault that was found is that of the log
+found_is : (texts : List (List ℕ)) (t : Fed) (counted : Counted) (rows : List Segment) (found : Option TailFault) → IsInspected texts t counted rows found → found ≡ fault (log_of texts)
+found_is texts t counted rows found h = sym h.all.read.fault_is ∙ ap (λ (x : Reading). fault_at x.stop) (alike_entries texts t h.same)
+
+-- what was read into a taker
+pub reads_into : (lefts : List (Option (List ℕ))) (texts : List (List ℕ)) (t : Fed) (counted : Counted) (rows : List Segment) (found said : Option TailFault) → ReadsFirst lefts texts found → IsInspected texts t counted rows found
+    → said ≡ found → ReadsInto lefts counted.entries rows said
+reads_into lefts texts t counted rows found said r h e =
+    rw e record {
+      texts = texts;
+      read = r;
+      rows_are = h.rows_are;
+      all = h.all.read.all ∙ ap (λ (x : Reading). x.entries) (alike_entries texts t h.same);
+      fault_is = found_is texts t counted rows found h;
     }
 
-pub reported_first : (lefts : List (Option (List ℕ))) (texts : List (List ℕ)) (found : Option TailFault) (r : Report) → ReadsFirst lefts texts found → IsReportOf texts r → found ≡ fault (log_of texts) → IsReportOfFirst lefts r
-reported_first lefts texts found r read report is = record { texts = texts; read = subst (ReadsFirst lefts texts) is read; report = report }
-
-pub found_is : (texts : List (List ℕ)) (t : Fed) (counted : Counted) (rows : List Segment) (found : Option TailFault) → IsInspected texts t counted rows found → found ≡ fault (log_of texts)
-found_is texts t counted rows found h = sym h.all.read.fault_is ∙ ap (λ (x : Reading). fault_at x.stop) (alike_entries texts t h.same)
+-- the report of what was read
+pub reported_first : (lefts : List (Option (List ℕ))) (taken : List Entry) (rows : List Segment) (damage : Option Damage) (r : Report) → ReadsInto lefts taken rows (fault_in damage) → Reports taken rows damage r → IsReportOfFirst lefts r
+reported_first lefts taken rows damage r h m = record {
+  texts = h.texts;
+  read = subst (ReadsFirst lefts h.texts) h.fault_is h.read;
+  report = record {
+    rows_are = subst (AreRows [] h.texts) (sym m.rows_are) h.rows_are;
+    counts_are = m.counts_are ∙ ap counts_of h.all;
+    first_are = m.first_are ∙ ap (λ es. take 10 (not_rising (troubles_of es))) h.all;
+    fault_is = ap fault_in m.damage_is ∙ h.fault_is;
+  };
+}
 
 -- a fault that is not there
 pub not_some : {X : Type 0} (o : Option X) → is_some o ≡ false → o ≡ None

@@ -1,5 +1,6 @@
 pub mod CounterLemmas
 pub mod InspectLemmas
 pub mod PlacedLemmas
+pub mod PlanningLemmas
 pub mod ReadingLemmas
 pub mod TextLemmas

@@ -100,3 +100,25 @@ pub record IsReportOfFirst (lefts : List (Option (List ℕ))) (r : Report) : Typ
   pub texts : List (List ℕ)
   pub read : ReadsFirst lefts texts (fault (log_of texts))
   pub report : IsReportOf texts r
+
+-- The first segments of these sources were read, up to the end of one with a fault, or all: what was taken are the entries of their log,
+-- each row is what was found in a segment, and the fault is that of the log.
+pub record ReadsInto (lefts : List (Option (List ℕ))) (taken : List Entry) (rows : List Segment) (found : Option TailFault) : Type 0 where
+  pub texts : List (List ℕ)
+  pub read : ReadsFirst lefts texts found
+  pub rows_are : AreRows [] texts rows
+  pub all : taken ≡ entries (log_of texts)
+  pub fault_is : found ≡ fault (log_of texts)
+
+-- the first segments of these sources were read, and their log has this fault
+pub record ReadsToFault (lefts : List (Option (List ℕ))) (f : TailFault) : Type 0 where
+  pub texts : List (List ℕ)
+  pub read : AreRead lefts texts
+  pub fault_is : fault (log_of texts) ≡ Some f
+
+-- a report says what was read, and what is counted of these entries
+pub record Reports (taken : List Entry) (rows : List Segment) (damage : Option Damage) (r : Report) : Type 0 where
+  pub rows_are : r.segments.items ≡ rows
+  pub counts_are : r.counts ≡ counts_of taken
+  pub first_are : r.first_not_rising.items ≡ take 10 (not_rising (troubles_of taken))
+  pub damage_is : r.damage ≡ damage

@@ -1,5 +1,6 @@
 pub mod Counting
 pub mod Inspecting
+pub mod Planning
 pub mod Reading
 pub mod Sums
 pub mod Texts

@@ -3,7 +3,9 @@
 
 mod counter;
 mod counts;
+mod here;
 mod json;
+mod planning;
 mod pushing;
 mod reading;
 mod report;
@@ -11,13 +13,16 @@ mod segments;
 mod sizes;
 mod sums;
 mod table;
+mod taker;
 mod troubles;
 mod words;
 
 pub use counter::Counter;
 pub use counts::Counts;
 pub use json::json_of;
+pub use planning::plan_segments;
 pub use report::{Damage, Report, Segment};
-pub use segments::{Named, inspect};
+pub use segments::{LogRead, Named, inspect, read_into};
 pub use sums::Sums;
 pub use table::table_of;
+pub use taker::Taker;

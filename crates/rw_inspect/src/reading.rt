@@ -1,12 +1,12 @@
 //! A segment, read to its end.
 
-ghost use Rattle.std.specs.Prelude.{◌≡◌, ◌<◌, ◌⊎◌, ◌+◌, ℕ, [], length, true, Err, Ok, Some, None, IfOk};
+ghost use Rattle.std.specs.Prelude.{◌≡◌, ◌<◌, ◌⊎◌, ◌+◌, ℕ, [], length, true, Err, Ok, Some, None, IfOk, OnOk};
 ghost use Rattle.std.specs.Io.KnownBytes.{Consumes, IsAtEnd};
 ghost use Rattle.rw_types.specs.declared.transfer.ReadFault.TheVariants.{Failed};
 ghost use Rattle.rw_feeder.specs.Feeders.{HasTaken};
 ghost use Rattle.rw_inspect.specs.Reading.{ComesNext, FeedsMore, ReadsText, TakesAll};
 
-use crate::counter::Counter;
+use crate::taker::Taker;
 use rw_types::{Entry, ReadFault, Source};
 use rw_wal_tail::{Tail, TailFault};
 use std::alloc::AllocError;
@@ -34,13 +34,14 @@ fn next_of(tail: &mut Tail) -> Result<Next, AllocError>
 }
 
 /// Takes the entries that the reader of the log has left, and answers the fault behind them, if there is one.
-fn take_all(tail: &mut Tail, counts: &mut Counter) -> Result<Option<TailFault>, AllocError>
-    requires { HasTaken tail.old counts.old.entries }
-    ensures { IfOk result (TakesAll tail.old tail.new counts.old counts.new) }
+fn take_all<T: Taker>(tail: &mut Tail, taker: &mut T) -> Result<Option<TailFault>, AllocError>
+    requires { HasTaken tail.old (T.counted taker.old).entries }
+    ensures ok { IfOk result (TakesAll tail.old tail.new (T.counted taker.old) (T.counted taker.new)) }
+    ensures task { OnOk result (T.task taker.new ≡ T.task taker.old) }
 {
     for _ in 0..u64::MAX {
         match next_of(tail)? {
-            Next::Entry(entry) => counts.take(entry)?,
+            Next::Entry(entry) => taker.take(entry)?,
             Next::End(fault) => return Ok(fault),
         }
     }
@@ -75,21 +76,22 @@ fn sum(bytes: u64, more: u64) -> Result<u64, AllocError>
     bytes.checked_add(more).ok_or(AllocError)
 }
 
-/// Reads a segment to its end, also behind a fault, and counts its bytes and entries.
-pub(crate) fn read_text<S: Source>(
+/// Reads a segment to its end, also behind a fault, counts its bytes, and lets its entries be taken.
+pub(crate) fn read_text<S: Source, T: Taker>(
     source: &mut S,
     chunk: &mut [u8],
     tail: &mut Tail,
-    counts: &mut Counter,
+    taker: &mut T,
 ) -> Result<(u64, Option<TailFault>), ReadFault>
     requires room { 0 < length chunk.old }
-    requires taken { HasTaken tail.old counts.old.entries }
-    ensures ok { IfOk result (ReadsText (S.remaining source.old) (S.remaining source.new) tail.old tail.new counts.old counts.new) }
+    requires taken { HasTaken tail.old (T.counted taker.old).entries }
+    ensures ok { IfOk result (ReadsText (S.remaining source.old) (S.remaining source.new) tail.old tail.new (T.counted taker.old) (T.counted taker.new)) }
+    ensures task { OnOk result (T.task taker.new ≡ T.task taker.old) }
     ensures sure { S.is_sure source.old ≡ true → result ≡ Err Failed → ⊥ }
 {
     let mut bytes = 0;
     for _ in 0..u64::MAX {
-        let fault = take_all(tail, counts)?;
+        let fault = take_all(tail, taker)?;
         match feed_some(source, chunk, tail)? {
             Some(more) => bytes = sum(bytes, more)?,
             None => return Ok((bytes, fault)),

@@ -2,12 +2,13 @@
 
 ghost use Rattle.std.specs.Prelude.{◌≡◌, ◌<◌, [], ℕ, List, length, map, true, Err, None, IfOk, OnOk, ◌++◌, ◌∷◌, vec_len};
 ghost use Rattle.rw_types.specs.declared.transfer.ReadFault.TheVariants.{Failed};
-ghost use Rattle.rw_inspect.specs.Inspecting.{AllSure, IsInspected, IsReportOf, IsReportOfFirst, ReadsFirst, ReadsSegment, begun, fault_in, source_of};
+ghost use Rattle.rw_inspect.specs.Inspecting.{AllSure, IsInspected, IsReportOfFirst, ReadsFirst, ReadsInto, ReadsSegment, Reports, begun, fault_in, source_of};
 ghost use Rattle.rw_inspect.specs.Reading.{HasTakenAll};
 
 use crate::counter::Counter;
 use crate::reading::read_text;
 use crate::report::{Damage, Report, Segment};
+use crate::taker::Taker;
 use rw_types::{ReadFault, Source};
 use rw_wal_tail::{Tail, TailFault};
 use std::alloc::{AllocError, Global};
@@ -22,6 +23,13 @@ pub struct Named<S> {
     pub source: S,
 }
 
+/// How far a log was read: a row for each segment, and its damage, if it has one.
+#[derive(Debug, Drop)]
+pub struct LogRead {
+    pub segments: Vec<Segment>,
+    pub damage: Option<Damage>,
+}
+
 fn zeros(alloc: Global, len: usize) -> Result<Vec<u8>, AllocError>
     ensures { IfOk result (λ v. vec_len v ≡ len) }
 {
@@ -29,14 +37,15 @@ fn zeros(alloc: Global, len: usize) -> Result<Vec<u8>, AllocError>
 }
 
 /// The next segment begins.
-fn begin_segment(is_first: bool, tail: &mut Tail, counts: &mut Counter)
+fn begin_segment<T: Taker>(is_first: bool, tail: &mut Tail, taker: &mut T)
     ensures fed { tail.new ≡ record tail.old { pieces = begun is_first tail.old.pieces } }
-    ensures here { counts.new ≡ record counts.old { here = [] } }
+    ensures here { T.counted taker.new ≡ record (T.counted taker.old) { here = [] } }
+    ensures task { T.task taker.new ≡ T.task taker.old }
 {
     if !is_first {
         tail.next_segment();
     }
-    counts.next_segment();
+    taker.next_segment();
 }
 
 /// Adds a row.
@@ -50,48 +59,50 @@ fn add_row(rows: &mut Vec<Segment>, row: Segment) -> Result<(), AllocError>
 }
 
 /// Reads the next segment, and answers what was found in it, and its fault.
-fn read_segment<S: Source + Drop>(
+fn read_segment<S: Source + Drop, T: Taker>(
     is_first: bool,
     segment: Named<S>,
     chunk: &mut [u8],
     tail: &mut Tail,
-    counts: &mut Counter,
+    taker: &mut T,
 ) -> Result<(Segment, Option<TailFault>), ReadFault>
     requires room { 0 < length chunk.old }
-    requires sound { HasTakenAll tail.old counts.old.entries None }
-    ensures ok { IfOk result (ReadsSegment is_first (S.remaining segment.source) tail.old tail.new counts.old counts.new) }
+    requires sound { HasTakenAll tail.old (T.counted taker.old).entries None }
+    ensures ok { IfOk result (ReadsSegment is_first (S.remaining segment.source) tail.old tail.new (T.counted taker.old) (T.counted taker.new)) }
+    ensures task { OnOk result (T.task taker.new ≡ T.task taker.old) }
     ensures sure { S.is_sure segment.source ≡ true → result ≡ Err Failed → ⊥ }
 {
     let before = tail.skipped();
-    begin_segment(is_first, tail, counts);
+    begin_segment(is_first, tail, taker);
     let Named { name, mut source } = segment;
-    let (bytes, fault) = read_text(&mut source, chunk, tail, counts)?;
+    let (bytes, fault) = read_text(&mut source, chunk, tail, taker)?;
     let found = Segment {
         name,
         bytes,
         passed: tail.skipped() - before,
-        sums: counts.sums_here(),
+        sums: taker.sums_here(),
     };
     Ok((found, fault))
 }
 
 /// Reads segments up to the end of the first one with a fault, and answers the fault.
-fn read_all<S: Source + Drop>(
+fn read_all<S: Source + Drop, T: Taker>(
     alloc: Global,
     segments: Vec<Named<S>>,
     tail: &mut Tail,
-    counts: &mut Counter,
+    taker: &mut T,
     rows: &mut Vec<Segment>,
 ) -> Result<Option<TailFault>, ReadFault>
-    requires { IsInspected [] tail.old counts.old rows.old.items None }
+    requires { IsInspected [] tail.old (T.counted taker.old) rows.old.items None }
     ensures ok { IfOk result (λ fault. (texts : List (List ℕ)) × ReadsFirst (map (source_of S.remaining) segments.items) texts fault
-        × IsInspected texts tail.new counts.new rows.new.items fault) }
+        × IsInspected texts tail.new (T.counted taker.new) rows.new.items fault) }
+    ensures task { OnOk result (T.task taker.new ≡ T.task taker.old) }
     ensures sure { AllSure (map (source_of S.is_sure) segments.items) → result ≡ Err Failed → ⊥ }
 {
     let mut chunk = zeros(alloc, CHUNK)?;
     for segment in segments {
         let is_first = rows.is_empty();
-        let (row, fault) = read_segment(is_first, segment, &mut chunk, tail, counts)?;
+        let (row, fault) = read_segment(is_first, segment, &mut chunk, tail, taker)?;
         add_row(rows, row)?;
         if fault.is_some() {
             return Ok(fault);
@@ -113,23 +124,38 @@ fn damage_of(tail: &Tail, fault: Option<TailFault>) -> Option<Damage>
     }
 }
 
-/// The report of what was read.
-fn report_of(
+/// Reads the segments of a log in order, to the end of the last one or of the first one with a fault, and lets their entries be taken.
+pub fn read_into<S: Source + Drop, T: Taker>(
     alloc: Global,
-    tail: &Tail,
-    counts: &Counter,
-    segments: Vec<Segment>,
-    fault: Option<TailFault>,
-) -> Result<Report, AllocError>
-    ensures { (texts : List (List ℕ)) → IsInspected texts tail.now counts.now segments.items fault → IfOk result (IsReportOf texts) }
+    segments: Vec<Named<S>>,
+    taker: &mut T,
+) -> Result<LogRead, ReadFault>
+    requires { T.counted taker.old ≡ record { entries = []; here = [] } }
+    ensures ok { IfOk result (λ read. ReadsInto (map (source_of S.remaining) segments.items) (T.counted taker.new).entries read.segments.items (fault_in read.damage)) }
+    ensures task { OnOk result (T.task taker.new ≡ T.task taker.old) }
+    ensures sure { AllSure (map (source_of S.is_sure) segments.items) → result ≡ Err Failed → ⊥ }
 {
+    let mut tail = Tail::new(alloc);
+    let mut rows = Vec::new(alloc);
+    let fault = read_all(alloc, segments, &mut tail, taker, &mut rows)?;
+    Ok(LogRead {
+        segments: rows,
+        damage: damage_of(&tail, fault),
+    })
+}
+
+/// The report of what was read, and counted.
+fn report_of(alloc: Global, counts: &Counter, read: LogRead) -> Result<Report, AllocError>
+    ensures { IfOk result (Reports counts.now.entries read.segments.items read.damage) }
+{
+    let LogRead { segments, damage } = read;
     let mut first_not_rising = Vec::new(alloc);
     first_not_rising.extend_from_slice(counts.first_not_rising())?;
     Ok(Report {
         segments,
         counts: counts.counts(),
         first_not_rising,
-        damage: damage_of(tail, fault),
+        damage,
     })
 }
 
@@ -141,9 +167,7 @@ pub fn inspect<S: Source + Drop>(
     ensures ok { IfOk result (IsReportOfFirst (map (source_of S.remaining) segments.items)) }
     ensures sure { AllSure (map (source_of S.is_sure) segments.items) → result ≡ Err Failed → ⊥ }
 {
-    let mut tail = Tail::new(alloc);
     let mut counts = Counter::new(alloc);
-    let mut rows = Vec::new(alloc);
-    let fault = read_all(alloc, segments, &mut tail, &mut counts, &mut rows)?;
-    Ok(report_of(alloc, &tail, &counts, rows, fault)?)
+    let read = read_into(alloc, segments, &mut counts)?;
+    Ok(report_of(alloc, &counts, read)?)
 }

@@ -1,4 +1,4 @@
-use Rattle.std.proofs.Common.{◌≡◌, ◌∷◌, ◌∙◌, length, map, sym, ap, subst, arith}
+use Rattle.std.proofs.Common.{◌≡◌, ◌∷◌, ◌∙◌, length, map, refl, sym, ap, subst, arith}
 use Rattle.std.specs.Vec.Iter.{into_iter_items}
 use Rattle.rw_inspect.specs.Inspecting.{AllSure, source_of}
 use Rattle.rw_inspect.proofs.InspectLemmas.{Going, first_row, going_more, going_none, no_more, not_some, stops_at_end, stops_at_fault}
@@ -8,8 +8,9 @@ pub loop-segment-init : goal.loop-segment-init
 loop-segment-init g c =
     let into = c.into_iter-segment-iterator.ensures.into_iter_gives in
     record {
-      going = subst (λ its. Going (map (source_of g.S.Source.remaining) c.args.segments.items) (map (source_of g.S.Source.remaining) its) c.args.tail.now c.args.counts.now c.args.rows.now.items) (sym into.0)
+      going = subst (λ its. Going (map (source_of g.S.Source.remaining) c.args.segments.items) (map (source_of g.S.Source.remaining) its) c.args.tail.now (g.T.Taker.counted c.args.taker.now) c.args.rows.now.items) (sym into.0)
           (going_none _ _ _ _ c.requires);
+      task = refl;
       room = rw c.in_ok-chunk.ensures (omega arith);
       counted = into.1 ∙ c.args.segments.ok.0 ∙ ap length (sym into.0);
       sure = λ h. subst (λ its. AllSure (map (source_of g.S.Source.is_sure) its)) (sym into.0) h;
@@ -22,6 +23,7 @@ loop-segment-preserved g c =
     let first = first_row _ _ _ _ going.inspected.rows_are c.loop-segment.rows.ok.0 c.is_empty-is_first.ensures in
     record {
       going = going_more _ _ _ _ _ _ _ _ _ _ _ _ going (ap (map (source_of g.S.Source.remaining)) steps) first c.in_ok-row.ensures.ok (not_some _ (sym c.is_some.ensures ∙ c.if-is_some.false)) c.in_ok-add_row.ensures;
+      task = c.in_ok-row.ensures.task ∙ c.loop-segment.invariant.task;
       room = c.loop-segment.invariant.room;
       counted = let counted = c.loop-segment.invariant.counted in
           let gone = c.in-Some.ensures.steps.1 in

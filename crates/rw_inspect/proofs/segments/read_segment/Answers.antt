@@ -5,16 +5,16 @@ use Rattle.rw_inspect.proofs.segments.read_segment.Goals as goal
 pub read_text-requires : goal.read_text-requires
 read_text-requires g c = record {
   room = c.requires.room;
-  taken = begins_next _ _ _ c.args.counts.now _ c.requires.sound c.begin_segment.ensures.fed c.begin_segment.ensures.here;
+  taken = begins_next _ _ _ (g.T.Taker.counted c.args.taker.now) _ c.requires.sound c.begin_segment.ensures.fed c.begin_segment.ensures.here;
 }
 
 pub overflow_sub-found : goal.overflow_sub-found
 overflow_sub-found g c =
-    let grown = passed_grows _ _ _ _ _ _ c.args.counts.now _ _ _ c.requires.sound c.begin_segment.ensures.fed c.in_ok-bytes.ensures.ok in
+    let grown = passed_grows _ _ _ _ _ _ (g.T.Taker.counted c.args.taker.now) _ _ _ c.requires.sound c.begin_segment.ensures.fed c.in_ok-bytes.ensures.ok in
     omega (arith, grown, c.skipped-before.ensures, c.skipped.ensures)
 
 pub returns-clause-ok : goal.returns-clause-ok
 returns-clause-ok g c =
-    let grown = passed_grows _ _ _ _ _ _ c.args.counts.now _ _ _ c.requires.sound c.begin_segment.ensures.fed c.in_ok-bytes.ensures.ok in
-    reads_segment _ _ _ _ _ _ _ _ _ _ _ c.requires.sound c.begin_segment.ensures.fed c.begin_segment.ensures.here c.in_ok-bytes.ensures.ok refl c.sums_here.ensures
+    let grown = passed_grows _ _ _ _ _ _ (g.T.Taker.counted c.args.taker.now) _ _ _ c.requires.sound c.begin_segment.ensures.fed c.in_ok-bytes.ensures.ok in
+    reads_segment _ _ _ _ _ _ _ _ _ _ _ c.requires.sound c.begin_segment.ensures.fed c.begin_segment.ensures.here c.in_ok-bytes.ensures.ok refl c.sums_here.ensures.sums
     (omega (arith, grown, c.skipped-before.ensures, c.skipped.ensures))

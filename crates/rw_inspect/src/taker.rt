@@ -1,0 +1,54 @@
+//! What takes the entries of a log.
+
+ghost use Rattle.std.specs.Prelude.{◌≡◌, ◌++◌, ◌∷◌, [], OnOk};
+ghost use Rattle.rw_inspect.specs.Counting.{Counted};
+ghost use Rattle.rw_inspect.specs.Sums.{sums_of};
+
+use crate::counter::Counter;
+use crate::sums::Sums;
+use rw_types::Entry;
+use std::alloc::AllocError;
+
+/// What takes the entries of a log, segment by segment. Contracts see all entries so far, and those of the segment at hand.
+pub trait Taker {
+    /// What it is to do, which stays.
+    type Task;
+
+    ghost counted: { Self → Counted };
+
+    ghost task: { Self → Self.Task };
+
+    /// The next segment begins.
+    fn next_segment(&mut self)
+        ensures here { counted self.new ≡ record (counted self.old) { here = [] } }
+        ensures task { task self.new ≡ task self.old };
+
+    /// Takes the next entry.
+    fn take(&mut self, entry: Entry) -> Result<(), AllocError>
+        ensures taken { OnOk result (counted self.new ≡ record { entries = (counted self.old).entries ++ entry ∷ []; here = (counted self.old).here ++ entry ∷ [] }) }
+        ensures task { OnOk result (task self.new ≡ task self.old) };
+
+    /// What the entries of the segment at hand add up to.
+    fn sums_here(&self) -> Sums
+        ensures sums { result ≡ sums_of (counted self.now).here };
+}
+
+impl Taker for Counter {
+    type Task = ();
+
+    ghost counted = { λ c. c };
+
+    ghost task = { λ _. tt };
+
+    fn next_segment(&mut self) {
+        Counter::next_segment(self);
+    }
+
+    fn take(&mut self, entry: Entry) -> Result<(), AllocError> {
+        Counter::take(self, entry)
+    }
+
+    fn sums_here(&self) -> Sums {
+        Counter::sums_here(self)
+    }
+}
