@@ -1,4 +1,5 @@
 pub mod CounterLemmas
+pub mod FindingLemmas
 pub mod InspectLemmas
 pub mod PlacedLemmas
 pub mod PlanningLemmas

@@ -1,4 +1,5 @@
 pub mod Counting
+pub mod Finding
 pub mod Inspecting
 pub mod Planning
 pub mod Reading

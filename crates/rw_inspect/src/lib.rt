@@ -3,6 +3,7 @@
 
 mod counter;
 mod counts;
+mod finding;
 mod here;
 mod json;
 mod planning;
@@ -19,6 +20,7 @@ mod words;
 
 pub use counter::Counter;
 pub use counts::Counts;
+pub use finding::{Found, find_entries};
 pub use json::json_of;
 pub use planning::plan_segments;
 pub use report::{Damage, Report, Segment};
