@@ -1,7 +1,9 @@
 //! Reports of two segments, and of one that is damaged.
 
-use rw_inspect::{Named, Report, inspect, json_of, table_of};
+use rw_inspect::{Named, Report, find_entries, inspect, json_of, plan_segments, table_of};
+use rw_relabel::Choice;
 use rw_types::{RawLabels, ReadFault, Room, Word};
+use rw_wal_tail::TailFault;
 use rw_wal_write::{SegmentWriter, sample_record, series_record};
 use std::alloc::{AllocError, Global};
 use std::test::Fail;
@@ -42,12 +44,21 @@ fn named<'a>(alloc: Global, name: &str, text: &'a [u8]) -> Result<Named<&'a [u8]
     })
 }
 
-/// The report of two segments.
-fn report_of(alloc: Global, first: &[u8], second: &[u8]) -> Result<Report, ReadFault> {
+/// Two segments.
+fn both<'a>(
+    alloc: Global,
+    first: &'a [u8],
+    second: &'a [u8],
+) -> Result<Vec<Named<&'a [u8]>>, AllocError> {
     let mut segments = Vec::with_capacity(alloc, 2)?;
     segments.push_reserved(named(alloc, "0", first)?);
     segments.push_reserved(named(alloc, "\"1", second)?);
-    inspect(alloc, segments)
+    Ok(segments)
+}
+
+/// The report of two segments.
+fn report_of(alloc: Global, first: &[u8], second: &[u8]) -> Result<Report, ReadFault> {
+    inspect(alloc, both(alloc, first, second)?)
 }
 
 /// Series 1 and 4 have one label set, 3 has none, and 2 has no definition.
@@ -110,5 +121,73 @@ fn two_segments(rt: HostRuntime) -> Result<(), Fail> {
     assert!(rt; table.as_slice() == TABLE.as_bytes());
     assert!(rt; json.as_slice() == JSON.as_bytes());
     assert!(rt; damaged.as_slice() == DAMAGED.as_bytes());
+    Ok(())
+}
+
+const PLAN: &str = "1 kept 0 {__name__=\"up\"}
+3 bad 3
+4 kept 0 {__name__=\"up\"}
+samples kept 4 filtered 0 bad 1 noseries 1
+";
+
+/// What is written as the plan of two segments, and the fault of their log.
+fn plan_of(
+    alloc: Global,
+    first: &[u8],
+    second: &[u8],
+) -> Result<(Vec<u8>, Option<TailFault>), ReadFault> {
+    let mut writer = Room::new(alloc, 4096)?;
+    let segments = both(alloc, first, second)?;
+    let damage = plan_segments(alloc, Choice::legacy(alloc), segments, &mut writer)?;
+    Ok((writer.into_bytes(), damage.map(|damage| damage.fault)))
+}
+
+/// Whether both segments have their plan, and whether nothing is written where the last byte of the second is another one.
+fn are_planned(alloc: Global) -> Result<(bool, bool), ReadFault> {
+    let first = segment_of(alloc, &FIRST)?;
+    let mut second = segment_of(alloc, &SECOND)?;
+    let (plan, fault) = plan_of(alloc, &first, &second)?;
+    let is_whole = plan.as_slice() == PLAN.as_bytes() && fault.is_none();
+    if let Some(byte) = second.last_mut() {
+        *byte = 1;
+    }
+    let (plan, fault) = plan_of(alloc, &first, &second)?;
+    Ok((
+        is_whole,
+        plan.is_empty() && fault == Some(TailFault::BadCrc),
+    ))
+}
+
+#[test]
+fn plan_of_two_segments(rt: HostRuntime) -> Result<(), Fail> {
+    assert_eq!(rt; are_planned(rt.alloc())?, (true, true));
+    Ok(())
+}
+
+/// Positions of both segments, and one behind their entries.
+static ASKED: [u64; 6] = [4, 0, 8, 3, 9, 5];
+
+const FOUND: &str = "4 \"1 series 3 {\"9\"=\"a\"}
+0 0 series 1 {__name__=\"up\"}
+8 \"1 sample 4 1500 0 {__name__=\"up\"}
+3 \"1 sample 2 -500 0 noseries
+9 is not there
+5 \"1 sample 3 1 0 {\"9\"=\"a\"}
+";
+
+/// What is found at the positions, how many are not there, and whether the log is damaged.
+fn found_in(alloc: Global) -> Result<(Vec<u8>, u64, bool), ReadFault> {
+    let first = segment_of(alloc, &FIRST)?;
+    let second = segment_of(alloc, &SECOND)?;
+    let segments = both(alloc, &first, &second)?;
+    let found = find_entries(alloc, segments, ASKED.to_vec(alloc)?)?;
+    Ok((found.text, found.missing, found.damage.is_some()))
+}
+
+#[test]
+fn entries_at_positions(rt: HostRuntime) -> Result<(), Fail> {
+    let (text, missing, is_damaged) = found_in(rt.alloc())?;
+    assert!(rt; text.as_slice() == FOUND.as_bytes());
+    assert_eq!(rt; (missing, is_damaged), (1, false));
     Ok(())
 }
