@@ -60,5 +60,6 @@ pub fn read_address(text: &str) -> Option<Address<'_>>
 
 /// Law: a text is at most one address. The call does nothing.
 pub fn address_is_one()
-    ensures { (text host other : List ℕ) (port another : ℕ) → IsAddress text host port → IsAddress text other another → (host ≡ other) × (port ≡ another) }
+    ensures { (text host other : List ℕ) (port another : ℕ) → IsAddress text host port
+        → IsAddress text other another → (host ≡ other) × (port ≡ another) }
 {}

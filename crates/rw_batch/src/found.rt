@@ -16,7 +16,8 @@ pub(crate) const NOWHERE: usize = usize::MAX;
 
 /// Whether the label set at this place is `labels`.
 fn is_at(sets: &IndexSet<Arc<LabelSet>>, place: usize, labels: &LabelSet) -> bool
-    ensures { IsTrue result → (k : Shared) × (slice_get sets.now.keys place ≡ Some k) × (labels_eq labels.now (arc_value k) ≡ true) }
+    ensures { IsTrue result → (k : Shared) × (slice_get sets.now.keys place ≡ Some k)
+        × (labels_eq labels.now (arc_value k) ≡ true) }
 {
     match sets.get_index(place) {
         Some(known) => *labels == **known,
@@ -34,8 +35,10 @@ pub(crate) fn place_of(
 ) -> (usize, bool)
     requires room { 0 < spare sets.old }
     ensures added { result.1 ≡ not (list_any (λ k. labels_eq labels.value (arc_value k)) sets.old.keys) }
-    ensures keys { sets.new.keys ≡ (if list_any (λ k. labels_eq labels.value (arc_value k)) sets.old.keys then sets.old.keys else sets.old.keys ++ labels ∷ []) }
-    ensures stored { (k : Shared) × (slice_get sets.new.keys result.0 ≡ Some k) × (labels_eq labels.value (arc_value k) ≡ true) }
+    ensures keys { sets.new.keys ≡ (if list_any (λ k. labels_eq labels.value (arc_value k)) sets.old.keys
+        then sets.old.keys else sets.old.keys ++ labels ∷ []) }
+    ensures stored { (k : Shared) × (slice_get sets.new.keys result.0 ≡ Some k)
+        × (labels_eq labels.value (arc_value k) ≡ true) }
     ensures room { spare sets.old ≤ spare sets.new + 1 }
 {
     let slot = match number.checked_rem(hints.len() as u64) {

@@ -59,7 +59,8 @@ fn series_of(alloc: Global, labels: &LabelSet, sample: (Word, i64)) -> Result<Se
 
 /// Puts a sample behind those of a series.
 fn push_sample(series: &mut Series, sample: (Word, i64)) -> Result<(), AllocError>
-    ensures ok { OnOk result (series.new ≡ record { labels = series.old.labels; samples = series.old.samples ++ sample ∷ [] }) }
+    ensures ok { OnOk result (series.new
+        ≡ record { labels = series.old.labels; samples = series.old.samples ++ sample ∷ [] }) }
     ensures labels { series.new.labels ≡ series.old.labels }
     ensures err { OnErr result (series.new ≡ series.old) }
 {

@@ -10,8 +10,10 @@ ghost use Rattle.rw_batch.specs.Groups.{Groups, StandsFor, IsAlone, with_number}
 
 /// Law: one more sample goes to the end of the series with its labels, or into a new series behind the others.
 pub fn message_grows()
-    ensures message { (xs : List LabelledSample) (x : LabelledSample) → message (xs ++ x ∷ []) ≡ with_sample x.labels x.sample (message xs) }
-    ensures labels { (l : Labels) (s : Sample) (gs : WriteRequest) → labels_of (with_sample l s gs) ≡ with_labels l (labels_of gs) }
+    ensures message { (xs : List LabelledSample) (x : LabelledSample)
+        → message (xs ++ x ∷ []) ≡ with_sample x.labels x.sample (message xs) }
+    ensures labels { (l : Labels) (s : Sample) (gs : WriteRequest)
+        → labels_of (with_sample l s gs) ≡ with_labels l (labels_of gs) }
 {}
 
 /// Law: no two series of a message have the same labels, and no sample is lost.
@@ -22,6 +24,8 @@ pub fn message_keeps_all()
 
 /// Law: where each number has labels of its own, series can be found by number, also after one more sample.
 pub fn numbers_stand_for_labels()
-    ensures stands { (f : ℕ → Labels) (n : ℕ) (g : Groups) → labels_of g.series ≡ map f g.numbers → IsAlone f n g.numbers → StandsFor n (f n) g }
-    ensures stays { (f : ℕ → Labels) (n : ℕ) (s : Sample) (g : Groups) → labels_of g.series ≡ map f g.numbers → IsAlone f n g.numbers → labels_of (with_sample (f n) s g.series) ≡ map f (with_number n g.numbers) }
+    ensures stands { (f : ℕ → Labels) (n : ℕ) (g : Groups) → labels_of g.series ≡ map f g.numbers
+        → IsAlone f n g.numbers → StandsFor n (f n) g }
+    ensures stays { (f : ℕ → Labels) (n : ℕ) (s : Sample) (g : Groups) → labels_of g.series ≡ map f g.numbers
+        → IsAlone f n g.numbers → labels_of (with_sample (f n) s g.series) ≡ map f (with_number n g.numbers) }
 {}

@@ -73,7 +73,8 @@ fn walk_back(before: &[usize], line: Line, row: &mut Vec<usize>)
     requires short { length before.now ≤ 10000 }
     requires empty { row.old.items ≡ [] }
     requires room { line.count ≤ vec_capacity row.old }
-    ensures back { (back : List ℕ) → IsTrail before.now line.last back → line.count ≡ length back → row.new.items ≡ back }
+    ensures back { (back : List ℕ) → IsTrail before.now line.last back → line.count ≡ length back
+        → row.new.items ≡ back }
     ensures capacity { vec_capacity row.new ≡ vec_capacity row.old }
 {
     let mut at = line.last;
@@ -154,7 +155,8 @@ impl Rows {
     pub(crate) fn numbers(&self, place: usize, row: &mut Vec<usize>)
         requires place { place < length (message self.now.samples) }
         requires room { length self.now.samples ≤ vec_capacity row.old }
-        ensures fields { flat_map (field_at (samples_alone self.now.samples)) row.new.items ≡ sample_fields (series_at self.now.samples place).samples }
+        ensures fields { flat_map (field_at (samples_alone self.now.samples)) row.new.items
+            ≡ sample_fields (series_at self.now.samples place).samples }
         ensures within { AllByRecursion (λ j. j < length self.now.samples) row.new.items }
         ensures capacity { vec_capacity row.new ≡ vec_capacity row.old }
     {

@@ -19,7 +19,8 @@ pub fn uvarint_is_read()
 
 /// Law: the varint of a number is its shortest form. No bytes that are read as that number are fewer.
 pub fn uvarint_is_shortest()
-    ensures { (text rest : List ℕ) (n : ℕ) → AreBytes text → read_uvarint text ≡ Ok (n, rest) → length (uvarint n) + length rest ≤ length text }
+    ensures { (text rest : List ℕ) (n : ℕ) → AreBytes text → read_uvarint text ≡ Ok (n, rest)
+        → length (uvarint n) + length rest ≤ length text }
 {}
 
 /// Law: a signed number of 64 bits is read back from its ZigZag varint, whatever bytes follow.
@@ -41,7 +42,8 @@ pub fn series_record_is_read()
 
 /// Law: the sample record of samples is read as these samples, in their order.
 pub fn sample_record_is_read()
-    ensures { (samples : List (ℕ × ℤ × ℕ)) → AreSamples samples → record_entries (sample_record samples) ≡ Some (map sample_entry samples) }
+    ensures { (samples : List (ℕ × ℤ × ℕ)) → AreSamples samples
+        → record_entries (sample_record samples) ≡ Some (map sample_entry samples) }
 {}
 
 /// Law: the records that were written to a segment, one after the other, are what is read of it.
@@ -64,14 +66,16 @@ pub fn one_more_record()
 
 /// Law: as more of a log comes, what was read of it stays, and so does a fault.
 pub fn reading_goes_on()
-    ensures { (page : ℕ) (pieces more : List Piece) → 0 < page → Extends (reading page pieces) (reading page (pieces ++ more)) }
+    ensures { (page : ℕ) (pieces more : List Piece) → 0 < page
+        → Extends (reading page pieces) (reading page (pieces ++ more)) }
 {}
 
 /// Law: it does not matter how the bytes of a segment are cut into pieces, and an empty piece changes nothing.
 pub fn cuts_do_not_matter()
     ensures cut { (page : ℕ) (before after : List Piece) (a b : List ℕ)
         → reading page (before ++ bytes a ∷ bytes b ∷ after) ≡ reading page (before ++ bytes (a ++ b) ∷ after) }
-    ensures empty { (page : ℕ) (before after : List Piece) → reading page (before ++ bytes [] ∷ after) ≡ reading page (before ++ after) }
+    ensures empty { (page : ℕ) (before after : List Piece)
+        → reading page (before ++ bytes [] ∷ after) ≡ reading page (before ++ after) }
 {}
 
 /// Law: entries that come later in a log do not change which labels a reference has below them.

@@ -150,7 +150,8 @@ impl<C: Connect + Drop> Fleet<C> {
     /// Puts a sample into the queue of shard number `shard`. It may wait for room. An `Err` changes nothing.
     pub fn put<R: Wait>(&mut self, rt: &R, shard: usize, sample: RoutedSample) -> Result<(), Fault>
         requires within { shard < length self.old.current }
-        requires later { (lane : Lane) (k : ℕ) (o : Place) → slice_get self.old.current shard ≡ Some lane → slice_get (places_in lane.put) k ≡ Some o → o.pos < sample.pos }
+        requires later { (lane : Lane) (k : ℕ) (o : Place) → slice_get self.old.current shard ≡ Some lane
+            → slice_get (places_in lane.put) k ≡ Some o → o.pos < sample.pos }
         ensures rest { self.new ≡ record self.old { current = self.new.current } }
         ensures ok { OnOk result (IsPut shard sample self.old.current self.new.current) }
         ensures err { OnErr result (self.new ≡ self.old) }

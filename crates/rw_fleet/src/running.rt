@@ -150,7 +150,8 @@ impl<T: Transport + Send + Drop + 'static> Running<T> {
     pub(crate) fn put<R: Wait>(&mut self, rt: &R, sample: RoutedSample) -> Result<(), Fault>
         requires later { (k : ℕ) (o : Place) → slice_get (places_in self.old.put) k ≡ Some o → o.pos < sample.pos }
         ensures setup { self.new.setup ≡ self.old.setup }
-        ensures put { MatchResult result (λ _. samples_in self.new.put ≡ samples_in self.old.put ++ put_as self.old sample ∷ []) (λ _. self.new ≡ self.old) }
+        ensures put { MatchResult result (λ _. samples_in self.new.put
+            ≡ samples_in self.old.put ++ put_as self.old sample ∷ []) (λ _. self.new ≡ self.old) }
         ensures marks { marks_in self.new.put ≡ marks_in self.old.put }
         ensures memory { result ≡ Err Fault.OutOfMemory → 2 ^ 60 ≤ length (places_in self.old.put) }
     {
@@ -183,7 +184,8 @@ impl<T: Transport + Send + Drop + 'static> Running<T> {
     /// Puts a Flush. It may wait for room.
     pub(crate) fn mark<R: Wait>(&mut self, rt: &R) -> Result<(), Fault>
         ensures setup { self.new.setup ≡ self.old.setup }
-        ensures put { MatchResult result (λ _. self.new.put ≡ self.old.put ++ Item.Flush ∷ []) (λ _. self.new ≡ self.old) }
+        ensures put { MatchResult result (λ _. self.new.put
+            ≡ self.old.put ++ Item.Flush ∷ []) (λ _. self.new ≡ self.old) }
         ensures memory { result ≡ Err Fault.OutOfMemory → ⊥ }
     {
         if let Err(_) = self.feed.put(rt, Item::Flush) {

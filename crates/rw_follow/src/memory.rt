@@ -110,7 +110,8 @@ impl Listed {
     fn step(&mut self) -> Result<(), ReadFault>
         requires read { self.old.rest ≡ [] }
         requires followed { 0 < length self.old.after }
-        ensures ok { OnOk result ((self.new.done ≡ self.old.done ++ self.old.given ∷ []) × ((self.new.given ≡ []) × (self.new.rest ∷ self.new.after ≡ self.old.after))) }
+        ensures ok { OnOk result ((self.new.done ≡ self.old.done ++ self.old.given ∷ [])
+            × ((self.new.given ≡ []) × (self.new.rest ∷ self.new.after ≡ self.old.after))) }
         ensures err { OnErr result (self.new ≡ self.old) }
     {
         let Ok(()) = self.done.reserve(1) else {

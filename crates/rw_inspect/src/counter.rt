@@ -105,7 +105,8 @@ impl Counter {
 
     /// Takes the next entry.
     pub fn take(&mut self, entry: Entry) -> Result<(), AllocError>
-        ensures ok { OnOk result (self.new ≡ record { entries = self.old.entries ++ entry ∷ []; here = self.old.here ++ entry ∷ [] }) }
+        ensures ok { OnOk result (self.new
+            ≡ record { entries = self.old.entries ++ entry ∷ []; here = self.old.here ++ entry ∷ [] }) }
         ensures err { OnErr result (self.new ≡ self.old) }
     {
         let count = one_more(self.count)?;

@@ -119,7 +119,8 @@ fn push_entry(
     entry: &Entry,
 ) -> Result<(), AllocError>
     requires { cache.now.choice ≡ any_names }
-    ensures { (before : List Entry) → definitions_of before ≡ cache.now.definitions → OnOk result (out.new.items ≡ out.old.items ++ entry_text before entry.now) }
+    ensures { (before : List Entry) → definitions_of before ≡ cache.now.definitions
+        → OnOk result (out.new.items ≡ out.old.items ++ entry_text before entry.now) }
 {
     match entry {
         Entry::Def { reference, labels } => push_series(out, alloc, *reference, labels),
@@ -131,7 +132,8 @@ fn push_entry(
 
 /// The text that is noted of a position.
 fn text_noted<'a>(notes: &'a [(u64, Vec<u8>)], position: u64) -> Option<&'a [u8]>
-    ensures { MatchOption result (noted_at (map told notes.now) position ≡ None) (λ text. noted_at (map told notes.now) position ≡ Some text.now) }
+    ensures { MatchOption result (noted_at (map told notes.now) position
+        ≡ None) (λ text. noted_at (map told notes.now) position ≡ Some text.now) }
 {
     for note in notes {
         if note.0 == position {
@@ -180,7 +182,8 @@ fn push_not_there(out: &mut Vec<u8>, position: u64) -> Result<(), AllocError>
 /// Takes the definition of an entry, where it is one.
 fn define(cache: &mut Cache, entry: Entry) -> Result<(), AllocError>
     ensures choice { OnOk result (cache.new.choice ≡ cache.old.choice) }
-    ensures defined { OnOk result ((before : List Entry) → definitions_of before ≡ cache.old.definitions → definitions_of (before ++ entry ∷ []) ≡ cache.new.definitions) }
+    ensures defined { OnOk result ((before : List Entry) → definitions_of before ≡ cache.old.definitions
+        → definitions_of (before ++ entry ∷ []) ≡ cache.new.definitions) }
     ensures err { OnErr result (cache.new ≡ cache.old) }
 {
     match entry {
@@ -241,7 +244,8 @@ impl Finder {
 
     /// The text of the next entry, where its position is asked for.
     fn note_of(&self, entry: &Entry) -> Result<Option<Vec<u8>>, AllocError>
-        ensures { IfOk result (λ note. notes_in (length self.now.entries) note ≡ note_of self.now.positions.items self.now.entries entry.now) }
+        ensures { IfOk result (λ note. notes_in (length self.now.entries) note
+            ≡ note_of self.now.positions.items self.now.entries entry.now) }
     {
         if !self.positions.contains(&self.count) {
             return Ok(None);
@@ -259,7 +263,8 @@ impl Finder {
         position: u64,
     ) -> Result<bool, AllocError>
         requires { is_asked self.now.positions.items position ≡ true }
-        ensures line { OnOk result (out.new.items ≡ out.old.items ++ position_text segments.now self.now.entries position) }
+        ensures line { OnOk result (out.new.items
+            ≡ out.old.items ++ position_text segments.now self.now.entries position) }
         ensures missing { IfOk result (λ is_there. not is_there ≡ is_missing self.now.entries position) }
     {
         match text_noted(&self.notes, position) {
@@ -276,8 +281,10 @@ impl Finder {
 
     /// The lines of all positions, and how many of them have no entry.
     fn lines(&self, segments: &[Segment]) -> Result<(Vec<u8>, u64), AllocError>
-        ensures text { IfOk result (λ found. found.0.items ≡ flat_map (position_text segments.now self.now.entries) self.now.positions.items) }
-        ensures missing { IfOk result (λ found. found.1 ≡ count_by (is_missing self.now.entries) self.now.positions.items) }
+        ensures text { IfOk result (λ found. found.0.items
+            ≡ flat_map (position_text segments.now self.now.entries) self.now.positions.items) }
+        ensures missing { IfOk result (λ found. found.1
+            ≡ count_by (is_missing self.now.entries) self.now.positions.items) }
     {
         let mut text = Vec::new(self.alloc);
         let mut missing = 0;

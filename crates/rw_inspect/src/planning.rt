@@ -79,11 +79,13 @@ pub fn plan_segments<S: Source + Drop, W: Sink>(
     ensures sound { OnOk result (W.has_failed writer.old ≡ false → W.has_failed writer.new ≡ false) }
 
     // A fault is the one that the log has, and nothing is written then, or where memory ran out.
-    ensures damaged { IfOk result (λ damage. (f : TailFault) → fault_in damage ≡ Some f → ReadsToFault (map (source_of S.remaining) segments.items) f × (writer.new ≡ writer.old)) }
+    ensures damaged { IfOk result (λ damage. (f : TailFault) → fault_in damage ≡ Some f
+        → ReadsToFault (map (source_of S.remaining) segments.items) f × (writer.new ≡ writer.old)) }
     ensures memory { result ≡ Err OutOfMemory → writer.new ≡ writer.old }
 
     // Where a device fails, the writer holds a beginning of the plan.
-    ensures device { result ≡ Err Failed → ((AllSure (map (source_of S.is_sure) segments.items) → ⊥) × (writer.new ≡ writer.old))
+    ensures device { result ≡ Err Failed
+        → ((AllSure (map (source_of S.is_sure) segments.items) → ⊥) × (writer.new ≡ writer.old))
         ⊎ ((W.has_failed writer.new ≡ true) × WritesPlanPart choice (map (source_of S.remaining) segments.items) (W.contents writer.old) (W.contents writer.new)) }
 {
     let (plan, damage) = plan_of_all(alloc, choice, segments)?;

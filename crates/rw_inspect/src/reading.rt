@@ -55,8 +55,10 @@ fn feed_some<S: Source>(
     tail: &mut Tail,
 ) -> Result<Option<u64>, ReadFault>
     requires { 0 < length chunk.old }
-    ensures more { (n : ℕ) → result ≡ Ok (Some n) → FeedsMore (S.remaining source.old) (S.remaining source.new) tail.old tail.new n }
-    ensures end { result ≡ Ok None → Consumes (S.remaining source.old) (S.remaining source.new) [] × IsAtEnd (S.remaining source.new) × (tail.new ≡ tail.old) }
+    ensures more { (n : ℕ) → result ≡ Ok (Some n)
+        → FeedsMore (S.remaining source.old) (S.remaining source.new) tail.old tail.new n }
+    ensures end { result ≡ Ok None → Consumes (S.remaining source.old) (S.remaining source.new) []
+        × IsAtEnd (S.remaining source.new) × (tail.new ≡ tail.old) }
     ensures sure { S.is_sure source.old ≡ true → (S.is_sure source.new ≡ true) × (result ≡ Err Failed → ⊥) }
 {
     let Ok(count) = source.read(chunk) else {

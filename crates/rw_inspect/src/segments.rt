@@ -94,7 +94,8 @@ fn read_all<S: Source + Drop, T: Taker>(
     rows: &mut Vec<Segment>,
 ) -> Result<Option<TailFault>, ReadFault>
     requires { IsInspected [] tail.old (T.counted taker.old) rows.old.items None }
-    ensures ok { IfOk result (λ fault. (texts : List (List ℕ)) × ReadsFirst (map (source_of S.remaining) segments.items) texts fault
+    ensures ok { IfOk result (λ fault. (texts : List (List ℕ))
+        × ReadsFirst (map (source_of S.remaining) segments.items) texts fault
         × IsInspected texts tail.new (T.counted taker.new) rows.new.items fault) }
     ensures task { OnOk result (T.task taker.new ≡ T.task taker.old) }
     ensures sure { AllSure (map (source_of S.is_sure) segments.items) → result ≡ Err Failed → ⊥ }

@@ -45,7 +45,8 @@ fn define(
     reference: u64,
     labels: RawLabels,
 ) -> Result<(), AllocError>
-    ensures cache { OnOk result (cache.new ≡ record cache.old { definitions = cache.old.definitions ++ Entry.Def reference labels ∷ [] }) }
+    ensures cache { OnOk result (cache.new
+        ≡ record cache.old { definitions = cache.old.definitions ++ Entry.Def reference labels ∷ [] }) }
     ensures lines { (entries : List Entry) → definitions_of entries ≡ cache.old.definitions
         → OnOk result (lines.new.items ≡ lines.old.items ++ line_of cache.old.choice entries (Entry.Def reference labels)) }
 {

@@ -94,7 +94,8 @@ fn serve_each<L: Ledger + Send + Sync, R: Threads + Wait + Clock + Sync>(
         thread::scope_env(),
         rt,
         move |scope| -> Result<Vec<Seat<L>>, ToolFault>
-            ensures { IfOk result (λ back. vec_len back ≡ vec_len seats) × IfErr result (λ e. (e ≡ OutOfMemory) ⊎ (e ≡ Device)) }
+            ensures { IfOk result (λ back. vec_len back ≡ vec_len seats)
+                × IfErr result (λ e. (e ≡ OutOfMemory) ⊎ (e ≡ Device)) }
         {
             let started = start_each(scope, rt, &listener, post, shared, seats);
             drop(listener);

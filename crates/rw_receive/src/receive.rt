@@ -30,7 +30,8 @@ fn print_held<W: Sink>(alloc: Global, head: &Head, writer: &mut W) -> Result<(),
     ensures sound { OnOk result (W.has_failed writer.old ≡ false → W.has_failed writer.new ≡ false) }
     ensures faults { IfErr result (λ e. (e ≡ OutOfMemory) ⊎ (e ≡ Device)) }
     ensures memory { result ≡ Err OutOfMemory → writer.new ≡ writer.old }
-    ensures device { result ≡ Err Device → (W.has_failed writer.new ≡ true) × AppendsPart (W.contents writer.old) (W.contents writer.new) (store_text head.now.store) }
+    ensures device { result ≡ Err Device → (W.has_failed writer.new ≡ true)
+        × AppendsPart (W.contents writer.old) (W.contents writer.new) (store_text head.now.store) }
 {
     let mut text = Vec::new(alloc);
     push_store(&mut text, head)?;
@@ -73,7 +74,9 @@ pub fn run_receive<R: Threads + Wait + Clock + Sync, W: Sink>(
     ensures memory { result ≡ Err OutOfMemory → writer.new ≡ writer.old }
 
     // A failed accept has written nothing. Where the writer fails, it holds a beginning of the text.
-    ensures device { result ≡ Err Device → (writer.new ≡ writer.old) ⊎ ((W.has_failed writer.new ≡ true) × WritesHeldPart (W.contents writer.old) (W.contents writer.new)) }
+    ensures device { result ≡ Err Device → (writer.new ≡ writer.old)
+        ⊎ ((W.has_failed writer.new ≡ true)
+        × WritesHeldPart (W.contents writer.old) (W.contents writer.new)) }
 {
     let count = service.most.get();
     let blank = Blank::new(count + 1);
@@ -112,7 +115,9 @@ pub fn run_receive_until<R: Threads + Wait + Clock + Sync, W: Sink>(
     ensures memory { result ≡ Err OutOfMemory → writer.new ≡ writer.old }
 
     // A listener that cannot be set has written nothing. Where the writer fails, it holds a beginning of the text.
-    ensures device { result ≡ Err Device → (writer.new ≡ writer.old) ⊎ ((W.has_failed writer.new ≡ true) × WritesHeldPart (W.contents writer.old) (W.contents writer.new)) }
+    ensures device { result ≡ Err Device → (writer.new ≡ writer.old)
+        ⊎ ((W.has_failed writer.new ≡ true)
+        × WritesHeldPart (W.contents writer.old) (W.contents writer.new)) }
 {
     let most = service.most.get();
     let blank = Blank::new(most + 1);

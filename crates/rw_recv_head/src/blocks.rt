@@ -78,7 +78,8 @@ fn count_begun(sealed: &[Box<Block>], t: i64) -> usize
 /// Makes a block of the samples behind the others.
 fn seal(sealed: &mut Vec<Box<Block>>, samples: &[(i64, Word)]) -> Result<(), AllocError>
     requires { length samples.now ≡ 120 }
-    ensures ok { OnOk result (map (λ b. b.value) sealed.new.items ≡ map (λ b. b.value) sealed.old.items ++ samples.now ∷ []) }
+    ensures ok { OnOk result (map (λ b. b.value) sealed.new.items
+        ≡ map (λ b. b.value) sealed.old.items ++ samples.now ∷ []) }
     ensures err { OnErr result (sealed.new.items ≡ sealed.old.items) }
 {
     let alloc = *sealed.allocator();

@@ -190,7 +190,8 @@ impl Head {
     /// The samples of a label set behind its full blocks, at most 119, as (timestamp in milliseconds since the Unix epoch, value). This takes no
     /// memory, and time that grows with the number of label sets.
     pub fn open(&self, labels: &LabelSet) -> &[(i64, Word)]
-        ensures samples { joined (sealed_of (list_of self.now.store labels.now)) ++ result.now ≡ list_of self.now.store labels.now }
+        ensures samples { joined (sealed_of (list_of self.now.store labels.now)) ++ result.now
+            ≡ list_of self.now.store labels.now }
         ensures few { length result.now < 120 }
     {
         self.table.open(labels)

@@ -10,8 +10,10 @@ ghost use Rattle.rw_recv_head.specs.Store.{Store, list_of, with_list, HasNoEmpty
 /// Law: a store is a list of samples for each label set. It changes at one label set alone, and is told apart by these lists alone.
 pub fn stores_are_lists()
     ensures none { (l : Labels) → list_of empty l ≡ [] }
-    ensures one { (l : Labels) (xs : List Point) (s : Store) (q : Labels) → list_of (with_list l xs s) q ≡ (if labels_eq q l then xs else list_of s q) }
-    ensures same { (s t : Store) → HasNoEmptyList s → HasNoEmptyList t → ((l : Labels) → list_of s l ≡ list_of t l) → s ≡ t }
+    ensures one { (l : Labels) (xs : List Point) (s : Store) (q : Labels)
+        → list_of (with_list l xs s) q ≡ (if labels_eq q l then xs else list_of s q) }
+    ensures same { (s t : Store) → HasNoEmptyList s → HasNoEmptyList t
+        → ((l : Labels) → list_of s l ≡ list_of t l) → s ≡ t }
 {}
 
 /// Law: no store that is made from the empty one, list by list, holds an empty list.

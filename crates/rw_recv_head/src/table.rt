@@ -114,7 +114,8 @@ fn stage_at(
     requires place { place < length lists.old.items }
     requires room { length (slice_index_or lists.old.items place no_lists).staged + length samples.now ≤ 2 ^ 60 }
     ensures list { lists.new.items ≡ slice_set lists.old.items place (slice_index_or lists.new.items place no_lists) }
-    ensures kept { (slice_index_or lists.new.items place no_lists).kept ≡ (slice_index_or lists.old.items place no_lists).kept }
+    ensures kept { (slice_index_or lists.new.items place no_lists).kept
+        ≡ (slice_index_or lists.old.items place no_lists).kept }
     ensures staged { ListGives result (accept (Some (slice_index_or lists.old.items place no_lists).staged) (points samples.now)) (slice_index_or lists.new.items place no_lists).staged }
     ensures grown { length (slice_index_or lists.old.items place no_lists).staged ≤ length (slice_index_or lists.new.items place no_lists).staged }
     ensures few { length (slice_index_or lists.new.items place no_lists).staged ≤ length (slice_index_or lists.old.items place no_lists).staged + length samples.now }
@@ -126,8 +127,11 @@ fn stage_at(
 fn commit_all(lists: &mut Vec<SampleList>, touched: &[usize])
     requires { Settled touched.now lists.old.items }
     ensures len { length lists.new.items ≡ length lists.old.items }
-    ensures kept { (n : ℕ) → n < length lists.new.items → (slice_index_or lists.new.items n no_lists).kept ≡ (slice_index_or lists.new.items n no_lists).staged }
-    ensures staged { (n : ℕ) → (slice_index_or lists.new.items n no_lists).staged ≡ (slice_index_or lists.old.items n no_lists).staged }
+    ensures kept { (n : ℕ) → n < length lists.new.items
+        → (slice_index_or lists.new.items n no_lists).kept
+        ≡ (slice_index_or lists.new.items n no_lists).staged }
+    ensures staged { (n : ℕ) → (slice_index_or lists.new.items n no_lists).staged
+        ≡ (slice_index_or lists.old.items n no_lists).staged }
 {
     for place in touched {
         lists[*place].commit();
@@ -138,8 +142,11 @@ fn commit_all(lists: &mut Vec<SampleList>, touched: &[usize])
 fn abort_all(lists: &mut Vec<SampleList>, touched: &[usize])
     requires { Settled touched.now lists.old.items }
     ensures len { length lists.new.items ≡ length lists.old.items }
-    ensures staged { (n : ℕ) → n < length lists.new.items → (slice_index_or lists.new.items n no_lists).kept ≡ (slice_index_or lists.new.items n no_lists).staged }
-    ensures kept { (n : ℕ) → (slice_index_or lists.new.items n no_lists).kept ≡ (slice_index_or lists.old.items n no_lists).kept }
+    ensures staged { (n : ℕ) → n < length lists.new.items
+        → (slice_index_or lists.new.items n no_lists).kept
+        ≡ (slice_index_or lists.new.items n no_lists).staged }
+    ensures kept { (n : ℕ) → (slice_index_or lists.new.items n no_lists).kept
+        ≡ (slice_index_or lists.old.items n no_lists).kept }
 {
     for place in touched {
         lists[*place].abort();

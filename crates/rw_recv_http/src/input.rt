@@ -47,7 +47,8 @@ fn read_more<R: Source>(
     requires some { 0 < most }
     requires room { 0 < length chunk.old }
     ensures kept { OnOk result (Keeps (prepend_known pending.old.items (R.remaining reader.old)) (prepend_known pending.new.items (R.remaining reader.new))) }
-    ensures end { IfOk result (λ n. n ≡ 0 → IsAtEnd (R.remaining reader.new) × (pending.new.items ≡ pending.old.items)) }
+    ensures end { IfOk result (λ n. n ≡ 0 → IsAtEnd (R.remaining reader.new)
+        × (pending.new.items ≡ pending.old.items)) }
     ensures len { IfOk result (λ n. vec_len pending.new ≡ vec_len pending.old + n) }
     ensures bound { IfOk result (λ n. n ≤ most) }
     ensures failed { result ≡ Err Stop.Device → R.has_failed reader.new ≡ true }

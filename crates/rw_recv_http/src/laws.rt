@@ -9,7 +9,8 @@ use crate::answer::Answer;
 
 /// Law: a reply takes at most 86 bytes.
 pub fn replies_are_short()
-    ensures { (status : ℕ) (closes : Bool) → IsTrue (is_verdict status || is_refusal status) → length (reply status closes) ≤ 86 }
+    ensures { (status : ℕ) (closes : Bool) → IsTrue (is_verdict status || is_refusal status)
+        → length (reply status closes) ≤ 86 }
 {}
 
 /// Law: where a body has one answer, an input that is served up to its end, or up to a reply that closes, has one text of replies.

@@ -34,7 +34,8 @@ fn serve_body<R: Source, W: Sink, A: Answer>(
         × HasBodyServed A.answers n closes input answer.old text (prepend_known pending.new.items (R.remaining reader.new)) answer.new result
         × OnOk result (W.has_failed writer.old ≡ false → (W.has_failed writer.new ≡ false) × (W.room writer.old ≤ W.room writer.new + length text)) }
     ensures room { vec_len pending.new ≤ 8192 }
-    ensures device { result ≡ Err ServeEnd.Device → (R.has_failed reader.new ≡ true) ⊎ (W.has_failed writer.new ≡ true) }
+    ensures device { result ≡ Err ServeEnd.Device → (R.has_failed reader.new ≡ true)
+        ⊎ (W.has_failed writer.new ≡ true) }
     ensures sure { R.is_sure reader.old ≡ true → R.is_sure reader.new ≡ true }
     ensures fits { (input : List ℕ) → prepend_known pending.old.items (R.remaining reader.old) ≡ Some input
         → R.is_sure reader.old ≡ true → W.has_failed writer.old ≡ false → result ≡ Err ServeEnd.Device
@@ -79,7 +80,8 @@ fn serve_one<R: Source, W: Sink, A: Answer>(
         × HasServed path.now limit A.answers input answer.old text (prepend_known pending.new.items (R.remaining reader.new)) answer.new result
         × OnOk result (W.has_failed writer.old ≡ false → (W.has_failed writer.new ≡ false) × (W.room writer.old ≤ W.room writer.new + length text)) }
     ensures room { OnOk result (vec_len pending.new ≤ 8192) }
-    ensures device { result ≡ Err ServeEnd.Device → (R.has_failed reader.new ≡ true) ⊎ (W.has_failed writer.new ≡ true) }
+    ensures device { result ≡ Err ServeEnd.Device → (R.has_failed reader.new ≡ true)
+        ⊎ (W.has_failed writer.new ≡ true) }
     ensures sure { R.is_sure reader.old ≡ true → R.is_sure reader.new ≡ true }
     ensures fits { (input : List ℕ) → prepend_known pending.old.items (R.remaining reader.old) ≡ Some input
         → R.is_sure reader.old ≡ true → W.has_failed writer.old ≡ false → result ≡ Err ServeEnd.Device
@@ -184,13 +186,15 @@ pub fn serve<R: Source, W: Sink, A: Answer>(
         → IsTooSmall limits.now.path limits.now.max_body_bytes A.answers input answer.old (W.room writer.old) }
 
     // One request alone, which asks to close, has its reply, where there is room for one.
-    ensures alone { (input before body : List ℕ) → R.remaining reader.old ≡ Some input → W.contents writer.old ≡ Some before
+    ensures alone { (input before body : List ℕ) → R.remaining reader.old ≡ Some input
+        → W.contents writer.old ≡ Some before
         → R.is_sure reader.old ≡ true → W.has_failed writer.old ≡ false → 86 ≤ W.room writer.old
         → IsOneRequest limits.now.path limits.now.max_body_bytes input body
         → IsServedAlone A.answers body answer.old before (W.contents writer.new) answer.new result }
 
     // One that its head refuses has its reply, where there is room for one, and nothing is asked.
-    ensures refused { (input before : List ℕ) (status : ℕ) → R.remaining reader.old ≡ Some input → W.contents writer.old ≡ Some before
+    ensures refused { (input before : List ℕ) (status : ℕ) → R.remaining reader.old ≡ Some input
+        → W.contents writer.old ≡ Some before
         → R.is_sure reader.old ≡ true → W.has_failed writer.old ≡ false → 86 ≤ W.room writer.old
         → length input < 2 ^ 64 - 1 → IsOneRefusal limits.now.path limits.now.max_body_bytes input status
         → IsTurnedAway status answer.old before (W.contents writer.new) answer.new result }

@@ -40,7 +40,8 @@ pub(crate) fn write_behind(
     requires some { 0 < length rec.now }
     requires short { length rec.now ≤ 16 * 1024 * 1024 }
     requires place { IsPlace segment_pages offset }
-    ensures { IfOk result (λ found. MatchOption found (is_full offset rec.now ≡ true) (λ w. IsWritten offset rec.now w.bytes.items w.offset)) }
+    ensures { IfOk result (λ found. MatchOption found (is_full offset rec.now
+        ≡ true) (λ w. IsWritten offset rec.now w.bytes.items w.offset)) }
 {
     let mut writer = SegmentWriter::resume(Growing::new(alloc), SEGMENT_PAGES, offset);
     match writer.log(rec) {

@@ -121,7 +121,8 @@ impl<S: Shard> Fleet<S, Running> {
     ) -> Result<Fleet<S, Running>, (Vec<S>, AllocError)>
         requires some { 1 ≤ n }
         requires most { n ≤ 1000 }
-        ensures ok { IfOk result (λ f. (f.epoch ≡ 0) × (f.wanted ≡ n) × (f.made ≡ []) × AreAllNew M.is_new 0 n f.running) }
+        ensures ok { IfOk result (λ f. (f.epoch ≡ 0) × (f.wanted ≡ n) × (f.made ≡ [])
+            × AreAllNew M.is_new 0 n f.running) }
         ensures err { IfErr result (λ e. AreNew M.is_new 0 e.0.items) }
     {
         let mut running = Vec::new(alloc);
@@ -174,7 +175,8 @@ impl<S: Shard> Fleet<S, Draining> {
         ensures drained { IfOk result (λ r. list_all S.is_drained self.running ≡ true) }
         ensures old { IfOk result (λ r. r.1.items ≡ self.running) }
         ensures begun { IfOk result (λ r. (r.0.epoch ≡ 1 + self.epoch) × (r.0.wanted ≡ self.wanted) × (r.0.made ≡ [])) }
-        ensures all { IfOk result (λ r. AreAllNew M.is_new (1 + self.epoch) self.wanted r.0.running × GoOn self.made r.0.running) }
+        ensures all { IfOk result (λ r. AreAllNew M.is_new (1 + self.epoch) self.wanted r.0.running
+            × GoOn self.made r.0.running) }
         ensures not_drained { IfErr result (λ e. (e.1 ≡ NotDrained) ↔ (list_all S.is_drained self.running ≡ false)) }
         ensures kept { IfErr result (λ e. e.1 ≡ NotDrained → e.0 ≡ self) }
         ensures goes_on { IfErr result (λ e. GoesOn M.is_new self e.0) }

@@ -145,7 +145,8 @@ impl Feed<Open> {
     pub fn put<R: Wait>(&mut self, rt: &R, item: Item) -> Result<(), (Item, Gone)>
         requires { MayFollow self.old.queue.epoch self.old.queue.shard self.old.put item }
         ensures queue { (self.new.queue ≡ self.old.queue) × (self.new.capacity ≡ self.old.capacity) }
-        ensures put { MatchResult result (λ _. self.new.put ≡ self.old.put ++ item ∷ []) (λ e. (e.0 ≡ item) × (self.new.put ≡ self.old.put)) }
+        ensures put { MatchResult result (λ _. self.new.put ≡ self.old.put ++ item ∷ []) (λ e. (e.0 ≡ item)
+            × (self.new.put ≡ self.old.put)) }
         ensures history { IsHistory self.new.queue.epoch self.new.queue.shard self.new.put }
     {
         let waits = !matches!(item, Item::Flush);
@@ -174,7 +175,8 @@ impl Feed<Open> {
 
     /// Puts an End, the last item, of this kind. It may wait for room. Where nobody is at the other end, this end comes back as it was.
     pub fn end<R: Wait>(self, rt: &R, kind: Kind) -> Result<Feed<Ended>, (Feed<Open>, Gone)>
-        ensures put { MatchResult result (λ f. (f.queue ≡ self.queue) × (f.capacity ≡ self.capacity) × (f.put ≡ self.put ++ Item.End kind ∷ [])) (λ e. e.0 ≡ self) }
+        ensures put { MatchResult result (λ f. (f.queue ≡ self.queue) × (f.capacity ≡ self.capacity)
+            × (f.put ≡ self.put ++ Item.End kind ∷ [])) (λ e. e.0 ≡ self) }
         ensures history { IfOk result (λ f. IsHistory f.queue.epoch f.queue.shard f.put) }
     {
         let Feed {
@@ -350,7 +352,8 @@ pub fn open(
 ) -> Result<(Feed<Open>, Drain<Open>), AllocError>
     requires { 0 < capacity }
     ensures same { IfOk result (λ r. r.0.queue ≡ r.1.queue) }
-    ensures queue { IfOk result (λ r. (r.0.queue.epoch ≡ epoch) × (r.0.queue.shard ≡ shard) × (r.0.capacity ≡ capacity)) }
+    ensures queue { IfOk result (λ r. (r.0.queue.epoch ≡ epoch) × (r.0.queue.shard ≡ shard)
+        × (r.0.capacity ≡ capacity)) }
     ensures most { IfOk result (λ r. r.0.queue.capacity ≡ capacity) }
     ensures empty { IfOk result (λ r. (r.0.put ≡ []) × (r.1.taken ≡ [])) }
 {

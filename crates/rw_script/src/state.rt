@@ -155,7 +155,8 @@ fn push_report(out: &mut Vec<u8>, report: &[u8], number: u64) -> Result<(), Allo
 /// Appends an `abandoned` line for each sample that was put and not resolved, by position, and then the report, which is `report running` where
 /// there is no outcome. After an `Err` a part of it may stand in `out`.
 pub fn push_ending(out: &mut Vec<u8>, outcome: Option<&Outcome>) -> Result<(), AllocError>
-    ensures ok { OnOk result (out.new.items ≡ out.old.items ++ ending_text (option_map (λ o. ending_of o.now) outcome.entry)) }
+    ensures ok { OnOk result (out.new.items
+        ≡ out.old.items ++ ending_text (option_map (λ o. ending_of o.now) outcome.entry)) }
     ensures err { OnErr result (Grown out.old.items out.new.items) }
 {
     match outcome {
@@ -179,7 +180,8 @@ pub fn push_work(
     filtered: u64,
     outcome: Option<&Outcome>,
 ) -> Result<(), AllocError>
-    ensures ok { OnOk result (out.new.items ≡ out.old.items ++ work_text (entries ledger.now.names) filtered (option_map (λ o. ending_of o.now) outcome.entry)) }
+    ensures ok { OnOk result (out.new.items
+        ≡ out.old.items ++ work_text (entries ledger.now.names) filtered (option_map (λ o. ending_of o.now) outcome.entry)) }
     ensures err { OnErr result (Grown out.old.items out.new.items) }
 {
     push_all_dropped(out, ledger.iter().as_slice())?;

@@ -24,7 +24,8 @@ pub(crate) enum BareWord {
 impl BareWord {
     /// The word that is this text.
     pub(crate) fn read(text: &[u8]) -> Option<BareWord>
-        ensures { MatchOption result ((word : BareWord) → text.now ≡ bare_text word → ⊥) (λ word. text.now ≡ bare_text word) }
+        ensures { MatchOption result ((word : BareWord) → text.now ≡ bare_text word
+            → ⊥) (λ word. text.now ≡ bare_text word) }
     {
         let Ok(word) = str::from_utf8(text) else {
             return None;
@@ -70,7 +71,8 @@ pub(crate) enum NumberedWord {
 impl NumberedWord {
     /// The word that is this text.
     pub(crate) fn read(text: &[u8]) -> Option<NumberedWord>
-        ensures { MatchOption result ((word : NumberedWord) → text.now ≡ numbered_text word → ⊥) (λ word. text.now ≡ numbered_text word) }
+        ensures { MatchOption result ((word : NumberedWord) → text.now ≡ numbered_text word
+            → ⊥) (λ word. text.now ≡ numbered_text word) }
     {
         let Ok(word) = str::from_utf8(text) else {
             return None;

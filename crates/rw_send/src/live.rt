@@ -64,7 +64,8 @@ fn feed_bytes<R: Wait, C: Connect + Drop>(
     ensures shards { length shipper.new.fleet.current ≡ length shipper.old.fleet.current }
     ensures short { AreShort shipper.old.log.pieces → AreShort shipper.new.log.pieces }
     ensures live { OnOk result (shipper.new.fault ≡ None) }
-    ensures fed { OnOk result (meal_of shipper.new.log.pieces ≡ with_piece (meal_of shipper.old.log.pieces) piece.items) }
+    ensures fed { OnOk result (meal_of shipper.new.log.pieces
+        ≡ with_piece (meal_of shipper.old.log.pieces) piece.items) }
     ensures part { OnErr result ((meal_of shipper.new.log.pieces ≡ meal_of shipper.old.log.pieces)
         ⊎ (meal_of shipper.new.log.pieces ≡ with_piece (meal_of shipper.old.log.pieces) piece.items)) }
 
@@ -127,7 +128,8 @@ fn obey<R: Threads + Wait + Clock + Copy + Send + 'static, C: Connect + Drop>(
     ensures shards { IfOk result (λ s. length shipper.new.fleet.current ≡ s.shards) }
     ensures short { AreShort shipper.old.log.pieces → AreShort shipper.new.log.pieces }
     ensures live { OnOk result (shipper.new.fault ≡ None) }
-    ensures fed { OnOk result (meal_of shipper.new.log.pieces ≡ given_by turn buf.now (meal_of shipper.old.log.pieces)) }
+    ensures fed { OnOk result (meal_of shipper.new.log.pieces
+        ≡ given_by turn buf.now (meal_of shipper.old.log.pieces)) }
     ensures part { OnErr result ((meal_of shipper.new.log.pieces ≡ meal_of shipper.old.log.pieces)
         ⊎ (meal_of shipper.new.log.pieces ≡ given_by turn buf.now (meal_of shipper.old.log.pieces))) }
 
@@ -166,7 +168,8 @@ fn step<R: Threads + Wait + Clock + Copy + Send + 'static, C: Connect + Drop>(
     ensures shards { IfOk result (λ s. length shipper.new.fleet.current ≡ s.shards) }
     ensures short { AreShort shipper.old.log.pieces → AreShort shipper.new.log.pieces }
     ensures live { OnOk result (shipper.new.fault ≡ None) }
-    ensures fed { OnOk result (meal_of shipper.new.log.pieces ≡ given_by turn buf.now (meal_of shipper.old.log.pieces)) }
+    ensures fed { OnOk result (meal_of shipper.new.log.pieces
+        ≡ given_by turn buf.now (meal_of shipper.old.log.pieces)) }
     ensures part { OnErr result ((meal_of shipper.new.log.pieces ≡ meal_of shipper.old.log.pieces)
         ⊎ (meal_of shipper.new.log.pieces ≡ given_by turn buf.now (meal_of shipper.old.log.pieces))) }
 

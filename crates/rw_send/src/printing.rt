@@ -86,11 +86,13 @@ pub(crate) fn print_report<T: Drop, W: Sink>(
     report: Report<T>,
     writer: &mut W,
 ) -> Result<(), ToolFault>
-    ensures ok { OnOk result ((text : List ℕ) × IsTextOf report text × Appends (W.contents writer.old) (W.contents writer.new) text) }
+    ensures ok { OnOk result ((text : List ℕ) × IsTextOf report text
+        × Appends (W.contents writer.old) (W.contents writer.new) text) }
     ensures sound { OnOk result (W.has_failed writer.old ≡ false → W.has_failed writer.new ≡ false) }
     ensures faults { IfErr result (λ e. (e ≡ OutOfMemory) ⊎ (e ≡ Device)) }
     ensures memory { result ≡ Err OutOfMemory → writer.new ≡ writer.old }
-    ensures device { result ≡ Err Device → (W.has_failed writer.new ≡ true) × WritesPart report (W.contents writer.old) (W.contents writer.new) }
+    ensures device { result ≡ Err Device → (W.has_failed writer.new ≡ true)
+        × WritesPart report (W.contents writer.old) (W.contents writer.new) }
 {
     let text = text_of(alloc, report)?;
     write_all(writer, &text)?;

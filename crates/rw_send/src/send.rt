@@ -124,12 +124,14 @@ pub fn run_send<
 ) -> Result<(), ToolFault>
     ensures complete { OnOk result (IsPrinted C.T.tells C.T.seen C.T.is_for settings.config (map S.remaining segments.items) (map S.is_sure segments.items) (W.contents writer.old) (W.contents writer.new) (Ok tt)) }
     ensures sound { OnOk result (W.has_failed writer.old ≡ false → W.has_failed writer.new ≡ false) }
-    ensures damaged { (f : TailFault) → result ≡ Err (Log f) → IsPrinted C.T.tells C.T.seen C.T.is_for settings.config (map S.remaining segments.items) (map S.is_sure segments.items) (W.contents writer.old) (W.contents writer.new) (Err (Log f)) }
+    ensures damaged { (f : TailFault) → result ≡ Err (Log f)
+        → IsPrinted C.T.tells C.T.seen C.T.is_for settings.config (map S.remaining segments.items) (map S.is_sure segments.items) (W.contents writer.old) (W.contents writer.new) (Err (Log f)) }
     ensures memory { result ≡ Err OutOfMemory → (writer.new ≡ writer.old)
         ⊎ IsPrinted C.T.tells C.T.seen C.T.is_for settings.config (map S.remaining segments.items) (map S.is_sure segments.items) (W.contents writer.old) (W.contents writer.new) (Err OutOfMemory) }
 
     // A segment cannot be read, or the writer holds a beginning of the report.
-    ensures device { result ≡ Err Device → IsPrinted C.T.tells C.T.seen C.T.is_for settings.config (map S.remaining segments.items) (map S.is_sure segments.items) (W.contents writer.old) (W.contents writer.new) (Err Device)
+    ensures device { result ≡ Err Device
+        → IsPrinted C.T.tells C.T.seen C.T.is_for settings.config (map S.remaining segments.items) (map S.is_sure segments.items) (W.contents writer.old) (W.contents writer.new) (Err Device)
         ⊎ ((W.has_failed writer.new ≡ true) × IsPrintedPart C.T.tells C.T.seen C.T.is_for settings.config (map S.remaining segments.items) (map S.is_sure segments.items) (W.contents writer.old) (W.contents writer.new)) }
     ensures no_line { (n : ℕ) → result ≡ Err (Line n) → ⊥ }
     ensures no_full { result ≡ Err SegmentFull → ⊥ }

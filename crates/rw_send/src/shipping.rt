@@ -53,8 +53,10 @@ fn ship_piece<R: Wait, S: Source, C: Connect + Drop>(
     ensures short { AreShort shipper.old.log.pieces → AreShort shipper.new.log.pieces }
     ensures sound { OnOk result (shipper.new.fault ≡ None) }
     ensures more { result ≡ Ok true → IsFedMore (S.remaining segment.old) (S.remaining segment.new) shipper.old.log.pieces shipper.new.log.pieces }
-    ensures end { result ≡ Ok false → Consumes (S.remaining segment.old) (S.remaining segment.new) [] × IsAtEnd (S.remaining segment.new) × (shipper.new.log.pieces ≡ shipper.old.log.pieces) }
-    ensures part { OnErr result ((shipper.new.log.pieces ≡ shipper.old.log.pieces) ⊎ IsFedMore (S.remaining segment.old) (S.remaining segment.new) shipper.old.log.pieces shipper.new.log.pieces) }
+    ensures end { result ≡ Ok false → Consumes (S.remaining segment.old) (S.remaining segment.new) []
+        × IsAtEnd (S.remaining segment.new) × (shipper.new.log.pieces ≡ shipper.old.log.pieces) }
+    ensures part { OnErr result ((shipper.new.log.pieces ≡ shipper.old.log.pieces)
+        ⊎ IsFedMore (S.remaining segment.old) (S.remaining segment.new) shipper.old.log.pieces shipper.new.log.pieces) }
     ensures halted { IfErr result (IsHalted shipper.new) }
     ensures sure { S.is_sure segment.old ≡ true → (S.is_sure segment.new ≡ true) × (result ≡ Err Unreadable → ⊥) }
 {
@@ -104,7 +106,8 @@ pub(crate) fn begin_segment<R: Wait, C: Connect + Drop>(
     ensures short { AreShort shipper.old.log.pieces → AreShort shipper.new.log.pieces }
     ensures sound { OnOk result (shipper.new.fault ≡ None) }
     ensures begun { OnOk result (Begins is_first shipper.old.log.pieces shipper.new.log.pieces) }
-    ensures part { OnErr result ((shipper.new.log.pieces ≡ shipper.old.log.pieces) ⊎ Begins is_first shipper.old.log.pieces shipper.new.log.pieces) }
+    ensures part { OnErr result ((shipper.new.log.pieces ≡ shipper.old.log.pieces)
+        ⊎ Begins is_first shipper.old.log.pieces shipper.new.log.pieces) }
     ensures halted { IfErr result (IsHalted shipper.new) }
     ensures unread { result ≡ Err Unreadable → ⊥ }
 {

@@ -85,7 +85,8 @@ pub(crate) fn request_with(
     target: &Target,
     builder: &Builder,
 ) -> Result<Carrying, AllocError>
-    ensures request { IfOk result (λ c. c.request ≡ request_of target.now.host target.now.path (batch_of builder.now).body) }
+    ensures request { IfOk result (λ c. c.request
+        ≡ request_of target.now.host target.now.path (batch_of builder.now).body) }
     ensures body { IfOk result (λ c. c.body ≡ (batch_of builder.now).body) }
     // A reader of the body finds the message of the samples.
     ensures spells { IfOk result (λ c. Spells c.body (message builder.now.samples)) }

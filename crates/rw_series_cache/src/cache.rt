@@ -69,7 +69,8 @@ impl Cache {
     /// Takes the next definition of the log: from here on `reference` stands for `labels`. A label set that came before is not stored again, and
     /// the rules are not asked of it again. An `Err` changes nothing.
     pub fn define(&mut self, reference: u64, labels: RawLabels) -> Result<(), AllocError>
-        ensures ok { OnOk result (self.new ≡ record self.old { definitions = self.old.definitions ++ Entry.Def reference labels ∷ [] }) }
+        ensures ok { OnOk result (self.new
+            ≡ record self.old { definitions = self.old.definitions ++ Entry.Def reference labels ∷ [] }) }
         ensures err { OnErr result (self.new ≡ self.old) }
     {
         // This room is all that the reference and its series take: once a label set has its number, nothing is refused any more.

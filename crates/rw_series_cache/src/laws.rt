@@ -18,7 +18,8 @@ ghost use Rattle.rw_series_cache.specs.Rising.{rises, IsNoted};
 pub fn samples_define_nothing()
     ensures known { (choice : Choice) (entries : List Entry) (reference : ℕ)
         → known choice (definitions_of entries) reference ≡ known choice entries reference }
-    ensures series { (choice : Choice) (entries : List Entry) → series_of choice (definitions_of entries) ≡ series_of choice entries }
+    ensures series { (choice : Choice) (entries : List Entry)
+        → series_of choice (definitions_of entries) ≡ series_of choice entries }
     ensures definition { (entries : List Entry) (reference : ℕ) (labels : Labels)
         → definitions_of (entries ++ Def reference labels ∷ []) ≡ definitions_of entries ++ Def reference labels ∷ [] }
     ensures sample { (entries : List Entry) (reference : ℕ) (t : ℤ) (word : ℕ)

@@ -63,7 +63,8 @@ impl Verdicts {
     /// Puts the verdict of a reference. This takes no memory.
     pub(crate) fn put(&mut self, reference: u64, verdict: Verdict)
         requires { HasRoom self.old reference }
-        ensures { (r : ℕ) → verdict_in self.new r ≡ (if nat_eq reference r then Some verdict else verdict_in self.old r) }
+        ensures { (r : ℕ) → verdict_in self.new r
+            ≡ (if nat_eq reference r then Some verdict else verdict_in self.old r) }
     {
         self.definitions = self.definitions.saturating_add(1);
         let place = reference as usize;

@@ -187,7 +187,8 @@ fn note_receive(
     notes: &mut Vec<SettingsNote>,
     receive: &Table,
 ) -> Result<(), AllocError>
-    ensures { OnOk result (noted notes.new.items ≡ lesser (noted notes.old.items) (receive_fault (table_view receive.now))) }
+    ensures { OnOk result (noted notes.new.items
+        ≡ lesser (noted notes.old.items) (receive_fault (table_view receive.now))) }
 {
     let keys = [
         "path",
@@ -253,7 +254,8 @@ fn note_rule_table(
     section: &str,
     rule: &Table,
 ) -> Result<(), AllocError>
-    ensures { OnOk result (noted notes.new.items ≡ lesser (noted notes.old.items) (rule_table_fault (table_view rule.now))) }
+    ensures { OnOk result (noted notes.new.items
+        ≡ lesser (noted notes.old.items) (rule_table_fault (table_view rule.now))) }
 {
     let keys = ["action", "source_labels", "separator", "regex"];
     note_keys(alloc, notes, section, rule, &keys)?;
@@ -271,7 +273,8 @@ fn note_rule(
     number: usize,
     rule: &Value,
 ) -> Result<(), AllocError>
-    ensures { OnOk result (noted notes.new.items ≡ lesser (noted notes.old.items) (rule_fault_of (as_table (view rule.now)))) }
+    ensures { OnOk result (noted notes.new.items
+        ≡ lesser (noted notes.old.items) (rule_fault_of (as_table (view rule.now)))) }
 {
     match rule.as_table() {
         None => {
@@ -292,7 +295,8 @@ fn note_rules(
     notes: &mut Vec<SettingsNote>,
     rules: &[Value],
 ) -> Result<(), AllocError>
-    ensures { OnOk result (noted notes.new.items ≡ lesser (noted notes.old.items) (with_rules_fault None (items_view rules.now))) }
+    ensures { OnOk result (noted notes.new.items
+        ≡ lesser (noted notes.old.items) (with_rules_fault None (items_view rules.now))) }
 {
     for (i, rule) in rules.iter().enumerate() {
         note_rule(alloc, notes, i + 1, rule)?;
@@ -371,7 +375,8 @@ fn note_document(
     empty: &Table,
 ) -> Result<(), AllocError>
     requires { table_view empty.now ≡ no_members }
-    ensures { OnOk result (noted notes.new.items ≡ lesser (noted notes.old.items) (document_fault (table_view document.now))) }
+    ensures { OnOk result (noted notes.new.items
+        ≡ lesser (noted notes.old.items) (document_fault (table_view document.now))) }
 {
     note_keys(alloc, notes, "", document, &["send", "receive", "rule"])?;
     note_send_part(alloc, notes, document, empty)?;

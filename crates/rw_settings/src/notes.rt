@@ -116,7 +116,8 @@ pub(crate) fn note_keys(
     table: &Table,
     known: &[&str],
 ) -> Result<(), AllocError>
-    ensures { OnOk result (noted notes.new.items ≡ lesser (noted notes.old.items) (keys_fault (map (λ k. k.now) known.now) (table_view table.now))) }
+    ensures { OnOk result (noted notes.new.items
+        ≡ lesser (noted notes.old.items) (keys_fault (map (λ k. k.now) known.now) (table_view table.now))) }
 {
     for key in table.keys() {
         if !is_known(known, key.as_str()) {

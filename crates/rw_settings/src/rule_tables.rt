@@ -153,7 +153,8 @@ fn fields_of(alloc: Global, table: &Table) -> Result<RuleFields, AllocError>
 fn rule_of(alloc: Global, table: &Table) -> Result<Rule, SettingsFault>
     ensures rule { IfOk result (λ r. r ≡ rule_config (table_view table.now)) }
     ensures readable { IfOk result (λ r. HasReadablePattern r.pattern) }
-    ensures err { IfErr result (λ f. (f ≡ OutOfMemory) ⊎ ((f ≡ BadRule) × IsRefusedRule (rule_config (table_view table.now)))) }
+    ensures err { IfErr result (λ f. (f ≡ OutOfMemory)
+        ⊎ ((f ≡ BadRule) × IsRefusedRule (rule_config (table_view table.now)))) }
 {
     let RuleFields {
         action,
@@ -185,7 +186,8 @@ pub(crate) fn rules_of(
     requires { table_view empty.now ≡ no_members }
     ensures rules { IfOk result (λ r. r ≡ rules_of (items_view rules.now)) }
     ensures readable { IfOk result (λ r. All (λ rule. HasReadablePattern rule.pattern) r) }
-    ensures err { IfErr result (λ f. (f ≡ OutOfMemory) ⊎ ((f ≡ BadRule) × Any IsRefusedRule (rules_of (items_view rules.now)))) }
+    ensures err { IfErr result (λ f. (f ≡ OutOfMemory)
+        ⊎ ((f ≡ BadRule) × Any IsRefusedRule (rules_of (items_view rules.now)))) }
 {
     let mut built = Vec::with_capacity(alloc, rules.len())?;
     for rule in rules {
@@ -197,7 +199,8 @@ pub(crate) fn rules_of(
 
 /// Adds a written rule at the end.
 fn push_fields(written: &mut Vec<RuleFields>, rule: RuleFields) -> Result<(), AllocError>
-    ensures { OnOk result (map written_rule written.new.items ≡ map written_rule written.old.items ++ written_rule rule ∷ []) }
+    ensures { OnOk result (map written_rule written.new.items
+        ≡ map written_rule written.old.items ++ written_rule rule ∷ []) }
 {
     written.push(rule)?;
     Ok(())

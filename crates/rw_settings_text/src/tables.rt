@@ -103,7 +103,8 @@ pub(crate) fn push_rules(
     out: &mut String,
     rules: &[RuleFields],
 ) -> Result<(), AllocError>
-    ensures { OnOk result (string_bytes out.new ≡ string_bytes out.old ++ flat_map rule_text (map written_rule rules.now)) }
+    ensures { OnOk result (string_bytes out.new
+        ≡ string_bytes out.old ++ flat_map rule_text (map written_rule rules.now)) }
 {
     for rule in rules {
         push_rule(alloc, out, rule)?;

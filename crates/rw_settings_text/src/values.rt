@@ -94,7 +94,8 @@ pub(crate) fn push_list(
     key: &str,
     texts: &[String],
 ) -> Result<(), AllocError>
-    ensures { OnOk result (string_bytes out.new ≡ string_bytes out.old ++ pair_line key.now (list_text (map string_bytes texts.now))) }
+    ensures { OnOk result (string_bytes out.new
+        ≡ string_bytes out.old ++ pair_line key.now (list_text (map string_bytes texts.now))) }
 {
     let value = list(alloc, texts)?;
     push_pair(out, key, value.as_str())

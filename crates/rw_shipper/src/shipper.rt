@@ -150,9 +150,11 @@ impl<C: Connect + Drop> Shipper<C> {
         config: Config,
         connect: C,
     ) -> Result<Shipper<C>, AllocError>
-        ensures log { IfOk result (λ s. s.log ≡ record { choice = choice_of config; pieces = []; placed = []; hand = [] }) }
+        ensures log { IfOk result (λ s. s.log
+            ≡ record { choice = choice_of config; pieces = []; placed = []; hand = [] }) }
         ensures config { IfOk result (λ s. s.fleet.config ≡ record config { rules = [] }) }
-        ensures opened { IfOk result (λ s. (s.fleet.epoch ≡ 0) × (s.fleet.ended ≡ []) × (length s.fleet.current ≡ config.shards) × AreFresh 0 s.fleet.current) }
+        ensures opened { IfOk result (λ s. (s.fleet.epoch ≡ 0) × (s.fleet.ended ≡ [])
+            × (length s.fleet.current ≡ config.shards) × AreFresh 0 s.fleet.current) }
         ensures fault { IfOk result (λ s. s.fault ≡ None) }
     {
         let shards = config.fields().shards.get() as u32;
@@ -211,7 +213,8 @@ impl<C: Connect + Drop> Shipper<C> {
     /// Puts one Flush into each queue of the epoch. It may wait for room in a queue.
     pub fn flush<R: Wait>(&mut self, rt: &R) -> Result<(), FeedFault>
         ensures failed { IfSome self.old.fault (λ f. (result ≡ Err (answer_to f)) × (self.new ≡ self.old)) }
-        ensures marked { OnOk result (self.new ≡ record self.old { fleet = record self.old.fleet { current = map marked self.old.fleet.current } }) }
+        ensures marked { OnOk result (self.new
+            ≡ record self.old { fleet = record self.old.fleet { current = map marked self.old.fleet.current } }) }
         ensures log { self.new.log ≡ self.old.log }
         ensures rest { self.new.fleet ≡ record self.old.fleet { current = self.new.fleet.current } }
         ensures placed { PlacesAll self.new.log self.new.fleet }
@@ -239,7 +242,9 @@ impl<C: Connect + Drop> Shipper<C> {
         ensures failed { IfSome self.old.fault (λ f. (result ≡ Err (answer_to f)) × (self.new ≡ self.old)) }
         ensures log { self.new.log ≡ self.old.log }
         ensures config { self.new.fleet.config ≡ self.old.fleet.config }
-        ensures opened { OnOk result ((self.new.fleet.epoch ≡ self.old.fleet.epoch + 1) × (length self.new.fleet.current ≡ shards) × AreFresh self.new.fleet.epoch self.new.fleet.current) }
+        ensures opened { OnOk result ((self.new.fleet.epoch ≡ self.old.fleet.epoch + 1)
+            × (length self.new.fleet.current ≡ shards)
+            × AreFresh self.new.fleet.epoch self.new.fleet.current) }
         ensures drained { OnOk result (AreResolved self.new.fleet.ended) }
         ensures gone { self.old.fault ≡ None → result ≡ Err FeedFault.Gone → HasCut self.new.fleet.ended }
         ensures placed { PlacesAll self.new.log self.new.fleet }

@@ -121,9 +121,12 @@ pub fn ask<R: Source, W: Sink>(
     request: &[u8],
 ) -> Result<Reply, NoReply>
     ensures reply { IfOk result (λ r. Hears (R.remaining reader.old) (R.remaining reader.new) (ReplyRead.Status r.status)) }
-    ensures written { IfOk result (λ r. judgement_of r.status ≡ Judgement.Done → Appends (W.contents writer.old) (W.contents writer.new) request.now) }
+    ensures written { IfOk result (λ r. judgement_of r.status ≡ Judgement.Done
+        → Appends (W.contents writer.old) (W.contents writer.new) request.now) }
     ensures device { result ≡ Err NoReply.Device → (R.has_failed reader.new ≡ true) ⊎ (W.has_failed writer.new ≡ true) }
-    ensures ended { result ≡ Err NoReply.Ended → Hears (R.remaining reader.old) (R.remaining reader.new) ReplyRead.Partial × IsAtEnd (R.remaining reader.new) }
+    ensures ended { result ≡ Err NoReply.Ended
+        → Hears (R.remaining reader.old) (R.remaining reader.new) ReplyRead.Partial
+        × IsAtEnd (R.remaining reader.new) }
     ensures bad { result ≡ Err NoReply.Bad → Hears (R.remaining reader.old) (R.remaining reader.new) ReplyRead.Bad }
 {
     let mut text = Vec::with_capacity(alloc, MAX_HEAD_BYTES + CHUNK)?;

@@ -12,8 +12,10 @@ use std::alloc::Global;
 
 /// Reads a name in quotes that could not be bare, and the `=` behind it.
 fn read_quoted_name<'a>(text: &'a [u8], out: &mut Vec<u8>) -> Result<&'a [u8], TextFault>
-    ensures ok { IfOk result (λ rest. (text.now ≡ quoted out.new.items ++ 61 ∷ rest.now) × (is_metric_name out.new.items ≡ false)) }
-    ensures err { result ≡ Err TextFault.NotOfForm → (name rest : List ℕ) → is_metric_name name ≡ false → text.now ≡ quoted name ++ 61 ∷ rest → ⊥ }
+    ensures ok { IfOk result (λ rest. (text.now ≡ quoted out.new.items ++ 61 ∷ rest.now)
+        × (is_metric_name out.new.items ≡ false)) }
+    ensures err { result ≡ Err TextFault.NotOfForm → (name rest : List ℕ) → is_metric_name name ≡ false
+        → text.now ≡ quoted name ++ 61 ∷ rest → ⊥ }
 {
     let rest = read_quoted(text, out)?;
     if is_metric_name(out) {
@@ -27,8 +29,10 @@ fn read_quoted_name<'a>(text: &'a [u8], out: &mut Vec<u8>) -> Result<&'a [u8], T
 
 /// Reads a bare name and the `=` behind it.
 fn read_bare_name<'a>(text: &'a [u8], out: &mut Vec<u8>) -> Result<&'a [u8], TextFault>
-    ensures ok { IfOk result (λ rest. (text.now ≡ out.new.items ++ 61 ∷ rest.now) × (is_metric_name out.new.items ≡ true)) }
-    ensures err { result ≡ Err TextFault.NotOfForm → (name rest : List ℕ) → is_metric_name name ≡ true → text.now ≡ name ++ 61 ∷ rest → ⊥ }
+    ensures ok { IfOk result (λ rest. (text.now ≡ out.new.items ++ 61 ∷ rest.now)
+        × (is_metric_name out.new.items ≡ true)) }
+    ensures err { result ≡ Err TextFault.NotOfForm → (name rest : List ℕ) → is_metric_name name ≡ true
+        → text.now ≡ name ++ 61 ∷ rest → ⊥ }
 {
     let Some((name, rest)) = split_at_byte(text, b'=') else {
         return Err(TextFault::NotOfForm);
@@ -73,8 +77,10 @@ impl LabelReader {
 
     /// Reads the label with which a text begins, and returns what follows it.
     fn read_label<'a>(&mut self, text: &'a [u8]) -> Result<&'a [u8], TextFault>
-        ensures ok { IfOk result (λ rest. (l : Label) × (self.new.labels ≡ self.old.labels ++ l ∷ []) × (text.now ≡ label_text l ++ rest.now)) }
-        ensures err { result ≡ Err TextFault.NotOfForm → (l : Label) (rest : List ℕ) → text.now ≡ label_text l ++ rest → ⊥ }
+        ensures ok { IfOk result (λ rest. (l : Label) × (self.new.labels ≡ self.old.labels ++ l ∷ [])
+            × (text.now ≡ label_text l ++ rest.now)) }
+        ensures err { result ≡ Err TextFault.NotOfForm → (l : Label) (rest : List ℕ)
+            → text.now ≡ label_text l ++ rest → ⊥ }
     {
         let behind_name = read_name(text, &mut self.name)?;
         let rest = read_quoted(behind_name, &mut self.value)?;

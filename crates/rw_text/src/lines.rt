@@ -23,7 +23,8 @@ fn is_utf8_text(bytes: &[u8]) -> bool
 /// What stands behind `series `.
 fn read_series(alloc: Global, text: &[u8]) -> Result<LogLine, TextFault>
     ensures ok { IfOk result (λ line. Says (codes "series " ++ text.now) (line_of line)) }
-    ensures err { result ≡ Err TextFault.NotOfForm → (reference : ℕ) (labels : Labels) → IsSeries text.now reference labels → ⊥ }
+    ensures err { result ≡ Err TextFault.NotOfForm → (reference : ℕ) (labels : Labels)
+        → IsSeries text.now reference labels → ⊥ }
 {
     let Some((number, braces)) = split_at_byte(text, b' ') else {
         return Err(TextFault::NotOfForm);

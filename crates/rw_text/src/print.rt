@@ -77,7 +77,8 @@ fn put_next(out: &mut Vec<u8>, label: &(String, String)) -> Result<(), AllocErro
 
 /// Adds the labels behind the first one, and the closing brace.
 fn put_more(out: &mut Vec<u8>, labels: &[(String, String)]) -> Result<(), AllocError>
-    ensures ok { OnOk result (out.new.items ≡ out.old.items ++ flat_map (λ l. 44 ∷ label_text (text_label l)) labels.now ++ 125 ∷ []) }
+    ensures ok { OnOk result (out.new.items
+        ≡ out.old.items ++ flat_map (λ l. 44 ∷ label_text (text_label l)) labels.now ++ 125 ∷ []) }
     ensures err { OnErr result (Grown out.old.items out.new.items) }
 {
     for label in labels {

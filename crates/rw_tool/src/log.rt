@@ -28,7 +28,8 @@ const MAX_SEGMENTS: u32 = 100_000_000;
 fn one_segment(alloc: Global, text: &[u8], pages: usize) -> Result<Vec<u8>, ToolFault>
     requires some { 1 ≤ pages }
     requires most { pages ≤ 4096 }
-    ensures ok { IfOk result (λ v. (recs : List (List ℕ)) × AreRecords (lines text.now) recs × ((have_room pages 0 recs ≡ true) × (v.items ≡ segment_of recs))) }
+    ensures ok { IfOk result (λ v. (recs : List (List ℕ)) × AreRecords (lines text.now) recs
+        × ((have_room pages 0 recs ≡ true) × (v.items ≡ segment_of recs))) }
     ensures err { IfErr result (IsFaultOfLog pages text.now) }
 {
     let _longest = judge(alloc, text)?;
@@ -47,7 +48,9 @@ fn read_segment<R: Source>(
 ) -> Result<Vec<u8>, ToolFault>
     requires some { 1 ≤ pages }
     requires most { pages ≤ 4096 }
-    ensures ok { IfOk result (λ v. (recs : List (List ℕ)) × ReadsRecords pages (R.remaining reader.old) (R.remaining reader.new) recs × (v.items ≡ segment_of recs)) }
+    ensures ok { IfOk result (λ v. (recs : List (List ℕ))
+        × ReadsRecords pages (R.remaining reader.old) (R.remaining reader.new) recs
+        × (v.items ≡ segment_of recs)) }
     ensures sound { OnOk result (R.has_failed reader.new ≡ false) }
     ensures err { IfErr result (StopsLog pages (R.remaining reader.old) (R.remaining reader.new) (R.has_failed reader.new)) }
 {
@@ -72,8 +75,10 @@ pub fn run_log<R: Source, W: Sink>(
     ensures writer_sound { OnOk result (W.has_failed writer.old ≡ false → W.has_failed writer.new ≡ false) }
 
     // A line that is no log text comes before records that have no room, and nothing is written at either.
-    ensures line { (n : ℕ) → result ≡ Err (Line n) → ReadsFaulty pages (R.remaining reader.old) (R.remaining reader.new) (Line n) }
-    ensures full { result ≡ Err SegmentFull → ReadsFaulty pages (R.remaining reader.old) (R.remaining reader.new) SegmentFull }
+    ensures line { (n : ℕ) → result ≡ Err (Line n)
+        → ReadsFaulty pages (R.remaining reader.old) (R.remaining reader.new) (Line n) }
+    ensures full { result ≡ Err SegmentFull
+        → ReadsFaulty pages (R.remaining reader.old) (R.remaining reader.new) SegmentFull }
     ensures no_other { (f : TailFault) → result ≡ Err (Log f) → ⊥ }
     ensures untouched { IfErr result (λ e. e ≢ Device → writer.new ≡ writer.old) }
 
@@ -155,7 +160,8 @@ pub fn run_log_dir<R: Source>(
 ) -> Result<(), ToolFault>
     requires some { 1 ≤ pages }
     requires most { pages ≤ 4096 }
-    ensures fault { IfErr result (λ e. e ≢ OutOfMemory → e ≢ Device → ReadsAnyFault pages (R.remaining reader.old) (R.remaining reader.new) e) }
+    ensures fault { IfErr result (λ e. e ≢ OutOfMemory → e ≢ Device
+        → ReadsAnyFault pages (R.remaining reader.old) (R.remaining reader.new) e) }
 {
     let text = read_input(alloc, reader)?;
     judge_for_segments(alloc, &text, pages)?;

@@ -11,8 +11,10 @@ use std::alloc::Global;
 
 /// The length of the record of a line; 0 for an empty line, which has none.
 fn record_len(alloc: Global, line: &[u8]) -> Result<usize, TextFault>
-    ensures ok { IfOk result (λ len. (recs : List (List ℕ)) × AreRecords (line.now ∷ []) recs × (len ≡ longest_of recs)) }
-    ensures err { result ≡ Err TextFault.NotOfForm → (0 < length line.now) × ((rec : List ℕ) → IsRecordOf line.now rec → ⊥) }
+    ensures ok { IfOk result (λ len. (recs : List (List ℕ)) × AreRecords (line.now ∷ []) recs
+        × (len ≡ longest_of recs)) }
+    ensures err { result ≡ Err TextFault.NotOfForm → (0 < length line.now)
+        × ((rec : List ℕ) → IsRecordOf line.now rec → ⊥) }
 {
     if line.is_empty() {
         return Ok(0);
@@ -23,7 +25,8 @@ fn record_len(alloc: Global, line: &[u8]) -> Result<usize, TextFault>
 
 /// Judges each line of a text, and answers the length of the longest record.
 pub(crate) fn judge(alloc: Global, text: &[u8]) -> Result<usize, ToolFault>
-    ensures ok { IfOk result (λ longest. (recs : List (List ℕ)) × AreRecords (lines text.now) recs × (longest ≡ longest_of recs)) }
+    ensures ok { IfOk result (λ longest. (recs : List (List ℕ)) × AreRecords (lines text.now) recs
+        × (longest ≡ longest_of recs)) }
     ensures err { IfErr result (IsFaultOfText text.now) }
 {
     let mut rest = text;

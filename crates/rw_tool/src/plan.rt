@@ -30,7 +30,9 @@ impl Taker for Planner {
 
 /// Reads a log segment (wal.md) to its end, and answers its plan.
 fn read_plan<R: Source>(alloc: Global, reader: &mut R, choice: Choice) -> Result<Vec<u8>, ToolFault>
-    ensures ok { IfOk result (λ v. (segment : List ℕ) × ReadsSegment None (R.remaining reader.old) (R.remaining reader.new) segment × (v.items ≡ plan_of choice segment)) }
+    ensures ok { IfOk result (λ v. (segment : List ℕ)
+        × ReadsSegment None (R.remaining reader.old) (R.remaining reader.new) segment
+        × (v.items ≡ plan_of choice segment)) }
     ensures sound { OnOk result (R.has_failed reader.new ≡ false) }
     ensures err { IfErr result (StopsReading (R.remaining reader.old) (R.remaining reader.new) (R.has_failed reader.new)) }
 {
@@ -44,7 +46,9 @@ fn read_hex_plan<R: Source>(
     reader: &mut R,
     choice: Choice,
 ) -> Result<Vec<u8>, ToolFault>
-    ensures ok { IfOk result (λ v. (segment : List ℕ) × ReadsInput true None (R.remaining reader.old) (R.remaining reader.new) segment × (v.items ≡ plan_of choice segment)) }
+    ensures ok { IfOk result (λ v. (segment : List ℕ)
+        × ReadsInput true None (R.remaining reader.old) (R.remaining reader.new) segment
+        × (v.items ≡ plan_of choice segment)) }
     ensures sound { OnOk result (R.has_failed reader.new ≡ false) }
     ensures err { IfErr result (StopsInput true (R.remaining reader.old) (R.remaining reader.new) (R.has_failed reader.new)) }
 {
@@ -76,7 +80,8 @@ pub fn run_plan<R: Source, W: Sink>(
     ensures writer_sound { OnOk result (W.has_failed writer.old ≡ false → W.has_failed writer.new ≡ false) }
 
     // A fault of the data is the one that the input has, and nothing is written then, or where memory ran out.
-    ensures log { (f : TailFault) → result ≡ Err (Log f) → ReadsFault hex f (R.remaining reader.old) (R.remaining reader.new) }
+    ensures log { (f : TailFault) → result ≡ Err (Log f)
+        → ReadsFault hex f (R.remaining reader.old) (R.remaining reader.new) }
     ensures line { (n : ℕ) → result ≡ Err (Line n) → ReadsLine hex n (R.remaining reader.old) (R.remaining reader.new) }
     ensures no_full { result ≡ Err SegmentFull → ⊥ }
     ensures untouched { IfErr result (λ e. e ≢ Device → writer.new ≡ writer.old) }

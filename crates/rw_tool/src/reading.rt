@@ -56,7 +56,8 @@ fn feed_some<R: Source>(
 ) -> Result<bool, ToolFault>
     requires { 0 < length chunk.old }
     ensures more { result ≡ Ok true → FeedsMore (R.remaining reader.old) (R.remaining reader.new) tail.old tail.new }
-    ensures end { result ≡ Ok false → Consumes (R.remaining reader.old) (R.remaining reader.new) [] × IsAtEnd (R.remaining reader.new) × (tail.new ≡ tail.old) }
+    ensures end { result ≡ Ok false → Consumes (R.remaining reader.old) (R.remaining reader.new) []
+        × IsAtEnd (R.remaining reader.new) × (tail.new ≡ tail.old) }
     ensures sound { OnOk result (R.has_failed reader.new ≡ false) }
     ensures err { IfErr result (λ e. (e ≡ OutOfMemory) ⊎ ((e ≡ Device) × (R.has_failed reader.new ≡ true))) }
 {
@@ -75,7 +76,9 @@ pub(crate) fn read_segment<R: Source, T: Taker + Drop>(
     mut taker: T,
 ) -> Result<T, ToolFault>
     requires { T.taken taker ≡ [] }
-    ensures ok { IfOk result (λ t. (segment : List ℕ) × ReadsSegment None (R.remaining reader.old) (R.remaining reader.new) segment × (T.taken t ≡ entries (bytes segment ∷ []))) }
+    ensures ok { IfOk result (λ t. (segment : List ℕ)
+        × ReadsSegment None (R.remaining reader.old) (R.remaining reader.new) segment
+        × (T.taken t ≡ entries (bytes segment ∷ []))) }
     ensures choice { IfOk result (λ t. T.choice t ≡ T.choice taker) }
     ensures sound { OnOk result (R.has_failed reader.new ≡ false) }
     ensures err { IfErr result (StopsReading (R.remaining reader.old) (R.remaining reader.new) (R.has_failed reader.new)) }

@@ -29,7 +29,9 @@ pub(crate) fn read_input<R: Source>(alloc: Global, reader: &mut R) -> Result<Vec
 
 /// Reads a log segment (wal.md) to its end, and answers the canonical body of its samples that have a label set (Remote-Write 1.0).
 fn read_body<R: Source>(alloc: Global, reader: &mut R) -> Result<Vec<u8>, ToolFault>
-    ensures ok { IfOk result (λ v. (segment : List ℕ) × ReadsSegment None (R.remaining reader.old) (R.remaining reader.new) segment × (v.items ≡ body_of segment)) }
+    ensures ok { IfOk result (λ v. (segment : List ℕ)
+        × ReadsSegment None (R.remaining reader.old) (R.remaining reader.new) segment
+        × (v.items ≡ body_of segment)) }
     ensures sound { OnOk result (R.has_failed reader.new ≡ false) }
     ensures err { IfErr result (StopsReading (R.remaining reader.old) (R.remaining reader.new) (R.has_failed reader.new)) }
 {
@@ -39,7 +41,9 @@ fn read_body<R: Source>(alloc: Global, reader: &mut R) -> Result<Vec<u8>, ToolFa
 
 /// Reads the hexadecimal text of a segment to its end, and answers its body.
 fn read_hex_body<R: Source>(alloc: Global, reader: &mut R) -> Result<Vec<u8>, ToolFault>
-    ensures ok { IfOk result (λ v. (segment : List ℕ) × ReadsInput true None (R.remaining reader.old) (R.remaining reader.new) segment × (v.items ≡ body_of segment)) }
+    ensures ok { IfOk result (λ v. (segment : List ℕ)
+        × ReadsInput true None (R.remaining reader.old) (R.remaining reader.new) segment
+        × (v.items ≡ body_of segment)) }
     ensures sound { OnOk result (R.has_failed reader.new ≡ false) }
     ensures err { IfErr result (StopsInput true (R.remaining reader.old) (R.remaining reader.new) (R.has_failed reader.new)) }
 {
@@ -75,7 +79,8 @@ pub fn run_body<R: Source, W: Sink>(
     ensures writer_sound { OnOk result (W.has_failed writer.old ≡ false → W.has_failed writer.new ≡ false) }
 
     // A fault of the data is the one that the input has, and nothing is written then, or where memory ran out.
-    ensures log { (f : TailFault) → result ≡ Err (Log f) → ReadsFault hex f (R.remaining reader.old) (R.remaining reader.new) }
+    ensures log { (f : TailFault) → result ≡ Err (Log f)
+        → ReadsFault hex f (R.remaining reader.old) (R.remaining reader.new) }
     ensures line { (n : ℕ) → result ≡ Err (Line n) → ReadsLine hex n (R.remaining reader.old) (R.remaining reader.new) }
     ensures no_full { result ≡ Err SegmentFull → ⊥ }
     ensures untouched { IfErr result (λ e. e ≢ Device → writer.new ≡ writer.old) }

@@ -116,7 +116,8 @@ fn append_copies(
     labels: &mut Vec<(String, String)>,
     new: &[(String, String)],
 ) -> Result<(), AllocError>
-    ensures { OnOk result (map text_label labels.new.items ≡ map text_label labels.old.items ++ map text_label new.now) }
+    ensures { OnOk result (map text_label labels.new.items
+        ≡ map text_label labels.old.items ++ map text_label new.now) }
 {
     labels.reserve_exact(new.len())?;
     for label in new {
@@ -177,7 +178,8 @@ impl LabelSet {
     pub fn check(alloc: Global, labels: &RawLabels) -> Result<LabelSet, LabelFault>
         ensures ok { IfOk result (λ s. s ≡ labels.now) }
         ensures label_set { IfOk result (λ _. IsLabelSet Legacy labels.now) }
-        ensures err { IfErr result (λ f. MatchOption (label_fault Legacy labels.now) (f ≡ OutOfMemory) (λ fault. f ≡ fault)) }
+        ensures err { IfErr result (λ f. MatchOption (label_fault Legacy labels.now) (f
+            ≡ OutOfMemory) (λ fault. f ≡ fault)) }
     {
         LabelSet::check_as(alloc, Names::Legacy, labels)
     }
@@ -187,7 +189,8 @@ impl LabelSet {
     pub fn check_as(alloc: Global, names: Names, labels: &RawLabels) -> Result<LabelSet, LabelFault>
         ensures ok { IfOk result (λ s. s ≡ labels.now) }
         ensures label_set { IfOk result (λ _. IsLabelSet names labels.now) }
-        ensures err { IfErr result (λ f. MatchOption (label_fault names labels.now) (f ≡ OutOfMemory) (λ fault. f ≡ fault)) }
+        ensures err { IfErr result (λ f. MatchOption (label_fault names labels.now) (f
+            ≡ OutOfMemory) (λ fault. f ≡ fault)) }
     {
         let labels = labels.as_slice();
         if let Some(fault) = fault_of(names, labels) {

@@ -88,7 +88,8 @@ pub fn read_to_end<S: Source>(
     ensures end { OnOk result (IsAtEnd (S.remaining source.new)) }
     ensures sound { OnOk result (S.has_failed source.new ≡ false) }
     ensures failed { result ≡ Err ReadFault.Failed → S.has_failed source.new ≡ true }
-    ensures memory { result ≡ Err ReadFault.OutOfMemory → S.has_failed source.old ≡ false → S.has_failed source.new ≡ false }
+    ensures memory { result ≡ Err ReadFault.OutOfMemory → S.has_failed source.old ≡ false
+        → S.has_failed source.new ≡ false }
 {
     let mut chunk = zeros(alloc, CHUNK)?;
     while read_some(source, &mut chunk, out)? > 0 {}

@@ -22,7 +22,8 @@ pub(crate) fn eight(bytes: &[u8]) -> Option<(u64, &[u8])>
 
 /// A number of one to ten bytes.
 pub(crate) fn unsigned(bytes: &[u8]) -> Option<(u64, &[u8])>
-    ensures value { MatchOption result (found (read_uvarint bytes.now) ≡ None) (λ x. found (read_uvarint bytes.now) ≡ Some (x.0, x.1.now)) }
+    ensures value { MatchOption result (found (read_uvarint bytes.now)
+        ≡ None) (λ x. found (read_uvarint bytes.now) ≡ Some (x.0, x.1.now)) }
     ensures shorter { IfSome result (λ x. length x.1.now ≤ length bytes.now) }
 {
     match get_uvarint(bytes) {
@@ -33,7 +34,8 @@ pub(crate) fn unsigned(bytes: &[u8]) -> Option<(u64, &[u8])>
 
 /// A ZigZag number of one to ten bytes.
 pub(crate) fn signed(bytes: &[u8]) -> Option<(i64, &[u8])>
-    ensures value { MatchOption result (found (read_varint bytes.now) ≡ None) (λ x. found (read_varint bytes.now) ≡ Some (x.0, x.1.now)) }
+    ensures value { MatchOption result (found (read_varint bytes.now)
+        ≡ None) (λ x. found (read_varint bytes.now) ≡ Some (x.0, x.1.now)) }
     ensures shorter { IfSome result (λ x. length x.1.now ≤ length bytes.now) }
 {
     match get_varint(bytes) {
@@ -57,7 +59,8 @@ pub(crate) fn text(bytes: &[u8]) -> Option<(&[u8], &[u8])>
 
 /// A label: a name and a value.
 pub(crate) fn label(bytes: &[u8]) -> Option<((&[u8], &[u8]), &[u8])>
-    ensures value { MatchOption result (label_at bytes.now ≡ None) (λ x. label_at bytes.now ≡ Some ((x.0.0.now, x.0.1.now), x.1.now)) }
+    ensures value { MatchOption result (label_at bytes.now ≡ None) (λ x. label_at bytes.now
+        ≡ Some ((x.0.0.now, x.0.1.now), x.1.now)) }
     ensures shorter { IfSome result (λ x. length x.1.now ≤ length bytes.now) }
 {
     let (name, rest) = text(bytes)?;
@@ -67,7 +70,8 @@ pub(crate) fn label(bytes: &[u8]) -> Option<((&[u8], &[u8]), &[u8])>
 
 /// A sample, whose reference and timestamp are deltas against `base` and `start`.
 pub(crate) fn sample(base: u64, start: u64, bytes: &[u8]) -> Option<(Entry, &[u8])>
-    ensures value { MatchOption result (sample_at base (cast_signed w64 start) bytes.now ≡ None) (λ x. sample_at base (cast_signed w64 start) bytes.now ≡ Some (x.0, x.1.now)) }
+    ensures value { MatchOption result (sample_at base (cast_signed w64 start) bytes.now
+        ≡ None) (λ x. sample_at base (cast_signed w64 start) bytes.now ≡ Some (x.0, x.1.now)) }
     ensures shorter { IfSome result (λ x. length x.1.now < length bytes.now) }
 {
     let (reference, rest) = signed(bytes)?;

@@ -32,7 +32,8 @@ enum FragmentType {
 impl FragmentType {
     /// The type of a fragment, by whether it goes on with a record and whether it ends one.
     fn of(goes_on: bool, ends: bool) -> FragmentType
-        ensures { kind_of result ≡ (if goes_on then (if ends then last else middle) else (if ends then full else first)) }
+        ensures { kind_of result ≡ (if goes_on then (if ends then last else middle)
+            else (if ends then full else first)) }
     {
         match (goes_on, ends) {
             (false, true) => FragmentType::Full,
@@ -99,7 +100,8 @@ fn put_last<W: Sink>(
 ) -> Result<usize, Failed>
     requires short { length part.now ≤ room }
     requires page { room < 2 ^ 15 }
-    ensures bytes { Takes W.contents W.has_failed W.room sink.old sink.new (frame (kind_of kind) part.now ++ padding (room - length part.now)) result }
+    ensures bytes { Takes W.contents W.has_failed W.room sink.old sink.new (frame (kind_of kind) part.now
+        ++ padding (room - length part.now)) result }
     ensures len { IfOk result (λ n. n ≡ length (frame (kind_of kind) part.now ++ padding (room - length part.now))) }
 {
     put_fragment(sink, kind, part)?;

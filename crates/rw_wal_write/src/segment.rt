@@ -102,7 +102,8 @@ impl<W: Sink> SegmentWriter<W> {
         requires { 0 < length rec.now }
 
         // What is refused writes nothing and leaves the writer as it was.
-        ensures refused { IfSome (refusal self.old (length rec.now)) (λ fault. (result ≡ Err fault) × (self.new ≡ self.old)) }
+        ensures refused { IfSome (refusal self.old (length rec.now)) (λ fault. (result ≡ Err fault)
+            × (self.new ≡ self.old)) }
         ensures taken { refusal self.old (length rec.now) ≡ None → IfErr result (λ fault. fault ≡ LogFault.Device) }
 
         ensures ok { OnOk result (IsLogged W.contents W.has_failed W.room self.old self.new rec.now) }
@@ -110,7 +111,8 @@ impl<W: Sink> SegmentWriter<W> {
         // The device failed, in this call or an earlier one.
         ensures part { result ≡ Err LogFault.Device
             → TakesPart W.contents W.has_failed W.room self.old.sink self.new.sink (log_bytes page_size self.old.offset rec.now) }
-        ensures closes { result ≡ Err LogFault.Device → self.new ≡ record self.old { sink = self.new.sink; closed = true } }
+        ensures closes { result ≡ Err LogFault.Device
+            → self.new ≡ record self.old { sink = self.new.sink; closed = true } }
     {
         if self.closed {
             return Err(LogFault::Device);

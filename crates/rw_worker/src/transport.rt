@@ -30,7 +30,8 @@ pub trait Transport {
     ghost seen: { Self → List Exchange };
 
     fn exchange(&mut self, request: &[u8]) -> Result<Reply, Lost>
-        ensures { tells self.new → tells self.old × (seen self.new ≡ seen self.old ++ exchange_of request.now result ∷ []) };
+        ensures { tells self.new → tells self.old
+            × (seen self.new ≡ seen self.old ++ exchange_of request.now result ∷ []) };
 }
 
 /// Lets time pass.

@@ -65,7 +65,8 @@ impl Worker {
         ensures queue { IfOk result (λ w. w.queue ≡ drain.queue) }
         ensures target { IfOk result (λ w. w.target ≡ config.now.target) }
         ensures batch { IfOk result (λ w. w.batch ≡ config.now.batch) }
-        ensures backoff { IfOk result (λ w. (w.min_backoff ≡ config.now.min_backoff_ms) × (w.max_backoff ≡ config.now.max_backoff_ms)) }
+        ensures backoff { IfOk result (λ w. (w.min_backoff ≡ config.now.min_backoff_ms)
+            × (w.max_backoff ≡ config.now.max_backoff_ms)) }
         ensures err { IfErr result (λ e. e.0 ≡ drain) }
     {
         let fields = config.fields();

@@ -27,7 +27,8 @@ impl Engine {
 
     /// The bytes of the request with this number.
     pub(crate) fn request(&self, k: usize) -> Option<&[u8]>
-        ensures { option_map (λ b. b.now) result ≡ option_map (λ (r : Request). r.bytes) (slice_get self.now.world.requests k) }
+        ensures { option_map (λ b. b.now) result
+            ≡ option_map (λ (r : Request). r.bytes) (slice_get self.now.world.requests k) }
     {
         match self.requests.get(k) {
             Some(sent) => Some(sent.request.as_slice()),
@@ -38,7 +39,8 @@ impl Engine {
     /// The receiver judges this request.
     fn judge(&mut self, k: usize) -> Result<(), AllocError>
         requires { k < length self.old.world.requests }
-        ensures ok { OnOk result (self.new ≡ record self.old { world = arrive self.old.setup self.old.world Plain (slice_get self.old.world.requests k) }) }
+        ensures ok { OnOk result (self.new
+            ≡ record self.old { world = arrive self.old.setup self.old.world Plain (slice_get self.old.world.requests k) }) }
         ensures err { OnErr result (self.new ≡ self.old) }
     {
         self.replies.reserve(1)?;
@@ -52,7 +54,8 @@ impl Engine {
     /// The receiver answers this request with a status, and its head does not see it.
     fn turn_away(&mut self, k: usize, status: StatusCode) -> Result<(), AllocError>
         requires { k < length self.old.world.requests }
-        ensures ok { OnOk result (self.new ≡ record self.old { world = turned_away self.old.world status (slice_get self.old.world.requests k) }) }
+        ensures ok { OnOk result (self.new
+            ≡ record self.old { world = turned_away self.old.world status (slice_get self.old.world.requests k) }) }
         ensures err { OnErr result (self.new ≡ self.old) }
     {
         self.replies.reserve(1)?;
@@ -63,7 +66,8 @@ impl Engine {
 
     /// The request with this number arrives, if there is one.
     pub(crate) fn arrive(&mut self, k: u64, how: How) -> Result<(), AllocError>
-        ensures ok { OnOk result (self.new ≡ record self.old { world = arrive self.old.setup self.old.world how (slice_get self.old.world.requests k) }) }
+        ensures ok { OnOk result (self.new
+            ≡ record self.old { world = arrive self.old.setup self.old.world how (slice_get self.old.world.requests k) }) }
         ensures err { OnErr result (self.new ≡ self.old) }
     {
         let k = k as usize;

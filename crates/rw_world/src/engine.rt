@@ -87,7 +87,8 @@ impl Model for Engine {
 impl Engine {
     /// Before the first event.
     pub(crate) fn new(alloc: Global, config: Config, limits: Limits) -> Result<Engine, AllocError>
-        ensures start { IfOk result (λ w. w ≡ record { setup = setup_of config limits; world = start (setup_of config limits) }) }
+        ensures start { IfOk result (λ w. w
+            ≡ record { setup = setup_of config limits; world = start (setup_of config limits) }) }
         ensures can { IfOk result (λ w. CanWork w.setup) }
     {
         let ConfigFields {

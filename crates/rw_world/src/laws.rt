@@ -12,7 +12,8 @@ use rw_schedule::requests_carry_their_batches;
 
 /// What any schedule has sent is answered as the endpoint answers its bytes, where a receiver reads its body as the message of its batch.
 pub fn requests_are_answered_as_bytes()
-    ensures { (c : Setup) (events : List Event) → is_host_name c.target.host ≡ true → is_request_path c.target.path ≡ true
+    ensures { (c : Setup) (events : List Event) → is_host_name c.target.host ≡ true
+        → is_request_path c.target.path ≡ true
         → AnswersRead c (run c events (start c)) }
 {
     requests_are_read();

@@ -15,7 +15,8 @@ impl Engine {
     fn name_next(&mut self, reason: Reason) -> Result<(), AllocError>
         requires next { IsDroppedNext self.old reason }
         requires small { self.old.world.placed < 2 ^ 60 }
-        ensures ok { OnOk result (self.new ≡ record self.old { world = record self.old.world { names = insert self.old.world.names self.old.world.placed reason; placed = suc self.old.world.placed } }) }
+        ensures ok { OnOk result (self.new
+            ≡ record self.old { world = record self.old.world { names = insert self.old.world.names self.old.world.placed reason; placed = suc self.old.world.placed } }) }
         ensures err { OnErr result (self.new ≡ self.old) }
     {
         self.senders.name(self.placed, reason)?;

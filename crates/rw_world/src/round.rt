@@ -128,7 +128,9 @@ impl Engine {
 
     /// A mark is put where one is to come and there is room for it, or else the next shards take over.
     fn mark(&self) -> Next
-        ensures { events_of result ≡ first_of_these (if is_finished self.now.world || is_some self.now.world.draining then at_first (may_flush self.now.setup.capacity) (λ i. event.Flush i ∷ []) self.now.world else None) (event.Restart ∷ []) }
+        ensures { events_of result ≡ first_of_these (if is_finished self.now.world || is_some self.now.world.draining
+            then at_first (may_flush self.now.setup.capacity) (λ i. event.Flush i ∷ []) self.now.world
+            else None) (event.Restart ∷ []) }
     {
         if !self.is_ending() {
             return Next::Restart;
@@ -180,7 +182,8 @@ impl Engine {
 
     /// The events of a round. Where memory is refused none of them has happened.
     fn play(&mut self, next: Next) -> Result<(), AllocError>
-        ensures ok { OnOk result (self.new ≡ record self.old { world = run self.old.setup (events_of next) self.old.world }) }
+        ensures ok { OnOk result (self.new
+            ≡ record self.old { world = run self.old.setup (events_of next) self.old.world }) }
         ensures err { OnErr result (self.new ≡ self.old) }
     {
         match next {

@@ -255,7 +255,8 @@ impl Senders {
         requires room { room_at self.old.capacity (slice_get self.old.shards i) ≡ true }
         requires next { self.old.next ≤ pos }
         requires small { pos < 2 ^ 60 }
-        ensures ok { OnOk result (self.new ≡ put_to self.old i pos series t word labels.value (slice_get self.old.shards i)) }
+        ensures ok { OnOk result (self.new
+            ≡ put_to self.old i pos series t word labels.value (slice_get self.old.shards i)) }
         ensures err { OnErr result (self.new ≡ self.old) }
         ensures full { OnErr result (MatchOption (slice_get self.old.shards i) ⊥ (λ s. 2 ^ 60 ≤ length s.put)) }
     {
@@ -274,7 +275,8 @@ impl Senders {
     pub(crate) fn name(&mut self, pos: u64, reason: Reason) -> Result<(), AllocError>
         requires next { self.old.next ≤ pos }
         requires small { pos < 2 ^ 60 }
-        ensures ok { OnOk result (self.new ≡ record self.old { names = insert self.old.names pos reason; next = pos + 1 }) }
+        ensures ok { OnOk result (self.new
+            ≡ record self.old { names = insert self.old.names pos reason; next = pos + 1 }) }
         ensures err { OnErr result (self.new ≡ self.old) }
     {
         self.ledger.room(1)?;
@@ -300,7 +302,9 @@ impl Senders {
 
     /// The positions of the samples that were put and are not resolved, in order.
     pub(crate) fn pending(&self) -> Result<Vec<u64>, AllocError>
-        ensures found { IfOk result (λ v. (pos : ℕ) → list_any (λ p. p == pos) v.items ≡ list_any (λ s. list_any (λ (x : Placed). x.place.pos == pos) (pending s)) self.now.shards) }
+        ensures found { IfOk result (λ v. (pos : ℕ)
+            → list_any (λ p. p == pos) v.items
+            ≡ list_any (λ s. list_any (λ (x : Placed). x.place.pos == pos) (pending s)) self.now.shards) }
         ensures sorted { IfOk result (λ v. IsNonDecreasing v.items) }
     {
         let mut positions = Vec::new(self.alloc);
@@ -345,7 +349,8 @@ impl Senders {
     pub(crate) fn restart(&mut self, shards: usize) -> Result<(), AllocError>
         requires some { 1 ≤ shards }
         requires most { shards ≤ 1000 }
-        ensures ok { OnOk result (self.new ≡ record self.old { epoch = self.old.epoch + 1; shards = map (λ h. h.shard) (new_held self.old.target self.old.capacity self.old.batch (self.old.epoch + 1) 0 shards) }) }
+        ensures ok { OnOk result (self.new
+            ≡ record self.old { epoch = self.old.epoch + 1; shards = map (λ h. h.shard) (new_held self.old.target self.old.capacity self.old.batch (self.old.epoch + 1) 0 shards) }) }
         ensures err { OnErr result (self.new ≡ self.old) }
     {
         let Some(epoch) = self.epoch.checked_add(1) else {

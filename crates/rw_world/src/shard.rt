@@ -269,7 +269,8 @@ impl WorldShard {
 
     /// Adds the positions of the samples that were put and are not resolved.
     pub(crate) fn add_pending(&self, positions: &mut Vec<u64>) -> Result<(), AllocError>
-        ensures { OnOk result (positions.new.items ≡ positions.old.items ++ positions_of (places_of (pending self.now.shard))) }
+        ensures { OnOk result (positions.new.items
+            ≡ positions.old.items ++ positions_of (places_of (pending self.now.shard))) }
     {
         add_places(self.core.pending_places(), positions)?;
         add_queued(&self.queue, positions)

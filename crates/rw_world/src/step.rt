@@ -87,7 +87,8 @@ impl Engine {
     }
 
     fn send(&mut self, i: u64) -> Result<(), AllocError>
-        ensures ok { OnOk result (self.new ≡ record self.old { world = send_batch self.old.world i (slice_get self.old.world.shards i) }) }
+        ensures ok { OnOk result (self.new
+            ≡ record self.old { world = send_batch self.old.world i (slice_get self.old.world.shards i) }) }
         ensures err { OnErr result (self.new ≡ self.old) }
     {
         self.requests.reserve(1)?;
@@ -190,7 +191,8 @@ impl Engine {
 
     /// One event.
     pub(crate) fn happen(&mut self, event: &Event) -> Result<(), AllocError>
-        ensures ok { OnOk result (self.new ≡ record self.old { world = happens self.old.setup self.old.world event.now }) }
+        ensures ok { OnOk result (self.new
+            ≡ record self.old { world = happens self.old.setup self.old.world event.now }) }
         ensures err { OnErr result (self.new ≡ self.old) }
         ensures never { takes_memory event.now ≡ false → IsOk result }
     {

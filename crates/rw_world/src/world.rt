@@ -63,7 +63,8 @@ impl World {
     }
 
     fn happen(&mut self, event: &Event) -> Result<(), AllocError>
-        ensures ok { OnOk result (self.new ≡ record self.old { world = happens self.old.setup self.old.world event.now }) }
+        ensures ok { OnOk result (self.new
+            ≡ record self.old { world = happens self.old.setup self.old.world event.now }) }
         ensures err { OnErr result (self.new ≡ self.old) }
         ensures never { takes_memory event.now ≡ false → IsOk result }
     {
@@ -100,7 +101,8 @@ impl World {
     /// Events, one after the other. Where one is refused the world is that after the events before it.
     fn run_all(&mut self, events: &[Event]) -> Result<(), Refused>
         ensures ok { OnOk result (self.new ≡ record self.old { world = run self.old.setup events.now self.old.world }) }
-        ensures err { IfErr result (λ r. (r.at < length events.now) × (self.new ≡ record self.old { world = run self.old.setup (take r.at events.now) self.old.world })) }
+        ensures err { IfErr result (λ r. (r.at < length events.now)
+            × (self.new ≡ record self.old { world = run self.old.setup (take r.at events.now) self.old.world })) }
     {
         for at in 0..events.len() {
             match self.happen(&events[at]) {
@@ -114,7 +116,8 @@ impl World {
     /// Events, one after the other. Where one is refused the world is that after the events before it.
     pub fn run(&mut self, events: &[Event]) -> Result<(), Refused>
         ensures ok { OnOk result (self.new ≡ record self.old { world = run self.old.setup events.now self.old.world }) }
-        ensures err { IfErr result (λ r. (r.at < length events.now) × (self.new ≡ record self.old { world = run self.old.setup (take r.at events.now) self.old.world })) }
+        ensures err { IfErr result (λ r. (r.at < length events.now)
+            × (self.new ≡ record self.old { world = run self.old.setup (take r.at events.now) self.old.world })) }
         // What holds of every world.
         ensures kept { IsKept self.new.setup self.new.world }
     {
@@ -183,7 +186,8 @@ impl World {
 
     /// The bytes of the request with this number, from 0, of all that were sent: what goes over the network.
     pub fn request(&self, k: usize) -> Option<&[u8]>
-        ensures bytes { option_map (λ b. b.now) result ≡ option_map (λ (r : Request). r.bytes) (slice_get self.now.world.requests k) }
+        ensures bytes { option_map (λ b. b.now) result
+            ≡ option_map (λ (r : Request). r.bytes) (slice_get self.now.world.requests k) }
         // What holds of every world.
         ensures kept { IsKept self.now.setup self.now.world }
     {

@@ -37,7 +37,8 @@ pub fn canonical_is_read()
 
 /// Law: the field of a series is its head, which needs the length of the sample fields, and then the sample fields.
 pub fn series_in_parts()
-    ensures { (labels : List Label) (samples : List Sample) → series_field (record { labels = labels; samples = samples })
+    ensures { (labels : List Label) (samples : List Sample)
+        → series_field (record { labels = labels; samples = samples })
         ≡ series_head labels (length (sample_fields samples)) ++ sample_fields samples }
 {}
 

@@ -26,7 +26,8 @@ const CUT_OFF: u8 = 4;
 
 /// Writes the one line of a fault to standard error, and gives its exit status.
 pub fn ended(rt: &HostRuntime, outcome: Result<(), ToolFault>) -> ExitCode
-    ensures { MatchResult outcome (λ _. process.exit_status result ≡ 0) (λ fault. process.exit_status result ≡ exit_status fault) }
+    ensures { MatchResult outcome (λ _. process.exit_status result
+        ≡ 0) (λ fault. process.exit_status result ≡ exit_status fault) }
 {
     match outcome {
         Ok(()) => ExitCode::SUCCESS,

@@ -21,7 +21,8 @@ fn add(
     t: i64,
 ) -> Result<(), LabelFault>
     requires { StandsFor number ((codes "__name__", name.now) ∷ []) grouping.old }
-    ensures series { OnOk result (grouping.new.series ≡ with_sample ((codes "__name__", name.now) ∷ []) (0, t) grouping.old.series) }
+    ensures series { OnOk result (grouping.new.series
+        ≡ with_sample ((codes "__name__", name.now) ∷ []) (0, t) grouping.old.series) }
     ensures numbers { OnOk result (grouping.new.numbers ≡ with_number number grouping.old.numbers) }
 {
     let labels = metric(alloc, name)?;

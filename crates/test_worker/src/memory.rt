@@ -66,7 +66,9 @@ impl Script {
     }
 
     fn note(&mut self, request: &[u8], answer: Result<Reply, Lost>)
-        ensures { self.new.is_complete ≡ true → (self.old.is_complete ≡ true) × (noted self.new.notes.items ≡ noted self.old.notes.items ++ exchange_of request.now answer ∷ []) }
+        ensures { self.new.is_complete ≡ true → (self.old.is_complete ≡ true)
+            × (noted self.new.notes.items
+            ≡ noted self.old.notes.items ++ exchange_of request.now answer ∷ []) }
     {
         let Ok(request) = request.to_vec(self.alloc) else {
             self.is_complete = false;
