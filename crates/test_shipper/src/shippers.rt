@@ -336,7 +336,7 @@ static STOPPED: [Task<'static>; 2] = [
     },
 ];
 
-/// Whether a fault was kept, if there was one, and the report names all that is not resolved.
+/// Whether a fault was kept, if there was one, and the report names just what was placed and is not resolved.
 fn is_kept(work: &Work, stop: Stop) -> bool {
     let is_whole = work.has_no_fault();
     let ends = match (is_whole, stop) {
@@ -346,27 +346,36 @@ fn is_kept(work: &Work, stop: Stop) -> bool {
     work.accounts_for_all(4) && ends && (is_whole || work.keeps_its_fault())
 }
 
-/// Whether the fault of a task is kept. Nothing is said of one that does not start.
+/// Whether the fault of a task is kept; none where it does not start, or where there is no memory for what is compared.
 fn keeps_its_fault<R: Threads + Wait + Copy + Send + 'static>(
     rt: &R,
     alloc: Global,
     task: &Task<'_>,
-) -> Result<bool, AllocError> {
-    let peers = peers_of(alloc, 204, u64::MAX, None)?;
-    match done(rt, alloc, task, peers) {
-        Some((work, _)) => Ok(is_kept(&work, task.stop)),
-        None => Ok(true),
+) -> Option<bool> {
+    let peers = peers_of(alloc, 204, u64::MAX, None).ok()?;
+    let (work, _) = done(rt, alloc, task, peers)?;
+    Some(is_kept(&work, task.stop))
+}
+
+/// The same, again where there was none.
+fn keeps_any_fault<R: Threads + Wait + Copy + Send + 'static>(
+    rt: &R,
+    alloc: Global,
+    task: &Task<'_>,
+) -> bool {
+    match keeps_its_fault(rt, alloc, task) {
+        Some(is_kept) => is_kept,
+        None => keeps_its_fault(rt, alloc, task) == Some(true),
     }
 }
 
-/// Holds whichever allocation is refused, of which a run of the tests refuses none: a call that fails is never passed over, its fault is kept,
-/// and the report names all that is not resolved.
+/// Holds whichever growth is refused; `tools/refuse-each` refuses each of them in turn. A call that fails is never passed over, its fault is kept,
+/// and the report names just what is not resolved.
 #[test]
-fn a_fault_is_kept(rt: HostRuntime) -> Result<(), Fail> {
+fn a_fault_is_kept(rt: HostRuntime) {
     for task in &STOPPED {
-        assert!(rt; keeps_its_fault(&rt, rt.alloc(), task)?);
+        assert!(rt; keeps_any_fault(&rt, rt.alloc(), task));
     }
-    Ok(())
 }
 
 static NO_CALLS: Task<'static> = Task {

@@ -96,6 +96,18 @@ pub(crate) fn ends_so(outcome: &Outcome, ending: Ending<'_>) -> bool {
     }
 }
 
+/// Whether these are all numbers from one up to another.
+fn are_all(numbers: &[u64], from: u64, to: u64) -> bool {
+    let mut next = from;
+    for number in numbers {
+        if *number != next {
+            return false;
+        }
+        next = next.saturating_add(1);
+    }
+    next == to
+}
+
 impl Work {
     /// Whether it is what is wanted. Each worker that was not stopped takes all.
     pub(crate) fn is(&self, wanted: &Wanted<'_>) -> bool {
@@ -129,18 +141,23 @@ impl Work {
         true
     }
 
-    /// Whether each sample that was placed behind so many series is resolved or listed as abandoned.
+    /// Whether nothing is named, and of the samples behind so many series, which are all of one series, just those are listed as abandoned that
+    /// were placed behind the resolved ones.
     pub(crate) fn accounts_for_all(&self, series: u64) -> bool {
-        let (placed, abandoned) = match &self.outcome {
-            Outcome::Complete(placed) => (*placed, 0),
-            Outcome::Abandoned { placed, samples } => (*placed, samples.len() as u64),
-            Outcome::Damaged(_) => return false,
-        };
-        let mut known = abandoned;
+        let mut known = series;
         for resolved in &self.resolved {
             known = known.saturating_add(*resolved);
         }
-        placed.saturating_sub(series) == known
+        let is_so = match &self.outcome {
+            Outcome::Complete(placed) => *placed == known,
+            Outcome::Abandoned { placed, samples } => are_all(
+                samples,
+                known,
+                (*placed).max(series),
+            ),
+            Outcome::Damaged(_) => false,
+        };
+        is_so && self.named.is_empty()
     }
 
     /// Whether nothing is filtered, each shard has a part beside the feeder's, and is whole or stopped.
