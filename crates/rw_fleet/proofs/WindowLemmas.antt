@@ -3,7 +3,7 @@ use Rattle.std.proofs.Common.{◌≡◌, ℕ, suc, ◌+◌, ◌≤◌, List, [],
 use Rattle.rw_shard_queue.specs.declared.item.Item.{Item}
 use Rattle.rw_shard_queue.specs.declared.item.Item.TheVariants as item
 use Rattle.rw_shard_queue.specs.Items.{samples_in, places_in}
-use Rattle.rw_ruled_queue.specs.Ends.{IsBeginning, Feeding, Draining}
+use Rattle.rw_shard_channel.specs.Ends.{IsBeginning, Feeding, Draining}
 use Rattle.rw_fleet.specs.Work.{positions_in}
 use Rattle.rw_fleet.proofs.PutLemmas.{places_append, positions_length}
 

@@ -17,8 +17,8 @@ use crate::lists::{
 use crate::load::Load;
 use crate::running::{Ending, Fault, Running};
 use rw_router::RoutedSample;
-use rw_ruled_queue::Kind;
 use rw_sender::Config;
+use rw_shard_channel::Kind;
 use rw_worker::StopFlag;
 use std::alloc::{AllocError, Global};
 use std::marker::Model;

@@ -1,10 +1,10 @@
 -- Lines of a script are carried out.
 use Rattle.std.proofs.Common.{◌≡◌, inr, ℕ, List, [], ◌∷◌, map, Some, refl, sym, ap, ◌∙◌, subst}
 use Rattle.std.specs.List.{AllByRecursion}
-use Rattle.rw_schedule.specs.Worlds.{Ending, report}
-use Rattle.rw_schedule.specs.Steps.{happens}
-use Rattle.rw_schedule.specs.declared.event.Event.{Event}
-use Rattle.rw_schedule.specs.declared.event.Event.TheVariants as event
+use Rattle.rw_machine.specs.Worlds.{Ending, report}
+use Rattle.rw_machine.specs.Steps.{happens}
+use Rattle.rw_machine.specs.declared.event.Event.{Event}
+use Rattle.rw_machine.specs.declared.event.Event.TheVariants as event
 use Rattle.rw_wal_tail.specs.declared.piece.Piece.TheVariants as piece
 use Rattle.rw_script.specs.declared.command.Command.{Command}
 use Rattle.rw_script.specs.declared.command.Command.TheVariants as command

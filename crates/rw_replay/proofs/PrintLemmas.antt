@@ -1,6 +1,6 @@
 -- What a script prints.
 use Rattle.std.proofs.Common.{◌≡◌, ℕ, List, Result, Ok, Err, IfOk, subst}
-use Rattle.rw_schedule.specs.Worlds.{Setup}
+use Rattle.rw_machine.specs.Worlds.{Setup}
 use Rattle.rw_script.specs.ScriptText.{Order}
 use Rattle.rw_script.specs.StateText.{state_text}
 use Rattle.rw_replay.specs.Played.{Played, Follows, beginning, IsPrinted}

@@ -2,11 +2,11 @@
 use Rattle.std.specs.Prelude.{◌≡◌, ◌⊎◌, ℕ, ◌+◌, ◌*◌, ◌<◌, ◌≤◌, List, [], ◌∷◌, length, map, Bool, Some, nat_lt, if◌then◌else◌}
 use Rattle.rw_codes.specs.Pieces.{page_size}
 use Rattle.rw_codes.specs.Writing.{log_bytes, room}
-use Rattle.rw_schedule.specs.Worlds.{Setup, World, Ending, start, report}
-use Rattle.rw_schedule.specs.Steps.{happens, run}
-use Rattle.rw_schedule.specs.Settling.{settle}
-use Rattle.rw_schedule.specs.declared.event.Event.{Event}
-use Rattle.rw_schedule.specs.declared.event.Event.TheVariants as event
+use Rattle.rw_machine.specs.Worlds.{Setup, World, Ending, start, report}
+use Rattle.rw_machine.specs.Steps.{happens, run}
+use Rattle.rw_machine.specs.Settling.{settle}
+use Rattle.rw_machine.specs.declared.event.Event.{Event}
+use Rattle.rw_machine.specs.declared.event.Event.TheVariants as event
 use Rattle.rw_wal_tail.specs.declared.piece.Piece.TheVariants as piece
 use Rattle.rw_script.specs.declared.command.Command.TheVariants as command
 use Rattle.rw_script.specs.ScriptText.{Order, logged, fed, order_of, order_of_event}

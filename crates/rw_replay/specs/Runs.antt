@@ -1,7 +1,7 @@
 -- What a run of the command `replay` does to its reader and its writer.
 use Rattle.std.specs.Prelude.{◌≡◌, ℕ, ◌≤◌, List, length, take, Bool, true, Option}
 use Rattle.std.specs.Io.KnownBytes.{Appends, Consumes, IsAtEnd}
-use Rattle.rw_schedule.specs.Worlds.{Setup}
+use Rattle.rw_machine.specs.Worlds.{Setup}
 use Rattle.rw_script.specs.ScriptText.{Order}
 use Rattle.rw_script.specs.Scripts.{IsScript, IsBadLine}
 use Rattle.rw_tool.specs.declared.fault.ToolFault.{ToolFault}

@@ -13,7 +13,7 @@ ghost use Rattle.rw_replay.specs.Played.{segment_pages, next_segment, beginning,
 
 use crate::log::{Written, write_behind};
 use crate::state::text_of;
-use rw_schedule::Event;
+use rw_machine::Event;
 use rw_script::Command;
 use rw_settings::Settings;
 use rw_wal_tail::Piece;

@@ -14,8 +14,8 @@ use Rattle.rw_text.proofs.OneLemmas.{number_one}
 use Rattle.rw_text.proofs.SplitLemmas.{split_unique, not_without}
 use Rattle.rw_log_text.specs.RecordLines.{IsRecordOf}
 use Rattle.rw_log_text.proofs.RecordLemmas.{record_one}
-use Rattle.rw_schedule.specs.declared.event.How.{How}
-use Rattle.rw_schedule.specs.declared.event.How.TheVariants.{Plain, Busy, Short}
+use Rattle.rw_machine.specs.declared.event.How.{How}
+use Rattle.rw_machine.specs.declared.event.How.TheVariants.{Plain, Busy, Short}
 use Rattle.rw_script.specs.declared.words.BareWord.{BareWord}
 use Rattle.rw_script.specs.declared.words.BareWord.TheVariants.{Segment, Place, Restart, Close, Kill, Settle}
 use Rattle.rw_script.specs.declared.words.NumberedWord.{NumberedWord}

@@ -4,10 +4,10 @@ use Rattle.rw_hex.specs.HexText.{read_digits}
 use Rattle.rw_text.specs.Numbers.{IsNumber}
 use Rattle.rw_log_text.specs.RecordLines.{IsRecordOf}
 use Rattle.rw_wal_tail.specs.declared.piece.Piece.TheVariants as piece
-use Rattle.rw_schedule.specs.declared.event.How.{How}
-use Rattle.rw_schedule.specs.declared.event.How.TheVariants.{Plain, Busy, Short}
-use Rattle.rw_schedule.specs.declared.event.Event.{Event}
-use Rattle.rw_schedule.specs.declared.event.Event.TheVariants as event
+use Rattle.rw_machine.specs.declared.event.How.{How}
+use Rattle.rw_machine.specs.declared.event.How.TheVariants.{Plain, Busy, Short}
+use Rattle.rw_machine.specs.declared.event.Event.{Event}
+use Rattle.rw_machine.specs.declared.event.Event.TheVariants as event
 use Rattle.rw_script.specs.declared.words.BareWord.{BareWord}
 use Rattle.rw_script.specs.declared.words.BareWord.TheVariants.{Segment, Place, Restart, Close, Kill, Settle}
 use Rattle.rw_script.specs.declared.words.NumberedWord.{NumberedWord}

@@ -12,7 +12,7 @@ use Rattle.rw_recv_head.specs.Order.{Point}
 use Rattle.rw_recv_head.specs.Store.{Store, list_of, label_sets}
 use Rattle.rw_sender.specs.declared.outcome.Outcome.{Outcome}
 use Rattle.rw_sender.specs.declared.outcome.Outcome.TheVariants as outcome
-use Rattle.rw_schedule.specs.Worlds.{World, Ending, Complete, Abandoned, Damaged, report}
+use Rattle.rw_machine.specs.Worlds.{World, Ending, Complete, Abandoned, Damaged, report}
 
 -- ` T=VALUE`
 abbrev pub point_text : Point → List ℕ

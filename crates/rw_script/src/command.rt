@@ -1,6 +1,6 @@
 //! What a script asks for.
 
-use rw_schedule::Event;
+use rw_machine::Event;
 
 /// What one line of a script asks for.
 #[derive(Debug, Drop)]

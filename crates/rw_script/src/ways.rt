@@ -1,7 +1,7 @@
 //! The ways in which a script lets its log grow.
 
 use crate::command::Command;
-use rw_schedule::Event;
+use rw_machine::Event;
 
 /// The ways in which a script lets its log grow: by records, by pieces of its bytes.
 #[derive(Clone, Copy, Debug, PartialEq, Eq)]

@@ -1,13 +1,13 @@
 //! The words of script lines.
 
 ghost use Rattle.std.specs.Prelude.{◌≡◌, MatchOption};
-ghost use Rattle.rw_schedule.specs.declared.event.How.{How};
+ghost use Rattle.rw_machine.specs.declared.event.How.{How};
 ghost use Rattle.rw_script.specs.declared.words.BareWord.{BareWord};
 ghost use Rattle.rw_script.specs.declared.words.NumberedWord.{NumberedWord};
 ghost use Rattle.rw_script.specs.ScriptText.{bare_text, numbered_text, how_text, order_of, order_of_event, bare, numbered};
 
 use crate::command::Command;
-use rw_schedule::{Event, How};
+use rw_machine::{Event, How};
 use rw_wal_tail::Piece;
 
 /// A word that is a whole line.

@@ -7,7 +7,7 @@ use Rattle.rw_ledger.specs.Names.{Named}
 use Rattle.rw_ledger.specs.declared.ledger.Reason.{Reason}
 use Rattle.rw_sender.specs.declared.outcome.Outcome.{Outcome}
 use Rattle.rw_sender.specs.declared.outcome.Outcome.TheVariants as outcome
-use Rattle.rw_schedule.specs.Worlds.{Ending, Complete, Abandoned, Damaged}
+use Rattle.rw_machine.specs.Worlds.{Ending, Complete, Abandoned, Damaged}
 use Rattle.rw_script.specs.StateText.{work_text}
 use Rattle.rw_shipper.specs.declared.report.Report.{Report}
 

@@ -2,7 +2,7 @@
 
 use crate::stop::Stopped;
 use rw_ledger::Ledger;
-use rw_ruled_queue::{Drain, Ended, Killed, Kind};
+use rw_shard_channel::{Drain, Ended, Killed, Kind};
 
 /// The end of its queue that a worker gives back.
 #[derive(Drop)]

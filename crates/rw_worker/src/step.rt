@@ -10,7 +10,7 @@ use crate::send::send_once;
 use crate::state::{Intake, Progress, Sending, Start};
 use crate::stop::{StopFlag, Stopped};
 use crate::transport::{Pause, Transport};
-use rw_ruled_queue::{Drain, Item, Kind, Open, Taken};
+use rw_shard_channel::{Drain, Item, Kind, Open, Taken};
 use std::sync::Wait;
 
 /// Freezes the builder, which is due. Where memory is refused it waits.

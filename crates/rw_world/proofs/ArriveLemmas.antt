@@ -12,7 +12,7 @@ use Rattle.rw_shard_queue.specs.Items.{Placed}
 use Rattle.rw_write_request.specs.Message.{WriteRequest}
 use Rattle.rw_sender.specs.declared.config.Target.{Target}
 use Rattle.rw_sender.specs.Shard.{labelled, body_of, IsReadAgain, can_send, request_for}
-use Rattle.rw_schedule.specs.Shards.{Shard}
+use Rattle.rw_machine.specs.Shards.{Shard}
 use Rattle.rw_sender.specs.SentRequest.{request_of, request_head}
 use Rattle.rw_recv_head.specs.Head.{State, Answer, answer, answer_to, answered, judged_body}
 use Rattle.rw_recv_head.specs.Store.{Store}
@@ -21,11 +21,11 @@ use Rattle.rw_recv_head.specs.declared.verdict.Verdict.{Verdict}
 use Rattle.rw_recv_http.specs.Alone.{IsOneRequest, IsOneRefusal}
 use Rattle.rw_recv_http.specs.HeadAnswers.{HasAnswered}
 use Rattle.rw_recv_http.specs.Replies.{is_verdict}
-use Rattle.rw_exchange.specs.Exchanges.{IsAnswered, IsRefused}
-use Rattle.rw_schedule.specs.Worlds.{Setup, Request, World}
-use Rattle.rw_schedule.specs.Steps.{arrive, endpoint_answer, request_by}
-use Rattle.rw_schedule.specs.Promises.{CarriesItsBatch}
-use Rattle.rw_schedule.specs.declared.event.How.TheVariants.{Plain}
+use Rattle.rw_roundtrip.specs.Exchanges.{IsAnswered, IsRefused}
+use Rattle.rw_machine.specs.Worlds.{Setup, Request, World}
+use Rattle.rw_machine.specs.Steps.{arrive, endpoint_answer, request_by}
+use Rattle.rw_machine.specs.Promises.{CarriesItsBatch}
+use Rattle.rw_machine.specs.declared.event.How.TheVariants.{Plain}
 use Rattle.rw_world.specs.Held.{sent_by}
 use Rattle.rw_world.specs.Arriving.{IsSentTo, IsReplied, IsServed, IsAnswerTo, IsAnsweredAsBytes, AnswersBytes, answer_within}
 

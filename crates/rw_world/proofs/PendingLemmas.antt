@@ -14,8 +14,8 @@ use Rattle.rw_shard_queue.specs.declared.item.Item.{Item}
 use Rattle.rw_shard_queue.specs.declared.item.Item.TheVariants.{Sample, Flush, End}
 use Rattle.rw_sender.specs.Shard.{Core, places_of, positions_of, positions}
 use Rattle.rw_sender.specs.Shard as core
-use Rattle.rw_schedule.specs.Shards.{samples_in, pending}
-use Rattle.rw_schedule.specs.Worlds.{up_to}
+use Rattle.rw_machine.specs.Shards.{samples_in, pending}
+use Rattle.rw_machine.specs.Worlds.{up_to}
 use Rattle.rw_world.specs.Held.{Held, queued_of}
 use Rattle.rw_world.specs.Sending.{all_pending}
 

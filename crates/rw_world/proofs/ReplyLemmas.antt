@@ -18,8 +18,8 @@ use Rattle.rw_ledger.specs.declared.ledger.Reason.TheVariants as why
 use Rattle.rw_shard_queue.specs.Items.{Placed}
 use Rattle.rw_sender.specs.declared.config.Target.{Target}
 use Rattle.rw_sender.specs.Shard.{HasRoomFor, positions, last_of, is_answer, settle, resolve, again, reply, reply_names, settle_names, name_all}
-use Rattle.rw_schedule.specs.Shards.{Shard, One, samples_in, pending, has_room, shard_put, with_core}
-use Rattle.rw_schedule.specs.Steps.{change}
+use Rattle.rw_machine.specs.Shards.{Shard, One, samples_in, pending, has_room, shard_put, with_core}
+use Rattle.rw_machine.specs.Steps.{change}
 use Rattle.rw_world.specs.Held.{Held, sample_for}
 use Rattle.rw_world.specs.Sending.{Sending, times, waiting, allowed, replied, room_at, sample_at, put_to, IsShardAt, IsSending}
 use Rattle.rw_world.proofs.SendingLemmas.{positions-append, times-append, here, waiting-set, waiting-get, open-set, open-get, samples_in-queue, same_at, each-set, quiet_kept, changed_is, still_quiet, again_quiet}

@@ -12,14 +12,14 @@ use Rattle.rw_types.specs.Labels.{Labels}
 use Rattle.rw_types.specs.declared.entry.Entry.{Entry}
 use Rattle.rw_types.specs.declared.entry.Entry.TheVariants.{Def, Sample}
 use Rattle.rw_sender.specs.Shard.{is_empty, batch_id, same_id}
-use Rattle.rw_schedule.specs.Shards.{Shard}
-use Rattle.rw_schedule.specs.Steps.{shard_of}
-use Rattle.rw_schedule.specs.Worlds.{Setup, Request, World, log, is_finished}
-use Rattle.rw_schedule.specs.Settling.{newest_from, exchange_at, first_of_these, made_at, at_first, can_place, can_place_as, can_place_entry, can_place_known, next_events}
-use Rattle.rw_schedule.specs.Settling as settling
-use Rattle.rw_schedule.specs.declared.event.How.TheVariants.{Plain}
-use Rattle.rw_schedule.specs.declared.event.Event.{Event}
-use Rattle.rw_schedule.specs.declared.event.Event.TheVariants as event
+use Rattle.rw_machine.specs.Shards.{Shard}
+use Rattle.rw_machine.specs.Steps.{shard_of}
+use Rattle.rw_machine.specs.Worlds.{Setup, Request, World, log, is_finished}
+use Rattle.rw_machine.specs.Settling.{newest_from, exchange_at, first_of_these, made_at, at_first, can_place, can_place_as, can_place_entry, can_place_known, next_events}
+use Rattle.rw_machine.specs.Settling as settling
+use Rattle.rw_machine.specs.declared.event.How.TheVariants.{Plain}
+use Rattle.rw_machine.specs.declared.event.Event.{Event}
+use Rattle.rw_machine.specs.declared.event.Event.TheVariants as event
 use Rattle.rw_world.specs.Sending.{room_at}
 use Rattle.rw_world.specs.Guards.{is_open, is_ready, may_take, may_flush, IsOpen, waiting_id_at}
 use Rattle.rw_world.specs.Rounds.{ahead_of}

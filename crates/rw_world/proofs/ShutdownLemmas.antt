@@ -1,11 +1,11 @@
 -- Rounds of an orderly shutdown until there is a report.
 use Rattle.std.proofs.Common.{◌≡◌, ℕ, Result, Ok, Err, OnOk, suc, zero, ◌+◌, ◌≤◌, Bool, true, false, List, refl, sym, ap, subst, ◌∙◌, arith}
-use Rattle.rw_schedule.specs.Worlds.{Setup, World, start, is_over}
-use Rattle.rw_schedule.specs.Steps.{unless_over, happens, run}
-use Rattle.rw_schedule.specs.Settling.{next_events, settle_if, settle, settle_events}
-use Rattle.rw_schedule.specs.Promises.{CanWork, IsSettled, SettleEnds}
-use Rattle.rw_schedule.specs.declared.event.Event.{Event}
-use Rattle.rw_schedule.specs.declared.event.Event.TheVariants as event
+use Rattle.rw_machine.specs.Worlds.{Setup, World, start, is_over}
+use Rattle.rw_machine.specs.Steps.{unless_over, happens, run}
+use Rattle.rw_machine.specs.Settling.{next_events, settle_if, settle, settle_events}
+use Rattle.rw_machine.specs.Promises.{CanWork, IsSettled, SettleEnds}
+use Rattle.rw_machine.specs.declared.event.Event.{Event}
+use Rattle.rw_machine.specs.declared.event.Event.TheVariants as event
 use Rattle.rw_world.specs.Machine.{Machine}
 use Rattle.rw_world.specs.Reached.{IsReached}
 use Rattle.rw_world.specs.Rounds.{HasSettled, HasShutDown}

@@ -1,11 +1,11 @@
 -- One event, and a whole schedule.
 use Rattle.std.proofs.Common.{◌≡◌, ℕ, ◌+◌, ◌<◌, Bool, true, false, List, [], ◌∷◌, ◌++◌, length, take, get_or, Result, Ok, Err, OnOk, OnErr, refl, sym, ap, subst, ◌∙◌}
 use Rattle.std.proofs.lemmas.List.{take_more}
-use Rattle.rw_schedule.specs.Worlds.{Setup, World, start, is_over}
-use Rattle.rw_schedule.specs.Steps.{act, unless_over, happens, run}
-use Rattle.rw_schedule.specs.Promises.{CanWork}
-use Rattle.rw_schedule.specs.declared.event.Event.{Event}
-use Rattle.rw_schedule.specs.declared.event.Event.TheVariants as event
+use Rattle.rw_machine.specs.Worlds.{Setup, World, start, is_over}
+use Rattle.rw_machine.specs.Steps.{act, unless_over, happens, run}
+use Rattle.rw_machine.specs.Promises.{CanWork}
+use Rattle.rw_machine.specs.declared.event.Event.{Event}
+use Rattle.rw_machine.specs.declared.event.Event.TheVariants as event
 use Rattle.rw_world.specs.Machine.{Machine, is_arrive}
 use Rattle.rw_world.specs.Reached.{IsReached}
 

@@ -16,9 +16,9 @@ use Rattle.rw_series_cache.proofs.KnownLemmas.{series_of-definitions_of}
 use Rattle.rw_router.specs.Routing.{Routing, Knows}
 use Rattle.rw_sender.specs.Shard.{can_send, new_core}
 use Rattle.rw_sender.specs.declared.config.Target.{Target}
-use Rattle.rw_schedule.specs.Shards.{Shard, new_shard, shard_send}
-use Rattle.rw_schedule.specs.Worlds.{Setup, Request, Reply, World, new_shards, start, is_finished, all_drained}
-use Rattle.rw_schedule.specs.Steps.{change, send_batch, restart}
+use Rattle.rw_machine.specs.Shards.{Shard, new_shard, shard_send}
+use Rattle.rw_machine.specs.Worlds.{Setup, Request, Reply, World, new_shards, start, is_finished, all_drained}
+use Rattle.rw_machine.specs.Steps.{change, send_batch, restart}
 use Rattle.std.specs.FinMap.{empty}
 use Rattle.rw_recv_head.specs.Head.{State}
 use Rattle.rw_recv_head.specs.declared.limits.Limits.{Limits}

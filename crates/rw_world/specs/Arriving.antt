@@ -9,10 +9,10 @@ use Rattle.rw_sender.specs.Shard.{labelled, body_of, IsReadAgain}
 use Rattle.rw_sender.specs.SentRequest.{request_of}
 use Rattle.rw_recv_head.specs.Head.{State, Answer, answer, answer_to}
 use Rattle.rw_recv_http.specs.Alone.{IsOneRequest, IsOneRefusal}
-use Rattle.rw_schedule.specs.Worlds.{Setup, World, Request}
-use Rattle.rw_schedule.specs.Steps.{answered, happens}
-use Rattle.rw_schedule.specs.declared.event.Event.TheVariants as event
-use Rattle.rw_schedule.specs.declared.event.How.TheVariants.{Plain}
+use Rattle.rw_machine.specs.Worlds.{Setup, World, Request}
+use Rattle.rw_machine.specs.Steps.{answered, happens}
+use Rattle.rw_machine.specs.declared.event.Event.TheVariants as event
+use Rattle.rw_machine.specs.declared.event.How.TheVariants.{Plain}
 
 -- these bytes are the request of the batch, whose message a receiver reads
 pub record IsSentTo (host path : List ℕ) (s : Request) : Type 0 where

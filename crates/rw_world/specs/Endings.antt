@@ -1,5 +1,5 @@
 -- How the work has ended, as an outcome tells it.
-use Rattle.rw_schedule.specs.Worlds.{Ending, Complete, Abandoned, Damaged}
+use Rattle.rw_machine.specs.Worlds.{Ending, Complete, Abandoned, Damaged}
 use Rattle.rw_sender.specs.declared.outcome.Outcome.{Outcome}
 use Rattle.rw_sender.specs.declared.outcome.Outcome.TheVariants as outcome
 

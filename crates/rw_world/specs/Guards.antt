@@ -2,7 +2,7 @@
 use Rattle.std.specs.Prelude.{◌≡◌, ℕ, Bool, true, not, ◌&&◌, Option, None, Some, if◌then◌else◌}
 use Rattle.rw_batch.specs.declared.batch.BatchId.{BatchId}
 use Rattle.rw_sender.specs.Shard.{is_empty, is_due, can_take, batch_id}
-use Rattle.rw_schedule.specs.Shards.{Shard, has_room}
+use Rattle.rw_machine.specs.Shards.{Shard, has_room}
 
 -- a batch is open
 abbrev pub is_open : Shard → Bool

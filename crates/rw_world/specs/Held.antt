@@ -7,9 +7,9 @@ use Rattle.rw_shard_queue.specs.declared.item.Kind.{Kind}
 use Rattle.rw_shard_queue.specs.declared.item.Item.{Item}
 use Rattle.rw_shard_queue.specs.declared.item.Item.TheVariants.{Sample, Flush, End}
 use Rattle.rw_sender.specs.Shard.{Core, AreInRow, last_of, can_send}
-use Rattle.rw_schedule.specs.Shards.{Shard, Queued, One, FlushMark, EndMark, has_room, shard_flush, shard_end}
-use Rattle.rw_schedule.specs.Worlds.{Request}
-use Rattle.rw_schedule.specs.Steps.{request_by}
+use Rattle.rw_machine.specs.Shards.{Shard, Queued, One, FlushMark, EndMark, has_room, shard_flush, shard_end}
+use Rattle.rw_machine.specs.Worlds.{Request}
+use Rattle.rw_machine.specs.Steps.{request_by}
 
 -- a shard, and how many items its queue holds at most
 pub record Held : Type 0 where

@@ -15,10 +15,10 @@ use Rattle.rw_sender.specs.Configs.{choice_of}
 use Rattle.rw_sender.specs.declared.config.ConfigFields.{ConfigFields}
 use Rattle.rw_recv_head.specs.declared.limits.Limits.{Limits}
 use Rattle.rw_recv_head.specs.Verdicts.{LabelLimits}
-use Rattle.rw_schedule.specs.Worlds.{Setup, World, is_finished}
-use Rattle.rw_schedule.specs.Steps.{place_as, place_entry}
-use Rattle.rw_schedule.specs.declared.event.Event.{Event}
-use Rattle.rw_schedule.specs.declared.event.Event.TheVariants as event
+use Rattle.rw_machine.specs.Worlds.{Setup, World, is_finished}
+use Rattle.rw_machine.specs.Steps.{place_as, place_entry}
+use Rattle.rw_machine.specs.declared.event.Event.{Event}
+use Rattle.rw_machine.specs.declared.event.Event.TheVariants as event
 
 -- what a world was set to, and what it has come to
 pub record Machine : Type 0 where

@@ -1,9 +1,9 @@
 -- What is known of every world, since events have brought it there.
 use Rattle.std.specs.Prelude.{◌≡◌, List}
-use Rattle.rw_schedule.specs.declared.event.Event.{Event}
-use Rattle.rw_schedule.specs.Worlds.{Setup, World, start}
-use Rattle.rw_schedule.specs.Steps.{run}
-use Rattle.rw_schedule.specs.Promises.{CanWork, IsInOrder, IsWhole, IsWholeBeforeDamage, HoldsNothingElse, IsClosedForGood, HasOneClassEach, CountsFiltered, NamesRefusals, HasOneBatchEachId, CarriesEachBatch, SendsSameBytes, NeverTakesAndRefuses, StoresResolved, HasShardLists}
+use Rattle.rw_machine.specs.declared.event.Event.{Event}
+use Rattle.rw_machine.specs.Worlds.{Setup, World, start}
+use Rattle.rw_machine.specs.Steps.{run}
+use Rattle.rw_machine.specs.Promises.{CanWork, IsInOrder, IsWhole, IsWholeBeforeDamage, HoldsNothingElse, IsClosedForGood, HasOneClassEach, CountsFiltered, NamesRefusals, HasOneBatchEachId, CarriesEachBatch, SendsSameBytes, NeverTakesAndRefuses, StoresResolved, HasShardLists}
 use Rattle.rw_world.specs.Arriving.{AnswersBytes}
 use Rattle.rw_world.specs.Machine.{Machine}
 

@@ -2,11 +2,11 @@
 use Rattle.std.specs.Prelude.{◌≡◌, ℕ, List, [], ◌∷◌, Option, None, Some}
 use Rattle.rw_types.specs.declared.entry.Entry.{Entry}
 use Rattle.rw_types.specs.declared.entry.Entry.TheVariants.{Def, Sample}
-use Rattle.rw_schedule.specs.Settling.{settle, settle_events}
-use Rattle.rw_schedule.specs.Steps.{run}
-use Rattle.rw_schedule.specs.declared.event.Event.{Event}
-use Rattle.rw_schedule.specs.declared.event.Event.TheVariants as event
-use Rattle.rw_schedule.specs.declared.event.How.TheVariants.{Plain}
+use Rattle.rw_machine.specs.Settling.{settle, settle_events}
+use Rattle.rw_machine.specs.Steps.{run}
+use Rattle.rw_machine.specs.declared.event.Event.{Event}
+use Rattle.rw_machine.specs.declared.event.Event.TheVariants as event
+use Rattle.rw_machine.specs.declared.event.How.TheVariants.{Plain}
 use Rattle.rw_world.specs.Machine.{Machine}
 use Rattle.rw_world.specs.declared.log.Ahead.{Ahead}
 use Rattle.rw_world.specs.declared.log.Ahead.TheVariants as ahead

@@ -10,9 +10,9 @@ use Rattle.rw_sender.specs.Shard.{positions, new_core, is_answer, settle}
 use Rattle.rw_retry.specs.Judgements.{judgement_of}
 use Rattle.rw_batch.specs.declared.batch.BatchId.{BatchId}
 use Rattle.rw_types.specs.Labels.{Labels}
-use Rattle.rw_schedule.specs.Shards.{Shard, pending, new_shard, has_room, shard_put, with_core}
-use Rattle.rw_schedule.specs.Steps.{change, names_after}
-use Rattle.rw_schedule.specs.Worlds.{Request}
+use Rattle.rw_machine.specs.Shards.{Shard, pending, new_shard, has_room, shard_put, with_core}
+use Rattle.rw_machine.specs.Steps.{change, names_after}
+use Rattle.rw_machine.specs.Worlds.{Request}
 use Rattle.rw_world.specs.Held.{Held, sent_by}
 
 -- nothing at the position `next` or behind it was put or named

@@ -2,17 +2,17 @@
 
 ghost use Rattle.std.specs.Prelude.{◌≡◌, ◌<◌, length, slice_get, OnOk, OnErr};
 ghost use Rattle.std.specs.Option.{option_map};
-ghost use Rattle.rw_schedule.specs.Worlds.{Request};
-ghost use Rattle.rw_schedule.specs.Steps.{arrive};
-ghost use Rattle.rw_schedule.specs.declared.event.How.TheVariants.{Plain};
+ghost use Rattle.rw_machine.specs.Worlds.{Request};
+ghost use Rattle.rw_machine.specs.Steps.{arrive};
+ghost use Rattle.rw_machine.specs.declared.event.How.TheVariants.{Plain};
 ghost use Rattle.rw_world.specs.Arriving.{turned_away, AnswersBytes};
 
 use crate::engine::Engine;
 use crate::receiver::answer_to;
 use crate::sent::Answer;
 use http::StatusCode;
-use rw_exchange::requests_are_read;
-use rw_schedule::How;
+use rw_machine::How;
+use rw_roundtrip::requests_are_read;
 use std::alloc::AllocError;
 
 impl Engine {

@@ -2,8 +2,8 @@
 
 ghost use Rattle.std.specs.Prelude.{◌≡◌, ◌^◌, ◌<◌, true, false, Some, None, length, IfOk};
 ghost use Rattle.rw_recv_head.specs.Store.{list_of, label_sets};
-ghost use Rattle.rw_schedule.specs.Worlds.{start, is_finished, is_over};
-ghost use Rattle.rw_schedule.specs.Promises.{CanWork};
+ghost use Rattle.rw_machine.specs.Worlds.{start, is_finished, is_over};
+ghost use Rattle.rw_machine.specs.Promises.{CanWork};
 ghost use Rattle.rw_world.specs.Machine.{setup_of};
 
 use crate::log::Log;

@@ -2,13 +2,13 @@
 
 ghost use Rattle.std.specs.Prelude.{◌≡◌, List, true};
 ghost use Rattle.rw_types.specs.Requests.{is_host_name, is_request_path};
-ghost use Rattle.rw_schedule.specs.Worlds.{Setup, start};
-ghost use Rattle.rw_schedule.specs.Steps.{run};
-ghost use Rattle.rw_schedule.specs.declared.event.Event.{Event};
+ghost use Rattle.rw_machine.specs.Worlds.{Setup, start};
+ghost use Rattle.rw_machine.specs.Steps.{run};
+ghost use Rattle.rw_machine.specs.declared.event.Event.{Event};
 ghost use Rattle.rw_world.specs.Arriving.{AnswersRead};
 
-use rw_exchange::requests_are_read;
-use rw_schedule::requests_carry_their_batches;
+use rw_machine::requests_carry_their_batches;
+use rw_roundtrip::requests_are_read;
 
 /// What any schedule has sent is answered as the endpoint answers its bytes, where a receiver reads its body as the message of its batch.
 pub fn requests_are_answered_as_bytes()

@@ -4,7 +4,7 @@ ghost use Rattle.std.specs.Prelude.{◌≡◌, ◌==◌, IfOk, filter};
 ghost use Rattle.std.specs.List.{list_any};
 ghost use Rattle.std.specs.List.Sorted.{IsNonDecreasing};
 ghost use Rattle.std.specs.Option.{option_map};
-ghost use Rattle.rw_schedule.specs.Worlds.{is_pending, report, up_to};
+ghost use Rattle.rw_machine.specs.Worlds.{is_pending, report, up_to};
 ghost use Rattle.rw_world.specs.Endings.{ending_of};
 
 use crate::engine::Engine;

@@ -3,10 +3,10 @@
 ghost use Rattle.std.specs.Prelude.{◌≡◌, ◌||◌, [], ◌∷◌, true, None, Some, is_some, slice_get, if◌then◌else◌, OnOk, OnErr};
 ghost use Rattle.std.specs.List.{position};
 ghost use Rattle.rw_series_cache.specs.Known.{known};
-ghost use Rattle.rw_schedule.specs.Settling.{at_first, first_of_these, can_place, can_place_known, exchange_at, newest_from, next_events};
-ghost use Rattle.rw_schedule.specs.Steps.{happens, run};
-ghost use Rattle.rw_schedule.specs.Worlds.{is_finished, is_over};
-ghost use Rattle.rw_schedule.specs.declared.event.Event.TheVariants as event;
+ghost use Rattle.rw_machine.specs.Settling.{at_first, first_of_these, can_place, can_place_known, exchange_at, newest_from, next_events};
+ghost use Rattle.rw_machine.specs.Steps.{happens, run};
+ghost use Rattle.rw_machine.specs.Worlds.{is_finished, is_over};
+ghost use Rattle.rw_machine.specs.declared.event.Event.TheVariants as event;
 ghost use Rattle.rw_sender.specs.Shard.{same_id};
 ghost use Rattle.rw_world.specs.Guards.{is_open, is_ready, may_take, may_flush, IsOpen};
 ghost use Rattle.rw_world.specs.Machine.{placed_entries};
@@ -16,7 +16,7 @@ use crate::engine::Engine;
 use crate::log::Ahead;
 use crate::sent::Sent;
 use rw_batch::BatchId;
-use rw_schedule::{Event, How};
+use rw_machine::{Event, How};
 use std::alloc::AllocError;
 
 /// What comes next.

@@ -1,8 +1,8 @@
 //! The shards of an epoch, and the names of the dropped samples.
 
 ghost use Rattle.std.specs.Prelude.{◌≡◌, ℕ, ◌<◌, ◌≤◌, ◌^◌, ◌+◌, ◌++◌, ◌==◌, slice_get, true, false, length, map, Some, None, IfOk, IfSome, MatchOption, OnOk, OnErr};
-ghost use Rattle.rw_schedule.specs.Shards.{shard_take, shard_freeze, shard_send, shard_lost, is_drained, pending};
-ghost use Rattle.rw_schedule.specs.Steps.{change};
+ghost use Rattle.rw_machine.specs.Shards.{shard_take, shard_freeze, shard_send, shard_lost, is_drained, pending};
+ghost use Rattle.rw_machine.specs.Steps.{change};
 ghost use Rattle.std.specs.List.{list_all, list_any, position};
 ghost use Rattle.std.specs.List.Sorted.{IsNonDecreasing};
 ghost use Rattle.rw_world.specs.Guards.{is_open, is_ready, may_take, may_flush, waiting_id_at};

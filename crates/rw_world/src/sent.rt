@@ -21,7 +21,7 @@ pub(crate) struct Sent {
 
 impl Model for Sent {
     ghost use Rattle.rw_shard_queue.specs.Items.{samples_in};
-    ghost use Rattle.rw_schedule.specs.Worlds.{Request};
+    ghost use Rattle.rw_machine.specs.Worlds.{Request};
 
     ghost Value = { Request };
 
@@ -36,7 +36,7 @@ pub(crate) struct Answer {
 }
 
 impl Model for Answer {
-    ghost use Rattle.rw_schedule.specs.Worlds.{Reply};
+    ghost use Rattle.rw_machine.specs.Worlds.{Reply};
 
     ghost Value = { Reply };
 

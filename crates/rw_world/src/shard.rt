@@ -3,7 +3,7 @@
 ghost use Rattle.std.specs.Prelude.{◌≡◌, ◌<◌, ◌≤◌, ◌^◌, ◌==◌, [], ◌∷◌, ◌++◌, true, false, length, Some, None, IfOk, IfSome, OnOk, OnErr, if◌then◌else◌};
 ghost use Rattle.rw_sender.specs.Shard.{HasRoomFor, IsReadAgain, new_core, freeze_room, last_of, reply_names, places_of, positions_of};
 ghost use Rattle.rw_sender.specs.Shard as core;
-ghost use Rattle.rw_schedule.specs.Shards.{new_shard, has_room, shard_put, shard_flush, shard_end, with_core, shard_take, shard_freeze, shard_send, shard_lost, is_drained, pending};
+ghost use Rattle.rw_machine.specs.Shards.{new_shard, has_room, shard_put, shard_flush, shard_end, with_core, shard_take, shard_freeze, shard_send, shard_lost, is_drained, pending};
 ghost use Rattle.rw_shard_queue.specs.Items.{places_in};
 ghost use Rattle.rw_shard_queue.specs.declared.item.Item.{Item};
 ghost use Rattle.rw_types.specs.declared.place.Place.{Place};

@@ -1,13 +1,13 @@
 //! One event.
 
 ghost use Rattle.std.specs.Prelude.{◌≡◌, true, false, not, ◌&&◌, Some, None, slice_get, IsOk, OnOk, OnErr};
-ghost use Rattle.rw_schedule.specs.Shards.{shard_take, shard_freeze, shard_lost};
-ghost use Rattle.rw_schedule.specs.Worlds.{is_finished, all_drained};
-ghost use Rattle.rw_schedule.specs.Steps.{changed, flush_shard, send_batch, take_reply, reshard, restart, close, feed, happens, act};
+ghost use Rattle.rw_machine.specs.Shards.{shard_take, shard_freeze, shard_lost};
+ghost use Rattle.rw_machine.specs.Worlds.{is_finished, all_drained};
+ghost use Rattle.rw_machine.specs.Steps.{changed, flush_shard, send_batch, take_reply, reshard, restart, close, feed, happens, act};
 ghost use Rattle.rw_world.specs.Machine.{is_arrive, takes_memory, mark_kind};
 
 use crate::engine::Engine;
-use rw_schedule::Event;
+use rw_machine::Event;
 use rw_shard_queue::Kind;
 use rw_wal_tail::Piece;
 use std::alloc::AllocError;

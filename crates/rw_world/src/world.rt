@@ -3,22 +3,22 @@
 ghost use Rattle.std.specs.Prelude.{◌≡◌, ◌<◌, ◌^◌, true, false, Some, length, take, slice_get, IsOk, IfOk, IfErr, OnOk, OnErr};
 ghost use Rattle.rw_recv_head.specs.Store.{list_of, label_sets};
 ghost use Rattle.std.specs.Option.{option_map};
-ghost use Rattle.rw_schedule.specs.Worlds.{Request, start, report, is_over};
-ghost use Rattle.rw_schedule.specs.Promises.{IsSettled};
+ghost use Rattle.rw_machine.specs.Worlds.{Request, start, report, is_over};
+ghost use Rattle.rw_machine.specs.Promises.{IsSettled};
 ghost use Rattle.rw_world.specs.Endings.{ending_of};
-ghost use Rattle.rw_schedule.specs.Steps.{happens, run};
+ghost use Rattle.rw_machine.specs.Steps.{happens, run};
 ghost use Rattle.rw_world.specs.Machine.{setup_of, takes_memory};
 ghost use Rattle.rw_world.specs.Reached.{IsKept};
 ghost use Rattle.rw_world.specs.Rounds.{HasShutDown};
 
 use crate::engine::Engine;
 use rw_ledger::Ledger;
-use rw_recv_head::{LabelSets, Limits};
-use rw_schedule::{
+use rw_machine::{
     Event, closed_queues_hand_out_nothing, each_batch_has_one_fate, each_sample_has_one_class,
     logged_samples_arrive_in_order, requests_carry_their_batches, shards_keep_their_lists,
     shutdown_comes_to_its_report,
 };
+use rw_recv_head::{LabelSets, Limits};
 use rw_sender::{Config, Outcome};
 use rw_types::{LabelSet, Word};
 use std::alloc::{AllocError, Global};

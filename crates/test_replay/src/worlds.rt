@@ -1,7 +1,7 @@
 //! A world that is moved by several events in one call. Worlds that are moved by one event at a time, and settled, are those of the replays.
 
+use rw_machine::Event;
 use rw_recv_head::Limits;
-use rw_schedule::Event;
 use rw_script::{Command, push_received, push_work, read_script};
 use rw_sender::Config;
 use rw_types::Room;

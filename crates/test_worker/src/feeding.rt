@@ -3,7 +3,7 @@
 ghost use Rattle.std.specs.Prelude.{◌≡◌, [], IfSome};
 ghost use Rattle.rw_shard_queue.specs.declared.item.Item.TheVariants as item;
 
-use rw_ruled_queue::{Ended, Feed, Item, Kind, Open};
+use rw_shard_channel::{Ended, Feed, Item, Kind, Open};
 use rw_types::{LabelSet, Place, Word};
 use std::sync::{Arc, Wait};
 

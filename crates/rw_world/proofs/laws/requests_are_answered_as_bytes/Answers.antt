@@ -1,5 +1,5 @@
-use Rattle.rw_schedule.specs.Worlds.{start}
-use Rattle.rw_schedule.specs.Steps.{run}
+use Rattle.rw_machine.specs.Worlds.{start}
+use Rattle.rw_machine.specs.Steps.{run}
 use Rattle.rw_world.proofs.ArriveLemmas.{answers_one}
 use Rattle.rw_world.proofs.laws.requests_are_answered_as_bytes.Goals as goal
 

@@ -1,5 +1,5 @@
 use Rattle.std.proofs.Common.{◌≡◌, ◌≤◌, length, take}
-use Rattle.rw_schedule.specs.Settling.{newest_from}
+use Rattle.rw_machine.specs.Settling.{newest_from}
 use Rattle.rw_world.proofs.round.newest.Given as goal
 
 abbrev pub invariant-loop-k : goal.invariant-loop-k

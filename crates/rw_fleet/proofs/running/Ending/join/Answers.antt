@@ -1,5 +1,5 @@
 use Rattle.std.proofs.Common.{drop, sym, ap, ◌∙◌}
-use Rattle.rw_ruled_queue.specs.Ends.{QueueId}
+use Rattle.rw_shard_channel.specs.Ends.{QueueId}
 use Rattle.rw_worker.specs.Setups.{Setup}
 use Rattle.rw_fleet.specs.Work.{positions_in, put_of, taken_of}
 use Rattle.rw_fleet.proofs.SoftLemmas.{report_done}

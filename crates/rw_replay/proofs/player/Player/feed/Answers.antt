@@ -1,5 +1,5 @@
 use Rattle.std.proofs.Common.{refl}
-use Rattle.rw_schedule.specs.declared.event.Event.TheVariants as event
+use Rattle.rw_machine.specs.declared.event.Event.TheVariants as event
 use Rattle.rw_wal_tail.specs.declared.piece.Piece.TheVariants as piece
 use Rattle.rw_replay.proofs.PlayedLemmas.{bytes_fed}
 use Rattle.rw_replay.specs.Played.{Played}

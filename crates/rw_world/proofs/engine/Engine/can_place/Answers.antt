@@ -5,7 +5,7 @@ use Rattle.std.specs.Prelude.{FitsSigned}
 use Rattle.std.specs.Prelude.{slice_get}
 use Rattle.rw_codes.specs.Pieces.{entries}
 use Rattle.rw_series_cache.specs.Known.{known}
-use Rattle.rw_schedule.specs.Settling.{can_place, can_place_known}
+use Rattle.rw_machine.specs.Settling.{can_place, can_place_known}
 use Rattle.rw_world.specs.Machine.{Machine}
 use Rattle.rw_world.specs.Rounds.{ahead_of}
 use Rattle.rw_world.specs.declared.log.Ahead.TheVariants as ahead

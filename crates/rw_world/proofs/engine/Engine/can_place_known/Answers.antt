@@ -5,7 +5,7 @@ use Rattle.rw_series_cache.specs.Known.{known}
 use Rattle.rw_series_cache.specs.Numbers.{number_of}
 use Rattle.rw_router.specs.Fates.{fate}
 use Rattle.rw_router.specs.Routing.{WouldSend}
-use Rattle.rw_schedule.specs.Settling.{can_place_known}
+use Rattle.rw_machine.specs.Settling.{can_place_known}
 use Rattle.rw_world.specs.Machine.{Machine, placed_entries}
 use Rattle.rw_world.specs.contracts.engine.Engine.{the_view}
 use Rattle.rw_world.proofs.RoundLemmas.{sent_placed}

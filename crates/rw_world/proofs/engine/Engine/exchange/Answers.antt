@@ -1,9 +1,9 @@
 use Rattle.std.proofs.Common.{◌≡◌, ◌∙◌, Some, None, List, [], ◌∷◌, ℕ, length, sym, ap, subst, arith}
 use Rattle.std.specs.Prelude.{slice_get, vec_len}
-use Rattle.rw_schedule.specs.declared.event.How.TheVariants.{Plain}
-use Rattle.rw_schedule.specs.declared.event.Event.TheVariants as event
-use Rattle.rw_schedule.specs.Settling.{newest_from, exchange_at}
-use Rattle.rw_schedule.specs.Worlds.{Request}
+use Rattle.rw_machine.specs.declared.event.How.TheVariants.{Plain}
+use Rattle.rw_machine.specs.declared.event.Event.TheVariants as event
+use Rattle.rw_machine.specs.Settling.{newest_from, exchange_at}
+use Rattle.rw_machine.specs.Worlds.{Request}
 use Rattle.rw_world.specs.Guards.{IsOpen, waiting_id_at}
 use Rattle.rw_world.specs.Machine.{Machine}
 use Rattle.rw_world.specs.contracts.engine.Engine.{the_view}

@@ -1,7 +1,7 @@
 use Rattle.std.proofs.Common.{◌≡◌, ◌∙◌, ℕ, List, [], ◌∷◌, ◌++◌, sym, ap}
 use Rattle.std.specs.Prelude.{◌==◌}
 use Rattle.std.specs.List.{list_any}
-use Rattle.rw_schedule.specs.Worlds.{World, is_pending}
+use Rattle.rw_machine.specs.Worlds.{World, is_pending}
 use Rattle.rw_world.specs.Machine.{Machine}
 use Rattle.rw_world.proofs.PendingLemmas.{up_to_taken, up_to_left}
 use Rattle.rw_world.proofs.engine.Engine.pending.Goals as goal

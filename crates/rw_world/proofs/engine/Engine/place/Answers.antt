@@ -7,7 +7,7 @@ use Rattle.rw_router.specs.Fates.{Fate, Drops, Filters, Sends, fate}
 use Rattle.rw_router.specs.Routing.{Routing, Routes, RoutesAs, KnowsMore}
 use Rattle.rw_router.specs.declared.router.Routed.TheVariants as routed
 use Rattle.rw_router.proofs.RouteLemmas.{placed_filtered, told_dropped, told_sample}
-use Rattle.rw_schedule.specs.Steps.{place, place_as, place_entry}
+use Rattle.rw_machine.specs.Steps.{place, place_as, place_entry}
 use Rattle.rw_world.specs.Machine.{Machine, IsWorld}
 use Rattle.rw_world.specs.contracts.engine.Engine.{the_view}
 use Rattle.rw_world.proofs.WorldLemmas.{world_more, series_defined}

@@ -1,6 +1,6 @@
 use Rattle.std.proofs.Common.{◌∙◌, List, sym, ap}
-use Rattle.rw_schedule.specs.Steps.{run}
-use Rattle.rw_schedule.specs.declared.event.Event.{Event}
+use Rattle.rw_machine.specs.Steps.{run}
+use Rattle.rw_machine.specs.declared.event.Event.{Event}
 use Rattle.rw_world.proofs.ShutdownLemmas.{settled_none, settled_more}
 use Rattle.rw_world.proofs.engine.Engine.settle.Goals as goal
 

@@ -1,6 +1,6 @@
 use Rattle.std.proofs.Common.{◌∙◌, ap}
 use Rattle.std.specs.List.{list_all}
-use Rattle.rw_schedule.specs.Shards.{is_drained}
+use Rattle.rw_machine.specs.Shards.{is_drained}
 use Rattle.rw_world.specs.Held.{Held}
 use Rattle.rw_world.specs.Sending.{Sending}
 use Rattle.rw_world.proofs.SendingLemmas.{all_drained_is}

@@ -7,7 +7,7 @@ use Rattle.rw_world.specs.contracts.sending.Senders.{the_view}
 use Rattle.std.proofs.Common.{ℤ}
 use Rattle.std.proofs.Math.Facts.{to_z-of_z}
 use Rattle.rw_world.specs.Held.{sample_for}
-use Rattle.rw_schedule.specs.Shards.{shard_put}
+use Rattle.rw_machine.specs.Shards.{shard_put}
 use Rattle.rw_world.proofs.ReplyLemmas.{put_kept, last_put, put_is}
 use Rattle.rw_world.proofs.sending.Senders.put.Goals as goal
 

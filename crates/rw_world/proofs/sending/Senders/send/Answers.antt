@@ -1,7 +1,7 @@
 use Rattle.std.proofs.Common.{◌≡◌, ◌∙◌, Some, sym, ap, refl, subst, IfSome}
 use Rattle.std.proofs.lemmas.Option.{slice_get_read}
 use Rattle.std.specs.Prelude.{slice_get}
-use Rattle.rw_schedule.specs.Shards.{shard_send}
+use Rattle.rw_machine.specs.Shards.{shard_send}
 use Rattle.rw_world.specs.Held.{Held}
 use Rattle.rw_world.specs.Sending.{Sending, sent_at}
 use Rattle.rw_world.specs.contracts.sending.Senders.{the_view}

@@ -1,6 +1,6 @@
 use Rattle.std.proofs.Common.{◌≡◌, ◌++◌, OnOk, subst}
 use Rattle.rw_sender.specs.Shard.{positions}
-use Rattle.rw_schedule.specs.Shards.{pending}
+use Rattle.rw_machine.specs.Shards.{pending}
 use Rattle.rw_world.specs.Held.{Held}
 use Rattle.rw_world.proofs.PendingLemmas.{both_added}
 use Rattle.rw_world.proofs.shard.WorldShard.add_pending.Goals as goal

@@ -6,7 +6,7 @@ use Rattle.rw_shard_queue.specs.Queue.{put_in}
 use Rattle.rw_shard_queue.specs.declared.item.Item.{Item}
 use Rattle.rw_shard_queue.specs.declared.item.Item.TheVariants.{Sample}
 use Rattle.rw_sender.specs.Shard.{last_of}
-use Rattle.rw_schedule.specs.Shards.{shard_put}
+use Rattle.rw_machine.specs.Shards.{shard_put}
 use Rattle.rw_world.specs.Held.{Held, held_of, sample_for}
 use Rattle.rw_world.proofs.ShardLemmas.{put_sample_kept, held_more}
 use Rattle.rw_world.proofs.shard.WorldShard.put.Goals as goal

@@ -1,5 +1,5 @@
 use Rattle.std.proofs.Common.{sym, subst}
-use Rattle.rw_schedule.specs.Promises.{IsInOrder, IsWhole, IsWholeBeforeDamage, HoldsNothingElse, IsClosedForGood, HasOneClassEach, CountsFiltered, HasOneBatchEachId, CarriesEachBatch, SendsSameBytes, NeverTakesAndRefuses, StoresResolved, HasShardLists}
+use Rattle.rw_machine.specs.Promises.{IsInOrder, IsWhole, IsWholeBeforeDamage, HoldsNothingElse, IsClosedForGood, HasOneClassEach, CountsFiltered, HasOneBatchEachId, CarriesEachBatch, SendsSameBytes, NeverTakesAndRefuses, StoresResolved, HasShardLists}
 use Rattle.rw_world.specs.Machine.{Machine}
 use Rattle.rw_world.specs.Reached.{IsKept}
 use Rattle.rw_world.proofs.world.World.promises.Goals as goal

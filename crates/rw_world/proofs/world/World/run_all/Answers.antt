@@ -1,5 +1,5 @@
 use Rattle.std.proofs.Common.{◌∙◌, ◌<◌, take, length, sym, ap, arith}
-use Rattle.rw_schedule.specs.Steps.{happens, run}
+use Rattle.rw_machine.specs.Steps.{happens, run}
 use Rattle.rw_world.specs.Machine.{Machine}
 use Rattle.rw_world.proofs.StepLemmas.{run_more}
 use Rattle.rw_world.proofs.world.World.run_all.Goals as goal

@@ -1,5 +1,5 @@
 use Rattle.std.proofs.Common.{◌≡◌, take}
-use Rattle.rw_schedule.specs.Steps.{run}
+use Rattle.rw_machine.specs.Steps.{run}
 use Rattle.rw_world.proofs.world.World.run_all.Given as goal
 
 abbrev pub invariant-loop-at : goal.invariant-loop-at

@@ -1,6 +1,6 @@
 use Rattle.std.proofs.Common.{◌≡◌, true, OnOk, subst}
-use Rattle.rw_schedule.specs.Worlds.{is_over}
-use Rattle.rw_schedule.specs.Promises.{IsSettled}
+use Rattle.rw_machine.specs.Worlds.{is_over}
+use Rattle.rw_machine.specs.Promises.{IsSettled}
 use Rattle.rw_world.specs.Machine.{Machine}
 use Rattle.rw_world.specs.Rounds.{HasShutDown}
 use Rattle.rw_world.proofs.ShutdownLemmas.{shut_down, reached_shut, shut_stays, shut_all}

@@ -1,0 +1,57 @@
+-- The points that rise: those that are later than all before them.
+use Rattle.std.proofs.Common.{◌≡◌, ℤ, int_lt, Bool, true, false, cond, if◌then◌else◌, List, [], ◌∷◌, ◌++◌, sym, ap, ◌∙◌, subst, append-nil, append_assoc}
+use Rattle.rw_series_cache.specs.Rising.{is_after_all}
+use Rattle.rw_machine.proofs.Steps.{either, and_left, and_right}
+use Rattle.rw_machine.specs.Promises.{Point}
+
+abbrev pub AllLater : ℤ → List Point → Type 0
+AllLater t [] = Unit {0}
+AllLater t (p ∷ ps) = (int_lt t p.1 ≡ true) × AllLater t ps
+
+-- timestamps rise strictly
+abbrev pub Rises : List Point → Type 0
+Rises [] = Unit {0}
+Rises (p ∷ ps) = AllLater p.1 ps × Rises ps
+
+-- those that are later than all before them, where others stand before
+abbrev pub risen_after : List Point → List Point → List Point
+risen_after before [] = []
+risen_after before (p ∷ ps) = if is_after_all p.1 before then p ∷ risen_after (before ++ p ∷ []) ps else risen_after (before ++ p ∷ []) ps
+
+abbrev pub risen : List Point → List Point
+risen ps = risen_after [] ps
+
+push_either : (b : Bool) (p : Point) (now later more : List Point) → now ≡ later ++ more → cond b (p ∷ now) now ≡ cond b (p ∷ later) later ++ more
+push_either true p now later more e = ap (λ ps. p ∷ ps) e
+push_either false p now later more e = e
+
+risen_after-push : (before ps : List Point) (p : Point) → risen_after before (ps ++ p ∷ []) ≡ risen_after before ps ++ cond (is_after_all p.1 (before ++ ps)) (p ∷ []) []
+risen_after-push before [] p = ap (λ b. cond (is_after_all p.1 b) (p ∷ []) []) (sym (append-nil before))
+risen_after-push before (q ∷ ps) p =
+    push_either (is_after_all q.1 before) q (risen_after (before ++ q ∷ []) (ps ++ p ∷ [])) (risen_after (before ++ q ∷ []) ps) (cond (is_after_all p.1 (before ++ q ∷ ps)) (p ∷ []) [])
+    (risen_after-push (before ++ q ∷ []) ps p ∙ ap (λ b. risen_after (before ++ q ∷ []) ps ++ cond (is_after_all p.1 b) (p ∷ []) []) (append_assoc before (q ∷ []) ps))
+
+-- one more point
+pub risen-push : (ps : List Point) (p : Point) → risen (ps ++ p ∷ []) ≡ risen ps ++ cond (is_after_all p.1 ps) (p ∷ []) []
+risen-push ps p = risen_after-push [] ps p
+
+later_than_each : (t : ℤ) (b : List Point) (p : Point) (ps : List Point) → is_after_all t (b ++ p ∷ ps) ≡ true → int_lt p.1 t ≡ true
+later_than_each t [] p ps h = and_left (int_lt p.1 t) (is_after_all t ps) h
+later_than_each t (q ∷ b) p ps h = later_than_each t b p ps (and_right (int_lt q.1 t) (is_after_all t (b ++ p ∷ ps)) h)
+
+later_than_before : (b : List Point) (p : Point) (d ps : List Point) → AllLater p.1 (risen_after (b ++ p ∷ d) ps)
+later_than_before b p d [] = tt
+later_than_before b p d (q ∷ ps) =
+    let more : List Point = risen_after ((b ++ p ∷ d) ++ q ∷ []) ps in
+    let rest : AllLater p.1 more = subst (λ bs. AllLater p.1 (risen_after bs ps)) (sym (append_assoc b (p ∷ d) (q ∷ []))) (later_than_before b p (d ++ q ∷ []) ps) in
+    either (AllLater p.1) (is_after_all q.1 (b ++ p ∷ d)) (q ∷ more) more (λ h. (later_than_each q.1 b p d h, rest)) (λ _. rest)
+
+Rises-risen_after : (before ps : List Point) → Rises (risen_after before ps)
+Rises-risen_after before [] = tt
+Rises-risen_after before (p ∷ ps) =
+    let more : List Point = risen_after (before ++ p ∷ []) ps in
+    either Rises (is_after_all p.1 before) (p ∷ more) more (λ _. (later_than_before before p [] ps, Rises-risen_after (before ++ p ∷ []) ps)) (λ _. Rises-risen_after (before ++ p ∷ []) ps)
+
+-- what is risen rises
+pub Rises-risen : (ps : List Point) → Rises (risen ps)
+Rises-risen ps = Rises-risen_after [] ps

@@ -1,0 +1,15 @@
+use Rattle.rw_machine.proofs.Runs.{in_order, all_when_complete, all_when_damaged}
+use Rattle.rw_machine.proofs.Others.{others}
+use Rattle.rw_machine.proofs.laws.logged_samples_arrive_in_order.Goals as goal
+
+pub returns-clause-in_order : goal.returns-clause-in_order
+returns-clause-in_order c = in_order
+
+pub returns-clause-whole : goal.returns-clause-whole
+returns-clause-whole c = all_when_complete
+
+pub returns-clause-damaged : goal.returns-clause-damaged
+returns-clause-damaged c = all_when_damaged
+
+pub returns-clause-nothing_else : goal.returns-clause-nothing_else
+returns-clause-nothing_else c = others

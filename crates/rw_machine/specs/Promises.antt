@@ -1,0 +1,196 @@
+-- What every schedule keeps, in the words of the log, the rules, the named samples and the store.
+use Rattle.std.specs.Prelude.{◌≡◌, ◌⊎◌, ◌&&◌, if◌then◌else◌, ℕ, ◌<◌, ◌≤◌, ℤ, Bool, true, false, List, [], ◌∷◌, ◌++◌, length, take, map, filter, Option, Some, None, is_none, slice_get}
+use Rattle.std.specs.Ordering.{nat_cmp}
+use Rattle.std.specs.FinMap.{FinMap, get}
+use Rattle.rw_types.specs.Labels.{Labels}
+use Rattle.rw_types.specs.declared.entry.Entry.{Entry}
+use Rattle.rw_types.specs.declared.entry.Entry.TheVariants.{Def, Sample}
+use Rattle.rw_codes.specs.Pieces.{fault}
+use Rattle.rw_codes.specs.declared.tail_fault.TailFault.{TailFault}
+use Rattle.rw_series_cache.specs.Known.{Standing, Unknown, Bad, Filtered, Kept, known, label_fault_number}
+use Rattle.rw_series_cache.specs.Points.{kept_points, kept_points_below}
+use Rattle.rw_series_cache.specs.Rising.{rises}
+use Rattle.rw_ledger.specs.declared.ledger.Reason.{Reason}
+use Rattle.rw_ledger.specs.declared.ledger.Reason.TheVariants.{Status, BadLabels, NoSeries, NotRising}
+use Rattle.rw_retry.specs.Judgements.{judgement_of}
+use Rattle.rw_retry.specs.declared.judgement.Judgement.{Judgement}
+use Rattle.rw_retry.specs.declared.judgement.Judgement.TheVariants.{Done, Again, Refused}
+use Rattle.rw_sender.specs.Shard.{is_answer, positions, body_of}
+use Rattle.rw_sender.specs.SentRequest.{request_of}
+use Rattle.rw_recv_head.specs.Order.{holds}
+use Rattle.rw_recv_head.specs.Store.{list_of}
+use Rattle.rw_machine.specs.Shards.{Shard, samples_in}
+use Rattle.rw_machine.specs.Worlds.{Setup, Request, Reply, World, log, start, up_to, is_pending, is_over, report, Ending, Complete, Damaged, ended_as}
+use Rattle.rw_machine.specs.Steps.{happens, run}
+use Rattle.rw_machine.specs.Settling.{settle, settle_events}
+use Rattle.rw_machine.specs.declared.event.Event.{Event}
+use Rattle.rw_machine.specs.declared.event.Event.TheVariants as event
+
+-- a sample of a series in the log: its position, timestamp and word
+abbrev pub Point : Type 0
+Point = ℕ × ℤ × ℕ
+
+-- what a store holds of a sample
+abbrev pub pair_of : Point → ℤ × ℕ
+pair_of p = (p.1, p.2)
+
+-- those that are not named
+abbrev pub owed : FinMap nat_cmp Reason → List Point → List Point
+owed names ps = filter (λ (p : Point). is_none (get names p.0)) ps
+
+abbrev pub IsBeginningOf : {X : Type 0} → List X → List X → Type 0
+IsBeginningOf {X} xs ys = (rest : List X) × (xs ++ rest ≡ ys)
+
+-- the head holds a beginning of the label set's logged samples, less the named ones. Of a label set that the rules do not keep none are
+-- logged samples: there it holds nothing
+abbrev pub HoldsBeginning : Setup → World → Labels → Type 0
+HoldsBeginning c w l = IsBeginningOf (list_of w.head.store l) (map pair_of (owed w.names (kept_points c.choice (log w) l)))
+
+-- it holds all of them below a position
+abbrev pub HoldsAll : Setup → World → ℕ → Labels → Type 0
+HoldsAll c w end l = list_of w.head.store l ≡ map pair_of (owed w.names (kept_points_below c.choice (log w) l end))
+
+-- whatever the schedule and the timestamps: each series in order, each sample once, less the dropped ones
+abbrev pub IsInOrder : Setup → World → Type 0
+IsInOrder c w = (l : Labels) → HoldsBeginning c w l
+
+-- and all of it up to the position asked for, once complete
+abbrev pub IsWhole : Setup → World → Type 0
+IsWhole c w = (end : ℕ) → report w ≡ Some (Complete end) → (l : Labels) → HoldsAll c w end l
+
+-- as where the log was found damaged behind what was placed
+abbrev pub IsWholeBeforeDamage : Setup → World → Type 0
+IsWholeBeforeDamage c w = (f : TailFault) → report w ≡ Some (Damaged f) → (l : Labels) → HoldsAll c w w.placed l
+
+-- a label set that the rules do not keep holds nothing
+abbrev pub HoldsNothingElse : Setup → World → Type 0
+HoldsNothingElse c w = (l : Labels) → kept_points c.choice (log w) l ≡ [] → list_of w.head.store l ≡ []
+
+-- a queue whose End was taken hands out nothing, nor does any after a kill
+abbrev pub IsClosedForGood : Setup → World → Type 0
+IsClosedForGood c w = (i : ℕ) (s : Shard) → slice_get w.shards i ≡ Some s → (s.core.ended ≡ true) ⊎ (w.killed ≡ true) → happens c w (event.Take i) ≡ w
+
+-- how a sample of a kept series is accounted for, by whether it rises
+abbrev pub AccountedKept : Option Reason → Bool → Type 0
+AccountedKept named true = (named ≡ None) ⊎ ((status : ℕ) × (named ≡ Some (Status status)))
+AccountedKept named false = named ≡ Some NotRising
+
+-- how a sample below `placed` is accounted for, by what is known of its reference there, and whether it rises in a series
+abbrev pub Accounted : Option Reason → (Labels → Bool) → Standing → Type 0
+Accounted named rising Unknown = named ≡ Some NoSeries
+Accounted named rising (Bad f) = named ≡ Some (BadLabels (label_fault_number f))
+Accounted named rising Filtered = named ≡ None
+Accounted named rising (Kept l) = AccountedKept named (rising l)
+
+abbrev pub AccountedEntry : Setup → World → ℕ → Option Entry → Type 0
+AccountedEntry c w p None = get w.names p ≡ None
+AccountedEntry c w p (Some (Def r l)) = get w.names p ≡ None
+AccountedEntry c w p (Some (Sample r t word)) =
+    Accounted (get w.names p) (λ l. rises c.choice (take p (log w)) l t) (known c.choice (take p (log w)) r)
+
+-- each position below `placed` is in one class, and no other is named
+abbrev pub HasOneClassEach : Setup → World → Type 0
+HasOneClassEach c w = (p : ℕ) → (p < w.placed → AccountedEntry c w p (slice_get (log w) p)) × ((p < w.placed → ⊥) → get w.names p ≡ None)
+
+-- at this position stands a sample of a series that the rules drop
+abbrev pub is_filtered : Standing → Bool
+is_filtered Unknown = false
+is_filtered (Bad f) = false
+is_filtered Filtered = true
+is_filtered (Kept l) = false
+
+abbrev pub is_filtered_entry : Setup → List Entry → ℕ → Option Entry → Bool
+is_filtered_entry c entries p None = false
+is_filtered_entry c entries p (Some (Def r l)) = false
+is_filtered_entry c entries p (Some (Sample r t word)) = is_filtered (known c.choice (take p entries) r)
+
+abbrev pub is_filtered_at : Setup → List Entry → ℕ → Bool
+is_filtered_at c entries p = is_filtered_entry c entries p (slice_get entries p)
+
+-- the count is of those below `placed`
+abbrev pub CountsFiltered : Setup → World → Type 0
+CountsFiltered c w = w.filtered ≡ length (filter (is_filtered_at c (log w)) (up_to w.placed))
+
+-- one id, one batch: what is sent again under an id is what was sent first
+abbrev pub HasOneBatchEachId : World → Type 0
+HasOneBatchEachId w = (i j : ℕ) (r q : Request) → slice_get w.requests i ≡ Some r → slice_get w.requests j ≡ Some q → r.id ≡ q.id → r.batch ≡ q.batch
+
+-- the bytes of each request are those that carry its batch to the target (RFC 9112)
+abbrev pub CarriesItsBatch : Setup → Request → Type 0
+CarriesItsBatch c r = r.bytes ≡ request_of c.target.host c.target.path (body_of r.batch)
+
+abbrev pub CarriesEachBatch : Setup → World → Type 0
+CarriesEachBatch c w = (k : ℕ) (r : Request) → slice_get w.requests k ≡ Some r → CarriesItsBatch c r
+
+-- and under one id the same bytes are sent each time
+abbrev pub SendsSameBytes : World → Type 0
+SendsSameBytes w = (i j : ℕ) (r q : Request) → slice_get w.requests i ≡ Some r → slice_get w.requests j ≡ Some q → r.id ≡ q.id → r.bytes ≡ q.bytes
+
+-- no batch is both taken and refused for good, in whatever order: two replies to one id never say so
+abbrev pub NeverTakesAndRefuses : Setup → World → Type 0
+NeverTakesAndRefuses c w =
+    (i j : ℕ) (a b : Reply) → slice_get w.replies i ≡ Some a → slice_get w.replies j ≡ Some b → a.id ≡ b.id →
+    judgement_of a.status ≡ Done → judgement_of b.status ≡ Refused → ⊥
+
+-- a placed sample of a kept series that no shard holds any more, and that is not named, is in the store
+abbrev pub StoresResolved : Setup → World → Type 0
+StoresResolved c w =
+    (p r : ℕ) (t : ℤ) (word : ℕ) (l : Labels) → p < w.placed → slice_get (log w) p ≡ Some (Sample r t word) →
+    known c.choice (take p (log w)) r ≡ Kept l → is_pending w p ≡ false → get w.names p ≡ None → holds (t, word) (list_of w.head.store l) ≡ true
+
+-- a shard's lists: what was put is what was taken and what the queue holds; what was taken is what was resolved, the open batch and the
+-- builder; and the queue is within its capacity
+abbrev pub HasShardLists : Setup → World → Type 0
+HasShardLists c w =
+    (i : ℕ) (s : Shard) → slice_get w.shards i ≡ Some s →
+    (s.put ≡ s.core.taken ++ samples_in s.queue) × (s.core.taken ≡ s.core.resolved ++ (s.core.batch ++ s.core.builder))
+    × (length s.queue ≤ c.capacity)
+
+abbrev pub is_refused : Judgement → Bool
+is_refused Done = false
+is_refused Again = false
+is_refused Refused = true
+
+-- the positions that a reply refuses, with its status
+abbrev pub refusal : Reply → Option Shard → List (ℕ × ℕ)
+refusal a None = []
+refusal a (Some s) = if is_answer a.id s.core && is_refused (judgement_of a.status) then map (λ p. (p, a.status)) (positions s.core.batch) else []
+
+abbrev pub refusal_by : World → Option Reply → List (ℕ × ℕ)
+refusal_by w None = []
+refusal_by w (Some a) = refusal a (slice_get w.shards a.id.shard)
+
+abbrev pub refused_in : World → Event → Bool → List (ℕ × ℕ)
+refused_in w (event.Reply k) false = refusal_by w (slice_get w.replies k)
+refused_in w e over = []
+
+-- all that a schedule refuses
+abbrev pub refusals : Setup → List Event → World → List (ℕ × ℕ)
+refusals c [] w = []
+refusals c (e ∷ es) w = refused_in w e (is_over w) ++ refusals c es (happens c w e)
+
+abbrev pub Stands : ℕ × ℕ → List (ℕ × ℕ) → Type 0
+Stands q xs = (k : ℕ) × (slice_get xs k ≡ Some q)
+
+-- a status is named of a position exactly where a reply with that status refused a batch with it
+abbrev pub NamesRefusals : Setup → List Event → Type 0
+NamesRefusals c events =
+    (p s : ℕ) → (get (run c events (start c)).names p ≡ Some (Status s) → Stands (p, s) (refusals c events (start c)))
+    × (Stands (p, s) (refusals c events (start c)) → get (run c events (start c)).names p ≡ Some (Status s))
+
+-- room for an entry, batches of a sample, and a shard
+pub record CanWork (c : Setup) : Type 0 where
+  pub capacity : 1 ≤ c.capacity
+  pub batch : 1 ≤ c.batch
+  pub shards : 1 ≤ c.shards
+
+-- what `settle` leaves: a report; where nothing was killed, that all is through or that the log was damaged, and the head holds all of it
+pub record IsSettled (c : Setup) (w v : World) : Type 0 where
+  pub reports : (e : Ending) × (report v ≡ Some e)
+  pub same_log : log v ≡ log w
+  pub ending : w.killed ≡ false → report v ≡ Some (ended_as (fault w.pieces) (length (log w)))
+  pub holds : w.killed ≡ false → (l : Labels) → HoldsAll c v (length (log w)) l
+
+-- enough rounds of `settle` come to a report, and more rounds add no event
+abbrev pub SettleEnds : Setup → World → Type 0
+SettleEnds c w = (enough : ℕ) × ((n : ℕ) → enough ≤ n → IsSettled c w (settle c n w) × (settle_events c n w ≡ settle_events c enough w))

@@ -1,0 +1,28 @@
+//! Laws of requests and replies. Each function has an empty body: its contract is the law.
+
+ghost use Rattle.std.specs.Prelude.{◌≡◌, ◌<◌, ◌≤◌, ◌^◌, ◌||◌, ℕ, List, length, true, IsTrue};
+ghost use Rattle.rw_types.specs.Requests.{is_host_name, is_request_path};
+ghost use Rattle.rw_sender.specs.SentRequest.{request_of};
+ghost use Rattle.rw_sender.specs.Replies.{Reads};
+ghost use Rattle.rw_sender.specs.declared.replies.ReplyRead.{ReplyRead};
+ghost use Rattle.rw_sender.specs.declared.replies.ReplyRead.TheVariants.{Status};
+ghost use Rattle.rw_recv_http.specs.Alone.{IsOneRequest, IsOneRefusal};
+ghost use Rattle.rw_recv_http.specs.Judgement.{is_refusal};
+ghost use Rattle.rw_recv_http.specs.Replies.{reply, is_verdict};
+ghost use Rattle.rw_roundtrip.specs.Exchanges.{IsRequest};
+
+/// Law: the endpoint reads a request as the sender makes it, as one request with the body that it carries; where that is over the limit, it answers 413.
+pub fn requests_are_read()
+    ensures read { (host path body : List ℕ) (limit : ℕ) → is_host_name host ≡ true → is_request_path path ≡ true
+        → length body < 2 ^ 63 → length body ≤ limit → IsOneRequest path limit (request_of host path body) body }
+    ensures refused { (host path body : List ℕ) (limit : ℕ) → is_host_name host ≡ true → is_request_path path ≡ true
+        → length body < 2 ^ 63 → limit < length body → IsOneRefusal path limit (request_of host path body) 413 }
+    ensures either { (host path body : List ℕ) (limit : ℕ) → is_host_name host ≡ true → is_request_path path ≡ true
+        → length body < 2 ^ 63 → IsRequest path limit (request_of host path body) }
+{}
+
+/// Law: the sender reads each reply of the endpoint as its status.
+pub fn replies_are_read()
+    ensures { (status : ℕ) (read : ReplyRead) → IsTrue (is_verdict status || is_refusal status)
+        → Reads 8192 (reply status true) read → read ≡ Status status }
+{}

@@ -1,5 +1,0 @@
-use Rattle.rw_schedule.proofs.Closed.{closed}
-use Rattle.rw_schedule.proofs.laws.closed_queues_hand_out_nothing.Goals as goal
-
-pub returns : goal.returns
-returns c = closed

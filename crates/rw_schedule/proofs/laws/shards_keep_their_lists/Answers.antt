@@ -1,5 +1,0 @@
-use Rattle.rw_schedule.proofs.Lists.{shard_lists}
-use Rattle.rw_schedule.proofs.laws.shards_keep_their_lists.Goals as goal
-
-pub returns : goal.returns
-returns c = shard_lists
