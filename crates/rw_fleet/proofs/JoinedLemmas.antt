@@ -2,20 +2,20 @@
 use Rattle.std.proofs.Common.{◌≡◌, ℕ, ◌+◌, List, [], ◌∷◌, ◌++◌, length, map, sym, ap, ◌∙◌, subst, arith}
 use Rattle.rw_sender.specs.declared.config.ConfigFields.{ConfigFields}
 use Rattle.rw_worker.specs.Transcript.{Exchange}
-use Rattle.rw_fleet.specs.declared.joined.Joined.{Joined}
-use Rattle.rw_fleet.specs.Lanes.{Lane, AreSame, AreSetUp}
+use Rattle.rw_fleet.specs.declared.joined.StoppedShard.{StoppedShard}
+use Rattle.rw_fleet.specs.ShardHistories.{ShardHistory, AreSame, AreSetUp}
 use Rattle.rw_fleet.specs.Work.{IsWorked, AreWorked, lane_of}
 use Rattle.rw_fleet.proofs.ListLemmas.{map_append, map_length, more_length}
 use Rattle.rw_fleet.proofs.LaneLemmas.{set_up_append, set_up_same}
 
 module _ {T : Type 0} (tells : T → Type 0) (seen : T → List Exchange) (is_for : ℕ → ℕ → T → Type 0) where
-  pub worked_push : (js : List (Joined T)) (j : Joined T) → AreWorked tells seen is_for js → IsWorked tells seen is_for j → AreWorked tells seen is_for (js ++ j ∷ [])
+  pub worked_push : (js : List (StoppedShard T)) (j : StoppedShard T) → AreWorked tells seen is_for js → IsWorked tells seen is_for j → AreWorked tells seen is_for (js ++ j ∷ [])
   worked_push [] j h w = (w, tt)
   worked_push (x ∷ xs) j h w = (h.0, worked_push xs j h.1 w)
 
 module _ {T : Type 0} where
   -- all were done, where as many stand there as began
-  pub all_done : (now was more : List (Joined T)) (done all : List Lane) (n_now n_was n_all left : ℕ) → now ≡ was ++ more → map lane_of more ≡ done → n_now ≡ length now → n_was ≡ length was → n_all ≡ length all
+  pub all_done : (now was more : List (StoppedShard T)) (done all : List ShardHistory) (n_now n_was n_all left : ℕ) → now ≡ was ++ more → map lane_of more ≡ done → n_now ≡ length now → n_was ≡ length was → n_all ≡ length all
       → n_now + left ≡ n_was + n_all → left ≡ 0 → length all ≡ length done
   all_done now was more done all n_now n_was n_all left is same a b c sum none =
       let m = more_length now was more is in
@@ -24,7 +24,7 @@ module _ {T : Type 0} where
       omega arith
 
   -- each shard of the epoch got its End, and each worker ended
-  pub set_up_closed : (config : ConfigFields) (was now more : List (Joined T)) (current ending : List Lane) → AreSetUp config (map lane_of was) → AreSetUp config current → AreSame current ending → now ≡ was ++ more → map lane_of more ≡ ending
+  pub set_up_closed : (config : ConfigFields) (was now more : List (StoppedShard T)) (current ending : List ShardHistory) → AreSetUp config (map lane_of was) → AreSetUp config current → AreSame current ending → now ≡ was ++ more → map lane_of more ≡ ending
       → AreSetUp config (map lane_of now)
   set_up_closed config was now more current ending a b same is lanes =
       subst (λ ls. AreSetUp config ls) (sym (ap (map lane_of) is ∙ map_append lane_of was more))

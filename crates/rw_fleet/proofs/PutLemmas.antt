@@ -7,7 +7,7 @@ use Rattle.rw_shard_queue.specs.declared.item.Item.{Item}
 use Rattle.rw_shard_queue.specs.declared.item.Item.TheVariants as item
 use Rattle.rw_shard_queue.specs.Items.{Placed, samples_in, places_in}
 use Rattle.rw_shard_queue.specs.History.{IsFew}
-use Rattle.rw_fleet.specs.Lanes.{Lane, put_as, marks_in}
+use Rattle.rw_fleet.specs.ShardHistories.{ShardHistory, put_as, marks_in}
 use Rattle.rw_router.specs.declared.sample.RoutedSample.{RoutedSample}
 use Rattle.rw_fleet.specs.Work.{positions_in}
 
@@ -54,7 +54,7 @@ positions_more xs zs x p was now is one old new =
     new ∙ ap (λ l. l ++ p.pos ∷ []) old ∙ sym (ap (λ l. map (λ (q : Place). q.pos) (places_in l)) is ∙ ap (map (λ (q : Place). q.pos)) (places_append xs (x ∷ []) ∙ ap (λ ps. places_in xs ++ ps) one) ∙ map_append (places_in xs) (p ∷ []))
 
 -- the next sample of a shard, part by part
-pub as_put : (lane : Lane) (s : RoutedSample) (epoch shard seq : ℕ) (t : ℤ) → epoch ≡ lane.setup.queue.epoch → shard ≡ lane.setup.queue.shard → seq ≡ length (places_in lane.put) → t ≡ s.t
+pub as_put : (lane : ShardHistory) (s : RoutedSample) (epoch shard seq : ℕ) (t : ℤ) → epoch ≡ lane.setup.queue.epoch → shard ≡ lane.setup.queue.shard → seq ≡ length (places_in lane.put) → t ≡ s.t
     → ◌≡◌ {A = Placed} (record { place = record { epoch = epoch; shard = shard; seq = seq; pos = s.pos; series = s.series }; t = t; word = s.word; labels = arc_value s.labels }) (put_as lane s)
 as_put lane s epoch shard seq t e h n z = λ i. record { place = record { epoch = e i; shard = h i; seq = n i; pos = s.pos; series = s.series }; t = z i; word = s.word; labels = arc_value s.labels }
 

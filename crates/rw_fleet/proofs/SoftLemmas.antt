@@ -15,8 +15,8 @@ use Rattle.rw_worker.specs.declared.report.TakingEnd.TheVariants as taking
 use Rattle.rw_worker.specs.declared.report.WorkerReport.{WorkerReport}
 use Rattle.rw_fleet.specs.declared.ends.Ends.{Ends}
 use Rattle.rw_fleet.specs.declared.ends.Ends.TheVariants.{Compared, Apart}
-use Rattle.rw_fleet.specs.declared.joined.Joined.{Joined}
-use Rattle.rw_fleet.specs.Lanes.{Lane, put_into}
+use Rattle.rw_fleet.specs.declared.joined.StoppedShard.{StoppedShard}
+use Rattle.rw_fleet.specs.ShardHistories.{ShardHistory, put_into}
 use Rattle.rw_fleet.specs.Work.{put_of, taken_of, positions_in, lane_of, is_compared, is_resolved, put_by, finished_of, IsSoft, AreSoft, IsUnended, IsEndedBy, AreEndedBy, IsEndTaken, IsWorked, AreWorked, HasCut, HasUnresolved}
 use Rattle.rw_fleet.proofs.ListLemmas.{map_append, map_push}
 
@@ -62,25 +62,25 @@ ended_append : (kind : Kind) (xs ys : List (List Item)) → AreEndedBy kind xs �
 ended_append kind [] ys h a = a
 ended_append kind (x ∷ xs) ys h a = (h.0, ended_append kind xs ys h.1 a)
 
-pub ended_more : (kind : Kind) (ls after : List Lane) (l : Lane) → after ≡ ls ++ l ∷ [] → AreEndedBy kind (map put_into ls) → IsEndedBy kind l.put → AreEndedBy kind (map put_into after)
+pub ended_more : (kind : Kind) (ls after : List ShardHistory) (l : ShardHistory) → after ≡ ls ++ l ∷ [] → AreEndedBy kind (map put_into ls) → IsEndedBy kind l.put → AreEndedBy kind (map put_into after)
 ended_more kind ls after l is h a = subst (AreEndedBy kind) (sym (ap (map put_into) is ∙ map_push put_into ls l)) (ended_append kind (map put_into ls) (l.put ∷ []) h (a, tt))
 
-pub ended_nil : (kind : Kind) (ls : List Lane) → ls ≡ [] → AreEndedBy kind (map put_into ls)
+pub ended_nil : (kind : Kind) (ls : List ShardHistory) → ls ≡ [] → AreEndedBy kind (map put_into ls)
 ended_nil kind ls is = subst (λ l. AreEndedBy kind (map put_into l)) (sym is) tt
 
 ended_soft : (kind : Kind) (put : List Item) → is_hard kind ≡ false → IsEndedBy kind put → IsSoft put
 ended_soft kind put soft h = λ before e. let hard : true ≡ false = ap is_hard (h Hard before e) ∙ soft in absurd (cc)
 
 -- an End that is not hard asks for all
-pub soft_all : (kind : Kind) (ls : List Lane) → is_hard kind ≡ false → AreEndedBy kind (map put_into ls) → AreSoft ls
+pub soft_all : (kind : Kind) (ls : List ShardHistory) → is_hard kind ≡ false → AreEndedBy kind (map put_into ls) → AreSoft ls
 soft_all kind [] soft h = tt
 soft_all kind (l ∷ ls) soft h = (ended_soft kind l.put soft h.0, soft_all kind ls soft h.1)
 
-pub soft_append : (ls ms : List Lane) → AreSoft ls → AreSoft ms → AreSoft (ls ++ ms)
+pub soft_append : (ls ms : List ShardHistory) → AreSoft ls → AreSoft ms → AreSoft (ls ++ ms)
 soft_append [] ms h a = a
 soft_append (x ∷ xs) ms h a = (h.0, soft_append xs ms h.1 a)
 
-pub soft_none : (ls : List Lane) → ls ≡ [] → AreSoft ls
+pub soft_none : (ls : List ShardHistory) → ls ≡ [] → AreSoft ls
 soft_none ls is = subst AreSoft (sym is) tt
 
 items_snoc : (ss : List Step) (x : Item) → items_of (ss ++ Takes x ∷ []) ≡ items_of ss ++ x ∷ []
@@ -109,33 +109,33 @@ cut_cases true (Some flag) resolved apart h e = inr refl
 cut_cases true None resolved apart h e = let all : resolved ≡ true = h refl refl in absurd (cc)
 
 module _ {T : Type 0} where
-  pub soft_closed : (was now more : List (Joined T)) (ending : List Lane) → AreSoft (map lane_of was) → AreSoft ending → now ≡ was ++ more → map lane_of more ≡ ending → AreSoft (map lane_of now)
+  pub soft_closed : (was now more : List (StoppedShard T)) (ending : List ShardHistory) → AreSoft (map lane_of was) → AreSoft ending → now ≡ was ++ more → map lane_of more ≡ ending → AreSoft (map lane_of now)
   soft_closed was now more ending a b is lanes =
       subst AreSoft (sym (ap (map lane_of) is ∙ map_append lane_of was more)) (soft_append (map lane_of was) (map lane_of more) a (subst AreSoft (sym lanes) b))
 
-  ended_lanes : (js : List (Joined T)) → map put_by (map finished_of js) ≡ map put_into (map lane_of js)
+  ended_lanes : (js : List (StoppedShard T)) → map put_by (map finished_of js) ≡ map put_into (map lane_of js)
   ended_lanes [] = refl
   ended_lanes (j ∷ js) = ap (λ l. put_of j.finished.ends ∷ l) (ended_lanes js)
 
   -- the shards behind those that had ended got this End
-  pub ended_closed : (kind : Kind) (was now more : List (Joined T)) (ending : List Lane) → now ≡ was ++ more → map lane_of more ≡ ending → AreEndedBy kind (map put_into ending) → AreEndedBy kind (drop (length was) (map put_by (map finished_of now)))
+  pub ended_closed : (kind : Kind) (was now more : List (StoppedShard T)) (ending : List ShardHistory) → now ≡ was ++ more → map lane_of more ≡ ending → AreEndedBy kind (map put_into ending) → AreEndedBy kind (drop (length was) (map put_by (map finished_of now)))
   ended_closed kind was now more ending is lanes h = subst (λ js. AreEndedBy kind (drop (length was) (map put_by (map finished_of js)))) (sym is) (go was)
     where
-      go : (js : List (Joined T)) → AreEndedBy kind (drop (length js) (map put_by (map finished_of (js ++ more))))
+      go : (js : List (StoppedShard T)) → AreEndedBy kind (drop (length js) (map put_by (map finished_of (js ++ more))))
       go [] = subst (AreEndedBy kind) (sym (ended_lanes more ∙ ap (map put_into) lanes)) h
       go (x ∷ xs) = go xs
 
-  joined_is : (a b : Joined T) → Some a ≡ Some b → a ≡ b
+  joined_is : (a b : StoppedShard T) → Some a ≡ Some b → a ≡ b
   joined_is a b e = cc
 
-  pub resolved_more : (js : List (Joined T)) (n : ℕ) (x : Joined T) → slice_get js n ≡ Some x → is_resolved x ≡ true → ((k : ℕ) → k < n → (j : Joined T) → slice_get js k ≡ Some j → is_resolved j ≡ true)
-      → (k : ℕ) → k < n + 1 → (j : Joined T) → slice_get js k ≡ Some j → is_resolved j ≡ true
+  pub resolved_more : (js : List (StoppedShard T)) (n : ℕ) (x : StoppedShard T) → slice_get js n ≡ Some x → is_resolved x ≡ true → ((k : ℕ) → k < n → (j : StoppedShard T) → slice_get js k ≡ Some j → is_resolved j ≡ true)
+      → (k : ℕ) → k < n + 1 → (j : StoppedShard T) → slice_get js k ≡ Some j → is_resolved j ≡ true
   resolved_more js n x here is all =
-      below_more (λ k. (j : Joined T) → slice_get js k ≡ Some j → is_resolved j ≡ true) n all (λ j at. subst (λ (y : Joined T). is_resolved y ≡ true) (joined_is x j (sym here ∙ at)) is)
+      below_more (λ k. (j : StoppedShard T) → slice_get js k ≡ Some j → is_resolved j ≡ true) n all (λ j at. subst (λ (y : StoppedShard T). is_resolved y ≡ true) (joined_is x j (sym here ∙ at)) is)
 
-  soft_at : (js : List (Joined T)) (k : ℕ) (j : Joined T) → AreSoft (map lane_of js) → slice_get js k ≡ Some j → IsSoft (put_of j.finished.ends)
+  soft_at : (js : List (StoppedShard T)) (k : ℕ) (j : StoppedShard T) → AreSoft (map lane_of js) → slice_get js k ≡ Some j → IsSoft (put_of j.finished.ends)
   soft_at [] k j h at = absurd (let at' : None ≡ Some j = at in cc)
-  soft_at (x ∷ xs) zero j h at = subst (λ (y : Joined T). IsSoft (put_of y.finished.ends)) (joined_is x j at) h.0
+  soft_at (x ∷ xs) zero j h at = subst (λ (y : StoppedShard T). IsSoft (put_of y.finished.ends)) (joined_is x j at) h.0
   soft_at (x ∷ xs) (suc k) j h at = soft_at xs k j h.1 at
 
 module _ {T : Type 0} (tells : T → Type 0) (seen : T → List Exchange) (is_for : ℕ → ℕ → T → Type 0) where
@@ -151,13 +151,13 @@ module _ {T : Type 0} (tells : T → Type 0) (seen : T → List Exchange) (is_fo
       let none : length left ≡ 0 = omega arith in
       eq-eqb (length left) 0 none
 
-  worked_at : (js : List (Joined T)) (k : ℕ) (j : Joined T) → AreWorked tells seen is_for js → slice_get js k ≡ Some j → IsWorked tells seen is_for j
+  worked_at : (js : List (StoppedShard T)) (k : ℕ) (j : StoppedShard T) → AreWorked tells seen is_for js → slice_get js k ≡ Some j → IsWorked tells seen is_for j
   worked_at [] k j h at = absurd (let at' : None ≡ Some j = at in cc)
   worked_at (x ∷ xs) zero j h at = subst (IsWorked tells seen is_for) (joined_is x j at) h.0
   worked_at (x ∷ xs) (suc k) j h at = worked_at xs k j h.1 at
 
   -- a shard that is not resolved was cut
-  pub has_cut : (js : List (Joined T)) → AreWorked tells seen is_for js → AreSoft (map lane_of js) → HasUnresolved js → HasCut js
+  pub has_cut : (js : List (StoppedShard T)) → AreWorked tells seen is_for js → AreSoft (map lane_of js) → HasUnresolved js → HasCut js
   has_cut js worked soft u =
       let w = worked_at js u.0 u.1 worked u.2 in
       (u.0, u.1, u.2, cut_cases (is_compared u.1.finished.ends) u.1.finished.stopped (is_resolved u.1) w.apart (λ compared live. w.done compared live (soft_at js u.0 u.1 soft u.2)) u.3)

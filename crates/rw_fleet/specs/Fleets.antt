@@ -1,9 +1,9 @@
 -- The shards of all epochs.
 use Rattle.std.specs.Prelude.{◌≡◌, ℕ, ◌+◌, List, [], ◌++◌, length, map, drop}
 use Rattle.rw_sender.specs.declared.config.ConfigFields.{ConfigFields}
-use Rattle.rw_fleet.specs.Lanes.{Lane, AreSame}
+use Rattle.rw_fleet.specs.ShardHistories.{ShardHistory, AreSame}
 use Rattle.rw_fleet.specs.Work.{AreEndedBy, lane_of, put_by, finished_of}
-use Rattle.rw_fleet.specs.declared.joined.Joined.{Joined}
+use Rattle.rw_fleet.specs.declared.joined.StoppedShard.{StoppedShard}
 use Rattle.rw_fleet.specs.declared.joined.Finished.{Finished}
 use Rattle.rw_shard_queue.specs.declared.item.Kind.{Kind}
 use Rattle.rw_shard_queue.specs.declared.item.Kind.TheVariants.{Reshard}
@@ -12,12 +12,12 @@ use Rattle.rw_shard_queue.specs.declared.item.Kind.TheVariants.{Reshard}
 pub record Shards (T : Type 0) : Type 0 where
   pub config : ConfigFields
   pub epoch : ℕ
-  pub current : List Lane
-  pub ended : List (Joined T)
+  pub current : List ShardHistory
+  pub ended : List (StoppedShard T)
 
 -- the shards that had ended, and then each one that was at work, with the samples that it was put
-abbrev pub AreAll : {T : Type 0} → Shards T → List (Joined T) → Type 0
-AreAll {T} s joined = (more : List (Joined T)) × (joined ≡ s.ended ++ more) × AreSame s.current (map lane_of more)
+abbrev pub AreAll : {T : Type 0} → Shards T → List (StoppedShard T) → Type 0
+AreAll {T} s joined = (more : List (StoppedShard T)) × (joined ≡ s.ended ++ more) × AreSame s.current (map lane_of more)
 
 -- each shard that was at work and was put an End was put one of this kind
 abbrev pub EndBy : {T : Type 0} → Kind → Shards T → List (Finished T) → Type 0

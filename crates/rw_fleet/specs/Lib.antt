@@ -1,5 +1,5 @@
 pub mod Positions
-pub mod Lanes
+pub mod ShardHistories
 pub mod Work
 pub mod Fleets
 pub mod Loads

@@ -3,9 +3,9 @@ use Rattle.std.specs.Prelude.{◌≡◌, ℕ, ◌+◌, ◌-◌, ◌≤◌, ◌^�
 use Rattle.std.specs.List.{sum_by}
 use Rattle.rw_shard_queue.specs.Items.{places_in}
 use Rattle.rw_sender.specs.declared.config.ConfigFields.{ConfigFields}
-use Rattle.rw_fleet.specs.Lanes.{Lane}
+use Rattle.rw_fleet.specs.ShardHistories.{ShardHistory}
 use Rattle.rw_fleet.specs.Fleets.{Shards}
-use Rattle.rw_fleet.specs.declared.joined.Joined.{Joined}
+use Rattle.rw_fleet.specs.declared.joined.StoppedShard.{StoppedShard}
 use Rattle.rw_fleet.specs.declared.load.Load.{Load}
 
 -- a number, or the greatest that a counter holds
@@ -16,18 +16,18 @@ capped n = min n (2 ^ 64 - 1)
 abbrev pub load_of : ℕ → ℕ → Load
 load_of resolved left = record { placed = capped (resolved + left); resolved = capped resolved; backlog = capped left }
 
-abbrev pub resolved_in : {T : Type 0} → Joined T → ℕ
+abbrev pub resolved_in : {T : Type 0} → StoppedShard T → ℕ
 resolved_in j = j.finished.resolved
 
-abbrev pub left_in : {T : Type 0} → Joined T → ℕ
+abbrev pub left_in : {T : Type 0} → StoppedShard T → ℕ
 left_in j = length j.abandoned.items
 
 -- how many samples a shard was put
-abbrev pub count_in : Lane → ℕ
+abbrev pub count_in : ShardHistory → ℕ
 count_in lane = length (places_in lane.put)
 
 -- of a shard at work as many samples may not be resolved as can wait
-abbrev pub left_at_work : ℕ → Lane → ℕ
+abbrev pub left_at_work : ℕ → ShardHistory → ℕ
 left_at_work window lane = min (count_in lane) window
 
 -- how many of the samples that a shard was put can wait to be resolved
@@ -35,7 +35,7 @@ abbrev pub window_of : ConfigFields → ℕ
 window_of config = config.capacity + config.batch
 
 -- so many samples are resolved and so many are left, and beside them those that the shards at work were put: some of these wait, no more than can
-pub record IsAdvised (window : ℕ) (lanes : List Lane) (resolved left : ℕ) (load : Load) : Type 0 where
+pub record IsAdvised (window : ℕ) (lanes : List ShardHistory) (resolved left : ℕ) (load : Load) : Type 0 where
   pub settled : ℕ
   pub waiting : ℕ
   pub all : settled + waiting ≡ sum_by count_in lanes

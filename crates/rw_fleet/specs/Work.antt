@@ -11,13 +11,13 @@ use Rattle.rw_worker.specs.Report.{IsReport, drain_of}
 use Rattle.rw_worker.specs.Transcript.{Exchange}
 use Rattle.rw_worker.specs.declared.report.TakingEnd.{TakingEnd}
 use Rattle.rw_worker.specs.declared.report.TakingEnd.TheVariants as taking
-use Rattle.rw_fleet.specs.Lanes.{Lane}
+use Rattle.rw_fleet.specs.ShardHistories.{ShardHistory}
 use Rattle.rw_fleet.specs.declared.ends.Fed.{Fed}
 use Rattle.rw_fleet.specs.declared.ends.Fed.TheVariants as fed
 use Rattle.rw_fleet.specs.declared.ends.Ends.{Ends}
 use Rattle.rw_fleet.specs.declared.ends.Ends.TheVariants.{Compared, Apart}
 use Rattle.rw_fleet.specs.declared.joined.Finished.{Finished}
-use Rattle.rw_fleet.specs.declared.joined.Joined.{Joined}
+use Rattle.rw_fleet.specs.declared.joined.StoppedShard.{StoppedShard}
 
 abbrev pub feeding : Fed → Feeding
 feeding (fed.Open f) = f
@@ -43,7 +43,7 @@ IsTakenOf ends = IsBeginning (taken_of ends) (put_of ends)
 abbrev pub positions_in : List Item → List ℕ
 positions_in items = map (λ (p : Place). p.pos) (places_in items)
 
-abbrev pub lane_of : {T : Type 0} → Joined T → Lane
+abbrev pub lane_of : {T : Type 0} → StoppedShard T → ShardHistory
 lane_of j = record { setup = j.worker.value; put = put_of j.finished.ends }
 
 abbrev pub is_compared : Ends → Bool
@@ -58,7 +58,7 @@ IsApart (Apart (fed.Ended f) (taking.Ended kind d)) = ⊥
 IsApart (Apart (fed.Ended f) (taking.Killed d)) = ⊤
 
 -- all that was put was taken, and is resolved
-abbrev pub is_resolved : {T : Type 0} → Joined T → Bool
+abbrev pub is_resolved : {T : Type 0} → StoppedShard T → Bool
 is_resolved j = is_compared j.finished.ends && (length j.abandoned.items == 0)
 
 -- the last item is not an End at which nothing more is sent
@@ -81,10 +81,10 @@ AreEndedBy kind (put ∷ puts) = IsEndedBy kind put × AreEndedBy kind puts
 abbrev pub put_by : {T : Type 0} → Finished T → List Item
 put_by f = put_of f.ends
 
-abbrev pub finished_of : {T : Type 0} → Joined T → Finished T
+abbrev pub finished_of : {T : Type 0} → StoppedShard T → Finished T
 finished_of j = j.finished
 
-abbrev pub AreSoft : List Lane → Type 0
+abbrev pub AreSoft : List ShardHistory → Type 0
 AreSoft [] = ⊤
 AreSoft (l ∷ ls) = IsSoft l.put × AreSoft ls
 
@@ -94,7 +94,7 @@ IsEndTaken (taking.Ended kind d) = ⊤
 IsEndTaken (taking.Killed d) = ⊥
 
 -- A shard's ends and counts are what a worker of this queue reported, over a transport that was made for it and had told nothing. The samples behind those resolved are abandoned: no more than the queue holds, and a batch.
-pub record IsWorked {T : Type 0} (tells : T → Type 0) (seen : T → List Exchange) (is_for : ℕ → ℕ → T → Type 0) (j : Joined T) : Type 0 where
+pub record IsWorked {T : Type 0} (tells : T → Type 0) (seen : T → List Exchange) (is_for : ℕ → ℕ → T → Type 0) (j : StoppedShard T) : Type 0 where
   pub begun : T
   pub end : TakingEnd
   pub none : seen begun ≡ []
@@ -108,20 +108,20 @@ pub record IsWorked {T : Type 0} (tells : T → Type 0) (seen : T → List Excha
   pub apart : is_compared j.finished.ends ≡ false → IsApart j.finished.ends
   pub done : is_compared j.finished.ends ≡ true → j.finished.stopped ≡ None → IsSoft (put_of j.finished.ends) → is_resolved j ≡ true
 
-abbrev pub AreWorked : {T : Type 0} → (T → Type 0) → (T → List Exchange) → (ℕ → ℕ → T → Type 0) → List (Joined T) → Type 0
+abbrev pub AreWorked : {T : Type 0} → (T → Type 0) → (T → List Exchange) → (ℕ → ℕ → T → Type 0) → List (StoppedShard T) → Type 0
 AreWorked tells seen is_for [] = ⊤
 AreWorked tells seen is_for (j ∷ js) = IsWorked tells seen is_for j × AreWorked tells seen is_for js
 
-abbrev pub AreResolved : {T : Type 0} → List (Joined T) → Type 0
-AreResolved {T} js = (k : ℕ) (j : Joined T) → slice_get js k ≡ Some j → is_resolved j ≡ true
+abbrev pub AreResolved : {T : Type 0} → List (StoppedShard T) → Type 0
+AreResolved {T} js = (k : ℕ) (j : StoppedShard T) → slice_get js k ≡ Some j → is_resolved j ≡ true
 
 -- one of the ends was gone before the other, or the worker read the stop flag as set
 abbrev pub IsCut : {T : Type 0} → Finished T → Type 0
 IsCut f = IsApart f.ends ⊎ IsSome f.stopped
 
 -- one of these queues was cut
-abbrev pub HasCut : {T : Type 0} → List (Joined T) → Type 0
-HasCut {T} js = (k : ℕ) × (j : Joined T) × (slice_get js k ≡ Some j) × IsCut j.finished
+abbrev pub HasCut : {T : Type 0} → List (StoppedShard T) → Type 0
+HasCut {T} js = (k : ℕ) × (j : StoppedShard T) × (slice_get js k ≡ Some j) × IsCut j.finished
 
-abbrev pub HasUnresolved : {T : Type 0} → List (Joined T) → Type 0
-HasUnresolved {T} js = (k : ℕ) × (j : Joined T) × (slice_get js k ≡ Some j) × (is_resolved j ≡ false)
+abbrev pub HasUnresolved : {T : Type 0} → List (StoppedShard T) → Type 0
+HasUnresolved {T} js = (k : ℕ) × (j : StoppedShard T) × (slice_get js k ≡ Some j) × (is_resolved j ≡ false)

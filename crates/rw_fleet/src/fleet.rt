@@ -3,19 +3,19 @@
 ghost use Rattle.std.specs.Prelude.{◌≡◌, ◌+◌, ◌<◌, ◌≤◌, ◌^◌, ℕ, List, [], ◌∷◌, ◌++◌, length, map, MatchResult, IfOk, IfErr, OnOk, OnErr, Some, Err, true, false, slice_get};
 ghost use Rattle.rw_types.specs.declared.place.Place.{Place};
 ghost use Rattle.rw_shard_queue.specs.Items.{places_in};
-ghost use Rattle.rw_fleet.specs.Lanes.{Lane, AreFresh, AreSame, AreSetUp, IsPut, IsUsedUp, marked};
+ghost use Rattle.rw_fleet.specs.ShardHistories.{ShardHistory, AreFresh, AreSame, AreSetUp, IsPut, IsUsedUp, marked};
 ghost use Rattle.rw_worker.specs.Report.{is_hard};
 ghost use Rattle.rw_fleet.specs.Work.{AreResolved, AreWorked, HasCut, lane_of, finished_of};
 ghost use Rattle.rw_fleet.specs.Fleets.{AreAll, EndBy, HasClosed};
 ghost use Rattle.rw_fleet.specs.Loads.{window_of, IsLoad};
 
 use crate::connect::Connect;
-use crate::joined::Joined;
+use crate::joined::StoppedShard;
 use crate::lists::{
     all_resolved, end_all, hand_over_all, join_all, load_at_work, load_of_ended, mark_all, open_all,
 };
 use crate::load::Load;
-use crate::running::{Ending, Fault, Running};
+use crate::running::{Fault, RunningShard, StoppingShard};
 use rw_router::RoutedSample;
 use rw_sender::Config;
 use rw_shard_channel::Kind;
@@ -27,23 +27,23 @@ use std::sync::Wait;
 use std::thread::Threads;
 
 /// The shards at work, and those that have ended, in the order of their epochs. A fleet has to be ended by `finish`.
-pub struct Fleet<C: Connect + Drop> {
+pub struct ShardSet<C: Connect + Drop> {
     alloc: Global,
     config: Config,
     connect: C,
     stop: StopFlag,
     epoch: u64,
-    running: Vec<Running<C::T>>,
+    running: Vec<RunningShard<C::T>>,
     /// It has room for each shard at work.
-    ending: Vec<Ending<C::T>>,
-    joined: Vec<Joined<C::T>>,
+    ending: Vec<StoppingShard<C::T>>,
+    joined: Vec<StoppedShard<C::T>>,
 }
 
-impl<C: Connect + Drop> Model for Fleet<C> {
+impl<C: Connect + Drop> Model for ShardSet<C> {
     ghost use Rattle.std.specs.Prelude.{◌≡◌, ◌+◌, ◌≤◌, [], map, vec_len, vec_capacity};
     ghost use Rattle.std.specs.Coded.{codes};
     ghost use Rattle.std.specs.FinMap as names;
-    ghost use Rattle.rw_fleet.specs.Lanes.{AreSetUp};
+    ghost use Rattle.rw_fleet.specs.ShardHistories.{AreSetUp};
     ghost use Rattle.rw_fleet.specs.Work.{AreWorked, AreSoft, lane_of};
     ghost use Rattle.rw_fleet.specs.Fleets.{Shards};
 
@@ -63,13 +63,13 @@ impl<C: Connect + Drop> Model for Fleet<C> {
         × AreSoft (map lane_of f.joined.items) };
 }
 
-impl<C: Connect + Drop> Fleet<C> {
+impl<C: Connect + Drop> ShardSet<C> {
     /// A fleet before epoch 0 is opened: it has no shard.
-    pub fn new(alloc: Global, config: Config, connect: C) -> Result<Fleet<C>, AllocError>
+    pub fn new(alloc: Global, config: Config, connect: C) -> Result<ShardSet<C>, AllocError>
         ensures { IfOk result (λ f. f ≡ record { config = config; epoch = 0; current = []; ended = [] }) }
     {
         let stop = StopFlag::new(alloc)?;
-        Ok(Fleet {
+        Ok(ShardSet {
             alloc,
             config,
             connect,
@@ -150,7 +150,7 @@ impl<C: Connect + Drop> Fleet<C> {
     /// Puts a sample into the queue of shard number `shard`. It may wait for room. An `Err` changes nothing.
     pub fn put<R: Wait>(&mut self, rt: &R, shard: usize, sample: RoutedSample) -> Result<(), Fault>
         requires within { shard < length self.old.current }
-        requires later { (lane : Lane) (k : ℕ) (o : Place) → slice_get self.old.current shard ≡ Some lane
+        requires later { (lane : ShardHistory) (k : ℕ) (o : Place) → slice_get self.old.current shard ≡ Some lane
             → slice_get (places_in lane.put) k ≡ Some o → o.pos < sample.pos }
         ensures rest { self.new ≡ record self.old { current = self.new.current } }
         ensures ok { OnOk result (IsPut shard sample self.old.current self.new.current) }
@@ -201,7 +201,7 @@ impl<C: Connect + Drop> Fleet<C> {
 
     /// Ends all shards at work, and waits for their workers, which are told to stop where `kind` is `Hard`. Returns the shards of all epochs, and
     /// whether all that was put into them is resolved.
-    pub fn finish<R: Threads + Wait>(self, rt: &R, kind: Kind) -> (Vec<Joined<C::T>>, bool)
+    pub fn finish<R: Threads + Wait>(self, rt: &R, kind: Kind) -> (Vec<StoppedShard<C::T>>, bool)
         ensures all { AreAll self result.0.items }
         ensures worked { AreWorked C.T.tells C.T.seen C.T.is_for result.0.items }
         ensures setup { AreSetUp self.config (map lane_of result.0.items) }
@@ -209,7 +209,7 @@ impl<C: Connect + Drop> Fleet<C> {
         ensures resolved { result.1 ≡ true → AreResolved result.0.items }
         ensures cut { is_hard kind ≡ false → result.1 ≡ false → HasCut result.0.items }
     {
-        let Fleet {
+        let ShardSet {
             running,
             ending,
             joined,

@@ -23,7 +23,7 @@ pub struct Finished<T> {
 
 /// A shard whose worker has ended.
 #[derive(Drop)]
-pub struct Joined<T> {
+pub struct StoppedShard<T> {
     /// What the worker was set up with.
     pub worker: Snapshot<Worker>,
     /// The positions of the samples that were put and are not resolved.
@@ -34,7 +34,7 @@ pub struct Joined<T> {
     pub finished: Finished<T>,
 }
 
-impl<T: Transport> Joined<T> {
+impl<T: Transport> StoppedShard<T> {
     /// Whether all samples that were put were taken, and are resolved.
     pub fn is_resolved(&self) -> bool
         ensures { result ≡ is_resolved self.now }

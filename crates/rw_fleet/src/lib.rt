@@ -13,7 +13,7 @@ mod window;
 
 pub use connect::Connect;
 pub use ends::{Ends, Fed};
-pub use fleet::Fleet;
-pub use joined::{Finished, Joined};
+pub use fleet::ShardSet;
+pub use joined::{Finished, StoppedShard};
 pub use load::Load;
 pub use running::Fault;

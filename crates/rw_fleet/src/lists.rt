@@ -2,14 +2,14 @@
 
 ghost use Rattle.std.specs.Prelude.{◌≡◌, ◌+◌, ◌≤◌, ℕ, List, [], ◌++◌, map, OnOk, Err, true, false, vec_len, vec_capacity};
 ghost use Rattle.std.specs.List.{sum_by};
-ghost use Rattle.rw_fleet.specs.Lanes.{AreFresh, AreSame, AreSetUp, marked, put_into};
+ghost use Rattle.rw_fleet.specs.ShardHistories.{AreFresh, AreSame, AreSetUp, marked, put_into};
 ghost use Rattle.rw_fleet.specs.Loads.{load_of, resolved_in, left_in, IsAdvised};
 ghost use Rattle.rw_fleet.specs.Work.{AreResolved, HasUnresolved, AreEndedBy, AreWorked, lane_of};
 
 use crate::connect::Connect;
-use crate::joined::Joined;
+use crate::joined::StoppedShard;
 use crate::load::Load;
-use crate::running::{Ending, Fault, Running};
+use crate::running::{Fault, RunningShard, StoppingShard};
 use rw_sender::Config;
 use rw_shard_channel::Kind;
 use rw_worker::{StopFlag, Transport};
@@ -26,8 +26,8 @@ pub(crate) fn open_all<C: Connect, R: Threads + Wait + Copy + Send + 'static>(
     shards: u32,
     connect: &mut C,
     stop: &StopFlag,
-    mut running: Vec<Running<C::T>>,
-) -> (Vec<Running<C::T>>, bool)
+    mut running: Vec<RunningShard<C::T>>,
+) -> (Vec<RunningShard<C::T>>, bool)
     requires none { running.items ≡ [] }
     requires room { shards ≤ vec_capacity running }
     ensures fresh { AreFresh epoch result.0.items }
@@ -42,7 +42,7 @@ pub(crate) fn open_all<C: Connect, R: Threads + Wait + Copy + Send + 'static>(
         let Ok((transport, pause)) = connect.transport(epoch, shard) else {
             return (running, false);
         };
-        let Ok(opened) = Running::open(rt, alloc, config, epoch, shard, transport, pause, flag)
+        let Ok(opened) = RunningShard::open(rt, alloc, config, epoch, shard, transport, pause, flag)
         else {
             return (running, false);
         };
@@ -54,7 +54,7 @@ pub(crate) fn open_all<C: Connect, R: Threads + Wait + Copy + Send + 'static>(
 /// Puts a Flush into each queue, as far as the workers still take.
 pub(crate) fn mark_all<T: Transport + Send + Drop + 'static, R: Wait>(
     rt: &R,
-    running: &mut Vec<Running<T>>,
+    running: &mut Vec<RunningShard<T>>,
 ) -> Result<(), Fault>
     ensures same { AreSame running.old.items running.new.items }
     ensures len { vec_len running.new ≡ vec_len running.old }
@@ -71,7 +71,7 @@ pub(crate) fn mark_all<T: Transport + Send + Drop + 'static, R: Wait>(
 /// Hands over what the queues hold back, as far as the workers still take.
 pub(crate) fn hand_over_all<T: Transport + Send + Drop + 'static, R: Wait>(
     rt: &R,
-    running: &mut Vec<Running<T>>,
+    running: &mut Vec<RunningShard<T>>,
 )
     ensures items { running.new.items ≡ running.old.items }
     ensures len { vec_len running.new ≡ vec_len running.old }
@@ -85,10 +85,10 @@ pub(crate) fn hand_over_all<T: Transport + Send + Drop + 'static, R: Wait>(
 /// Puts an End into each queue.
 pub(crate) fn end_all<T: Transport + Send + Drop + 'static, R: Wait>(
     rt: &R,
-    running: Vec<Running<T>>,
-    mut ending: Vec<Ending<T>>,
+    running: Vec<RunningShard<T>>,
+    mut ending: Vec<StoppingShard<T>>,
     kind: Kind,
-) -> Vec<Ending<T>>
+) -> Vec<StoppingShard<T>>
     requires none { ending.items ≡ [] }
     requires room { vec_len running ≤ vec_capacity ending }
     ensures len { vec_len result ≡ vec_len running }
@@ -106,9 +106,9 @@ pub(crate) fn end_all<T: Transport + Send + Drop + 'static, R: Wait>(
 /// Waits for each worker.
 pub(crate) fn join_all<T: Transport + Send + Drop + 'static, R: Threads>(
     rt: &R,
-    ending: Vec<Ending<T>>,
-    mut joined: Vec<Joined<T>>,
-) -> Vec<Joined<T>>
+    ending: Vec<StoppingShard<T>>,
+    mut joined: Vec<StoppedShard<T>>,
+) -> Vec<StoppedShard<T>>
     requires room { vec_len joined + vec_len ending ≤ vec_capacity joined }
     requires worked { AreWorked T.tells T.seen T.is_for joined.items }
     ensures capacity { vec_capacity result ≡ vec_capacity joined }
@@ -125,7 +125,7 @@ pub(crate) fn join_all<T: Transport + Send + Drop + 'static, R: Threads>(
 }
 
 /// Whether all that was put into these queues is resolved.
-pub(crate) fn all_resolved<T: Transport>(joined: &Vec<Joined<T>>) -> bool
+pub(crate) fn all_resolved<T: Transport>(joined: &Vec<StoppedShard<T>>) -> bool
     ensures all { result ≡ true → AreResolved joined.now.items }
     ensures not_all { result ≡ false → HasUnresolved joined.now.items }
 {
@@ -138,7 +138,7 @@ pub(crate) fn all_resolved<T: Transport>(joined: &Vec<Joined<T>>) -> bool
 }
 
 /// How far the samples of shards that have ended have come.
-pub(crate) fn load_of_ended<T: Transport>(joined: &Vec<Joined<T>>) -> Load
+pub(crate) fn load_of_ended<T: Transport>(joined: &Vec<StoppedShard<T>>) -> Load
     ensures { result ≡ load_of (sum_by resolved_in joined.now.items) (sum_by left_in joined.now.items) }
 {
     let mut load = Load::none();
@@ -151,7 +151,7 @@ pub(crate) fn load_of_ended<T: Transport>(joined: &Vec<Joined<T>>) -> Load
 /// The load `ended`, and that of these shards at work, which send batches of `batch` samples. Of each shard at most `window` samples may wait.
 pub(crate) fn load_at_work<T: Transport + Send + Drop + 'static>(
     ended: Load,
-    running: &Vec<Running<T>>,
+    running: &Vec<RunningShard<T>>,
     batch: u64,
     window: u64,
 ) -> Load

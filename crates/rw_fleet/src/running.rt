@@ -3,12 +3,12 @@
 ghost use Rattle.std.specs.Prelude.{◌≡◌, ◌<◌, ◌≤◌, ◌^◌, ℕ, List, [], ◌∷◌, ◌++◌, length, IfOk, MatchResult, Err, Some, slice_get};
 ghost use Rattle.rw_types.specs.declared.place.Place.{Place};
 ghost use Rattle.rw_shard_queue.specs.Items.{samples_in, places_in};
-ghost use Rattle.rw_fleet.specs.Lanes.{IsSetUp, put_as, marks_in};
+ghost use Rattle.rw_fleet.specs.ShardHistories.{IsSetUp, put_as, marks_in};
 ghost use Rattle.rw_fleet.specs.Loads.{count_in, left_at_work};
 ghost use Rattle.rw_fleet.specs.Work.{lane_of, IsEndedBy, IsWorked};
 
 use crate::ends::{Fed, end_of, meet};
-use crate::joined::{Finished, Joined};
+use crate::joined::{Finished, StoppedShard};
 use crate::window::Window;
 use rw_router::RoutedSample;
 use rw_sender::Config;
@@ -31,7 +31,7 @@ pub enum Fault {
 }
 
 /// A shard at work, which has to be ended and joined. Contracts see what its worker is set up with, and what was put into its queue.
-pub(crate) struct Running<T: Transport + Send + Drop + 'static> {
+pub(crate) struct RunningShard<T: Transport + Send + Drop + 'static> {
     epoch: u64,
     shard: u32,
     feed: Feed<Open>,
@@ -43,12 +43,12 @@ pub(crate) struct Running<T: Transport + Send + Drop + 'static> {
     handle: PromisedHandle<WorkerReport<T>, Begun<T>>,
 }
 
-impl<T: Transport + Send + Drop + 'static> Model for Running<T> {
+impl<T: Transport + Send + Drop + 'static> Model for RunningShard<T> {
     ghost use Rattle.std.specs.Prelude.{◌≡◌, ◌+◌, []};
-    ghost use Rattle.rw_fleet.specs.Lanes.{Lane};
+    ghost use Rattle.rw_fleet.specs.ShardHistories.{ShardHistory};
     ghost use Rattle.rw_fleet.specs.Work.{positions_in, IsUnended};
 
-    ghost Value = { Lane };
+    ghost Value = { ShardHistory };
 
     ghost view = { λ r. record { setup = r.worker.value; put = r.feed.put } };
 
@@ -64,19 +64,19 @@ impl<T: Transport + Send + Drop + 'static> Model for Running<T> {
 }
 
 /// A shard that is to end, which has to be joined. Contracts see what its worker is set up with, and what was put into its queue.
-pub(crate) struct Ending<T: Transport + Send + Drop + 'static> {
+pub(crate) struct StoppingShard<T: Transport + Send + Drop + 'static> {
     fed: Fed,
     window: Window,
     worker: Snapshot<Worker>,
     handle: PromisedHandle<WorkerReport<T>, Begun<T>>,
 }
 
-impl<T: Transport + Send + Drop + 'static> Model for Ending<T> {
+impl<T: Transport + Send + Drop + 'static> Model for StoppingShard<T> {
     ghost use Rattle.std.specs.Prelude.{◌≡◌, ◌+◌, []};
-    ghost use Rattle.rw_fleet.specs.Lanes.{Lane};
+    ghost use Rattle.rw_fleet.specs.ShardHistories.{ShardHistory};
     ghost use Rattle.rw_fleet.specs.Work.{feeding, positions_in};
 
-    ghost Value = { Lane };
+    ghost Value = { ShardHistory };
 
     ghost view = { λ r. record { setup = r.worker.value; put = (feeding r.fed).put } };
 
@@ -88,7 +88,7 @@ impl<T: Transport + Send + Drop + 'static> Model for Ending<T> {
         × T.is_for r.worker.value.queue.epoch r.worker.value.queue.shard r.handle.promise.transport.value };
 }
 
-impl<T: Transport + Send + Drop + 'static> Running<T> {
+impl<T: Transport + Send + Drop + 'static> RunningShard<T> {
     /// Opens a queue, and starts its worker. The transport has made no exchange yet.
     pub(crate) fn open<P: Pause + Send + Drop + 'static, R: Threads + Wait + Copy + Send + 'static>(
         rt: &R,
@@ -99,7 +99,7 @@ impl<T: Transport + Send + Drop + 'static> Running<T> {
         transport: T,
         pause: P,
         stop: StopFlag,
-    ) -> Result<Running<T>, AllocError>
+    ) -> Result<RunningShard<T>, AllocError>
         requires unused { T.seen transport ≡ [] }
         requires made { T.is_for epoch shard transport }
         ensures queue { IfOk result (λ r. (r.setup.queue.epoch ≡ epoch) × (r.setup.queue.shard ≡ shard)) }
@@ -116,7 +116,7 @@ impl<T: Transport + Send + Drop + 'static> Running<T> {
         let tally = worker.tally()?;
         let begun = Snapshot::of(&worker);
         let handle = spawn(rt, worker, transport, pause, stop)?;
-        Ok(Running {
+        Ok(RunningShard {
             epoch,
             shard,
             feed,
@@ -202,12 +202,12 @@ impl<T: Transport + Send + Drop + 'static> Running<T> {
     }
 
     /// Puts an End, where the worker still takes. It may wait for room.
-    pub(crate) fn end<R: Wait>(self, rt: &R, kind: Kind) -> Ending<T>
+    pub(crate) fn end<R: Wait>(self, rt: &R, kind: Kind) -> StoppingShard<T>
         ensures setup { result.setup ≡ self.setup }
         ensures put { samples_in result.put ≡ samples_in self.put }
         ensures ended { IsEndedBy kind result.put }
     {
-        let Running {
+        let RunningShard {
             epoch: _,
             shard: _,
             feed,
@@ -217,7 +217,7 @@ impl<T: Transport + Send + Drop + 'static> Running<T> {
             handle,
         } = self;
         let fed = end_of(rt, feed, kind);
-        Ending {
+        StoppingShard {
             fed,
             window,
             worker,
@@ -226,13 +226,13 @@ impl<T: Transport + Send + Drop + 'static> Running<T> {
     }
 }
 
-impl<T: Transport + Send + Drop + 'static> Ending<T> {
+impl<T: Transport + Send + Drop + 'static> StoppingShard<T> {
     /// Waits for the worker to end.
-    pub(crate) fn join<R: Threads>(self, rt: &R) -> Joined<T>
+    pub(crate) fn join<R: Threads>(self, rt: &R) -> StoppedShard<T>
         ensures lane { lane_of result ≡ self }
         ensures worked { IsWorked T.tells T.seen T.is_for result }
     {
-        let Ending {
+        let StoppingShard {
             fed,
             window,
             worker,
@@ -247,7 +247,7 @@ impl<T: Transport + Send + Drop + 'static> Ending<T> {
         } = handle.join(rt);
         let ends = meet(rt, fed, end);
         let abandoned = window.behind(resolved);
-        Joined {
+        StoppedShard {
             worker,
             abandoned,
             part: ledger,

@@ -26,7 +26,7 @@ use Rattle.rw_machine.specs.Shards.{Shard, samples_in}
 use Rattle.rw_machine.specs.Steps.{answered, arrive, endpoint_answer}
 use Rattle.rw_machine.specs.Worlds.{Reply, Request, Setup, World, log}
 use Rattle.rw_machine.specs.declared.event.How.{How}
-use Rattle.rw_machine.specs.declared.event.How.TheVariants.{Busy, Plain, Short}
+use Rattle.rw_machine.specs.declared.event.How.TheVariants.{Busy, Plain, OutOfMemory}
 use Rattle.rw_sender.specs.Shard.{batch_id, is_empty}
 use Rattle.rw_shard_queue.specs.Items.{Placed}
 use Rattle.rw_types.specs.LabelOrder.{labels_eq}
@@ -346,4 +346,4 @@ pub arrive_keeps : (c : Setup) (w : World) (how : How) (o : Option Request) → 
 arrive_keeps c w how None requests at = at
 arrive_keeps c w Plain (Some r) requests at = plain_keeps c w at r (requests at r refl)
 arrive_keeps c w Busy (Some r) requests at = again_keeps c w at r (requests at r refl) (record { status = 429; head = w.head }) refl (λ l. refl) refl
-arrive_keeps c w Short (Some r) requests at = again_keeps c w at r (requests at r refl) (record { status = 503; head = w.head }) refl (λ l. refl) refl
+arrive_keeps c w OutOfMemory (Some r) requests at = again_keeps c w at r (requests at r refl) (record { status = 503; head = w.head }) refl (λ l. refl) refl

@@ -24,7 +24,7 @@ use Rattle.rw_codes.specs.Pieces as pieces
 use Rattle.rw_wal_tail.specs.Fed.{piece_of}
 use Rattle.rw_machine.specs.declared.event.Event.{Event}
 use Rattle.rw_machine.specs.declared.event.How.{How}
-use Rattle.rw_machine.specs.declared.event.How.TheVariants.{Busy, Plain, Short}
+use Rattle.rw_machine.specs.declared.event.How.TheVariants.{Busy, Plain, OutOfMemory}
 use Rattle.rw_sender.specs.Shard.{can_send, name_all, positions, settle, settle_names}
 use Rattle.rw_series_cache.specs.Known.{Bad, Filtered, Kept, Standing, Unknown, known, label_fault_number, standing_of}
 use Rattle.rw_series_cache.specs.Rising.{rises}
@@ -245,7 +245,7 @@ classes_act c w (event.Arrive k how) at = by_request how (slice_get w.requests k
     by_request how None = at
     by_request Plain (Some r) = record { placed_in = at.placed_in; below = at.below; above = at.above; kept = at.kept }
     by_request Busy (Some r) = record { placed_in = at.placed_in; below = at.below; above = at.above; kept = at.kept }
-    by_request Short (Some r) = record { placed_in = at.placed_in; below = at.below; above = at.above; kept = at.kept }
+    by_request OutOfMemory (Some r) = record { placed_in = at.placed_in; below = at.below; above = at.above; kept = at.kept }
 classes_act c w (event.Reply k) at = classes_reply c w (slice_get w.replies k) at
 classes_act c w (event.Lost i) at = classes_same c w i shard_lost pending_lost at
 classes_act c w (event.Reshard n) at = either (Classes c) (not (is_some w.draining) && (not (is_finished w) && (nat_le 1 n && nat_le n 1000))) _ w (λ _. record { placed_in = at.placed_in; below = at.below; above = at.above; kept = at.kept }) (λ _. at)

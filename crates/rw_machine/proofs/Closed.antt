@@ -17,7 +17,7 @@ use Rattle.rw_shard_queue.specs.declared.item.Kind.{Kind}
 use Rattle.rw_wal_tail.specs.Fed.{piece_of}
 use Rattle.rw_machine.specs.declared.event.Event.{Event}
 use Rattle.rw_machine.specs.declared.event.How.{How}
-use Rattle.rw_machine.specs.declared.event.How.TheVariants.{Busy, Plain, Short}
+use Rattle.rw_machine.specs.declared.event.How.TheVariants.{Busy, Plain, OutOfMemory}
 use Rattle.rw_sender.specs.Shard.{Core, again, awaits, can_freeze, can_send, can_take, settle}
 use Rattle.rw_series_cache.specs.Known.{Bad, Filtered, Kept, Standing, Unknown, known}
 use Rattle.rw_series_cache.specs.Rising.{rises}
@@ -199,7 +199,7 @@ ends_act c w (event.Arrive k how) at = by_request how (slice_get w.requests k)
     by_request how None = at
     by_request Plain (Some r) = record { at_close = at.at_close; shapes = at.shapes }
     by_request Busy (Some r) = record { at_close = at.at_close; shapes = at.shapes }
-    by_request Short (Some r) = record { at_close = at.at_close; shapes = at.shapes }
+    by_request OutOfMemory (Some r) = record { at_close = at.at_close; shapes = at.shapes }
 ends_act c w (event.Reply k) at = by_answer (slice_get w.replies k)
   where
     by_shard : (a : Reply) (o : Option Shard) → Ends (reply_to w a o)

@@ -16,7 +16,7 @@ use Rattle.rw_machine.specs.Steps.{act, arrive, place, place_entry, place_kept, 
 use Rattle.rw_machine.specs.Worlds.{Request, Setup, World, is_finished, log, start, up_to}
 use Rattle.rw_machine.specs.declared.event.Event.{Event}
 use Rattle.rw_machine.specs.declared.event.How.{How}
-use Rattle.rw_machine.specs.declared.event.How.TheVariants.{Busy, Plain, Short}
+use Rattle.rw_machine.specs.declared.event.How.TheVariants.{Busy, Plain, OutOfMemory}
 use Rattle.rw_sender.specs.Shard.{can_send}
 use Rattle.rw_series_cache.specs.Known.{Bad, Filtered, Kept, Standing, Unknown, known}
 use Rattle.rw_series_cache.specs.Rising.{rises}
@@ -113,7 +113,7 @@ count_act c w (event.Arrive k how) at = by_request how (slice_get w.requests k)
     by_request how None = at
     by_request Plain (Some r) = record { placed_in = at.placed_in; is = at.is }
     by_request Busy (Some r) = record { placed_in = at.placed_in; is = at.is }
-    by_request Short (Some r) = record { placed_in = at.placed_in; is = at.is }
+    by_request OutOfMemory (Some r) = record { placed_in = at.placed_in; is = at.is }
 count_act c w (event.Reply k) at = reply_frame (Count c) w (slice_get w.replies k) (λ _ _. record { placed_in = at.placed_in; is = at.is })
 count_act c w (event.Lost i) at = record { placed_in = at.placed_in; is = at.is }
 count_act c w (event.Reshard n) at = either (Count c) (not (is_some w.draining) && (not (is_finished w) && (nat_le 1 n && nat_le n 1000))) _ w (λ _. record { placed_in = at.placed_in; is = at.is }) (λ _. at)

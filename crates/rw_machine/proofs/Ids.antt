@@ -18,7 +18,7 @@ use Rattle.rw_machine.specs.Worlds.{Reply, Request, Setup, World, is_finished, l
 use Rattle.rw_machine.specs.declared.event.Event.{Event}
 use Rattle.rw_machine.specs.declared.event.Event.TheVariants as event
 use Rattle.rw_machine.specs.declared.event.How.{How}
-use Rattle.rw_machine.specs.declared.event.How.TheVariants.{Busy, Plain, Short}
+use Rattle.rw_machine.specs.declared.event.How.TheVariants.{Busy, Plain, OutOfMemory}
 use Rattle.rw_sender.specs.Shard.{awaits, batch_id, can_send, is_answer, is_empty, same_id, settle}
 use Rattle.rw_series_cache.specs.Known.{Bad, Filtered, Kept, Standing, Unknown, known}
 use Rattle.rw_series_cache.specs.Rising.{rises}
@@ -255,7 +255,7 @@ arrive_ids : (c : Setup) (w : World) (how : How) (o : Option Request) → Ids w 
 arrive_ids c w how None at = at
 arrive_ids c w Plain (Some r) at = at
 arrive_ids c w Busy (Some r) at = at
-arrive_ids c w Short (Some r) at = at
+arrive_ids c w OutOfMemory (Some r) at = at
 
 act_ids : (c : Setup) (w : World) (e : Event) → Ids w → Ids (act c w e)
 act_ids c w (event.Feed piece) at = either Ids (is_some w.closed) w _ (λ _. at) (λ _. at)

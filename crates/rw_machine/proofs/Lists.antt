@@ -15,7 +15,7 @@ use Rattle.rw_machine.specs.Worlds.{Reply, Request, Setup, World, is_finished, l
 use Rattle.rw_machine.specs.Promises.{HasShardLists}
 use Rattle.rw_machine.specs.declared.event.Event.{Event}
 use Rattle.rw_machine.specs.declared.event.How.{How}
-use Rattle.rw_machine.specs.declared.event.How.TheVariants.{Busy, Plain, Short}
+use Rattle.rw_machine.specs.declared.event.How.TheVariants.{Busy, Plain, OutOfMemory}
 use Rattle.rw_sender.specs.Shard.{Core, again, awaits, can_freeze, can_send, can_take, settle}
 use Rattle.rw_series_cache.specs.Known.{Bad, Filtered, Kept, Standing, Unknown, known}
 use Rattle.rw_series_cache.specs.Rising.{rises}
@@ -154,7 +154,7 @@ all_act c w (event.Arrive k how) at = by_request how (slice_get w.requests k)
     by_request how None = at
     by_request Plain (Some r) = at
     by_request Busy (Some r) = at
-    by_request Short (Some r) = at
+    by_request OutOfMemory (Some r) = at
 all_act c w (event.Reply k) at = all_reply c w (slice_get w.replies k) at
 all_act c w (event.Lost i) at = all_change c w i shard_lost (lists_lost c) at
 all_act c w (event.Reshard n) at = either (All c) (not (is_some w.draining) && (not (is_finished w) && (nat_le 1 n && nat_le n 1000))) _ w (λ _. at) (λ _. at)

@@ -24,7 +24,7 @@ use Rattle.rw_machine.specs.Steps.{act, arrive, change, changed, flush_shard, ma
 use Rattle.rw_machine.specs.Worlds.{Reply, Request, Setup, World, is_finished, log, new_shards, start}
 use Rattle.rw_machine.specs.declared.event.Event.{Event}
 use Rattle.rw_machine.specs.declared.event.How.{How}
-use Rattle.rw_machine.specs.declared.event.How.TheVariants.{Busy, Plain, Short}
+use Rattle.rw_machine.specs.declared.event.How.TheVariants.{Busy, Plain, OutOfMemory}
 use Rattle.rw_sender.specs.Shard.{Core, again, awaits, batch_id, can_freeze, can_send, can_take, is_empty, new_core, same_id, settle}
 use Rattle.rw_series_cache.specs.Known.{Bad, Filtered, Kept, Standing, Unknown, known}
 use Rattle.rw_series_cache.specs.Rising.{rises}
@@ -333,7 +333,7 @@ live_act c w e at = by_event e (ends_act c w e at.ends)
     by_request how None = λ ends. at
     by_request Plain (Some r) = λ ends. record { ends = ends; placed_in = at.placed_in; wide = at.wide; drains = at.drains; going = at.going }
     by_request Busy (Some r) = λ ends. record { ends = ends; placed_in = at.placed_in; wide = at.wide; drains = at.drains; going = at.going }
-    by_request Short (Some r) = λ ends. record { ends = ends; placed_in = at.placed_in; wide = at.wide; drains = at.drains; going = at.going }
+    by_request OutOfMemory (Some r) = λ ends. record { ends = ends; placed_in = at.placed_in; wide = at.wide; drains = at.drains; going = at.going }
 
     by_draining : (o : Option ℕ) → w.draining ≡ o → LiveIf c (restart_as c w o)
     by_draining None e = λ ends. at

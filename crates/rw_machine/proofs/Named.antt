@@ -23,7 +23,7 @@ use Rattle.rw_machine.specs.Steps.{act, arrive, change, changed, flush_shard, ha
 use Rattle.rw_machine.specs.Worlds.{Reply, Request, Setup, World, all_drained, is_finished, is_over, log, start}
 use Rattle.rw_machine.specs.declared.event.Event.{Event}
 use Rattle.rw_machine.specs.declared.event.How.{How}
-use Rattle.rw_machine.specs.declared.event.How.TheVariants.{Busy, Plain, Short}
+use Rattle.rw_machine.specs.declared.event.How.TheVariants.{Busy, Plain, OutOfMemory}
 use Rattle.rw_sender.specs.Shard.{can_send, is_answer, name_all, positions, settle, settle_names}
 use Rattle.rw_series_cache.specs.Known.{Bad, Filtered, Kept, Standing, Unknown, known, label_fault_number}
 use Rattle.rw_series_cache.specs.Rising.{rises}
@@ -152,7 +152,7 @@ arrive_names : (c : Setup) (w : World) (how : How) (o : Option Request) (p s : �
 arrive_names c w how None p s = (λ h. inl h, λ h. none_stands h)
 arrive_names c w Plain (Some r) p s = (λ h. inl h, λ h. none_stands h)
 arrive_names c w Busy (Some r) p s = (λ h. inl h, λ h. none_stands h)
-arrive_names c w Short (Some r) p s = (λ h. inl h, λ h. none_stands h)
+arrive_names c w OutOfMemory (Some r) p s = (λ h. inl h, λ h. none_stands h)
 
 send_names : (w : World) (i : ℕ) (o : Option Shard) (p s : ℕ) → NamesBy p s w.names [] (send_batch w i o).names
 send_names w i None p s = (λ h. inl h, λ h. none_stands h)
@@ -373,7 +373,7 @@ unnamed_act c w (event.Arrive k how) at = by_request how (slice_get w.requests k
     by_request how None = at
     by_request Plain (Some r) = record { ident = at.ident; numbered = at.numbered; fresh = at.fresh }
     by_request Busy (Some r) = record { ident = at.ident; numbered = at.numbered; fresh = at.fresh }
-    by_request Short (Some r) = record { ident = at.ident; numbered = at.numbered; fresh = at.fresh }
+    by_request OutOfMemory (Some r) = record { ident = at.ident; numbered = at.numbered; fresh = at.fresh }
 unnamed_act c w (event.Reply k) at = unnamed_reply w (slice_get w.replies k) at
 unnamed_act c w (event.Lost i) at = unnamed_quiet w i shard_lost quiet_lost at
 unnamed_act c w (event.Reshard n) at = either Unnamed (not (is_some w.draining) && (not (is_finished w) && (nat_le 1 n && nat_le n 1000))) _ w (λ _. record { ident = at.ident; numbered = at.numbered; fresh = at.fresh }) (λ _. at)
@@ -460,7 +460,7 @@ module _ (c : Setup) (p : ℕ) (r : Reason) where
       by_request how None = q
       by_request Plain (Some v) = q
       by_request Busy (Some v) = q
-      by_request Short (Some v) = q
+      by_request OutOfMemory (Some v) = q
   stays_act w (event.Reply k) at q = stays_reply w (slice_get w.replies k) at q
   stays_act w (event.Lost i) at q = q
   stays_act w (event.Reshard n) at q = either Named (not (is_some w.draining) && (not (is_finished w) && (nat_le 1 n && nat_le n 1000))) _ w (λ _. q) (λ _. q)

@@ -34,7 +34,7 @@ use Rattle.rw_recv_head.proofs.StoreLemmas.{list_of-empty, list_of-with_list}
 use Rattle.rw_machine.specs.declared.event.Event.{Event}
 use Rattle.rw_machine.specs.declared.event.Event.TheVariants as event
 use Rattle.rw_machine.specs.declared.event.How.{How}
-use Rattle.rw_machine.specs.declared.event.How.TheVariants.{Busy, Plain, Short}
+use Rattle.rw_machine.specs.declared.event.How.TheVariants.{Busy, Plain, OutOfMemory}
 use Rattle.rw_machine.specs.Shards.{EndMark, FlushMark, One, Queued, Shard, has_room, pending, samples_in, shard_end, shard_flush, shard_freeze, shard_lost, shard_put, shard_send, shard_take, take_front, with_core}
 use Rattle.rw_machine.specs.Steps.{act, arrive, changed, endpoint_answer, flush_shard, mark, next_sample, place, place_entry, place_kept, place_sample, put_if_room, reply_to, request_by, restart_as, run, send_batch, shard_of, take_reply}
 use Rattle.rw_machine.specs.Worlds.{Reply, Request, Setup, World, is_finished, log, start}
@@ -266,7 +266,7 @@ others_arrive c w Plain (Some r) logged at = record {
   nothing_else = λ l none. answer_other c w.head r.batch l (all_more (IsLogged c (log w)) (λ (x : Placed). labels_eq l x.labels ≡ false) (λ x h. apart_from c (log w) l x.labels none h) r.batch (logged r refl)) ∙ at.nothing_else l none;
 }
 others_arrive c w Busy (Some r) logged at = record { pending_logged = at.pending_logged; requests_logged = at.requests_logged; nothing_else = at.nothing_else }
-others_arrive c w Short (Some r) logged at = record { pending_logged = at.pending_logged; requests_logged = at.requests_logged; nothing_else = at.nothing_else }
+others_arrive c w OutOfMemory (Some r) logged at = record { pending_logged = at.pending_logged; requests_logged = at.requests_logged; nothing_else = at.nothing_else }
 
 -- the open batch's part, and what is left without it
 pub batch_part : (P : Placed → Type 0) (s : Shard) → AllOf P (pending s) → AllOf P s.core.batch

@@ -8,7 +8,7 @@ use Rattle.rw_machine.proofs.Steps.{always, either, Each, each_change, each_new,
 use Rattle.rw_machine.specs.declared.event.Event.{Event}
 use Rattle.rw_machine.specs.declared.event.Event.TheVariants as event
 use Rattle.rw_machine.specs.declared.event.How.{How}
-use Rattle.rw_machine.specs.declared.event.How.TheVariants.{Busy, Plain, Short}
+use Rattle.rw_machine.specs.declared.event.How.TheVariants.{Busy, Plain, OutOfMemory}
 use Rattle.rw_machine.specs.Promises.{CarriesItsBatch, CarriesEachBatch, SendsSameBytes}
 use Rattle.rw_machine.specs.Shards.{EndMark, FlushMark, One, Queued, Shard, has_room, shard_end, shard_flush, shard_freeze, shard_lost, shard_put, shard_send, shard_take, take_front, with_core}
 use Rattle.rw_machine.specs.Steps.{act, arrive, changed, flush_shard, mark, next_sample, place, place_entry, place_kept, place_sample, put_if_room, reply_to, request_by, restart_as, run, send_batch, shard_of, take_reply}
@@ -122,7 +122,7 @@ act_carries c w (event.Arrive k how) at = by_request how (slice_get w.requests k
     by_request how None = at
     by_request Plain (Some r) = at
     by_request Busy (Some r) = at
-    by_request Short (Some r) = at
+    by_request OutOfMemory (Some r) = at
 act_carries c w (event.Reply k) at = reply_carries c w (slice_get w.replies k) at
 act_carries c w (event.Lost i) at = change_carries c w i shard_lost lost_stays at
 act_carries c w (event.Reshard n) at = either (Carries c) (not (is_some w.draining) && (not (is_finished w) && (nat_le 1 n && nat_le n 1000))) _ w (λ _. at) (λ _. at)

@@ -17,7 +17,7 @@ use Rattle.rw_machine.specs.Worlds.{Reply, Request, Setup, World, is_finished, s
 use Rattle.rw_machine.specs.declared.event.Event.{Event}
 use Rattle.rw_machine.specs.declared.event.Event.TheVariants as event
 use Rattle.rw_machine.specs.declared.event.How.{How}
-use Rattle.rw_machine.specs.declared.event.How.TheVariants.{Busy, Plain, Short}
+use Rattle.rw_machine.specs.declared.event.How.TheVariants.{Busy, Plain, OutOfMemory}
 use Rattle.rw_sender.specs.Shard.{can_send}
 
 -- a reply is one to a request, and says whether the receiver's limits let its batch in
@@ -49,7 +49,7 @@ says_arrive c w how k (Some r) e at q = by_how how
     by_how : (how : How) → EachSays c (arrive c w how (Some r))
     by_how Plain = told (endpoint_answer c w.head r.batch).status (plain_tells c w at r (all_get (RequestOk c w.epoch w.shards (list_of w.head.store)) w.requests k r at.requests_ok e))
     by_how Busy = told 429 (again 429 refl)
-    by_how Short = told 503 (again 503 refl)
+    by_how OutOfMemory = told 503 (again 503 refl)
 
 says_act : (c : Setup) (w : World) (e : Event) → Inv c w → EachSays c w → EachSays c (act c w e)
 says_act c w (event.Feed piece) at q = either (EachSays c) (is_some w.closed) w _ (λ _. q) (λ _. q)

@@ -22,7 +22,7 @@ use Rattle.rw_recv_head.specs.Head.{State, Answer, answer_to}
 use Rattle.rw_machine.specs.Shards.{Shard, has_room, shard_put, shard_flush, shard_end, with_core, shard_take, shard_freeze, shard_send, shard_lost}
 use Rattle.rw_machine.specs.Worlds.{Setup, Request, Reply, World, log, new_shards, is_finished, all_drained, is_over}
 use Rattle.rw_machine.specs.declared.event.How.{How}
-use Rattle.rw_machine.specs.declared.event.How.TheVariants.{Plain, Busy, Short}
+use Rattle.rw_machine.specs.declared.event.How.TheVariants.{Plain, Busy, OutOfMemory}
 use Rattle.rw_machine.specs.declared.event.Event.{Event}
 use Rattle.rw_machine.specs.declared.event.Event.TheVariants as event
 
@@ -118,7 +118,7 @@ abbrev pub arrive : Setup → World → How → Option Request → World
 arrive c w how None = w
 arrive c w Plain (Some r) = answered w r.id (endpoint_answer c w.head r.batch)
 arrive c w Busy (Some r) = answered w r.id (record { status = 429; head = w.head })
-arrive c w Short (Some r) = answered w r.id (record { status = 503; head = w.head })
+arrive c w OutOfMemory (Some r) = answered w r.id (record { status = 503; head = w.head })
 
 -- the names after a reply to that batch: room is no part of the machine
 abbrev pub names_after : ℕ → List Placed → FinMap nat_cmp Reason → FinMap nat_cmp Reason

@@ -10,7 +10,7 @@ pub enum How {
     /// It is busy: 429 Too Many Requests.
     Busy,
     /// It has no memory left: 503 Service Unavailable.
-    Short,
+    OutOfMemory,
 }
 
 /// One event. Shards, requests and replies are named by their numbers, from 0.

@@ -37,11 +37,11 @@ impl Limits {
     {
         Ok(Limits {
             path: RequestPath::api_v1_write(alloc)?,
-            max_body_bytes: Bounded::of(16_777_216),
+            max_body_bytes: Bounded::new(16_777_216),
             names: Names::Legacy,
-            max_labels: Bounded::of(64),
-            max_label_bytes: Bounded::of(16_384),
-            busy_first: Bounded::of(0),
+            max_labels: Bounded::new(64),
+            max_label_bytes: Bounded::new(16_384),
+            busy_first: Bounded::new(0),
         })
     }
 }

@@ -15,7 +15,7 @@ use Rattle.rw_text.proofs.SplitLemmas.{split_unique, not_without}
 use Rattle.rw_log_text.specs.RecordLines.{IsRecordOf}
 use Rattle.rw_log_text.proofs.RecordLemmas.{record_one}
 use Rattle.rw_machine.specs.declared.event.How.{How}
-use Rattle.rw_machine.specs.declared.event.How.TheVariants.{Plain, Busy, Short}
+use Rattle.rw_machine.specs.declared.event.How.TheVariants.{Plain, Busy, OutOfMemory}
 use Rattle.rw_script.specs.declared.words.BareWord.{BareWord}
 use Rattle.rw_script.specs.declared.words.BareWord.TheVariants.{Segment, Place, Restart, Close, Kill, Settle}
 use Rattle.rw_script.specs.declared.words.NumberedWord.{NumberedWord}
@@ -58,7 +58,7 @@ no_numbered_word text none Reshard e = not_ascii text (codes "reshard") none ref
 pub no_how : (text : List ℕ) → ¬ (IsUtf8 text) → (how : How) → text ≡ how_text how → ⊥
 no_how text none Plain e = not_ascii text (codes "plain") none refl e
 no_how text none Busy e = not_ascii text (codes "busy") none refl e
-no_how text none Short e = not_ascii text (codes "short") none refl e
+no_how text none OutOfMemory e = not_ascii text (codes "short") none refl e
 
 -- ---- words are told apart by two of their letters
 
@@ -90,7 +90,7 @@ how_of : ℕ → Option How
 how_of k =
     if k == letters (codes "plain") then Some Plain
     else (if k == letters (codes "busy") then Some Busy
-    else (if k == letters (codes "short") then Some Short
+    else (if k == letters (codes "short") then Some OutOfMemory
     else None))
 
 numbered_again : (w : NumberedWord) → numbered_of (letters (numbered_text w)) ≡ Some w
@@ -116,7 +116,7 @@ how_again : (h : How) → how_of (letters (how_text h)) ≡ Some h
 unfolding how_of letters
 how_again Plain = refl
 how_again Busy = refl
-how_again Short = refl
+how_again OutOfMemory = refl
 
 same_some : {A : Type 0} (a b : A) (o : Option A) → o ≡ Some a → o ≡ Some b → a ≡ b
 same_some a b o e f = cc

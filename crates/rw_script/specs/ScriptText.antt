@@ -5,7 +5,7 @@ use Rattle.rw_text.specs.Numbers.{IsNumber}
 use Rattle.rw_log_text.specs.RecordLines.{IsRecordOf}
 use Rattle.rw_wal_tail.specs.declared.piece.Piece.TheVariants as piece
 use Rattle.rw_machine.specs.declared.event.How.{How}
-use Rattle.rw_machine.specs.declared.event.How.TheVariants.{Plain, Busy, Short}
+use Rattle.rw_machine.specs.declared.event.How.TheVariants.{Plain, Busy, OutOfMemory}
 use Rattle.rw_machine.specs.declared.event.Event.{Event}
 use Rattle.rw_machine.specs.declared.event.Event.TheVariants as event
 use Rattle.rw_script.specs.declared.words.BareWord.{BareWord}
@@ -43,7 +43,7 @@ numbered_text Reshard = codes "reshard"
 abbrev pub how_text : How → List ℕ
 how_text Plain = codes "plain"
 how_text Busy = codes "busy"
-how_text Short = codes "short"
+how_text OutOfMemory = codes "short"
 
 -- decimal digits of a number below 2^64
 pub record IsCount (text : List ℕ) (n : ℕ) : Type 0 where

@@ -115,7 +115,7 @@ pub(crate) fn read_how(text: &[u8]) -> Option<How>
     match word {
         "plain" => Some(How::Plain),
         "busy" => Some(How::Busy),
-        "short" => Some(How::Short),
+        "short" => Some(How::OutOfMemory),
         _ => None,
     }
 }

@@ -1,6 +1,6 @@
 -- How a run answers.
 use Rattle.std.proofs.Common.{◌≡◌, List, Option, None, Some, Result, Ok, Err, IsOk, IfErr, OnOk, refl, sym, subst}
-use Rattle.rw_fleet.specs.declared.joined.Joined.{Joined}
+use Rattle.rw_fleet.specs.declared.joined.StoppedShard.{StoppedShard}
 use Rattle.rw_sender.specs.declared.outcome.Outcome.{Outcome}
 use Rattle.rw_sender.specs.declared.outcome.Outcome.TheVariants as outcome
 use Rattle.rw_shipper.specs.Reports.{IsAbandoned}
@@ -14,7 +14,7 @@ use Rattle.rw_send.specs.Sending.{answer_to, hard_fault, Answers, IsHalted}
 some_is_not_none : {A B : Type 0} (found : Option A) (x : A) → found ≡ Some x → found ≡ None → B
 some_is_not_none found x some none = let no : ⊥ = cc in absurd no
 
-orderly : {T : Type 0} (s : Shipping T) (js : List (Joined T)) (shipped : Result (Unit {0}) Halt) (o : Outcome) → IfErr shipped (IsHalted s) → hard_fault shipped ≡ None → Ends s js o
+orderly : {T : Type 0} (s : Shipping T) (js : List (StoppedShard T)) (shipped : Result (Unit {0}) Halt) (o : Outcome) → IfErr shipped (IsHalted s) → hard_fault shipped ≡ None → Ends s js o
     → Answers (IsOk shipped) (shipped ≡ Err halt.Unreadable) o (answer_to o)
 orderly s js (Ok u) (outcome.Complete end) h soft e = (tt, refl)
 orderly s js (Ok u) (outcome.Abandoned placed samples) h soft e = tt
@@ -32,7 +32,7 @@ goes_on s (Err (halt.Damaged f)) h live soft = h.1
 goes_on s (Err halt.Failed) h live soft = some_is_not_none _ _ refl soft
 goes_on s (Err halt.Unreadable) h live soft = some_is_not_none _ _ refl soft
 
-pub answers_orderly : {T : Type 0} (s : Shipping T) (js : List (Joined T)) (shipped : Result (Unit {0}) Halt) (o : Outcome) (answer : Result (Unit {0}) ToolFault)
+pub answers_orderly : {T : Type 0} (s : Shipping T) (js : List (StoppedShard T)) (shipped : Result (Unit {0}) Halt) (o : Outcome) (answer : Result (Unit {0}) ToolFault)
     → IfErr shipped (IsHalted s) → hard_fault shipped ≡ None → Ends s js o → answer ≡ answer_to o → Answers (IsOk shipped) (shipped ≡ Err halt.Unreadable) o answer
 answers_orderly s js shipped o answer h soft e same =
     subst (λ (a : Result (Unit {0}) ToolFault). Answers (IsOk shipped) (shipped ≡ Err halt.Unreadable) o a) (sym same) (orderly s js shipped o h soft e)

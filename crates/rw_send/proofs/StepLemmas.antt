@@ -3,7 +3,7 @@ use Rattle.std.proofs.Common.{◌≡◌, ◌≢◌, ◌⊎◌, ℕ, ◌+◌, Boo
 use Rattle.std.proofs.lemmas.Bool.{lt-ltb}
 use Rattle.rw_codes.specs.Pieces.{Piece}
 use Rattle.rw_fleet.specs.Fleets.{Shards}
-use Rattle.rw_fleet.specs.Lanes.{AreFresh}
+use Rattle.rw_fleet.specs.ShardHistories.{AreFresh}
 use Rattle.rw_fleet.specs.Loads.{IsLoad}
 use Rattle.rw_fleet.specs.Work.{AreResolved}
 use Rattle.rw_fleet.specs.declared.load.Load.{Load}

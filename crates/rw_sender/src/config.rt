@@ -81,14 +81,14 @@ impl ConfigFields {
     {
         Ok(ConfigFields {
             target: Target::standard(alloc)?,
-            shards: Bounded::of(1),
-            min_shards: Bounded::of(1),
-            max_shards: Bounded::of(50),
-            capacity: Bounded::of(10_000),
-            batch: Bounded::of(2_000),
-            min_backoff_ms: Bounded::of(30),
-            max_backoff_ms: Bounded::of(5_000),
-            timeout_ms: Bounded::of(30_000),
+            shards: Bounded::new(1),
+            min_shards: Bounded::new(1),
+            max_shards: Bounded::new(50),
+            capacity: Bounded::new(10_000),
+            batch: Bounded::new(2_000),
+            min_backoff_ms: Bounded::new(30),
+            max_backoff_ms: Bounded::new(5_000),
+            timeout_ms: Bounded::new(30_000),
             names: Names::Legacy,
             rules: Rules::new(Vec::new(alloc)),
         })

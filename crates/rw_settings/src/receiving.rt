@@ -20,10 +20,10 @@ pub(crate) fn receive_limits(alloc: Global, receive: &Table) -> Result<Limits, A
 {
     Ok(Limits {
         path: path_or_default(alloc, receive, "path")?,
-        max_body_bytes: number_or(receive, "max_body_bytes", Bounded::of(16_777_216)),
-        max_labels: number_or(receive, "max_labels", Bounded::of(64)),
-        max_label_bytes: number_or(receive, "max_label_bytes", Bounded::of(16_384)),
-        busy_first: number_or(receive, "busy_first", Bounded::of(0)),
+        max_body_bytes: number_or(receive, "max_body_bytes", Bounded::new(16_777_216)),
+        max_labels: number_or(receive, "max_labels", Bounded::new(64)),
+        max_label_bytes: number_or(receive, "max_label_bytes", Bounded::new(16_384)),
+        busy_first: number_or(receive, "busy_first", Bounded::new(0)),
         names: names_or_legacy(receive, "names"),
     })
 }

@@ -29,14 +29,14 @@ pub(crate) fn send_fields(
             host: host_or_default(alloc, send, "host")?,
             path: path_or_default(alloc, send, "path")?,
         },
-        shards: number_or(send, "shards", Bounded::of(1)),
-        min_shards: number_or(send, "min_shards", Bounded::of(1)),
-        max_shards: number_or(send, "max_shards", Bounded::of(50)),
-        capacity: number_or(send, "capacity", Bounded::of(10_000)),
-        batch: number_or(send, "batch", Bounded::of(2_000)),
-        min_backoff_ms: number_or(send, "min_backoff_ms", Bounded::of(30)),
-        max_backoff_ms: number_or(send, "max_backoff_ms", Bounded::of(5_000)),
-        timeout_ms: number_or(send, "timeout_ms", Bounded::of(30_000)),
+        shards: number_or(send, "shards", Bounded::new(1)),
+        min_shards: number_or(send, "min_shards", Bounded::new(1)),
+        max_shards: number_or(send, "max_shards", Bounded::new(50)),
+        capacity: number_or(send, "capacity", Bounded::new(10_000)),
+        batch: number_or(send, "batch", Bounded::new(2_000)),
+        min_backoff_ms: number_or(send, "min_backoff_ms", Bounded::new(30)),
+        max_backoff_ms: number_or(send, "max_backoff_ms", Bounded::new(5_000)),
+        timeout_ms: number_or(send, "timeout_ms", Bounded::new(30_000)),
         names: names_or_legacy(send, "names"),
         rules,
     })
@@ -47,11 +47,11 @@ pub(crate) fn send_fields(
 pub(crate) fn order_fault(send: &Table) -> Option<SettingsFault>
     ensures { result ≡ order_fault (table_view send.now) }
 {
-    let shards = number_or::<1, 1_000>(send, "shards", Bounded::of(1)).get();
-    let min_shards = number_or::<1, 1_000>(send, "min_shards", Bounded::of(1)).get();
-    let max_shards = number_or::<1, 1_000>(send, "max_shards", Bounded::of(50)).get();
-    let min_backoff = number_or::<1, 3_600_000>(send, "min_backoff_ms", Bounded::of(30)).get();
-    let max_backoff = number_or::<1, 3_600_000>(send, "max_backoff_ms", Bounded::of(5_000)).get();
+    let shards = number_or::<1, 1_000>(send, "shards", Bounded::new(1)).get();
+    let min_shards = number_or::<1, 1_000>(send, "min_shards", Bounded::new(1)).get();
+    let max_shards = number_or::<1, 1_000>(send, "max_shards", Bounded::new(50)).get();
+    let min_backoff = number_or::<1, 3_600_000>(send, "min_backoff_ms", Bounded::new(30)).get();
+    let max_backoff = number_or::<1, 3_600_000>(send, "max_backoff_ms", Bounded::new(5_000)).get();
     if min_shards <= shards && shards <= max_shards && min_backoff <= max_backoff {
         None
     } else {

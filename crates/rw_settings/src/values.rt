@@ -67,7 +67,7 @@ fn number_in<const LOW: u64, const HIGH: u64>(
     if number < 0 {
         return Err(SettingsFault::OutOfRange);
     }
-    match Bounded::new(number as u64) {
+    match Bounded::try_new(number as u64) {
         Some(number) => Ok(Some(number)),
         None => Err(SettingsFault::OutOfRange),
     }

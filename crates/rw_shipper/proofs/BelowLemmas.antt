@@ -8,7 +8,7 @@ use Rattle.rw_relabel.specs.declared.choice.Choice.{Choice}
 use Rattle.rw_shard_queue.specs.Items.{samples_in, places_in}
 use Rattle.rw_shard_queue.specs.declared.item.Item.{Item}
 use Rattle.rw_shard_queue.specs.declared.item.Item.TheVariants as item
-use Rattle.rw_fleet.specs.Lanes.{Lane}
+use Rattle.rw_fleet.specs.ShardHistories.{ShardHistory}
 use Rattle.rw_router.specs.Fates.{Fate, Drops, Filters, Sends, fate}
 use Rattle.rw_feeder.specs.Logs.{Sent, gather_from, sent_by_fate, sent_of, sent}
 use Rattle.rw_shipper.specs.Placement.{as_sent, shard_of, IsPlacing}
@@ -69,7 +69,7 @@ below_place n (item.Flush ∷ xs) k o h at = below_place n xs k o h at
 below_place n (item.End kind ∷ xs) k o h at = below_place n xs k o h at
 
 -- what was put so far stands below the next position
-pub placing_below : (e n j : ℕ) (ended current : List Lane) (choice : Choice) (es : List Entry) (l : Lane) → IsPlacing e ended current (sent choice es) → n ≡ length es → slice_get current j ≡ Some l
+pub placing_below : (e n j : ℕ) (ended current : List ShardHistory) (choice : Choice) (es : List Entry) (l : ShardHistory) → IsPlacing e ended current (sent choice es) → n ≡ length es → slice_get current j ≡ Some l
     → (k : ℕ) (o : Place) → slice_get (places_in l.put) k ≡ Some o → o.pos < n
 placing_below e n j ended current choice es l h count at k o there =
     let fresh = below_later (length es) h.before h.fresh (subst (AllBelow (length es)) h.all (sent_below choice es)) in

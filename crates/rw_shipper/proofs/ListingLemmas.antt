@@ -6,12 +6,12 @@ use Rattle.std.proofs.lemmas.Bool.Decides.{nat_tests}
 use Rattle.rw_sender.specs.declared.config.ConfigFields.{ConfigFields}
 use Rattle.rw_worker.specs.Transcript.{Exchange}
 use Rattle.rw_ledger.specs.Names.{Named}
-use Rattle.rw_fleet.specs.Lanes.{AreSame, AreSetUp, IsPut}
+use Rattle.rw_fleet.specs.ShardHistories.{AreSame, AreSetUp, IsPut}
 use Rattle.rw_shard_queue.specs.declared.item.Kind.{Kind}
 use Rattle.rw_worker.specs.Report.{is_hard}
 use Rattle.rw_fleet.specs.Work.{lane_of, finished_of, is_compared, is_resolved, AreResolved, AreWorked, HasCut}
 use Rattle.rw_fleet.specs.Fleets.{Shards, AreAll, EndBy, HasClosed}
-use Rattle.rw_fleet.specs.declared.joined.Joined.{Joined}
+use Rattle.rw_fleet.specs.declared.joined.StoppedShard.{StoppedShard}
 use Rattle.rw_router.specs.declared.sample.RoutedSample.{RoutedSample}
 use Rattle.rw_fleet.specs.Loads.{window_of}
 use Rattle.rw_shipper.specs.Reports.{part_of, abandoned_in, HasListed, HasRoom, IsGrown, ListsAfter, IsRoomFor}
@@ -36,24 +36,24 @@ module _ {A : Type 0} where
   none_left all done rest is none = is ∙ ap (λ l. done ++ l) none ∙ append-nil done
 
 module _ {T : Type 0} where
-  pub lanes_append : (xs ys : List (Joined T)) → map lane_of (xs ++ ys) ≡ map lane_of xs ++ map lane_of ys
+  pub lanes_append : (xs ys : List (StoppedShard T)) → map lane_of (xs ++ ys) ≡ map lane_of xs ++ map lane_of ys
   lanes_append [] ys = refl
   lanes_append (x ∷ xs) ys = ap (λ l. lane_of x ∷ l) (lanes_append xs ys)
 
-  lanes_length : (js : List (Joined T)) → length (map lane_of js) ≡ length js
+  lanes_length : (js : List (StoppedShard T)) → length (map lane_of js) ≡ length js
   lanes_length [] = refl
   lanes_length (j ∷ js) = ap suc (lanes_length js)
 
-  all_length : (s : Shards T) (js : List (Joined T)) → AreAll s js → length js ≡ length s.ended + length s.current
+  all_length : (s : Shards T) (js : List (StoppedShard T)) → AreAll s js → length js ≡ length s.ended + length s.current
   all_length s js all =
       ap length all.1 ∙ length-append s.ended all.0 ∙ ap (λ n. length s.ended + n) (sym (lanes_length all.0) ∙ same_length s.current (map lane_of all.0) all.2)
 
-  pub abandoned_append : (xs ys : List (Joined T)) → abandoned_in (xs ++ ys) ≡ abandoned_in xs ++ abandoned_in ys
+  pub abandoned_append : (xs ys : List (StoppedShard T)) → abandoned_in (xs ++ ys) ≡ abandoned_in xs ++ abandoned_in ys
   abandoned_append [] ys = refl
   abandoned_append (x ∷ xs) ys = ap (λ l. x.abandoned.items ++ l) (abandoned_append xs ys) ∙ sym (append_assoc x.abandoned.items (abandoned_in xs) (abandoned_in ys))
 
   -- in each shard no more wait than its window
-  few_in : (tells : T → Type 0) (seen : T → List Exchange) (is_for : ℕ → ℕ → T → Type 0) (config : ConfigFields) (js : List (Joined T)) → AreWorked tells seen is_for js → AreSetUp config (map lane_of js) → length (abandoned_in js) ≤ length js * window_of config
+  few_in : (tells : T → Type 0) (seen : T → List Exchange) (is_for : ℕ → ℕ → T → Type 0) (config : ConfigFields) (js : List (StoppedShard T)) → AreWorked tells seen is_for js → AreSetUp config (map lane_of js) → length (abandoned_in js) ≤ length js * window_of config
   few_in tells seen is_for config [] w a = omega arith
   few_in tells seen is_for config (j ∷ js) w a =
       let rest = few_in tells seen is_for config js w.1 a.1 in
@@ -64,33 +64,33 @@ module _ {T : Type 0} where
       let sum = suc-mul (length js) (window_of config) in
       omega arith
 
-  worked_behind : (tells : T → Type 0) (seen : T → List Exchange) (is_for : ℕ → ℕ → T → Type 0) (xs ys : List (Joined T)) → AreWorked tells seen is_for (xs ++ ys) → AreWorked tells seen is_for ys
+  worked_behind : (tells : T → Type 0) (seen : T → List Exchange) (is_for : ℕ → ℕ → T → Type 0) (xs ys : List (StoppedShard T)) → AreWorked tells seen is_for (xs ++ ys) → AreWorked tells seen is_for ys
   worked_behind tells seen is_for [] ys h = h
   worked_behind tells seen is_for (x ∷ xs) ys h = worked_behind tells seen is_for xs ys h.1
 
-  set_up_behind : (config : ConfigFields) (xs ys : List (Joined T)) → AreSetUp config (map lane_of (xs ++ ys)) → AreSetUp config (map lane_of ys)
+  set_up_behind : (config : ConfigFields) (xs ys : List (StoppedShard T)) → AreSetUp config (map lane_of (xs ++ ys)) → AreSetUp config (map lane_of ys)
   set_up_behind config [] ys h = h
   set_up_behind config (x ∷ xs) ys h = set_up_behind config xs ys h.1
 
   -- what waits where all have ended
-  all_left : (tells : T → Type 0) (seen : T → List Exchange) (is_for : ℕ → ℕ → T → Type 0) (s : Shards T) (js : List (Joined T)) → AreAll s js → AreWorked tells seen is_for js → AreSetUp s.config (map lane_of js)
+  all_left : (tells : T → Type 0) (seen : T → List Exchange) (is_for : ℕ → ℕ → T → Type 0) (s : Shards T) (js : List (StoppedShard T)) → AreAll s js → AreWorked tells seen is_for js → AreSetUp s.config (map lane_of js)
       → length (abandoned_in js) ≤ length (abandoned_in s.ended) + length s.current * window_of s.config
   all_left tells seen is_for s js all worked setup =
       let more = all.0 in
-      let few = few_in tells seen is_for s.config more (worked_behind tells seen is_for s.ended more (subst (AreWorked tells seen is_for) all.1 worked)) (set_up_behind s.config s.ended more (subst (λ (l : List (Joined T)). AreSetUp s.config (map lane_of l)) all.1 setup)) in
+      let few = few_in tells seen is_for s.config more (worked_behind tells seen is_for s.ended more (subst (AreWorked tells seen is_for) all.1 worked)) (set_up_behind s.config s.ended more (subst (λ (l : List (StoppedShard T)). AreSetUp s.config (map lane_of l)) all.1 setup)) in
       let same : length more * window_of s.config ≡ length s.current * window_of s.config = ap (λ n. n * window_of s.config) (sym (lanes_length more) ∙ same_length s.current (map lane_of more) all.2) in
-      let len = ap (λ (l : List (Joined T)). length (abandoned_in l)) all.1 ∙ ap length (abandoned_append s.ended more) in
+      let len = ap (λ (l : List (StoppedShard T)). length (abandoned_in l)) all.1 ∙ ap length (abandoned_append s.ended more) in
       let sum = length-append (abandoned_in s.ended) (abandoned_in more) in
       omega arith
 
-  nothing_left : (j : Joined T) → is_resolved j ≡ true → length j.abandoned.items ≡ 0
+  nothing_left : (j : StoppedShard T) → is_resolved j ≡ true → length j.abandoned.items ≡ 0
   nothing_left j h = both_true (is_compared j.finished.ends) (length j.abandoned.items) h
     where
       both_true : (b : Bool) (n : ℕ) → (b && (n == 0)) ≡ true → n ≡ 0
       both_true true n e = grind (arith, nat_tests)
       both_true false n e = absurd (cc)
 
-  pub resolved_left : (js : List (Joined T)) → AreResolved js → length (abandoned_in js) ≡ 0
+  pub resolved_left : (js : List (StoppedShard T)) → AreResolved js → length (abandoned_in js) ≡ 0
   resolved_left [] h = refl
   resolved_left (j ∷ js) h =
       let one = nothing_left j (h zero j refl) in
@@ -128,7 +128,7 @@ module _ {T : Type 0} where
   room_begun s a b ended current none g ca cb =
       let e : length s.ended ≡ 0 = ap length ended in
       let c : length s.current ≡ 0 = ap length current in
-      let f : length (abandoned_in s.ended) ≡ 0 = ap (λ (js : List (Joined T)). length (abandoned_in js)) ended in
+      let f : length (abandoned_in s.ended) ≡ 0 = ap (λ (js : List (StoppedShard T)). length (abandoned_in js)) ended in
       let d : length s.current * window_of s.config ≡ 0 = ap (λ n. n * window_of s.config) c ∙ zero-mul (window_of s.config) in
       let x = g.0 in
       let y = g.1 in
@@ -201,7 +201,7 @@ module _ {T : Type 0} where
   pub room_first : (s : Shards T) (a : Lists T) (p n : ℕ) → IsRoomFor s a p n → vec_len a.parts + 1 ≤ vec_capacity a.parts
   room_first s a p n h = let w = h.shards_within in let l = h.no_parts in let c = h.parts_within in omega arith
 
-  pub room_all : (tells : T → Type 0) (seen : T → List Exchange) (is_for : ℕ → ℕ → T → Type 0) (s : Shards T) (a b : Lists T) (p n : ℕ) (js : List (Joined T)) → IsRoomFor s a p n → AreAll s js → AreWorked tells seen is_for js → AreSetUp s.config (map lane_of js)
+  pub room_all : (tells : T → Type 0) (seen : T → List Exchange) (is_for : ℕ → ℕ → T → Type 0) (s : Shards T) (a b : Lists T) (p n : ℕ) (js : List (StoppedShard T)) → IsRoomFor s a p n → AreAll s js → AreWorked tells seen is_for js → AreSetUp s.config (map lane_of js)
       → vec_len b.parts ≡ vec_len a.parts + 1 → vec_capacity b.parts ≡ vec_capacity a.parts → vec_len b.workers ≡ vec_len a.workers → vec_capacity b.workers ≡ vec_capacity a.workers
       → vec_len b.samples ≡ vec_len a.samples → vec_capacity b.samples ≡ vec_capacity a.samples → HasRoom b js
   room_all tells seen is_for s a b p n js h all worked setup la ca lb cb lc cc' =
@@ -218,10 +218,10 @@ module _ {T : Type 0} where
       (omega arith, omega arith, omega arith)
 
   -- for the samples of one shard there is room
-  pub room_one : (a : Lists T) (j : Joined T) → HasRoom a (j ∷ []) → vec_len a.samples + length j.abandoned.items ≤ vec_capacity a.samples
+  pub room_one : (a : Lists T) (j : StoppedShard T) → HasRoom a (j ∷ []) → vec_len a.samples + length j.abandoned.items ≤ vec_capacity a.samples
   room_one a j h = let one = length-append j.abandoned.items [] in let r = h.2 in omega arith
 
-  pub room_next : (a : Lists T) (j : Joined T) (js : List (Joined T)) → HasRoom a (j ∷ js) → HasRoom a (j ∷ [])
+  pub room_next : (a : Lists T) (j : StoppedShard T) (js : List (StoppedShard T)) → HasRoom a (j ∷ js) → HasRoom a (j ∷ [])
   room_next a j js h =
       let one = length-append j.abandoned.items [] in
       let all = length-append j.abandoned.items (abandoned_in js) in
@@ -231,7 +231,7 @@ module _ {T : Type 0} where
       (omega arith, omega arith, omega arith)
 
   -- one shard was listed
-  pub room_added : (a b : Lists T) (j : Joined T) (js : List (Joined T)) → HasRoom a (j ∷ js) → vec_len b.parts ≡ vec_len a.parts + 1 → vec_capacity b.parts ≡ vec_capacity a.parts → vec_len b.workers ≡ vec_len a.workers + 1
+  pub room_added : (a b : Lists T) (j : StoppedShard T) (js : List (StoppedShard T)) → HasRoom a (j ∷ js) → vec_len b.parts ≡ vec_len a.parts + 1 → vec_capacity b.parts ≡ vec_capacity a.parts → vec_len b.workers ≡ vec_len a.workers + 1
       → vec_capacity b.workers ≡ vec_capacity a.workers → vec_len b.samples ≡ vec_len a.samples + length j.abandoned.items → vec_capacity a.samples ≤ vec_capacity b.samples → HasRoom b js
   room_added a b j js h pl pc wl wc sl sc =
       let all = length-append j.abandoned.items (abandoned_in js) in
@@ -240,7 +240,7 @@ module _ {T : Type 0} where
       let s = h.2 in
       (omega arith, omega arith, omega arith)
 
-  map_append : {B : Type 0} (f : Joined T → B) (xs ys : List (Joined T)) → map f (xs ++ ys) ≡ map f xs ++ map f ys
+  map_append : {B : Type 0} (f : StoppedShard T → B) (xs ys : List (StoppedShard T)) → map f (xs ++ ys) ≡ map f xs ++ map f ys
   map_append f [] ys = refl
   map_append f (x ∷ xs) ys = ap (λ l. f x ∷ l) (map_append f xs ys)
 
@@ -248,7 +248,7 @@ module _ {T : Type 0} where
   lists_none a = (sym (append-nil a.parts.items), sym (append-nil a.workers.items), sym (append-nil a.samples.items))
 
   -- all is listed behind one part
-  pub listed_all : (tells : T → Type 0) (seen : T → List Exchange) (is_for : ℕ → ℕ → T → Type 0) (s : Shards T) (part : Named) (a b c : Lists T) (kind : Kind) (r : Bool) (js : List (Joined T)) → length a.parts.items ≡ 0 → length a.workers.items ≡ 0 → length a.samples.items ≡ 0
+  pub listed_all : (tells : T → Type 0) (seen : T → List Exchange) (is_for : ℕ → ℕ → T → Type 0) (s : Shards T) (part : Named) (a b c : Lists T) (kind : Kind) (r : Bool) (js : List (StoppedShard T)) → length a.parts.items ≡ 0 → length a.workers.items ≡ 0 → length a.samples.items ≡ 0
       → b.parts.items ≡ a.parts.items ++ part ∷ [] → b.workers.items ≡ a.workers.items → b.samples.items ≡ a.samples.items → ListsAfter b js c
       → AreAll s js → AreWorked tells seen is_for js → AreSetUp s.config (map lane_of js) → (r ≡ true → AreResolved js) → (is_hard kind ≡ false → r ≡ false → HasCut js) → EndBy kind s (map finished_of js) → HasListed tells seen is_for s part c kind r
   listed_all tells seen is_for s part a b c kind r js np nw ns bp bw bs after all worked setup resolved cut ended =
@@ -267,7 +267,7 @@ module _ {T : Type 0} where
       }
 
   -- what is listed, and then more
-  pub lists_more : (a b c : Lists T) (xs ys : List (Joined T)) → ListsAfter a xs b → ListsAfter b ys c → ListsAfter a (xs ++ ys) c
+  pub lists_more : (a b c : Lists T) (xs ys : List (StoppedShard T)) → ListsAfter a xs b → ListsAfter b ys c → ListsAfter a (xs ++ ys) c
   lists_more a b c xs ys h g = (
     g.0 ∙ ap (λ l. l ++ map part_of ys) h.0 ∙ append_assoc a.parts.items (map part_of xs) (map part_of ys) ∙ ap (λ l. a.parts.items ++ l) (sym (map_append part_of xs ys)),
     g.1 ∙ ap (λ l. l ++ map finished_of ys) h.1 ∙ append_assoc a.workers.items (map finished_of xs) (map finished_of ys) ∙ ap (λ l. a.workers.items ++ l) (sym (map_append finished_of xs ys)),

@@ -5,44 +5,44 @@ use Rattle.std.proofs.lemmas.List.Elements.{filter-append}
 use Rattle.std.proofs.lemmas.Bool.{eq-eqb, eqb-true}
 use Rattle.rw_worker.specs.Setups.{Setup}
 use Rattle.rw_shard_queue.specs.Items.{Placed, samples_in}
-use Rattle.rw_fleet.specs.Lanes.{Lane, AreSame, AreFresh, IsPut, put_as}
+use Rattle.rw_fleet.specs.ShardHistories.{ShardHistory, AreSame, AreFresh, IsPut, put_as}
 use Rattle.rw_router.specs.declared.sample.RoutedSample.{RoutedSample}
 use Rattle.rw_feeder.specs.Feeders.{sent_by}
 use Rattle.rw_feeder.specs.Logs.{Sent}
 use Rattle.rw_shipper.specs.Placement.{as_sent, put_in, shard_of, of_shard, IsKept, AreKept, IsDealt, Places, joined, IsPlacing, ArePlaced}
 
-pub same_length : (ps qs : List Lane) → AreSame ps qs → length qs ≡ length ps
+pub same_length : (ps qs : List ShardHistory) → AreSame ps qs → length qs ≡ length ps
 same_length [] [] h = refl
 same_length [] (y ∷ ys) h = absurd h
 same_length (x ∷ xs) [] h = absurd h
 same_length (x ∷ xs) (y ∷ ys) h = ap suc (same_length xs ys h.2)
 
-some_is : (a b : Lane) → Some a ≡ Some b → a ≡ b
+some_is : (a b : ShardHistory) → Some a ≡ Some b → a ≡ b
 some_is a b e = cc
 
-same_get : (ps qs : List Lane) (k : ℕ) (q : Lane) → AreSame ps qs → slice_get qs k ≡ Some q → (p : Lane) × (slice_get ps k ≡ Some p) × (q.setup ≡ p.setup) × (put_in q ≡ put_in p)
+same_get : (ps qs : List ShardHistory) (k : ℕ) (q : ShardHistory) → AreSame ps qs → slice_get qs k ≡ Some q → (p : ShardHistory) × (slice_get ps k ≡ Some p) × (q.setup ≡ p.setup) × (put_in q ≡ put_in p)
 same_get [] [] k q h e = absurd (let n : None ≡ Some q = e in cc)
 same_get [] (y ∷ ys) k q h e = absurd h
 same_get (x ∷ xs) [] k q h e = absurd h
 same_get (x ∷ xs) (y ∷ ys) zero q h e =
-    let is : y ≡ q = some_is y q e in (x, refl, ap (λ (f : Lane). f.setup) (sym is) ∙ h.0, ap (λ (f : Lane). put_in f) (sym is) ∙ ap (map as_sent) h.1)
+    let is : y ≡ q = some_is y q e in (x, refl, ap (λ (f : ShardHistory). f.setup) (sym is) ∙ h.0, ap (λ (f : ShardHistory). put_in f) (sym is) ∙ ap (map as_sent) h.1)
 same_get (x ∷ xs) (y ∷ ys) (suc k) q h e = same_get xs ys k q h.2 e
 
-pub same_self : (qs : List Lane) → AreSame qs qs
+pub same_self : (qs : List ShardHistory) → AreSame qs qs
 same_self [] = tt
 same_self (q ∷ qs) = (refl, refl, same_self qs)
 
-kept_one : (q : Lane) → IsKept q q
+kept_one : (q : ShardHistory) → IsKept q q
 kept_one q = (refl, [], sym (append-nil (samples_in q.put)))
 
-pub kept_self : (qs : List Lane) → AreKept qs qs
+pub kept_self : (qs : List ShardHistory) → AreKept qs qs
 kept_self [] = tt
 kept_self (q ∷ qs) = (kept_one q, kept_self qs)
 
-kept_both : (p q r : Lane) → IsKept p q → IsKept q r → IsKept p r
+kept_both : (p q r : ShardHistory) → IsKept p q → IsKept q r → IsKept p r
 kept_both p q r h g = (g.0 ∙ h.0, h.1 ++ g.1, g.2 ∙ ap (λ l. l ++ g.1) h.2 ∙ append_assoc (samples_in p.put) h.1 g.1)
 
-pub kept_on : (ps qs rs : List Lane) → AreKept ps qs → AreKept qs rs → AreKept ps rs
+pub kept_on : (ps qs rs : List ShardHistory) → AreKept ps qs → AreKept qs rs → AreKept ps rs
 kept_on [] [] rs h g = g
 kept_on [] (q ∷ qs) rs h g = absurd h
 kept_on (p ∷ ps) [] rs h g = absurd h
@@ -50,20 +50,20 @@ kept_on (p ∷ ps) (q ∷ qs) [] h g = absurd g
 kept_on (p ∷ ps) (q ∷ qs) (r ∷ rs) h g = (kept_both p q r h.0 g.0, kept_on ps qs rs h.1 g.1)
 
 -- one shard has more
-kept_set : (qs : List Lane) (k : ℕ) (was now : Lane) → slice_get qs k ≡ Some was → IsKept was now → AreKept qs (set qs k now)
+kept_set : (qs : List ShardHistory) (k : ℕ) (was now : ShardHistory) → slice_get qs k ≡ Some was → IsKept was now → AreKept qs (set qs k now)
 kept_set [] k was now at h = tt
 kept_set (q ∷ qs) zero was now at h = (subst (λ p. IsKept p now) (sym (some_is q was at)) h, kept_self qs)
 kept_set (q ∷ qs) (suc k) was now at h = (kept_one q, kept_set qs k was now at h)
 
-pub kept_put : (k : ℕ) (x : RoutedSample) (old new : List Lane) → IsPut k x old new → AreKept old new
+pub kept_put : (k : ℕ) (x : RoutedSample) (old new : List ShardHistory) → IsPut k x old new → AreKept old new
 kept_put k x old new put = subst (λ qs. AreKept old qs) (sym put.is) (kept_set old k put.was put.now put.at (put.setup, put_as put.was x ∷ [], put.put))
 
-same_nil : (ps qs : List Lane) → AreSame ps qs → qs ≡ [] → ps ≡ []
+same_nil : (ps qs : List ShardHistory) → AreSame ps qs → qs ≡ [] → ps ≡ []
 same_nil [] qs h e = refl
 same_nil (p ∷ ps) qs h e = absurd (subst (λ l. AreSame (p ∷ ps) l) e h)
 
 -- the same shards with the same samples
-dealt_same : (e : ℕ) (ps qs : List Lane) (s : List Sent) → IsDealt e ps s → AreSame ps qs → IsDealt e qs s
+dealt_same : (e : ℕ) (ps qs : List ShardHistory) (s : List Sent) → IsDealt e ps s → AreSame ps qs → IsDealt e qs s
 dealt_same e ps qs s d h = record {
   each = λ k q at.
       let p = same_get ps qs k q h at in
@@ -73,17 +73,17 @@ dealt_same e ps qs s d h = record {
 }
 
 -- one epoch more
-places_push : (e k : ℕ) (es : List (List Lane)) (qs : List Lane) (s t : List Sent) → Places e es s → k ≡ e + length es → IsDealt k qs t → Places e (es ++ qs ∷ []) (s ++ t)
+places_push : (e k : ℕ) (es : List (List ShardHistory)) (qs : List ShardHistory) (s t : List Sent) → Places e es s → k ≡ e + length es → IsDealt k qs t → Places e (es ++ qs ∷ []) (s ++ t)
 places_push e k [] qs s t h is d = (t, [], ap (λ l. l ++ t) h ∙ sym (append-nil t), subst (λ j. IsDealt j qs t) (is ∙ add-zero e) d, refl)
 places_push e k (x ∷ xs) qs s t h is d =
     (h.0, h.1 ++ t, ap (λ l. l ++ t) h.2 ∙ append_assoc h.0 h.1 t, h.3, places_push (suc e) k xs qs h.1 t h.4 (omega arith) d)
 
-joined_push : (es : List (List Lane)) (qs : List Lane) → joined (es ++ qs ∷ []) ≡ joined es ++ qs
+joined_push : (es : List (List ShardHistory)) (qs : List ShardHistory) → joined (es ++ qs ∷ []) ≡ joined es ++ qs
 joined_push [] qs = append-nil qs
 joined_push (x ∷ xs) qs = ap (λ l. x ++ l) (joined_push xs qs) ∙ sym (append_assoc x (joined xs) qs)
 
 -- all shards of the epoch ended
-pub placing_closed : (e more : ℕ) (ended current closed all : List Lane) (s : List Sent) → IsPlacing e ended current s → AreSame current closed → all ≡ ended ++ closed → more ≡ e + 1 → IsPlacing more all [] s
+pub placing_closed : (e more : ℕ) (ended current closed all : List ShardHistory) (s : List Sent) → IsPlacing e ended current s → AreSame current closed → all ≡ ended ++ closed → more ≡ e + 1 → IsPlacing more all [] s
 placing_closed e more ended current closed all s h same is next = record {
   epochs = h.epochs ++ closed ∷ [];
   ended_is = is ∙ ap (λ l. l ++ closed) h.ended_is ∙ sym (joined_push h.epochs closed);
@@ -96,12 +96,12 @@ placing_closed e more ended current closed all s h same is next = record {
 }
 
 -- no shard is at work: all have ended
-pub placing_whole : (e : ℕ) (ended : List Lane) (s : List Sent) → IsPlacing e ended [] s → ArePlaced ended s
+pub placing_whole : (e : ℕ) (ended : List ShardHistory) (s : List Sent) → IsPlacing e ended [] s → ArePlaced ended s
 placing_whole e ended s h =
     (h.epochs, h.ended_is, subst (Places 0 h.epochs) (sym (append-nil h.before) ∙ ap (λ l. h.before ++ l) (sym (h.dealt.none refl)) ∙ sym h.all) h.placed)
 
 -- the next epoch's shards, with nothing put
-pub placing_opened : (e : ℕ) (ended current : List Lane) (s : List Sent) → IsPlacing e ended [] s → AreFresh e current → IsPlacing e ended current s
+pub placing_opened : (e : ℕ) (ended current : List ShardHistory) (s : List Sent) → IsPlacing e ended [] s → AreFresh e current → IsPlacing e ended current s
 placing_opened e ended current s h new =
     let none = h.dealt.none refl in record {
       epochs = h.epochs;
@@ -152,7 +152,7 @@ suc_of : (m n : ℕ) → m ≡ n + 1 → m ≡ suc n
 suc_of m n e = omega arith
 
 -- one sample more, in its shard's queue
-pub dealt_put : (e k : ℕ) (qs : List Lane) (s : List Sent) (q q' : Lane) (x : Sent) → IsDealt e qs s → slice_get qs k ≡ Some q → k ≡ shard_of (length qs) x.series → q'.setup ≡ q.setup
+pub dealt_put : (e k : ℕ) (qs : List ShardHistory) (s : List Sent) (q q' : ShardHistory) (x : Sent) → IsDealt e qs s → slice_get qs k ≡ Some q → k ≡ shard_of (length qs) x.series → q'.setup ≡ q.setup
     → put_in q' ≡ put_in q ++ x ∷ [] → IsDealt e (set qs k q') (s ++ x ∷ [])
 dealt_put e k qs s q q' x d at here same put =
     let len = set_length qs k q' in record {
@@ -160,9 +160,9 @@ dealt_put e k qs s q q' x d at here same put =
         | inl h ↦
             let was = d.each k q at in
             let is = sym h.1 in (
-              ap (λ (f : Lane). f.setup.queue.epoch) is ∙ ap (λ (u : Setup). u.queue.epoch) same ∙ was.0,
-              ap (λ (f : Lane). f.setup.queue.shard) is ∙ ap (λ (u : Setup). u.queue.shard) same ∙ was.1 ∙ sym h.0,
-              ap (λ (f : Lane). put_in f) is ∙ put ∙ ap (λ l. l ++ x ∷ []) was.2 ∙ ap (λ i. of_shard (length qs) i s ++ x ∷ []) (sym h.0) ∙ sym (shard_mine (length qs) j s x (sym here ∙ sym h.0)) ∙ ap (λ m. of_shard m j (s ++ x ∷ [])) (sym len),
+              ap (λ (f : ShardHistory). f.setup.queue.epoch) is ∙ ap (λ (u : Setup). u.queue.epoch) same ∙ was.0,
+              ap (λ (f : ShardHistory). f.setup.queue.shard) is ∙ ap (λ (u : Setup). u.queue.shard) same ∙ was.1 ∙ sym h.0,
+              ap (λ (f : ShardHistory). put_in f) is ∙ put ∙ ap (λ l. l ++ x ∷ []) was.2 ∙ ap (λ i. of_shard (length qs) i s ++ x ∷ []) (sym h.0) ∙ sym (shard_mine (length qs) j s x (sym here ∙ sym h.0)) ∙ ap (λ m. of_shard m j (s ++ x ∷ [])) (sym len),
             )
         | inr h ↦
             let was = d.each j r h.1 in
@@ -176,7 +176,7 @@ map_push [] x = refl
 map_push (y ∷ ys) x = ap (λ l. as_sent y ∷ l) (map_push ys x)
 
 -- one sample more, which was put into the queue of its series' shard
-pub placing_put : (e k : ℕ) (ended qs after : List Lane) (s : List Sent) (x : RoutedSample) (sample : Sent) → IsPlacing e ended qs s → IsPut k x qs after → sample ≡ sent_by x
+pub placing_put : (e k : ℕ) (ended qs after : List ShardHistory) (s : List Sent) (x : RoutedSample) (sample : Sent) → IsPlacing e ended qs s → IsPut k x qs after → sample ≡ sent_by x
     → k ≡ shard_of (length qs) x.series → IsPlacing e ended after (s ++ sample ∷ [])
 placing_put e k ended qs after s x sample h put is here =
     let x' : Sent = sent_by x in
@@ -194,7 +194,7 @@ placing_put e k ended qs after s x sample h put is here =
     })
 
 -- the shards at work are the same, with the same samples
-pub placing_same : (e : ℕ) (ended qs after : List Lane) (s : List Sent) → IsPlacing e ended qs s → AreSame qs after → IsPlacing e ended after s
+pub placing_same : (e : ℕ) (ended qs after : List ShardHistory) (s : List Sent) → IsPlacing e ended qs s → AreSame qs after → IsPlacing e ended after s
 placing_same e ended qs after s h same = record {
   epochs = h.epochs;
   ended_is = h.ended_is;
@@ -207,7 +207,7 @@ placing_same e ended qs after s h same = record {
 }
 
 -- nothing was placed yet
-pub placing_begun : (ended current : List Lane) → ended ≡ [] → current ≡ [] → IsPlacing 0 ended current []
+pub placing_begun : (ended current : List ShardHistory) → ended ≡ [] → current ≡ [] → IsPlacing 0 ended current []
 placing_begun ended current a b = record {
   epochs = [];
   ended_is = a;

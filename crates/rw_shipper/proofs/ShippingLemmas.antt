@@ -9,12 +9,12 @@ use Rattle.rw_types.specs.declared.place.Place.{Place}
 use Rattle.rw_relabel.specs.declared.choice.Choice.{Choice}
 use Rattle.rw_shard_queue.specs.Items.{places_in}
 use Rattle.rw_shard_queue.specs.declared.item.Kind.TheVariants.{Reshard}
-use Rattle.rw_fleet.specs.Lanes.{Lane, AreFresh, AreSame, IsPut, marks_of}
+use Rattle.rw_fleet.specs.ShardHistories.{ShardHistory, AreFresh, AreSame, IsPut, marks_of}
 use Rattle.rw_fleet.specs.Work.{lane_of, finished_of, AreResolved, HasCut}
 use Rattle.rw_fleet.specs.declared.running.Fault.{Fault}
 use Rattle.rw_fleet.specs.Fleets.{Shards, AreAll, EndBy, HasClosed}
 use Rattle.rw_fleet.specs.declared.joined.Finished.{Finished}
-use Rattle.rw_fleet.specs.declared.joined.Joined.{Joined}
+use Rattle.rw_fleet.specs.declared.joined.StoppedShard.{StoppedShard}
 use Rattle.rw_router.specs.declared.sample.RoutedSample.{RoutedSample}
 use Rattle.rw_feeder.specs.Feeders.{Sorting, HasPlaced, HasRead, sent_by}
 use Rattle.rw_router.specs.Fates.{Fate, Drops, Filters, Sends, fate}
@@ -113,15 +113,15 @@ module _ {T : Type 0} where
     marks = refl;
   }
 
-marks_set : (qs : List Lane) (k : ℕ) (was now : Lane) → slice_get qs k ≡ Some was → marks_of now ≡ marks_of was → map marks_of (set qs k now) ≡ map marks_of qs
+marks_set : (qs : List ShardHistory) (k : ℕ) (was now : ShardHistory) → slice_get qs k ≡ Some was → marks_of now ≡ marks_of was → map marks_of (set qs k now) ≡ map marks_of qs
 marks_set [] k was now at same = refl
 marks_set (q ∷ qs) zero was now at same = ap (λ ms. ms ∷ map marks_of qs) (same ∙ ap marks_of (sym (some_is q was at)))
   where
-    some_is : (a b : Lane) → Some a ≡ Some b → a ≡ b
+    some_is : (a b : ShardHistory) → Some a ≡ Some b → a ≡ b
     some_is a b e = cc
 marks_set (q ∷ qs) (suc k) was now at same = ap (λ ms. marks_of q ∷ ms) (marks_set qs k was now at same)
 
-put_length : (k : ℕ) (l : RoutedSample) (old new : List Lane) → IsPut k l old new → length new ≡ length old
+put_length : (k : ℕ) (l : RoutedSample) (old new : List ShardHistory) → IsPut k l old new → length new ≡ length old
 put_length k l old new put = ap length put.is ∙ set_length old k put.now
 
 module _ {T : Type 0} where
@@ -151,17 +151,17 @@ sent_pos choice before (entry.Sample reference t word) x is = sent_fate_pos choi
 module _ {T : Type 0} where
   -- a sample stands behind all that were put before it
   pub stands_behind : (old : Sorting) (was : Shards T) (e : Entry) (l : RoutedSample) (j : ℕ) → PlacesAll old was → sent_of old.choice old.placed e ≡ sent_by l ∷ []
-      → (lane : Lane) (k : ℕ) (o : Place) → slice_get was.current j ≡ Some lane → slice_get (places_in lane.put) k ≡ Some o → o.pos < l.pos
+      → (lane : ShardHistory) (k : ℕ) (o : Place) → slice_get was.current j ≡ Some lane → slice_get (places_in lane.put) k ≡ Some o → o.pos < l.pos
   stands_behind old was e l j h is lane k o at there =
       subst (λ n. o.pos < n) (sent_pos old.choice old.placed e (sent_by l) is) (placing_below was.epoch (length old.placed) j (map lane_of was.ended) was.current old.choice old.placed lane h refl at k o there)
 
 module _ {T : Type 0} where
   -- all shards at work have ended
-  pub places_closed : (log : Sorting) (was : Shards T) (more : ℕ) (all : List (Joined T)) → PlacesAll log was → AreAll was all → more ≡ was.epoch + 1 → IsPlacing more (map lane_of all) [] (sent log.choice log.placed)
+  pub places_closed : (log : Sorting) (was : Shards T) (more : ℕ) (all : List (StoppedShard T)) → PlacesAll log was → AreAll was all → more ≡ was.epoch + 1 → IsPlacing more (map lane_of all) [] (sent log.choice log.placed)
   places_closed log was more all h ended next =
       placing_closed was.epoch more (map lane_of was.ended) was.current (map lane_of ended.0) (map lane_of all) (sent log.choice log.placed) h ended.2 (ap (map lane_of) ended.1 ∙ lanes_append was.ended ended.0) next
 
-  pub places_whole : (log : Sorting) (was : Shards T) (all : List (Joined T)) → PlacesAll log was → AreAll was all → ArePlaced (map lane_of all) (sent log.choice log.placed)
+  pub places_whole : (log : Sorting) (was : Shards T) (all : List (StoppedShard T)) → PlacesAll log was → AreAll was all → ArePlaced (map lane_of all) (sent log.choice log.placed)
   places_whole log was all h ended = placing_whole (was.epoch + 1) (map lane_of all) (sent log.choice log.placed) (places_closed log was (was.epoch + 1) all h ended refl)
 
   pub places_shut : (log : Sorting) (was closed : Shards T) → PlacesAll log was → HasClosed was closed → PlacesAll log closed
@@ -235,18 +235,18 @@ module _ {T : Type 0} where
   pub compared_open : (was shut now : Shards T) → HasClosed was shut → now ≡ record shut { current = now.current } → AreResolved shut.ended → HasCompared was now
   compared_open was shut now h is resolved =
       let ended : now.ended ≡ shut.ended = ap (λ (s : Shards T). s.ended) is in
-      (subst (λ js. AreAll was js) (sym ended) h.3, subst (λ (js : List (Joined T)). EndBy Reshard was (map finished_of js)) (sym ended) h.4, inr (subst (λ (js : List (Joined T)). AreResolved js) (sym ended) resolved))
+      (subst (λ js. AreAll was js) (sym ended) h.3, subst (λ (js : List (StoppedShard T)). EndBy Reshard was (map finished_of js)) (sym ended) h.4, inr (subst (λ (js : List (StoppedShard T)). AreResolved js) (sym ended) resolved))
 
-  abandons : (s : Shipping T) (js : List (Joined T)) (placed : ℕ) (samples : List ℕ) (o : Outcome) → IsAbandonedAt placed samples o → placed ≡ length s.log.placed → samples ≡ abandoned_in js → Ends s js o
+  abandons : (s : Shipping T) (js : List (StoppedShard T)) (placed : ℕ) (samples : List ℕ) (o : Outcome) → IsAbandonedAt placed samples o → placed ≡ length s.log.placed → samples ≡ abandoned_in js → Ends s js o
   abandons s js placed samples (outcome.Complete end) h a b = absurd h
   abandons s js placed samples (outcome.Abandoned p l) h a b = (h.0 ∙ a, h.1 ∙ b)
   abandons s js placed samples (outcome.Damaged f) h a b = absurd h
 
-  ends_whole : (s : Shipping T) (js : List (Joined T)) (placed : ℕ) (damage : Option TailFault) → placed ≡ length s.log.placed → HasRead s.log.pieces s.log.placed damage → AreResolved js → Ends s js (end_of placed damage)
+  ends_whole : (s : Shipping T) (js : List (StoppedShard T)) (placed : ℕ) (damage : Option TailFault) → placed ≡ length s.log.placed → HasRead s.log.pieces s.log.placed damage → AreResolved js → Ends s js (end_of placed damage)
   ends_whole s js placed None a read resolved = (a, read, resolved)
   ends_whole s js placed (Some f) a read resolved = (read, resolved)
 
-  pub ends_so : (s : Shipping T) (js : List (Joined T)) (is_hard is_resolved : Bool) (placed : ℕ) (damage : Option TailFault) (samples : List ℕ) (o : Outcome) → placed ≡ length s.log.placed → samples ≡ abandoned_in js
+  pub ends_so : (s : Shipping T) (js : List (StoppedShard T)) (is_hard is_resolved : Bool) (placed : ℕ) (damage : Option TailFault) (samples : List ℕ) (o : Outcome) → placed ≡ length s.log.placed → samples ≡ abandoned_in js
       → (is_resolved ≡ true → AreResolved js) → (is_hard ≡ false → HasRead s.log.pieces s.log.placed damage)
       → (is_hard ≡ true → IsAbandonedAt placed samples o) → (is_resolved ≡ false → IsAbandonedAt placed samples o) → (is_hard ≡ false → is_resolved ≡ true → o ≡ end_of placed damage) → Ends s js o
   ends_so s js true is_resolved placed damage samples o a b resolved read hard apart whole = abandons s js placed samples o (hard refl) a b
@@ -272,16 +272,16 @@ ends_apart placed None h = h
 ends_apart placed (Some f) h = h
 
 module _ {T : Type 0} where
-  joined_is : (a b : Joined T) → Some a ≡ Some b → a ≡ b
+  joined_is : (a b : StoppedShard T) → Some a ≡ Some b → a ≡ b
   joined_is a b e = cc
 
-  at_finished : (js : List (Joined T)) (k : ℕ) (j : Joined T) → slice_get js k ≡ Some j → slice_get (map finished_of js) k ≡ Some j.finished
+  at_finished : (js : List (StoppedShard T)) (k : ℕ) (j : StoppedShard T) → slice_get js k ≡ Some j → slice_get (map finished_of js) k ≡ Some j.finished
   at_finished [] k j at = absurd (let at' : None ≡ Some j = at in cc)
-  at_finished (x ∷ xs) zero j at = ap (λ (y : Joined T). Some y.finished) (joined_is x j at)
+  at_finished (x ∷ xs) zero j at = ap (λ (y : StoppedShard T). Some y.finished) (joined_is x j at)
   at_finished (x ∷ xs) (suc k) j at = at_finished xs k j at
 
   -- the work that was to end with all, and was abandoned, has a queue that was cut
-  pub lists_cut : (js : List (Joined T)) (fs : List (Finished T)) (resolved : Bool) (placed : ℕ) (damage : Option TailFault) (o : Outcome) → fs ≡ map finished_of js → (resolved ≡ false → HasCut js) → (resolved ≡ true → o ≡ end_of placed damage)
+  pub lists_cut : (js : List (StoppedShard T)) (fs : List (Finished T)) (resolved : Bool) (placed : ℕ) (damage : Option TailFault) (o : Outcome) → fs ≡ map finished_of js → (resolved ≡ false → HasCut js) → (resolved ≡ true → o ≡ end_of placed damage)
       → IsAbandoned o → ListsCut fs
   lists_cut js fs true placed damage o is cut whole left = absurd (ends_apart placed damage (subst IsAbandoned (whole refl) left))
   lists_cut js fs false placed damage o is cut whole left =

@@ -5,7 +5,7 @@ use Rattle.std.proofs.lemmas.Bool.{eq-eqb, eqb-true}
 use Rattle.rw_types.specs.declared.entry.Entry.{Entry}
 use Rattle.rw_types.specs.declared.entry.Entry.TheVariants as entry
 use Rattle.rw_relabel.specs.declared.choice.Choice.{Choice}
-use Rattle.rw_fleet.specs.Lanes.{Lane}
+use Rattle.rw_fleet.specs.ShardHistories.{ShardHistory}
 use Rattle.rw_router.specs.Fates.{Fate, Drops, Filters, Sends, fate}
 use Rattle.rw_feeder.specs.Logs.{Sent, gather_from, sent_by_fate, sent_of, sent}
 use Rattle.rw_shipper.specs.Placement.{put_in, shard_of, IsDealt, Places, joined, ArePlaced}
@@ -104,16 +104,16 @@ rise_same (z ∷ zs) x y r (inl a) (inr g) e = let lt = above_one z.pos y zs r.0
 rise_same (z ∷ zs) x y r (inr h) (inl b) e = let lt = above_one z.pos x zs r.0 h in let is : y.pos ≡ z.pos = ap (λ (w : Sent). w.pos) b in absurd (omega arith)
 rise_same (z ∷ zs) x y r (inr h) (inr g) e = rise_same zs x y r.1 h g e
 
-lane_at : (xs : List Lane) (k : ℕ) → k < length xs → (l : Lane) × (slice_get xs k ≡ Some l)
+lane_at : (xs : List ShardHistory) (k : ℕ) → k < length xs → (l : ShardHistory) × (slice_get xs k ≡ Some l)
 lane_at [] k lt = absurd (omega arith)
 lane_at (x ∷ xs) zero lt = (x, refl)
 lane_at (x ∷ xs) (suc k) lt = lane_at xs k (omega arith)
 
-lanes_is : (a b : List Lane) → Some a ≡ Some b → a ≡ b
+lanes_is : (a b : List ShardHistory) → Some a ≡ Some b → a ≡ b
 lanes_is a b e = cc
 
 -- what the shards of one epoch were put, out of all
-record HasPart (e : ℕ) (lanes : List Lane) (samples : List Sent) : Type 0 where
+record HasPart (e : ℕ) (lanes : List ShardHistory) (samples : List Sent) : Type 0 where
   number : ℕ
   number_is : number ≡ e
   part : List Sent
@@ -121,7 +121,7 @@ record HasPart (e : ℕ) (lanes : List Lane) (samples : List Sent) : Type 0 wher
   among : (x : Sent) → IsOneOf x part → IsOneOf x samples
   rises : Rise samples → Rise part
 
-part_of : (b e : ℕ) (es : List (List Lane)) (lanes : List Lane) (samples : List Sent) → Places b es samples → slice_get es e ≡ Some lanes → HasPart (b + e) lanes samples
+part_of : (b e : ℕ) (es : List (List ShardHistory)) (lanes : List ShardHistory) (samples : List Sent) → Places b es samples → slice_get es e ≡ Some lanes → HasPart (b + e) lanes samples
 part_of b e [] lanes samples h at = absurd (let at' : None ≡ Some lanes = at in cc)
 part_of b zero (x ∷ xs) lanes samples h at = record {
   number = b;
@@ -143,14 +143,14 @@ part_of b (suc e) (x ∷ xs) lanes samples h at =
     }
 
 -- a sample of an epoch stands in the shard of its series
-dealt_one : (n : ℕ) (lanes : List Lane) (part : List Sent) (x : Sent) → IsDealt n lanes part → IsOneOf x part → (k : ℕ) × (l : Lane) × (slice_get lanes k ≡ Some l) × IsOneOf x (put_in l)
+dealt_one : (n : ℕ) (lanes : List ShardHistory) (part : List Sent) (x : Sent) → IsDealt n lanes part → IsOneOf x part → (k : ℕ) × (l : ShardHistory) × (slice_get lanes k ≡ Some l) × IsOneOf x (put_in l)
 dealt_one n [] part x d one = absurd (subst (IsOneOf x) (d.none refl) one)
 dealt_one n (a ∷ ls) part x d one =
     let k = shard_of (length (a ∷ ls)) x.series in
     let at = lane_at (a ∷ ls) k (omega arith) in
     (k, at.0, at.1, subst (IsOneOf x) (sym (d.each k at.0 at.1).2) (one_passes (λ s. shard_of (length (a ∷ ls)) s.series == k) x part one (eq-eqb k k refl)))
 
-each_one : (b : ℕ) (es : List (List Lane)) (samples : List Sent) (x : Sent) → Places b es samples → IsOneOf x samples → (e : ℕ) × (k : ℕ) × (lanes : List Lane) × (l : Lane) × IsShard es e k lanes l × IsOneOf x (put_in l)
+each_one : (b : ℕ) (es : List (List ShardHistory)) (samples : List Sent) (x : Sent) → Places b es samples → IsOneOf x samples → (e : ℕ) × (k : ℕ) × (lanes : List ShardHistory) × (l : ShardHistory) × IsShard es e k lanes l × IsOneOf x (put_in l)
 each_one b [] samples x h one = absurd (subst (IsOneOf x) h one)
 each_one b (y ∷ ys) samples x h one = elim (one_append x h.0 h.1 (subst (IsOneOf x) h.2 one)) [
   | inl a ↦ (let d = dealt_one b y h.0 x h.3 a in (0, d.0, y, d.1, (refl, d.2), d.3))
@@ -158,12 +158,12 @@ each_one b (y ∷ ys) samples x h one = elim (one_append x h.0 h.1 (subst (IsOne
 ]
 
 -- what stands in a shard is of its epoch, and of its series
-shard_one : (n k : ℕ) (lanes : List Lane) (part : List Sent) (l : Lane) (x : Sent) → IsDealt n lanes part → slice_get lanes k ≡ Some l → IsOneOf x (put_in l) → IsOneOf x part × (k ≡ shard_of (length lanes) x.series)
+shard_one : (n k : ℕ) (lanes : List ShardHistory) (part : List Sent) (l : ShardHistory) (x : Sent) → IsDealt n lanes part → slice_get lanes k ≡ Some l → IsOneOf x (put_in l) → IsOneOf x part × (k ≡ shard_of (length lanes) x.series)
 shard_one n k lanes part l x d at one =
     let f = one_filter (λ s. shard_of (length lanes) s.series == k) x part (subst (IsOneOf x) (d.each k l at).2 one) in
     (f.0, sym (eqb-true (shard_of (length lanes) x.series) k f.1))
 
-later_one : (b e f j k : ℕ) (es : List (List Lane)) (samples : List Sent) (lanes others : List Lane) (l m : Lane) (x y : Sent) → Places b es samples → Rise samples
+later_one : (b e f j k : ℕ) (es : List (List ShardHistory)) (samples : List Sent) (lanes others : List ShardHistory) (l m : ShardHistory) (x y : Sent) → Places b es samples → Rise samples
     → IsShard es e j lanes l → IsShard es f k others m → IsOneOf x (put_in l) → IsOneOf y (put_in m) → e < f → x.pos < y.pos
 later_one b e f j k [] samples lanes others l m x y h r s t one two lt = absurd (let at : None ≡ Some lanes = s.0 in cc)
 later_one b e zero j k (z ∷ zs) samples lanes others l m x y h r s t one two lt = absurd (omega arith)
@@ -174,7 +174,7 @@ later_one b zero (suc f) j k (z ∷ zs) samples lanes others l m x y h r s t one
 later_one b (suc e) (suc f) j k (z ∷ zs) samples lanes others l m x y h r s t one two lt =
     later_one (suc b) e f j k zs h.1 lanes others l m x y h.4 (rise_right h.0 h.1 (subst Rise h.2 r)) s t one two (omega arith)
 
-pub spread_of : (es : List (List Lane)) (samples : List Sent) → Places 0 es samples → Rise samples → IsSpread es samples
+pub spread_of : (es : List (List ShardHistory)) (samples : List Sent) → Places 0 es samples → Rise samples → IsSpread es samples
 spread_of es samples h r = record {
   numbered = λ e k lanes l s. let p = part_of 0 e es lanes samples h s.0 in let q = p.dealt.each k l s.1 in (q.0 ∙ p.number_is ∙ zero-add e, q.1);
   rises = λ e k lanes l s. let p = part_of 0 e es lanes samples h s.0 in subst Rise (sym (p.dealt.each k l s.1).2) (rise_filter (λ x. shard_of (length lanes) x.series == k) p.part (p.rises r));
@@ -227,5 +227,5 @@ from_rise choice before (e ∷ es) =
     let r = from_rise choice (before ++ e ∷ []) es in
     at_rise (length before) (length (before ++ e ∷ [])) (sent_of choice before e) (gather_from (sent_of choice) (before ++ e ∷ []) es) (at_of choice before e) (length-append before (e ∷ [])) r.1 r.0
 
-pub placed_spread : (lanes : List Lane) (choice : Choice) (es : List Entry) → ArePlaced lanes (sent choice es) → (epochs : List (List Lane)) × (lanes ≡ joined epochs) × IsSpread epochs (sent choice es)
+pub placed_spread : (lanes : List ShardHistory) (choice : Choice) (es : List Entry) → ArePlaced lanes (sent choice es) → (epochs : List (List ShardHistory)) × (lanes ≡ joined epochs) × IsSpread epochs (sent choice es)
 placed_spread lanes choice es h = (h.0, h.1, spread_of h.0 (sent choice es) h.2 (from_rise choice [] es).0)

@@ -5,27 +5,27 @@ use Rattle.rw_ledger.specs.Names.{Named}
 use Rattle.rw_sender.specs.declared.outcome.Outcome.{Outcome}
 use Rattle.rw_sender.specs.declared.outcome.Outcome.TheVariants.{Complete, Abandoned, Damaged}
 use Rattle.rw_worker.specs.Transcript.{Exchange}
-use Rattle.rw_fleet.specs.Lanes.{AreSetUp}
+use Rattle.rw_fleet.specs.ShardHistories.{AreSetUp}
 use Rattle.rw_shard_queue.specs.declared.item.Kind.{Kind}
 use Rattle.rw_shard_queue.specs.declared.item.Kind.TheVariants.{Orderly, Hard}
 use Rattle.rw_worker.specs.Report.{is_hard}
 use Rattle.rw_fleet.specs.Work.{lane_of, finished_of, AreResolved, AreWorked, IsCut, HasCut}
 use Rattle.rw_fleet.specs.Fleets.{Shards, AreAll, EndBy}
 use Rattle.rw_fleet.specs.Loads.{window_of}
-use Rattle.rw_fleet.specs.declared.joined.Joined.{Joined}
+use Rattle.rw_fleet.specs.declared.joined.StoppedShard.{StoppedShard}
 use Rattle.rw_fleet.specs.declared.joined.Finished.{Finished}
 use Rattle.rw_shipper.specs.declared.lists.Lists.{Lists}
 
-abbrev pub part_of : {T : Type 0} → Joined T → Named
+abbrev pub part_of : {T : Type 0} → StoppedShard T → Named
 part_of j = j.part
 
 -- the positions of the samples that shards were put and that are not resolved
-abbrev pub abandoned_in : {T : Type 0} → List (Joined T) → List ℕ
+abbrev pub abandoned_in : {T : Type 0} → List (StoppedShard T) → List ℕ
 abandoned_in [] = []
 abandoned_in (j ∷ js) = j.abandoned.items ++ abandoned_in js
 
 -- there is room for what these shards list
-abbrev pub HasRoom : {T : Type 0} → Lists T → List (Joined T) → Type 0
+abbrev pub HasRoom : {T : Type 0} → Lists T → List (StoppedShard T) → Type 0
 HasRoom lists js = (vec_len lists.parts + length js ≤ vec_capacity lists.parts) × (vec_len lists.workers + length js ≤ vec_capacity lists.workers) × (vec_len lists.samples + length (abandoned_in js) ≤ vec_capacity lists.samples)
 
 -- there may be more room
@@ -35,7 +35,7 @@ IsGrown old new =
     × (vec_capacity old.parts ≤ vec_capacity new.parts) × (vec_capacity old.workers ≤ vec_capacity new.workers) × (vec_capacity old.samples ≤ vec_capacity new.samples)
 
 -- these shards are listed behind what stood there
-abbrev pub ListsAfter : {T : Type 0} → Lists T → List (Joined T) → Lists T → Type 0
+abbrev pub ListsAfter : {T : Type 0} → Lists T → List (StoppedShard T) → Lists T → Type 0
 ListsAfter old js new = (new.parts.items ≡ old.parts.items ++ map part_of js) × (new.workers.items ≡ old.workers.items ++ map finished_of js) × (new.samples.items ≡ old.samples.items ++ abandoned_in js)
 
 -- nothing is listed, and there is room for the shards, one part more, and all samples that are not resolved
@@ -51,7 +51,7 @@ pub record IsRoomFor {T : Type 0} (s : Shards T) (lists : Lists T) (parts sample
 
 -- All shards have ended, those at work by this End, and are listed behind one part more.
 pub record HasListed {T : Type 0} (tells : T → Type 0) (seen : T → List Exchange) (is_for : ℕ → ℕ → T → Type 0) (s : Shards T) (part : Named) (lists : Lists T) (kind : Kind) (resolved : Bool) : Type 0 where
-  pub joined : List (Joined T)
+  pub joined : List (StoppedShard T)
   pub all : AreAll s joined
   pub worked : AreWorked tells seen is_for joined
   pub setup : AreSetUp s.config (map lane_of joined)

@@ -1,7 +1,7 @@
 -- What contracts see of a shipper.
 use Rattle.std.specs.Prelude.{◌≡◌, ◌⊎◌, ◌<◌, List, [], ◌∷◌, ◌++◌, length, map, Option, Some, None, Result, Ok, Err, ⊤, ℕ}
 use Rattle.rw_worker.specs.Transcript.{Exchange}
-use Rattle.rw_fleet.specs.Lanes.{AreSetUp, marks_of}
+use Rattle.rw_fleet.specs.ShardHistories.{AreSetUp, marks_of}
 use Rattle.rw_shard_queue.specs.declared.item.Kind.TheVariants.{Reshard}
 use Rattle.rw_fleet.specs.Work.{lane_of, finished_of, AreResolved, AreWorked}
 use Rattle.rw_fleet.specs.Fleets.{Shards, AreAll, EndBy}
@@ -13,7 +13,7 @@ use Rattle.rw_codes.specs.declared.tail_fault.TailFault.{TailFault}
 use Rattle.rw_ledger.specs.Names.{Named}
 use Rattle.rw_sender.specs.declared.outcome.Outcome.{Outcome}
 use Rattle.rw_sender.specs.declared.outcome.Outcome.TheVariants as outcome
-use Rattle.rw_fleet.specs.declared.joined.Joined.{Joined}
+use Rattle.rw_fleet.specs.declared.joined.StoppedShard.{StoppedShard}
 use Rattle.rw_feeder.specs.Feeders.{Sorting, HasRead}
 use Rattle.rw_feeder.specs.Logs.{sent, named, dropped, filtered}
 use Rattle.rw_shipper.specs.Placement.{IsPlacing, ArePlaced, AreKept}
@@ -90,14 +90,14 @@ Joins old new piece (Err Gone) = new.pieces ≡ old.pieces ++ piece ∷ []
 Joins old new piece (Err OutOfMemory) = (new.pieces ≡ old.pieces) ⊎ (new.pieces ≡ old.pieces ++ piece ∷ [])
 
 -- how the work has ended: all is resolved, or these samples are not
-abbrev pub Ends : {T : Type 0} → Shipping T → List (Joined T) → Outcome → Type 0
+abbrev pub Ends : {T : Type 0} → Shipping T → List (StoppedShard T) → Outcome → Type 0
 Ends s js (outcome.Complete end) = (end ≡ length s.log.placed) × HasRead s.log.pieces s.log.placed None × AreResolved js
 Ends s js (outcome.Damaged f) = HasRead s.log.pieces s.log.placed (Some f) × AreResolved js
 Ends s js (outcome.Abandoned placed samples) = (placed ≡ length s.log.placed) × (samples.items ≡ abandoned_in js)
 
 -- The shards of all epochs were put the samples of the entries placed, and did what their workers report; the other samples are named, or counted.
 pub record HasStopped {T : Type 0} (tells : T → Type 0) (seen : T → List Exchange) (is_for : ℕ → ℕ → T → Type 0) (s : Shipping T) (r : Report T) : Type 0 where
-  pub joined : List (Joined T)
+  pub joined : List (StoppedShard T)
   pub own : Named
   pub workers : r.workers.items ≡ map finished_of joined
   pub parts : r.parts.items ≡ own ∷ map part_of joined

@@ -3,14 +3,14 @@
 ghost use Rattle.std.specs.Prelude.{◌≡◌, ◌+◌, ◌<◌, ◌≤◌, ◌^◌, ℕ, [], length, map, IfOk, OnOk, OnErr, Some, Err, true, false, slice_get};
 ghost use Rattle.rw_types.specs.declared.place.Place.{Place};
 ghost use Rattle.rw_shard_queue.specs.Items.{places_in};
-ghost use Rattle.rw_fleet.specs.Lanes.{Lane, AreFresh, AreSame, IsPut, IsUsedUp, marked};
+ghost use Rattle.rw_fleet.specs.ShardHistories.{ShardHistory, AreFresh, AreSame, IsPut, IsUsedUp, marked};
 ghost use Rattle.rw_fleet.specs.Work.{AreResolved, HasCut};
 ghost use Rattle.rw_fleet.specs.Fleets.{HasClosed};
 ghost use Rattle.rw_fleet.specs.Loads.{IsLoad};
 ghost use Rattle.rw_shipper.specs.Reports.{HasListed};
 
 use crate::lists::{Lists, list_all};
-use rw_fleet::{Connect, Fault, Fleet, Load};
+use rw_fleet::{Connect, Fault, Load, ShardSet};
 use rw_ledger::Ledger;
 use rw_router::RoutedSample;
 use rw_sender::Config;
@@ -22,7 +22,7 @@ use std::thread::Threads;
 
 /// A fleet that always has room for the lists of its report, and has to be finished. Contracts see the fleet.
 pub(crate) struct ListedFleet<C: Connect + Drop> {
-    fleet: Fleet<C>,
+    fleet: ShardSet<C>,
     /// They are empty until the fleet is finished.
     lists: Lists<C::T>,
     /// For how many parts there is room.
@@ -57,7 +57,7 @@ impl<C: Connect + Drop> ListedFleet<C> {
     {
         let mut lists = Lists::new(alloc);
         lists.reserve_shards(1)?;
-        let fleet = Fleet::new(alloc, config, connect)?;
+        let fleet = ShardSet::new(alloc, config, connect)?;
         Ok(ListedFleet {
             fleet,
             lists,
@@ -124,7 +124,7 @@ impl<C: Connect + Drop> ListedFleet<C> {
         sample: RoutedSample,
     ) -> Result<(), Fault>
         requires within { shard < length self.old.current }
-        requires later { (lane : Lane) (k : ℕ) (o : Place) → slice_get self.old.current shard ≡ Some lane
+        requires later { (lane : ShardHistory) (k : ℕ) (o : Place) → slice_get self.old.current shard ≡ Some lane
             → slice_get (places_in lane.put) k ≡ Some o → o.pos < sample.pos }
         ensures rest { self.new ≡ record self.old { current = self.new.current } }
         ensures ok { OnOk result (IsPut shard sample self.old.current self.new.current) }

@@ -3,7 +3,7 @@
 ghost use Rattle.std.specs.Prelude.{◌≡◌, ◌+◌, ◌≤◌, List, ◌∷◌, [], OnOk, vec_len, vec_capacity};
 ghost use Rattle.rw_shipper.specs.Reports.{HasRoom, IsGrown, ListsAfter};
 
-use rw_fleet::{Finished, Joined};
+use rw_fleet::{Finished, StoppedShard};
 use rw_ledger::Ledger;
 use rw_worker::Transport;
 use std::alloc::{AllocError, Global};
@@ -47,7 +47,7 @@ impl<T: Transport + Drop> Lists<T> {
     }
 
     /// Lists one shard more, for which there is room.
-    fn add(&mut self, shard: Joined<T>)
+    fn add(&mut self, shard: StoppedShard<T>)
         requires { HasRoom self.old (shard ∷ []) }
         ensures listed { ListsAfter self.old (shard ∷ []) self.new }
         ensures room { (js : List _) → HasRoom self.old (shard ∷ js) → HasRoom self.new js }
@@ -55,14 +55,17 @@ impl<T: Transport + Drop> Lists<T> {
         self.samples
             .extend_from_slice(shard.abandoned.as_slice())
             .unwrap();
-        let Joined { part, finished, .. } = shard;
+        let StoppedShard { part, finished, .. } = shard;
         self.parts.push_reserved(part);
         self.workers.push_reserved(finished);
     }
 }
 
 /// Lists these shards, for which there is room.
-pub(crate) fn list_all<T: Transport + Drop>(joined: Vec<Joined<T>>, mut lists: Lists<T>) -> Lists<T>
+pub(crate) fn list_all<T: Transport + Drop>(
+    joined: Vec<StoppedShard<T>>,
+    mut lists: Lists<T>,
+) -> Lists<T>
     requires { HasRoom lists joined.items }
     ensures { ListsAfter lists joined.items result }
 {

@@ -2,7 +2,7 @@
 
 ghost use Rattle.std.specs.Prelude.{◌≡◌, ◌⊎◌, List, true, false, ◌+◌, ◌≤◌, ◌<◌, [], ◌∷◌, ◌++◌, length, map, None, Some, Err, IfOk, IfErr, IfSome, OnOk, is_some};
 ghost use Rattle.rw_wal_tail.specs.Fed.{piece_of};
-ghost use Rattle.rw_fleet.specs.Lanes.{AreFresh, AreSame, marked, marks_of};
+ghost use Rattle.rw_fleet.specs.ShardHistories.{AreFresh, AreSame, marked, marks_of};
 ghost use Rattle.rw_fleet.specs.Work.{AreResolved, HasCut};
 ghost use Rattle.rw_fleet.specs.Fleets.{EndBy};
 ghost use Rattle.rw_fleet.specs.Loads.{IsLoad};

@@ -24,7 +24,7 @@ impl<const LOW: u64, const HIGH: u64> Model for Bounded<LOW, HIGH> {
 
 impl<const LOW: u64, const HIGH: u64> Bounded<LOW, HIGH> {
     /// The number as a `Bounded`; `None` where it is outside the range.
-    pub fn new(number: u64) -> Option<Self>
+    pub fn try_new(number: u64) -> Option<Self>
         ensures { result ≡ (if nat_le LOW number && nat_le number HIGH then Some number else None) }
     {
         if LOW <= number && number <= HIGH {
@@ -35,7 +35,7 @@ impl<const LOW: u64, const HIGH: u64> Bounded<LOW, HIGH> {
     }
 
     /// The number as a `Bounded`, for a caller who knows that it is in the range.
-    pub fn of(number: u64) -> Self
+    pub fn new(number: u64) -> Self
         requires low { LOW ≤ number }
         requires high { number ≤ HIGH }
         ensures { result ≡ number }

@@ -314,14 +314,14 @@ pub fn bad_address<'a>(words: &ArgMatches<'a>) -> Option<(&'static str, &'a str)
 /// What the options of `receive` ask for.
 fn receive_task<'a>(settings: SettingsFile<'a>, options: &ArgMatches<'a>) -> Option<Task<'a>> {
     let listen = read_address(options.get_str("listen")?)?;
-    let idle_ms = Bounded::new(options.get_one::<u32>("idle-ms")? as u64)?;
+    let idle_ms = Bounded::try_new(options.get_one::<u32>("idle-ms")? as u64)?;
     let until = if options.get_flag("until-eof") {
         match options.get_str("stop-file") {
             Some(file) => Until::FileIs(file),
             None => Until::InputEnds,
         }
     } else {
-        Until::Connections(Bounded::new(options.get_one::<u16>("connections")? as u64)?)
+        Until::Connections(Bounded::try_new(options.get_one::<u16>("connections")? as u64)?)
     };
     let Some(reporting) = reporting_of(options) else {
         return None;
@@ -348,7 +348,7 @@ fn task_named<'a>(name: &str, options: &ArgMatches<'a>) -> Option<Task<'a>> {
         b"body" => Some(Task::Body { hex }),
         b"log" => Some(Task::Log {
             hex,
-            pages: Bounded::new(options.get_one::<u16>("pages")? as u64)?,
+            pages: Bounded::try_new(options.get_one::<u16>("pages")? as u64)?,
             dir: options.get_str("dir"),
         }),
         b"plan" => Some(Task::Plan { settings, hex }),

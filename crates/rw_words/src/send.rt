@@ -103,9 +103,9 @@ pub(crate) fn send_task<'a>(
 ) -> Option<Task<'a>> {
     let dir = options.get_str("dir")?;
     let to = read_address(options.get_str("to")?)?;
-    let poll_ms = Bounded::new(options.get_one::<u32>("poll-ms")? as u64)?;
-    let flush_ms = Bounded::new(options.get_one::<u32>("flush-ms")? as u64)?;
-    let reshard_ms = Bounded::new(options.get_one::<u32>("reshard-ms")? as u64)?;
+    let poll_ms = Bounded::try_new(options.get_one::<u32>("poll-ms")? as u64)?;
+    let flush_ms = Bounded::try_new(options.get_one::<u32>("flush-ms")? as u64)?;
+    let reshard_ms = Bounded::try_new(options.get_one::<u32>("reshard-ms")? as u64)?;
     let reading = if options.get_flag("follow") {
         Reading::Follow(Following {
             stop_file: options.get_str("stop-file"),

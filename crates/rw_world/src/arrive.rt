@@ -77,7 +77,7 @@ impl Engine {
         match how {
             How::Plain => self.judge(k),
             How::Busy => self.turn_away(k, StatusCode::TOO_MANY_REQUESTS),
-            How::Short => self.turn_away(k, StatusCode::SERVICE_UNAVAILABLE),
+            How::OutOfMemory => self.turn_away(k, StatusCode::SERVICE_UNAVAILABLE),
         }
     }
 }

@@ -8,7 +8,7 @@ ghost use Rattle.rw_world.specs.Machine.{setup_of};
 
 use crate::log::Log;
 use crate::receiver::{copy_of, limits_at};
-use crate::sending::Senders;
+use crate::sending::Shards;
 use crate::sent::{Answer, Sent};
 use rw_ledger::Ledger;
 use rw_recv_head::{Head, LabelSets, Limits};
@@ -32,7 +32,7 @@ pub(crate) struct Engine {
     pub(crate) log: Log,
     pub(crate) placed: u64,
     pub(crate) router: Router,
-    pub(crate) senders: Senders,
+    pub(crate) senders: Shards,
     pub(crate) requests: Vec<Sent>,
     pub(crate) replies: Vec<Answer>,
     pub(crate) head: Head,
@@ -106,7 +106,7 @@ impl Engine {
         } = config.into_fields();
         let host = copy_of(alloc, &target.host)?;
         let limits = limits_at(alloc, limits, &target.path)?;
-        let senders = Senders::new(
+        let senders = Shards::new(
             alloc,
             target,
             capacity.get() as usize,

@@ -26,7 +26,7 @@ use std::sync::Arc;
 
 /// The shards of an epoch, and the names of the dropped samples.
 #[derive(Drop)]
-pub(crate) struct Senders {
+pub(crate) struct Shards {
     alloc: Global,
     target: Target,
     capacity: usize,
@@ -38,7 +38,7 @@ pub(crate) struct Senders {
     ledger: Ledger,
 }
 
-impl Model for Senders {
+impl Model for Shards {
     ghost use Rattle.std.specs.Prelude.{map};
     ghost use Rattle.std.specs.Coded.{codes};
     ghost use Rattle.std.specs.FinMap as map;
@@ -126,7 +126,7 @@ fn first_flushing(shards: &[WorldShard]) -> Option<usize>
     shards.iter().position(|shard| shard.may_flush())
 }
 
-impl Senders {
+impl Shards {
     /// The first shard whose batch is open.
     pub(crate) fn first_open(&self) -> Option<usize>
         ensures { result ≡ position is_open self.now.shards }
@@ -326,14 +326,14 @@ impl Senders {
         capacity: usize,
         batch: usize,
         shards: usize,
-    ) -> Result<Senders, AllocError>
+    ) -> Result<Shards, AllocError>
         requires batch_some { 0 < batch }
         requires batch_most { batch ≤ MAX_BATCH }
         requires some { 1 ≤ shards }
         requires most { shards ≤ 1000 }
         ensures { IfOk result (λ v. v ≡ record { target = target; capacity = capacity; batch = batch; epoch = 0; shards = map (λ h. h.shard) (new_held target capacity batch 0 0 shards); next = 0; names = empty }) }
     {
-        Ok(Senders {
+        Ok(Shards {
             alloc,
             capacity,
             batch,

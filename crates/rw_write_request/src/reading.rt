@@ -20,7 +20,7 @@ use std::alloc::{AllocError, Global};
 
 /// What a field holds, by its wire type.
 #[derive(Clone, Copy)]
-pub enum Held<'a> {
+pub enum WireValue<'a> {
     Varint(u64),
     Fixed64(u64),
     Bytes(&'a [u8]),
@@ -31,7 +31,7 @@ pub enum Held<'a> {
 #[derive(Clone, Copy)]
 pub struct Part<'a> {
     pub number: u64,
-    pub held: Held<'a>,
+    pub held: WireValue<'a>,
 }
 
 /// The varint at the front, and the bytes after it.
@@ -54,26 +54,26 @@ fn bytes_at(n: u64, bytes: &[u8]) -> Result<(&[u8], &[u8]), WireFault>
 }
 
 #[tactic(auto, using(crate::proofs::LittleEnd::eight, crate::proofs::LittleEnd::four), unfolding(crate::specs::Read::content_at))]
-fn content_at(wire: u64, bytes: &[u8]) -> Result<(Held<'_>, &[u8]), WireFault>
+fn content_at(wire: u64, bytes: &[u8]) -> Result<(WireValue<'_>, &[u8]), WireFault>
     ensures { Gives (λ x. (content_view x.0, x.1.now)) result (content_at wire bytes.now) }
 {
     match wire {
         0 => {
             let (n, rest) = uvarint_at(bytes)?;
-            Ok((Held::Varint(n), rest))
+            Ok((WireValue::Varint(n), rest))
         }
         1 => {
             let (b, rest) = bytes_at(8, bytes)?;
-            Ok((Held::Fixed64(LittleEndian::read_u64(b)), rest))
+            Ok((WireValue::Fixed64(LittleEndian::read_u64(b)), rest))
         }
         2 => {
             let (len, rest) = uvarint_at(bytes)?;
             let (held, rest) = bytes_at(len, rest)?;
-            Ok((Held::Bytes(held), rest))
+            Ok((WireValue::Bytes(held), rest))
         }
         5 => {
             let (b, rest) = bytes_at(4, bytes)?;
-            Ok((Held::Fixed32(LittleEndian::read_u32(b)), rest))
+            Ok((WireValue::Fixed32(LittleEndian::read_u32(b)), rest))
         }
         _ => Err(WireFault::BadWire),
     }
@@ -147,11 +147,11 @@ fn room_for<T>(alloc: Global, count: usize, bytes: &[u8]) -> Result<Vec<T>, Allo
 }
 
 #[tactic(auto, unfolding(crate::specs::Read::text))]
-fn text(held: Held<'_>) -> Result<&str, WireFault>
+fn text(held: WireValue<'_>) -> Result<&str, WireFault>
     ensures { Gives (λ s. s.now) result (text (content_view held.entry)) }
 {
     match held {
-        Held::Bytes(bytes) => match str::from_utf8(bytes) {
+        WireValue::Bytes(bytes) => match str::from_utf8(bytes) {
             Ok(s) => Ok(s),
             Err(_) => Err(WireFault::NotUtf8),
         },
@@ -193,21 +193,21 @@ fn read_label(alloc: Global, bytes: &[u8]) -> Result<(String, String), WireFault
 }
 
 #[tactic(auto, unfolding(crate::specs::Read::word))]
-fn word(held: Held<'_>) -> Result<Word, WireFault>
+fn word(held: WireValue<'_>) -> Result<Word, WireFault>
     ensures { Gives (λ w. w) result (word (content_view held.entry)) }
 {
     match held {
-        Held::Fixed64(n) => Ok(Word(n)),
+        WireValue::Fixed64(n) => Ok(Word(n)),
         _ => Err(WireFault::WrongWire),
     }
 }
 
 #[tactic(auto, unfolding(crate::specs::Read::timestamp))]
-fn timestamp(held: Held<'_>) -> Result<i64, WireFault>
+fn timestamp(held: WireValue<'_>) -> Result<i64, WireFault>
     ensures { Gives (λ t. t) result (timestamp (content_view held.entry)) }
 {
     match held {
-        Held::Varint(n) => Ok(n.cast_signed()),
+        WireValue::Varint(n) => Ok(n.cast_signed()),
         _ => Err(WireFault::WrongWire),
     }
 }
@@ -243,21 +243,21 @@ fn read_sample(bytes: &[u8]) -> Result<(Word, i64), WireFault>
 }
 
 #[tactic(auto, unfolding(crate::specs::Read::nested))]
-fn nested_label(alloc: Global, held: Held<'_>) -> Result<(String, String), WireFault>
+fn nested_label(alloc: Global, held: WireValue<'_>) -> Result<(String, String), WireFault>
     ensures { GivesOrMemory text_label result (nested read_label (content_view held.entry)) }
 {
     match held {
-        Held::Bytes(bytes) => read_label(alloc, bytes),
+        WireValue::Bytes(bytes) => read_label(alloc, bytes),
         _ => Err(WireFault::WrongWire),
     }
 }
 
 #[tactic(auto, unfolding(crate::specs::Read::nested))]
-fn nested_sample(held: Held<'_>) -> Result<(Word, i64), WireFault>
+fn nested_sample(held: WireValue<'_>) -> Result<(Word, i64), WireFault>
     ensures { Gives (λ x. x) result (nested read_sample (content_view held.entry)) }
 {
     match held {
-        Held::Bytes(bytes) => read_sample(bytes),
+        WireValue::Bytes(bytes) => read_sample(bytes),
         _ => Err(WireFault::WrongWire),
     }
 }
@@ -302,11 +302,11 @@ fn read_series(alloc: Global, bytes: &[u8]) -> Result<Series, WireFault>
 }
 
 #[tactic(auto, unfolding(crate::specs::Read::nested))]
-fn nested_series(alloc: Global, held: Held<'_>) -> Result<Series, WireFault>
+fn nested_series(alloc: Global, held: WireValue<'_>) -> Result<Series, WireFault>
     ensures { GivesOrMemory (λ s. s) result (nested read_series (content_view held.entry)) }
 {
     match held {
-        Held::Bytes(bytes) => read_series(alloc, bytes),
+        WireValue::Bytes(bytes) => read_series(alloc, bytes),
         _ => Err(WireFault::WrongWire),
     }
 }

@@ -30,7 +30,7 @@ fn serve_until<R: Threads + Wait + Clock + Sync>(
     let sign = sign_of(rt, threads, stop_file)?;
     let mut output = Std::new(rt.stdout());
     let service = Service {
-        most: Bounded::of(1_000),
+        most: Bounded::new(1_000),
         idle_ms,
         counters,
     };

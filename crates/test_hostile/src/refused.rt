@@ -140,14 +140,14 @@ report complete 3
 ];
 
 fn config_of(alloc: Global, shards: u64) -> Option<Config> {
-    let shards = Bounded::new(shards)?;
+    let shards = Bounded::try_new(shards)?;
     let mut fields = ConfigFields::standard(alloc).ok()?;
     fields.shards = shards;
     Config::new(fields)
 }
 
 fn limits_of(alloc: Global, labels: u64) -> Option<Limits> {
-    let max_labels = Bounded::new(labels)?;
+    let max_labels = Bounded::try_new(labels)?;
     let mut limits = Limits::standard(alloc).ok()?;
     limits.max_labels = max_labels;
     Some(limits)

@@ -26,7 +26,7 @@ pub(crate) const WORD_OF_ONE: u64 = 0x3ff0_0000_0000_0000;
 /// A head that is busy for one request.
 fn busy(alloc: Global) -> Result<Head, AllocError> {
     let mut limits = Limits::standard(alloc)?;
-    limits.busy_first = Bounded::of(1);
+    limits.busy_first = Bounded::new(1);
     Ok(Head::new(alloc, &limits))
 }
 

@@ -72,7 +72,7 @@ pub(crate) fn standard(alloc: Global) -> Result<Head, AllocError> {
 /// A head that takes one label.
 pub(crate) fn narrow(alloc: Global) -> Result<Head, AllocError> {
     let mut limits = Limits::standard(alloc)?;
-    limits.max_labels = Bounded::of(1);
+    limits.max_labels = Bounded::new(1);
     Ok(Head::new(alloc, &limits))
 }
 

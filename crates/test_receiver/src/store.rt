@@ -58,7 +58,7 @@ impl Answer for Store {
 /// The limits of these tests: a body has at most 32 bytes.
 fn limits(alloc: Global) -> Result<Limits, AllocError> {
     let mut limits = Limits::standard(alloc)?;
-    limits.max_body_bytes = Bounded::of(32);
+    limits.max_body_bytes = Bounded::new(32);
     Ok(limits)
 }
 

@@ -173,7 +173,7 @@ fn read_by<N: Net<Stream = TcpStream, Listener = TcpListener> + Clock + Copy>(
         Client::AsksBehindDeserted => (1, vec![in alloc; deserted(net)?, address]?),
     };
     let counters = Arc::new(alloc, SendCounters::new(alloc)?)?;
-    let mut transport = TcpTransport::new(alloc, *net, addresses, Bounded::of(10_000), counters);
+    let mut transport = TcpTransport::new(alloc, *net, addresses, Bounded::new(10_000), counters);
     statuses(alloc, &mut transport, count, request)
 }
 
@@ -194,7 +194,7 @@ fn are_served<
     request: &[u8],
     printed: &mut Room,
 ) -> io::Result<bool> {
-    let Some(most) = Bounded::new(row.connections) else {
+    let Some(most) = Bounded::try_new(row.connections) else {
         return Ok(false);
     };
     let listener = TcpListener::bind(rt, "127.0.0.1:0")?;
@@ -207,7 +207,7 @@ fn are_served<
         || {
             let service = Service {
                 most,
-                idle_ms: Bounded::of(60_000),
+                idle_ms: Bounded::new(60_000),
                 counters: &counters,
             };
             run_receive(rt, alloc, settings, service, listener, printed)
@@ -395,8 +395,8 @@ fn fails_without_waiting<
     listener.set_nonblocking(true)?;
     let counters = ReceiveCounters::new(alloc)?;
     let service = Service {
-        most: Bounded::of(1_000),
-        idle_ms: Bounded::of(60_000),
+        most: Bounded::new(1_000),
+        idle_ms: Bounded::new(60_000),
         counters: &counters,
     };
     let ended = run_receive(rt, alloc, settings, service, listener, &mut printed);
@@ -435,7 +435,7 @@ fn are_lost<N: Net<Stream = TcpStream, Listener = TcpListener> + Clock + Copy>(
 ) -> io::Result<bool> {
     let listener = TcpListener::bind(net, "127.0.0.1:0")?;
     let address = listener.local_addr()?;
-    let mut transport = transport_to(net, alloc, address, Bounded::of(50))?;
+    let mut transport = transport_to(net, alloc, address, Bounded::new(50))?;
     let first = is_lost(&mut transport);
     drop(listener);
     Ok(first && is_lost(&mut transport))
@@ -464,7 +464,7 @@ fn dripped<
 >(rt: &R, alloc: Global) -> io::Result<Option<Duration>> {
     let listener = TcpListener::bind(rt, "127.0.0.1:0")?;
     let address = listener.local_addr()?;
-    let mut transport = transport_to(rt, alloc, address, Bounded::of(200))?;
+    let mut transport = transport_to(rt, alloc, address, Bounded::new(200))?;
     let start = Instant::now(rt)?;
     let (is_lost, _) = thread::join(rt, || is_lost(&mut transport), || drip(rt, &listener));
     let took = start.elapsed(rt)?;

@@ -77,7 +77,7 @@ fn connect_to<N: Net<Stream = TcpStream> + Drop>(
     let port = listener.local_addr()?.port();
     let addresses = look_up(&net, alloc, "127.0.0.1", port)?;
     let counters = Arc::new(alloc, SendCounters::new(alloc)?)?;
-    Ok(TcpConnect::new(alloc, net, addresses, Bounded::of(10_000), counters))
+    Ok(TcpConnect::new(alloc, net, addresses, Bounded::new(10_000), counters))
 }
 
 /// Whether a receiver takes the connections of a sender, or one where there are none, and ends well.
@@ -88,7 +88,7 @@ fn receives<R: Threads + Wait + Clock + Sync>(
     listener: TcpListener,
     held: &mut Room,
 ) -> bool {
-    let Some(most) = Bounded::new(row.1.max(1)) else {
+    let Some(most) = Bounded::try_new(row.1.max(1)) else {
         return false;
     };
     let Ok(counters) = ReceiveCounters::new(alloc) else {
@@ -96,7 +96,7 @@ fn receives<R: Threads + Wait + Clock + Sync>(
     };
     let service = Service {
         most,
-        idle_ms: Bounded::of(60_000),
+        idle_ms: Bounded::new(60_000),
         counters: &counters,
     };
     match read_settings(alloc, row.0) {

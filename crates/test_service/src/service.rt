@@ -47,7 +47,7 @@ fn does_with<R: Net<Stream = TcpStream, Listener = TcpListener> + Threads + Wait
     settings: &Settings,
     printed: &mut Room,
 ) -> io::Result<bool> {
-    let (Some(most), Some(idle_ms)) = (Bounded::new(row.most), Bounded::new(row.idle_ms)) else {
+    let (Some(most), Some(idle_ms)) = (Bounded::try_new(row.most), Bounded::try_new(row.idle_ms)) else {
         return Ok(false);
     };
     let listener = TcpListener::bind(rt, "127.0.0.1:0")?;
@@ -179,8 +179,8 @@ fn ends_without_a_sign<
         || read_by(&door, Clients::WritesOneByte),
         || {
             let service = Service {
-                most: Bounded::of(2),
-                idle_ms: Bounded::of(100),
+                most: Bounded::new(2),
+                idle_ms: Bounded::new(100),
                 counters: &counters,
             };
             run_receive(rt, alloc, settings, service, listener, printed)

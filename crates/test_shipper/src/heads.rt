@@ -147,7 +147,7 @@ fn has_all<R: Threads + Wait + Copy + Send + 'static>(
     alloc: Global,
     row: &Row<'_>,
 ) -> Result<bool, LabelFault> {
-    let Some(seats) = Bounded::new(row.seats) else {
+    let Some(seats) = Bounded::try_new(row.seats) else {
         return Ok(false);
     };
     match shipped_to_seats(rt, alloc, seats, row) {

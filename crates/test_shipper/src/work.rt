@@ -171,8 +171,8 @@ impl Work {
 
 /// So many shards, and batches of so many samples.
 pub(crate) fn config_of(alloc: Global, shards: u64, batch: u64) -> Option<Config> {
-    let shards = Bounded::new(shards)?;
-    let batch = Bounded::new(batch)?;
+    let shards = Bounded::try_new(shards)?;
+    let batch = Bounded::try_new(batch)?;
     let mut fields = ConfigFields::standard(alloc).ok()?;
     fields.shards = shards;
     fields.batch = batch;
@@ -197,7 +197,7 @@ fn step_of(alloc: Global, call: Call<'_>) -> Result<Step, AllocError> {
         Call::Feed(series, samples, behind) => fed(alloc, series, samples, behind),
         Call::NextSegment => Ok(Step::Feed(Piece::NextSegment)),
         Call::Flush => Ok(Step::Flush),
-        Call::Reshard(shards) => match Bounded::new(shards) {
+        Call::Reshard(shards) => match Bounded::try_new(shards) {
             Some(shards) => Ok(Step::Reshard(shards)),
             None => Err(AllocError),
         },

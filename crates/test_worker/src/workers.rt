@@ -194,7 +194,7 @@ fn fed_and_run<R: Wait>(
 
 fn config_of(alloc: Global, batch: u64) -> Result<Option<Config>, AllocError> {
     let mut fields = ConfigFields::standard(alloc)?;
-    if let Some(batch) = Bounded::new(batch) {
+    if let Some(batch) = Bounded::try_new(batch) {
         fields.batch = batch;
     }
     Ok(Config::new(fields))

@@ -1,5 +1,5 @@
 use Rattle.std.proofs.Common.{List, ◌∷◌, ◌++◌, [], sym, subst, arith}
-use Rattle.rw_fleet.specs.Lanes.{Lane, AreSame}
+use Rattle.rw_fleet.specs.ShardHistories.{ShardHistory, AreSame}
 use Rattle.rw_fleet.proofs.LaneLemmas.{same_push, same_length}
 use Rattle.rw_fleet.proofs.ListLemmas.{moved, none_left}
 use Rattle.rw_fleet.proofs.SoftLemmas.{ended_more}
@@ -30,4 +30,4 @@ returns-clause-same g c =
     let n = same_length _ _ i.2.2 in
     let all = c.args.running.ok.0 in
     let end = c.loop-shard.ending.ok.0 in
-    subst (λ (l : List Lane). AreSame l c.loop-shard.ending.items) (sym (none_left _ _ _ i.2.1 (omega arith))) i.2.2
+    subst (λ (l : List ShardHistory). AreSame l c.loop-shard.ending.items) (sym (none_left _ _ _ i.2.1 (omega arith))) i.2.2

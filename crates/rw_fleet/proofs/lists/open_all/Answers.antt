@@ -1,5 +1,5 @@
 use Rattle.std.proofs.Common.{◌+◌, sym, ap, ◌∙◌, subst, arith}
-use Rattle.rw_fleet.specs.Lanes.{AreSetUp}
+use Rattle.rw_fleet.specs.ShardHistories.{AreSetUp}
 use Rattle.rw_fleet.proofs.LaneLemmas.{fresh_push, set_up_push}
 use Rattle.rw_fleet.proofs.lists.open_all.Goals as goal
 

@@ -1,5 +1,5 @@
 use Rattle.std.proofs.Common.{◌≡◌, ◌≤◌, vec_len, vec_capacity}
-use Rattle.rw_fleet.specs.Lanes.{AreFresh, AreSetUp}
+use Rattle.rw_fleet.specs.ShardHistories.{AreFresh, AreSetUp}
 use Rattle.rw_fleet.proofs.lists.open_all.Given as goal
 
 abbrev pub invariant-loop-shard : goal.invariant-loop-shard

@@ -2,7 +2,7 @@ use Rattle.std.proofs.Common.{◌≡◌, [], map, length, refl, sym, ap, ◌∙�
 use Rattle.std.specs.Prelude.{Option}
 use Rattle.rw_router.specs.declared.sample.RoutedSample.{RoutedSample}
 use Rattle.rw_feeder.specs.Feeders.{Sorting, Judges}
-use Rattle.rw_fleet.specs.Lanes.{marks_of}
+use Rattle.rw_fleet.specs.ShardHistories.{marks_of}
 use Rattle.rw_fleet.specs.Fleets.{Shards}
 use Rattle.rw_shipper.specs.Placement.{AreKept}
 use Rattle.rw_shipper.specs.Shipping.{GoesOn}

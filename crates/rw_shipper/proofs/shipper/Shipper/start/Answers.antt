@@ -1,7 +1,7 @@
 use Rattle.std.proofs.Common.{sym, ap, ◌∙◌, subst, arith}
 use Rattle.rw_sender.specs.declared.config.ConfigFields.{ConfigFields}
 use Rattle.rw_feeder.specs.Feeders.{Sorting}
-use Rattle.rw_fleet.specs.Lanes.{AreFresh}
+use Rattle.rw_fleet.specs.ShardHistories.{AreFresh}
 use Rattle.rw_fleet.specs.Fleets.{Shards}
 use Rattle.rw_shipper.proofs.ShippingLemmas.{places_begun, read_begun, on_ok}
 use Rattle.rw_shipper.proofs.shipper.Shipper.start.Goals as goal

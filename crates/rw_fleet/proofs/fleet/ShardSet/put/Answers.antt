@@ -1,0 +1,37 @@
+use Rattle.std.proofs.Common.{◌<◌, List, length, set, refl, sym, ap, ◌∙◌, subst}
+use Rattle.rw_fleet.specs.ShardHistories.{ShardHistory, IsPut}
+use Rattle.rw_fleet.specs.Fleets.{Shards}
+use Rattle.rw_fleet.proofs.LaneLemmas.{set_up_set, put_at, put_back}
+use Rattle.rw_fleet.proofs.fleet.ShardSet.put.Goals as goal
+
+pub invariant_of-self : goal.invariant_of-self
+invariant_of-self g c =
+    let i = c.self.invariant in
+    (i.0, i.1, set_up_set c.self.inside.config _ _ _ _ _ i.2 c.index_mut.ensures.value c.put.ensures.setup refl, i.3, i.4, i.5, i.6, i.7)
+
+pub invariant_of-self-2 : goal.invariant_of-self-2
+invariant_of-self-2 g c =
+    let i = c.self.invariant in
+    (i.0, i.1, set_up_set c.self.inside.config _ _ _ _ _ i.2 c.index_mut.ensures.value c.put.ensures.setup refl, i.3, i.4, i.5, i.6, i.7)
+
+pub returns-in-Err-clause-err : goal.returns-in-Err-clause-err
+returns-in-Err-clause-err g c =
+    ap (λ (l : List ShardHistory). record { config = c.self.inside.config; epoch = c.self.inside.epoch; current = l; ended = c.self.inside.joined.items }) (put_back _ _ _ _ _ c.index_mut.ensures.value refl c.in-Err.ensures.put) ∙ c.self.view_is
+
+pub returns-clause-ok : goal.returns-clause-ok
+returns-clause-ok g c =
+    let current = ap (λ (s : Shards _). s.current) c.self.view_is in
+    let within = subst (λ (l : List ShardHistory). c.args.shard < length l) (sym current) c.requires.within in
+    subst (λ (l : List ShardHistory). IsPut c.args.shard c.args.sample l (set c.self.inside.running.items c.args.shard c.put.new.self)) current (put_at c.args.shard c.args.sample c.self.inside.running.items (set c.self.inside.running.items c.args.shard c.put.new.self) _ c.put.new.self within c.index_mut.ensures.value refl c.put.ensures.setup c.in_default.ensures.put c.put.ensures.marks)
+
+pub returns-in-Err-clause-rest : goal.returns-in-Err-clause-rest
+returns-in-Err-clause-rest g c = ap (λ (s : Shards _). record s { current = set c.self.inside.running.items c.args.shard c.put.new.self }) c.self.view_is
+
+pub returns-clause-rest : goal.returns-clause-rest
+returns-clause-rest g c = ap (λ (s : Shards _). record s { current = set c.self.inside.running.items c.args.shard c.put.new.self }) c.self.view_is
+
+pub returns-in-Err-clause-ok : goal.returns-in-Err-clause-ok
+returns-in-Err-clause-ok g c = tt
+
+pub returns-clause-err : goal.returns-clause-err
+returns-clause-err g c = tt
