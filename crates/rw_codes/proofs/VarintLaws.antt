@@ -1,10 +1,9 @@
 -- What is written as a varint is read again, and the ZigZag map is undone. The steps of both loops.
-use Rattle.std.proofs.Common.{◌≡◌, ℕ, zero, suc, ◌+◌, ◌-◌, ◌*◌, ◌/◌, ◌%◌, ◌^◌, ◌<◌, ◌≤◌, ℤ, pos, negsuc, List, [], ◌∷◌, ◌++◌, length, drop, get_or, Ok, Err, true, false, ltb, eqb, refl, ap, ◌∙◌, subst, inl, inr, arith, lt-ltb, le-ltb, OnErr, eq-eqb, ne_eqb, div-add-mod', pow-suc, mul_comm, Result, ◌≢◌, add-one, drop-cons, drop_of_length-le, lit<}
+use Rattle.std.proofs.Common.{◌≡◌, ℕ, zero, suc, ◌+◌, ◌-◌, ◌*◌, ◌/◌, ◌%◌, ◌^◌, ◌<◌, ◌≤◌, ℤ, pos, negsuc, List, [], ◌∷◌, ◌++◌, length, drop, get_or, Ok, Err, true, false, ltb, eqb, refl, ap, ◌∙◌, subst, inl, inr, arith, lt-ltb, le-ltb, OnErr, eq-eqb, ne_eqb, div-add-mod', pow-suc, mul_comm, Result, ◌≢◌, add-one, drop-cons, drop_of_length-le, lit<, w64, SFits}
 use Rattle.std.proofs.Math.Nat.{pow-le-pow_right, mul-le-mul_left}
 use Rattle.std.proofs.lemmas.Bool.{cases_lt}
 use Rattle.std.proofs.lemmas.Bool.Decides.{eqb_tells}
-use Rattle.rw_codes.specs.Varint.{◌>>=◌, groups, number_in_groups, uvarint, read_uvarint, zig_zag, un_zig_zag, varint, read_varint}
-use Rattle.rw_codes.specs.Laws.{AreBytes}
+use Rattle.rw_codes.specs.Varint.{AreBytes, ◌>>=◌, groups, number_in_groups, uvarint, read_uvarint, zig_zag, un_zig_zag, varint, read_varint}
 use Rattle.rw_codes.specs.declared.code_fault.CodeFault.{CodeFault}
 use Rattle.rw_codes.specs.declared.code_fault.CodeFault.TheVariants.{Short, TooBig}
 
@@ -211,3 +210,7 @@ get_two (a ∷ b ∷ bs) h g l =
     let t : ltb a 128 ≡ false = le-ltb a 128 g in
     let u : ltb b 128 ≡ true = lt-ltb b 128 l in
     rw (t, u) refl
+
+pub zig_fits : (z : ℤ) → SFits w64 z → zig_zag z < 2 ^ 64
+zig_fits (pos n) h = let m : n < 2 ^ 63 = h.sfits in omega arith
+zig_fits (negsuc n) h = let m : n < 2 ^ 63 = h.sfits in omega arith

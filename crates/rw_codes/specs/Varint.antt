@@ -1,5 +1,5 @@
 -- Base-128 varints and the ZigZag map (Protocol Buffers encoding).
-use Rattle.std.specs.Prelude.{ℕ, zero, suc, ◌+◌, ◌-◌, ◌*◌, ◌/◌, ◌%◌, ℤ, pos, negsuc, List, [], ◌∷◌, Result, Ok, Err, nat_lt, ◌==◌, if◌then◌else◌}
+use Rattle.std.specs.Prelude.{ℕ, zero, suc, ◌+◌, ◌-◌, ◌*◌, ◌/◌, ◌%◌, ◌<◌, ℤ, pos, negsuc, List, [], ◌∷◌, get_or, Result, Ok, Err, nat_lt, ◌==◌, if◌then◌else◌}
 use Rattle.rw_codes.specs.declared.code_fault.CodeFault.{CodeFault}
 use Rattle.rw_codes.specs.declared.code_fault.CodeFault.TheVariants.{Short, TooBig}
 
@@ -45,3 +45,7 @@ varint z = uvarint (zig_zag z)
 -- the signed number that stands at the front, and the bytes after it
 abbrev pub read_varint : List ℕ → Result (ℤ × List ℕ) CodeFault
 read_varint bytes = read_uvarint bytes >>= λ n. Ok (un_zig_zag n.0, n.1)
+
+-- each is a byte
+abbrev pub AreBytes : List ℕ → Type 0
+AreBytes bytes = (i : ℕ) → get_or bytes i 0 < 256

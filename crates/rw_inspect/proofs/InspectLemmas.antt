@@ -4,11 +4,11 @@ use Rattle.std.specs.Prelude.{flat_map, take, is_some, nat_eq}
 use Rattle.std.proofs.lemmas.Grind.{flat_map-append}
 use Rattle.std.proofs.lemmas.Bool.Decides.{nat_tests}
 use Rattle.rw_types.specs.declared.entry.Entry.{Entry}
-use Rattle.rw_codes.specs.Laws.{Extends}
-use Rattle.rw_codes.specs.Pieces.{Piece, bytes, next_segment, entries, fault, fault_at, page_size, reading, skipped}
-use Rattle.rw_codes.specs.Segments.{Reading, segment}
-use Rattle.rw_codes.proofs.Growing.{reading-append}
-use Rattle.rw_codes.specs.declared.tail_fault.TailFault.{TailFault}
+use Rattle.rw_wal_format.specs.Laws.{Extends}
+use Rattle.rw_wal_format.specs.Pieces.{Piece, bytes, next_segment, entries, fault, fault_at, page_size, reading, skipped}
+use Rattle.rw_wal_format.specs.Segments.{Reading, segment}
+use Rattle.rw_wal_format.proofs.Growing.{reading-append}
+use Rattle.rw_wal_format.specs.declared.tail_fault.TailFault.{TailFault}
 use Rattle.rw_wal_tail.specs.Fed.{Fed}
 use Rattle.rw_feeder.specs.Feeders.{HasTaken}
 use Rattle.rw_feeder.proofs.TailLemmas.{took_again}

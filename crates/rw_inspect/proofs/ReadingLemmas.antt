@@ -4,11 +4,11 @@ use Rattle.std.specs.Result.{IsErrAnd}
 use Rattle.std.specs.Io.KnownBytes.{Consumes, IsAtEnd}
 use Rattle.rw_types.proofs.KnownLemmas.{consumes-none, consumes_consumes}
 use Rattle.rw_types.specs.declared.entry.Entry.{Entry}
-use Rattle.rw_codes.specs.Laws.{Extends}
-use Rattle.rw_codes.specs.Pieces.{Piece, bytes, next_segment, entries, page_size, reading, reading_after, skipped, then_next}
-use Rattle.rw_codes.specs.Segments.{segment}
-use Rattle.rw_codes.specs.declared.tail_fault.TailFault.{TailFault}
-use Rattle.rw_codes.specs.declared.tail_fault.TailFault.TheVariants.{OutOfMemory}
+use Rattle.rw_wal_format.specs.Laws.{Extends}
+use Rattle.rw_wal_format.specs.Pieces.{Piece, bytes, next_segment, entries, page_size, reading, reading_after, skipped, then_next}
+use Rattle.rw_wal_format.specs.Segments.{segment}
+use Rattle.rw_wal_format.specs.declared.tail_fault.TailFault.{TailFault}
+use Rattle.rw_wal_format.specs.declared.tail_fault.TailFault.TheVariants.{OutOfMemory}
 use Rattle.rw_wal_tail.specs.Fed.{Fed, answered, next_of, is_out_of_memory}
 use Rattle.rw_feeder.specs.Feeders.{HasTaken, HasRead}
 use Rattle.rw_feeder.proofs.TailLemmas.{Said, took_again, took_entry, took_fault, took_none, read_fault}

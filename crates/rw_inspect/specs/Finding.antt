@@ -8,7 +8,7 @@ use Rattle.rw_types.specs.declared.entry.Entry.{Entry}
 use Rattle.rw_types.specs.declared.entry.Entry.TheVariants.{Def, Sample}
 use Rattle.rw_types.specs.declared.label_fault.LabelFault.{LabelFault}
 use Rattle.rw_types.specs.declared.names.Names.TheVariants.{Utf8}
-use Rattle.rw_codes.specs.Pieces.{entries, fault}
+use Rattle.rw_wal_format.specs.Pieces.{entries, fault}
 use Rattle.rw_relabel.specs.declared.choice.Choice.{Choice}
 use Rattle.rw_series_cache.specs.Cached.{Taken}
 use Rattle.rw_series_cache.specs.Known.{Standing, Unknown, Bad, Filtered, Kept, known, label_fault_number, definitions_of}

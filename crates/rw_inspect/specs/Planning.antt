@@ -1,8 +1,8 @@
 -- The plan of a log that stands in several segments.
 use Rattle.std.specs.Prelude.{◌≡◌, ℕ, ◌≤◌, List, length, take, Option, None}
 use Rattle.std.specs.Io.KnownBytes.{Appends}
-use Rattle.rw_codes.specs.Pieces.{entries, fault}
-use Rattle.rw_codes.specs.declared.tail_fault.TailFault.{TailFault}
+use Rattle.rw_wal_format.specs.Pieces.{entries, fault}
+use Rattle.rw_wal_format.specs.declared.tail_fault.TailFault.{TailFault}
 use Rattle.rw_relabel.specs.declared.choice.Choice.{Choice}
 use Rattle.rw_plan.specs.Plan.{plan_text}
 use Rattle.rw_inspect.specs.Inspecting.{ReadsFirst, log_of}

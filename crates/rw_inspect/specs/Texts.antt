@@ -1,8 +1,8 @@
 -- How a report is printed.
 use Rattle.std.specs.Prelude.{ℕ, ◌+◌, ◌-◌, ◌/◌, ◌%◌, ℤ, List, [], ◌∷◌, ◌++◌, length, take, fold, flat_map, codes, decimal, nat_lt, ◌==◌, if◌then◌else◌, Option, None, Some, slice_get, string_bytes}
 use Rattle.std.specs.Fmt.{signed_decimal}
-use Rattle.rw_codes.specs.declared.tail_fault.TailFault.{TailFault}
-use Rattle.rw_codes.specs.declared.tail_fault.TailFault.TheVariants as tail
+use Rattle.rw_wal_format.specs.declared.tail_fault.TailFault.{TailFault}
+use Rattle.rw_wal_format.specs.declared.tail_fault.TailFault.TheVariants as tail
 use Rattle.rw_wal_tail.specs.declared.place.FaultPlace.{FaultPlace}
 use Rattle.rw_inspect.specs.declared.counts.Counts.{Counts}
 use Rattle.rw_inspect.specs.declared.report.Damage.{Damage}

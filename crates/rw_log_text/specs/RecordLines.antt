@@ -1,7 +1,7 @@
 -- The lines of a text, and the records that lines of log text stand for.
 use Rattle.std.specs.Prelude.{◌≡◌, ℕ, ◌*◌, ◌≤◌, List, [], ◌∷◌, length, ◌==◌, if◌then◌else◌}
 use Rattle.std.specs.List.{onto_first}
-use Rattle.rw_codes.specs.Records.{series_record, sample_record}
+use Rattle.rw_wal_format.specs.Records.{series_record, sample_record}
 use Rattle.rw_text.specs.LineText.{Line, series, sample, raw, IsLine}
 
 -- the lines of a text; only LF ends a line, and the last one may lack it

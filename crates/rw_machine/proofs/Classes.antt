@@ -20,7 +20,7 @@ use Rattle.rw_machine.specs.Promises.{Accounted, AccountedKept, AccountedEntry, 
 use Rattle.rw_machine.specs.Shards.{Shard, has_room, pending, shard_freeze, shard_lost, shard_put, shard_send, shard_take, with_core}
 use Rattle.rw_machine.specs.Steps.{act, arrive, change, changed, flush_shard, names_after, next_sample, place, place_entry, place_kept, place_sample, put_if_room, reply_to, restart_as, settled, run, send_batch, shard_of, take_reply}
 use Rattle.rw_machine.specs.Worlds.{Reply, Request, Setup, World, is_finished, log, start}
-use Rattle.rw_codes.specs.Pieces as pieces
+use Rattle.rw_wal_format.specs.Pieces as pieces
 use Rattle.rw_wal_tail.specs.Fed.{piece_of}
 use Rattle.rw_machine.specs.declared.event.Event.{Event}
 use Rattle.rw_machine.specs.declared.event.How.{How}

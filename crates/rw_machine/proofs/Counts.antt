@@ -7,7 +7,7 @@ use Rattle.rw_machine.proofs.Frames.{reply_frame, restart_frame}
 use Rattle.rw_machine.proofs.Places.{get_below}
 use Rattle.rw_machine.proofs.Classes.{get_left}
 use Rattle.rw_machine.proofs.Others.{entries_grow}
-use Rattle.rw_codes.specs.Pieces as pieces
+use Rattle.rw_wal_format.specs.Pieces as pieces
 use Rattle.rw_wal_tail.specs.Fed.{piece_of}
 use Rattle.rw_machine.specs.declared.event.Event.TheVariants as event
 use Rattle.rw_machine.specs.Promises.{CountsFiltered, is_filtered, is_filtered_at, is_filtered_entry}

@@ -13,7 +13,7 @@ use Rattle.rw_machine.proofs.Places.{at_change, Numbered, numbered_more, numbere
 use Rattle.rw_machine.proofs.Invariant.{Inv, as_points, waits, home, id_at, Past, SampleOk, ShardOk, GotOk, DoneOk, IsOpen, InStore, RequestOk, AnswersOpen, AnswerOk, past_change, by_bool}
 use Rattle.std.specs.FinMap.{FinMap, get, insert}
 use Rattle.std.specs.Ordering.{nat_cmp}
-use Rattle.rw_codes.specs.Pieces.{entries}
+use Rattle.rw_wal_format.specs.Pieces.{entries}
 use Rattle.rw_wal_tail.specs.Fed.{piece_of}
 use Rattle.rw_wal_tail.specs.declared.piece.Piece.{Piece}
 use Rattle.rw_series_cache.proofs.KnownLemmas.{definitions_of-sample, known-definition, known-definitions_of}

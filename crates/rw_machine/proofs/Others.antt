@@ -6,10 +6,10 @@ use Rattle.rw_types.specs.LabelOrder.{labels_eq}
 use Rattle.rw_types.specs.declared.entry.Entry.{Entry}
 use Rattle.rw_types.specs.declared.entry.Entry.TheVariants.{Def, Sample}
 use Rattle.rw_types.specs.declared.label_fault.LabelFault.{LabelFault}
-use Rattle.rw_codes.specs.Pieces.{entries, page_size}
-use Rattle.rw_codes.specs.Pieces as pieces
-use Rattle.rw_codes.specs.Series.{labels_of}
-use Rattle.rw_codes.proofs.Growing.{reading-append}
+use Rattle.rw_wal_format.specs.Pieces.{entries, page_size}
+use Rattle.rw_wal_format.specs.Pieces as pieces
+use Rattle.rw_wal_format.specs.Series.{labels_of}
+use Rattle.rw_wal_format.proofs.Growing.{reading-append}
 use Rattle.rw_relabel.specs.Rules.{keeps}
 use Rattle.rw_series_cache.specs.Known.{Standing, Unknown, Bad, Filtered, Kept, known, standing_of, standing_by}
 use Rattle.rw_series_cache.specs.Rising.{rises}

@@ -15,9 +15,9 @@ use Rattle.rw_machine.proofs.Arrives.{arrive_keeps}
 use Rattle.rw_machine.specs.declared.event.Event.TheVariants as event
 use Rattle.std.specs.FinMap.{get, empty, get-empty}
 use Rattle.std.specs.Ordering.{nat_cmp}
-use Rattle.rw_codes.specs.Pieces.{fault}
-use Rattle.rw_codes.specs.Series.{samples_after}
-use Rattle.rw_codes.specs.declared.tail_fault.TailFault.{TailFault}
+use Rattle.rw_wal_format.specs.Pieces.{fault}
+use Rattle.rw_wal_format.specs.Series.{samples_after}
+use Rattle.rw_wal_format.specs.declared.tail_fault.TailFault.{TailFault}
 use Rattle.rw_relabel.specs.Rules.{keeps}
 use Rattle.rw_recv_head.proofs.StoreLemmas.{list_of-empty}
 use Rattle.rw_series_cache.specs.Points.{is_kept}

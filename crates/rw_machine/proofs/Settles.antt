@@ -16,7 +16,7 @@ use Rattle.rw_machine.proofs.Live.{Live, live_act, live_at}
 use Rattle.rw_machine.proofs.Measure.{shards_work, drain_work, work, new_work}
 use Rattle.rw_machine.proofs.Rounds.{Round, acts, single, place_round, send_round, exchange_round, shard_round, frozen_less, taken_less, flush_less}
 use Rattle.rw_machine.specs.declared.event.Event.TheVariants as event
-use Rattle.rw_codes.specs.Pieces.{entries, fault}
+use Rattle.rw_wal_format.specs.Pieces.{entries, fault}
 use Rattle.rw_machine.specs.Promises.{CanWork, HasOneClassEach, HoldsAll, HoldsNothingElse, IsSettled, SettleEnds}
 use Rattle.rw_router.specs.Fates.{kept_fate}
 use Rattle.rw_machine.specs.Settling.{at_first, can_place, can_place_as, can_place_entry, can_place_known, exchange_at, first_of_these, made_at, next_events, room_at, settle, settle_events, settle_from, settle_if}

@@ -1,7 +1,7 @@
 -- What the lines of a script make of a sender, the network and a receiver.
 use Rattle.std.specs.Prelude.{◌≡◌, ◌⊎◌, ℕ, ◌+◌, ◌*◌, ◌<◌, ◌≤◌, List, [], ◌∷◌, length, map, Bool, Some, nat_lt, if◌then◌else◌}
-use Rattle.rw_codes.specs.Pieces.{page_size}
-use Rattle.rw_codes.specs.Writing.{log_bytes, room}
+use Rattle.rw_wal_format.specs.Pieces.{page_size}
+use Rattle.rw_wal_format.specs.Writing.{log_bytes, room}
 use Rattle.rw_machine.specs.Worlds.{Setup, World, Ending, start, report}
 use Rattle.rw_machine.specs.Steps.{happens, run}
 use Rattle.rw_machine.specs.Settling.{settle}

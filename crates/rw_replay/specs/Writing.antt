@@ -1,7 +1,7 @@
 -- What is written of one record.
 use Rattle.std.specs.Prelude.{◌≡◌, ℕ, ◌+◌, List, length, false}
-use Rattle.rw_codes.specs.Pieces.{page_size}
-use Rattle.rw_codes.specs.Writing.{log_bytes}
+use Rattle.rw_wal_format.specs.Pieces.{page_size}
+use Rattle.rw_wal_format.specs.Writing.{log_bytes}
 use Rattle.rw_wal_write.specs.Segment.{IsPlace}
 use Rattle.rw_replay.specs.Played.{segment_pages, is_full}
 

@@ -2,8 +2,8 @@
 
 ghost use Rattle.std.specs.Prelude.{◌≡◌, ◌+◌, ◌*◌, ◌<◌, ◌≤◌, [], ◌∷◌, length, map, IfOk, OnOk};
 ghost use Rattle.std.specs.List.{AllByRecursion};
-ghost use Rattle.rw_codes.specs.Pieces.{page_size};
-ghost use Rattle.rw_codes.specs.Writing.{log_bytes};
+ghost use Rattle.rw_wal_format.specs.Pieces.{page_size};
+ghost use Rattle.rw_wal_format.specs.Writing.{log_bytes};
 ghost use Rattle.rw_script.specs.declared.command.Command.TheVariants as command;
 ghost use Rattle.rw_script.specs.ScriptText.{logged, fed, order_of, order_of_event};
 ghost use Rattle.rw_script.specs.StateText.{state_text};

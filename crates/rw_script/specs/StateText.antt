@@ -3,7 +3,7 @@ use Rattle.std.specs.Prelude.{ℕ, List, [], ◌∷◌, ◌++◌, flat_map, Opti
 use Rattle.std.specs.Fmt.{signed_decimal}
 use Rattle.std.specs.FinMap.{entries}
 use Rattle.rw_types.specs.Labels.{Labels}
-use Rattle.rw_codes.specs.Faults.{log_fault_number}
+use Rattle.rw_wal_format.specs.Faults.{log_fault_number}
 use Rattle.rw_text.specs.LabelText.{labels_text}
 use Rattle.rw_text.specs.ValueText.{value_text}
 use Rattle.rw_ledger.specs.declared.ledger.Reason.{Reason}

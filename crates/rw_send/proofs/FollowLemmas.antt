@@ -4,7 +4,7 @@ use Rattle.std.proofs.lemmas.Grind.{common_steps}
 use Rattle.std.specs.Prelude.{⊤}
 use Rattle.std.specs.Io.KnownBytes.{Appends}
 use Rattle.std.specs.Result.{IsErrAnd}
-use Rattle.rw_codes.specs.Pieces.{Piece, bytes, next_segment}
+use Rattle.rw_wal_format.specs.Pieces.{Piece, bytes, next_segment}
 use Rattle.rw_follow.specs.Growth as growth
 use Rattle.rw_follow.specs.Growth.{HadAll, IsBeginning, IsGivenAt, Known, Meal, Moment, with_next, with_piece}
 use Rattle.rw_follow.specs.Turns.{Moves, given_by, wish_of}

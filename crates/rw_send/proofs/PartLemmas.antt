@@ -1,7 +1,7 @@
 -- A log that was fed in part.
 use Rattle.std.proofs.Common.{◌≡◌, ℕ, Bool, true, false, List, [], ◌∷◌, ◌++◌, map, Option, None, Some, Result, Ok, Err, OnErr, inl, inr, ◌⊎◌, refl, sym, ap, ◌∙◌, subst, append_assoc, append-nil}
 use Rattle.std.specs.Io.KnownBytes.{Consumes}
-use Rattle.rw_codes.specs.Pieces.{Piece, bytes, next_segment}
+use Rattle.rw_wal_format.specs.Pieces.{Piece, bytes, next_segment}
 use Rattle.rw_feeder.specs.Feeders.{Sorting}
 use Rattle.rw_shipper.specs.Shipping.{Joins}
 use Rattle.rw_shipper.specs.declared.shipper.FeedFault.{FeedFault}

@@ -1,7 +1,7 @@
 -- The segments that pieces tell.
 use Rattle.std.proofs.Common.{◌≡◌, ℕ, Bool, true, false, List, [], ◌∷◌, ◌++◌, map, Option, Some, None, refl, sym, ap, ◌∙◌, subst, append_assoc, append-nil}
 use Rattle.std.specs.Io.KnownBytes.{Consumes, IsAtEnd}
-use Rattle.rw_codes.specs.Pieces.{Piece, bytes, next_segment}
+use Rattle.rw_wal_format.specs.Pieces.{Piece, bytes, next_segment}
 use Rattle.rw_types.proofs.KnownLemmas.{consumes_consumes, consumes-none}
 use Rattle.rw_send.specs.Segments.{texts_after, texts, IsAllOf, AreAllOf, IsLogOf, Begins, IsMore, IsFed, IsFedMore}
 

@@ -1,6 +1,6 @@
 -- Pieces of a log stay short.
 use Rattle.std.proofs.Common.{◌≡◌, List, [], ◌∷◌, ◌++◌, Result, Ok, Err, inl, inr, ◌⊎◌, sym, subst}
-use Rattle.rw_codes.specs.Pieces.{Piece}
+use Rattle.rw_wal_format.specs.Pieces.{Piece}
 use Rattle.rw_feeder.specs.Feeders.{Sorting}
 use Rattle.rw_shipper.specs.Shipping.{Joins}
 use Rattle.rw_shipper.specs.declared.shipper.FeedFault.{FeedFault}

@@ -1,7 +1,7 @@
 -- What a run of the command `send --follow` does.
 use Rattle.std.specs.Prelude.{◌≡◌, ℕ, List, [], ◌∷◌, Option, Result, Ok, Err, ⊤}
 use Rattle.std.specs.Io.KnownBytes.{Appends}
-use Rattle.rw_codes.specs.Pieces.{Piece, bytes, next_segment}
+use Rattle.rw_wal_format.specs.Pieces.{Piece, bytes, next_segment}
 use Rattle.rw_follow.specs.Growth as growth
 use Rattle.rw_follow.specs.Growth.{HadAll, HasGap, IsBeginning, Known, Meal, Moment, with_next, with_piece}
 use Rattle.rw_follow.specs.declared.follower.Broken.TheVariants as broken

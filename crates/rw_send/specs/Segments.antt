@@ -1,7 +1,7 @@
 -- The pieces of a log that stands in several segments.
 use Rattle.std.specs.Prelude.{◌≡◌, ℕ, ◌≤◌, Bool, true, false, List, [], ◌∷◌, ◌++◌, length, Option, Some, None, ⊤}
 use Rattle.std.specs.Io.KnownBytes.{Consumes}
-use Rattle.rw_codes.specs.Pieces.{Piece, bytes, next_segment}
+use Rattle.rw_wal_format.specs.Pieces.{Piece, bytes, next_segment}
 
 -- the text of each segment that pieces tell: the bytes between two words of a next segment, joined; here after some text of the first one
 abbrev pub texts_after : List ℕ → List Piece → List (List ℕ)

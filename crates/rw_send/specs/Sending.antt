@@ -1,7 +1,7 @@
 -- What a run of the command `send` does.
 use Rattle.std.specs.Prelude.{◌≡◌, ℕ, Bool, true, List, [], ◌∷◌, Option, None, Some, Result, Ok, Err, ⊤}
 use Rattle.std.specs.Io.KnownBytes.{Appends}
-use Rattle.rw_codes.specs.Pieces.{Piece}
+use Rattle.rw_wal_format.specs.Pieces.{Piece}
 use Rattle.rw_feeder.specs.Feeders.{HasRead}
 use Rattle.rw_sender.specs.Configs.{choice_of}
 use Rattle.rw_sender.specs.declared.config.ConfigFields.{ConfigFields}

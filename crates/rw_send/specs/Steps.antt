@@ -1,6 +1,6 @@
 -- How the segments of a log are shipped one after another, and how many shards there are for each.
 use Rattle.std.specs.Prelude.{◌≡◌, ◌⊎◌, ℕ, ◌+◌, ◌-◌, Bool, true, false, List, [], ◌∷◌, Option, length}
-use Rattle.rw_codes.specs.Pieces.{Piece, entries}
+use Rattle.rw_wal_format.specs.Pieces.{Piece, entries}
 use Rattle.rw_fleet.specs.Fleets.{Shards}
 use Rattle.rw_fleet.specs.ShardHistories.{AreFresh}
 use Rattle.rw_fleet.specs.Loads.{IsLoad}

@@ -1,7 +1,7 @@
 //! The command `send`, over any readers, connections and writer.
 
 ghost use Rattle.std.specs.Prelude.{◌≡◌, ◌⊎◌, ℕ, None, Some, map, Ok, Err, true, false, IfOk, IfErr, IsOk, OnOk};
-ghost use Rattle.rw_codes.specs.declared.tail_fault.TailFault.{TailFault};
+ghost use Rattle.rw_wal_format.specs.declared.tail_fault.TailFault.{TailFault};
 ghost use Rattle.rw_shipper.specs.Reports.{IsAbandoned, ListsCut};
 ghost use Rattle.rw_shipper.specs.Shipping.{HasStopped};
 ghost use Rattle.rw_tool.specs.declared.fault.ToolFault.{ToolFault};

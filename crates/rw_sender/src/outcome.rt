@@ -1,6 +1,6 @@
 //! How the work of a sender ended.
 
-use rw_codes::TailFault;
+use rw_wal_format::TailFault;
 
 /// How the work of a sender ended.
 #[derive(Debug, PartialEq, Eq, Drop)]

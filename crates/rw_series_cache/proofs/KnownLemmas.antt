@@ -9,7 +9,7 @@ use Rattle.rw_types.specs.Labels.{Labels, label_fault}
 use Rattle.rw_types.specs.declared.entry.Entry.{Entry}
 use Rattle.rw_types.specs.declared.entry.Entry.TheVariants.{Def, Sample}
 use Rattle.rw_types.specs.declared.label_fault.LabelFault.{LabelFault}
-use Rattle.rw_codes.specs.Series.{labels_of, defines}
+use Rattle.rw_wal_format.specs.Series.{labels_of, defines}
 use Rattle.rw_relabel.specs.Rules.{keeps}
 use Rattle.rw_relabel.specs.declared.choice.Choice.{Choice}
 use Rattle.rw_series_cache.specs.Known.{Unknown, Bad, Filtered, Kept, known, standing_of, standing_by, standing_of_set, is_definition, definitions_of}

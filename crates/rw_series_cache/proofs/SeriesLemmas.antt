@@ -6,7 +6,7 @@ use Rattle.rw_types.specs.Labels.{Labels}
 use Rattle.rw_types.specs.LabelOrder.{labels_eq}
 use Rattle.rw_types.specs.declared.entry.Entry.{Entry}
 use Rattle.rw_types.specs.declared.entry.Entry.TheVariants.{Def, Sample}
-use Rattle.rw_codes.specs.Series.{defines}
+use Rattle.rw_wal_format.specs.Series.{defines}
 use Rattle.rw_relabel.specs.declared.choice.Choice.{Choice}
 use Rattle.rw_series_cache.specs.Known.{Standing, Unknown, Bad, Filtered, Kept, known, standing_of}
 use Rattle.rw_series_cache.specs.Numbers.{series_of, number_of, HasNumber, with_series, with_entry}

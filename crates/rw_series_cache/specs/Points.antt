@@ -2,7 +2,7 @@
 use Rattle.std.specs.Prelude.{ℕ, ℤ, List, Bool, ◌&&◌, filter, nat_lt, is_none}
 use Rattle.rw_types.specs.Labels.{Labels, label_fault}
 use Rattle.rw_types.specs.declared.entry.Entry.{Entry}
-use Rattle.rw_codes.specs.Series.{kept}
+use Rattle.rw_wal_format.specs.Series.{kept}
 use Rattle.rw_relabel.specs.Rules.{keeps}
 use Rattle.rw_relabel.specs.declared.choice.Choice.{Choice}
 

@@ -7,7 +7,7 @@ ghost use Rattle.std.specs.FinMap.{FinMap, empty, insert};
 ghost use Rattle.rw_types.specs.Labels.{Labels};
 ghost use Rattle.rw_types.specs.declared.entry.Entry.{Entry};
 ghost use Rattle.rw_types.specs.declared.entry.Entry.TheVariants.{Def, Sample};
-ghost use Rattle.rw_codes.specs.Series.{labels_of};
+ghost use Rattle.rw_wal_format.specs.Series.{labels_of};
 ghost use Rattle.rw_relabel.specs.declared.choice.Choice.{Choice};
 ghost use Rattle.rw_series_cache.specs.Known.{Kept, standing_of, known, definitions_of};
 ghost use Rattle.rw_series_cache.specs.Numbers.{series_of, HasNumber};

@@ -20,9 +20,9 @@ use Rattle.rw_feeder.specs.Feeders.{Sorting, HasPlaced, HasRead, sent_by}
 use Rattle.rw_router.specs.Fates.{Fate, Drops, Filters, Sends, fate}
 use Rattle.rw_feeder.specs.Logs.{Sent, gather_from, kept_sample, sent_by_fate, sent_of, sent}
 use Rattle.rw_shipper.specs.Placement.{shard_of, IsPlacing, ArePlaced, AreKept}
-use Rattle.rw_codes.specs.Pieces.{Piece, reading}
-use Rattle.rw_codes.specs.Segments.{segment}
-use Rattle.rw_codes.specs.declared.tail_fault.TailFault.{TailFault}
+use Rattle.rw_wal_format.specs.Pieces.{Piece, reading}
+use Rattle.rw_wal_format.specs.Segments.{segment}
+use Rattle.rw_wal_format.specs.declared.tail_fault.TailFault.{TailFault}
 use Rattle.rw_sender.specs.declared.outcome.Outcome.{Outcome}
 use Rattle.rw_sender.specs.declared.outcome.Outcome.TheVariants as outcome
 use Rattle.rw_shipper.specs.Reports.{abandoned_in, end_of, IsAbandoned, IsAbandonedAt, ListsCut}

@@ -1,6 +1,6 @@
 -- What a report lists, and the room for it.
 use Rattle.std.specs.Prelude.{slice_get, false, ◌≡◌, ◌≤◌, ◌+◌, ◌*◌, ℕ, Bool, true, List, [], ◌∷◌, ◌++◌, length, map, vec_len, vec_capacity, Option, Some, None, ⊤}
-use Rattle.rw_codes.specs.declared.tail_fault.TailFault.{TailFault}
+use Rattle.rw_wal_format.specs.declared.tail_fault.TailFault.{TailFault}
 use Rattle.rw_ledger.specs.Names.{Named}
 use Rattle.rw_sender.specs.declared.outcome.Outcome.{Outcome}
 use Rattle.rw_sender.specs.declared.outcome.Outcome.TheVariants.{Complete, Abandoned, Damaged}

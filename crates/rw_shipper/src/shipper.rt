@@ -7,7 +7,7 @@ ghost use Rattle.rw_fleet.specs.Work.{AreResolved, HasCut};
 ghost use Rattle.rw_fleet.specs.Fleets.{EndBy};
 ghost use Rattle.rw_fleet.specs.Loads.{IsLoad};
 ghost use Rattle.rw_types.specs.declared.entry.Entry.{Entry};
-ghost use Rattle.rw_codes.specs.Pieces.{entries};
+ghost use Rattle.rw_wal_format.specs.Pieces.{entries};
 ghost use Rattle.rw_feeder.specs.Logs.{named, dropped, filtered};
 ghost use Rattle.rw_sender.specs.Configs.{choice_of};
 ghost use Rattle.rw_shipper.specs.Placement.{AreKept};

@@ -2,9 +2,9 @@
 use Rattle.std.proofs.Common.{◌≡◌, ◌<◌, ◌≤◌, ◌+◌, ◌*◌, ℕ, List, [], ◌∷◌, ◌++◌, length, Some, None, Result, Ok, Err, IfSome, IfErr, Bool, true, false, leb, add-zero, refl, sym, ap, ◌∙◌, subst, arith, inl, inr, append_assoc}
 use Rattle.std.proofs.lemmas.Bool.{cases_lt, lt-ltb, le-ltb, le-leb, lt-leb, and_parts, and_cases, and_left, and_right, false≢true}
 use Rattle.std.proofs.lemmas.List.{length-append, append-nil}
-use Rattle.rw_codes.specs.Laws.{log_all}
-use Rattle.rw_codes.specs.Pieces.{page_size}
-use Rattle.rw_codes.specs.Writing.{log_bytes, room}
+use Rattle.rw_wal_format.specs.Laws.{log_all}
+use Rattle.rw_wal_format.specs.Pieces.{page_size}
+use Rattle.rw_wal_format.specs.Writing.{log_bytes, room}
 use Rattle.rw_types.specs.Memory.{Reserved}
 use Rattle.rw_wal_write.proofs.Fitting.{room_fits}
 use Rattle.rw_wal_write.specs.Segment.{Segment, IsPlace, IsLogged, refusal}

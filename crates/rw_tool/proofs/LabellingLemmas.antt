@@ -10,7 +10,7 @@ use Rattle.rw_types.specs.declared.entry.Entry.{Entry}
 use Rattle.rw_types.specs.declared.entry.Entry.TheVariants.{Def, Sample}
 use Rattle.rw_types.specs.declared.label_fault.LabelFault.{LabelFault}
 use Rattle.rw_write_request.specs.Message as message_specs
-use Rattle.rw_codes.specs.Series as codes
+use Rattle.rw_wal_format.specs.Series as codes
 use Rattle.rw_relabel.specs.Rules.{keeps}
 use Rattle.rw_relabel.specs.declared.choice.Choice.{Choice}
 use Rattle.rw_batch.specs.Grouping.{message, distinct, with_sample, labels_of}

@@ -8,12 +8,12 @@ use Rattle.std.proofs.lemmas.Bool.{ltb-true, ltb-false}
 use Rattle.std.proofs.lemmas.Option.{slice_get_within, get_or_from_slice_get}
 use Rattle.rw_types.proofs.KnownLemmas.{consumes-none, consumes_consumes}
 use Rattle.rw_types.specs.declared.entry.Entry.{Entry}
-use Rattle.rw_codes.specs.Pieces.{Piece, bytes, entries, fault, page_size, reading, fault_at}
-use Rattle.rw_codes.specs.Segments.{Reading, Stop, at_fault, between, inside}
-use Rattle.rw_codes.specs.Laws.{Extends}
-use Rattle.rw_codes.proofs.Growing.{reading-append}
-use Rattle.rw_codes.specs.declared.tail_fault.TailFault.{TailFault}
-use Rattle.rw_codes.specs.declared.tail_fault.TailFault.TheVariants as tail
+use Rattle.rw_wal_format.specs.Pieces.{Piece, bytes, entries, fault, page_size, reading, fault_at}
+use Rattle.rw_wal_format.specs.Segments.{Reading, Stop, at_fault, between, inside}
+use Rattle.rw_wal_format.specs.Laws.{Extends}
+use Rattle.rw_wal_format.proofs.Growing.{reading-append}
+use Rattle.rw_wal_format.specs.declared.tail_fault.TailFault.{TailFault}
+use Rattle.rw_wal_format.specs.declared.tail_fault.TailFault.TheVariants as tail
 use Rattle.rw_wal_tail.specs.Fed.{Fed, next_of, end_of, answered}
 use Rattle.rw_tool.specs.declared.fault.ToolFault.{ToolFault}
 use Rattle.rw_tool.specs.declared.fault.ToolFault.TheVariants.{OutOfMemory, Log, Line, SegmentFull, Device}

@@ -5,8 +5,8 @@ use Rattle.rw_types.specs.declared.names.Names.TheVariants.{Legacy}
 use Rattle.rw_types.specs.declared.label_fault.LabelFault.{LabelFault}
 use Rattle.rw_types.specs.declared.entry.Entry.{Entry}
 use Rattle.rw_types.specs.declared.entry.Entry.TheVariants.{Def, Sample}
-use Rattle.rw_codes.specs.Pieces.{bytes, entries}
-use Rattle.rw_codes.specs.Series.{labels_of}
+use Rattle.rw_wal_format.specs.Pieces.{bytes, entries}
+use Rattle.rw_wal_format.specs.Series.{labels_of}
 use Rattle.rw_write_request.specs.Message as message_specs
 use Rattle.rw_write_request.specs.Canon.{canon}
 use Rattle.rw_batch.specs.Grouping.{LabelledSample, message}

@@ -1,8 +1,8 @@
 -- The faults of the parts, as those of a command.
 use Rattle.rw_types.specs.declared.transfer.ReadFault.{ReadFault}
 use Rattle.rw_types.specs.declared.transfer.ReadFault.TheVariants as read
-use Rattle.rw_codes.specs.declared.tail_fault.TailFault.{TailFault}
-use Rattle.rw_codes.specs.declared.tail_fault.TailFault.TheVariants as tail
+use Rattle.rw_wal_format.specs.declared.tail_fault.TailFault.{TailFault}
+use Rattle.rw_wal_format.specs.declared.tail_fault.TailFault.TheVariants as tail
 use Rattle.rw_hex.specs.declared.fault.HexFault.{HexFault}
 use Rattle.rw_hex.specs.declared.fault.HexFault.TheVariants as hex
 use Rattle.rw_tool.specs.declared.fault.ToolFault.{ToolFault}

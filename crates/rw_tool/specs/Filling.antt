@@ -1,7 +1,7 @@
 -- A segment in memory that is being filled with records.
 use Rattle.std.specs.Prelude.{◌≡◌, ℕ, ◌+◌, ◌*◌, ◌≤◌, List, ◌++◌, length, false, true}
-use Rattle.rw_codes.specs.Laws.{log_all}
-use Rattle.rw_codes.specs.Pieces.{page_size}
+use Rattle.rw_wal_format.specs.Laws.{log_all}
+use Rattle.rw_wal_format.specs.Pieces.{page_size}
 use Rattle.rw_types.specs.Memory.{Reserved}
 use Rattle.rw_tool.specs.LogText.{have_room}
 use Rattle.rw_wal_write.specs.Segment.{Segment, IsPlace}

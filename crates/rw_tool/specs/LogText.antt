@@ -1,8 +1,8 @@
 -- Log text: the records of its lines, and the segments that they make.
 use Rattle.std.specs.Prelude.{◌≡◌, ℕ, ◌+◌, ◌<◌, List, [], ◌∷◌, ◌++◌, length, max, Bool, true, false, ◌&&◌, nat_le}
-use Rattle.rw_codes.specs.Laws.{log_all}
-use Rattle.rw_codes.specs.Pieces.{page_size}
-use Rattle.rw_codes.specs.Writing.{log_bytes, room}
+use Rattle.rw_wal_format.specs.Laws.{log_all}
+use Rattle.rw_wal_format.specs.Pieces.{page_size}
+use Rattle.rw_wal_format.specs.Writing.{log_bytes, room}
 use Rattle.rw_log_text.specs.RecordLines.{lines, IsRecordOf}
 use Rattle.rw_tool.specs.declared.fault.ToolFault.{ToolFault}
 use Rattle.rw_tool.specs.declared.fault.ToolFault.TheVariants as fault

@@ -1,7 +1,7 @@
 -- What a run of the command `log` does to its reader and its writer.
 use Rattle.std.specs.Prelude.{◌≡◌, ◌<◌, ℕ, ◌≤◌, ◌*◌, ◌-◌, List, length, take, Bool, true, false, Option}
 use Rattle.std.specs.Io.KnownBytes.{Appends, Consumes, IsAtEnd}
-use Rattle.rw_codes.specs.Pieces.{page_size}
+use Rattle.rw_wal_format.specs.Pieces.{page_size}
 use Rattle.rw_log_text.specs.RecordLines.{lines}
 use Rattle.rw_tool.specs.LogText.{longest_of, have_room, segment_of, AreRecords, IsBadLine}
 use Rattle.rw_tool.specs.Running.{output_of}

@@ -1,7 +1,7 @@
 -- What is printed of a fault, and the exit status that it gives.
 use Rattle.std.specs.Prelude.{ℕ, List, ◌++◌, codes}
 use Rattle.std.specs.Fmt.{decimal}
-use Rattle.rw_codes.specs.Faults.{log_fault_number}
+use Rattle.rw_wal_format.specs.Faults.{log_fault_number}
 use Rattle.rw_tool.specs.declared.fault.ToolFault.{ToolFault}
 use Rattle.rw_tool.specs.declared.fault.ToolFault.TheVariants.{OutOfMemory, Log, Line, SegmentFull, Device}
 

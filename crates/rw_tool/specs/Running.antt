@@ -1,9 +1,9 @@
 -- What a run of a command does to its reader and its writer.
 use Rattle.std.specs.Prelude.{◌≡◌, ◌≢◌, ℕ, ◌≤◌, List, [], ◌∷◌, ◌++◌, length, take, Bool, true, false, Option, Some, None, Ok, Err}
 use Rattle.std.specs.Io.KnownBytes.{Appends, Consumes, IsAtEnd}
-use Rattle.rw_codes.specs.Pieces.{bytes, fault}
-use Rattle.rw_codes.specs.declared.tail_fault.TailFault.{TailFault}
-use Rattle.rw_codes.specs.declared.tail_fault.TailFault.TheVariants as tail
+use Rattle.rw_wal_format.specs.Pieces.{bytes, fault}
+use Rattle.rw_wal_format.specs.declared.tail_fault.TailFault.{TailFault}
+use Rattle.rw_wal_format.specs.declared.tail_fault.TailFault.TheVariants as tail
 use Rattle.rw_hex.specs.HexText.{hex_text, read_text}
 use Rattle.rw_tool.specs.Body.{body_of}
 use Rattle.rw_tool.specs.Taking.{ReadsToFault}

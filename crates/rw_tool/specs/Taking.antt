@@ -2,10 +2,10 @@
 use Rattle.std.specs.Prelude.{◌≡◌, ◌≢◌, ◌≤◌, ℕ, List, ◌++◌, [], ◌∷◌, length, take, Bool, true, Option, Some, None}
 use Rattle.std.specs.Io.KnownBytes.{Consumes, IsAtEnd}
 use Rattle.rw_types.specs.declared.entry.Entry.{Entry}
-use Rattle.rw_codes.specs.Laws.{Extends}
-use Rattle.rw_codes.specs.Pieces.{Piece, bytes, entries, fault, page_size, reading}
-use Rattle.rw_codes.specs.declared.tail_fault.TailFault.{TailFault}
-use Rattle.rw_codes.specs.declared.tail_fault.TailFault.TheVariants as tail
+use Rattle.rw_wal_format.specs.Laws.{Extends}
+use Rattle.rw_wal_format.specs.Pieces.{Piece, bytes, entries, fault, page_size, reading}
+use Rattle.rw_wal_format.specs.declared.tail_fault.TailFault.{TailFault}
+use Rattle.rw_wal_format.specs.declared.tail_fault.TailFault.TheVariants as tail
 use Rattle.rw_wal_tail.specs.Fed.{Fed}
 use Rattle.rw_tool.specs.declared.fault.ToolFault.{ToolFault}
 use Rattle.rw_tool.specs.declared.fault.ToolFault.TheVariants.{OutOfMemory, Log, Line, SegmentFull, Device}

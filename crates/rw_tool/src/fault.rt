@@ -1,8 +1,8 @@
 //! Why a command ends.
 
-use rw_codes::TailFault;
 use rw_hex::HexFault;
 use rw_types::{Failed, ReadFault};
+use rw_wal_format::TailFault;
 use std::alloc::AllocError;
 
 /// Why a command of the program ends.

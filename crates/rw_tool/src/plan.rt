@@ -1,7 +1,7 @@
 //! The command `plan`, over any reader and writer.
 
 ghost use Rattle.std.specs.Prelude.{◌≡◌, ◌≢◌, ◌⊎◌, ℕ, List, true, false, Err, None, IfOk, OnOk, IfErr};
-ghost use Rattle.rw_codes.specs.declared.tail_fault.TailFault.{TailFault};
+ghost use Rattle.rw_wal_format.specs.declared.tail_fault.TailFault.{TailFault};
 ghost use Rattle.rw_plan.specs.Plan.{plan_of};
 ghost use Rattle.rw_sender.specs.Configs.{choice_of};
 ghost use Rattle.rw_tool.specs.Planning.{WritesPlan, WritesPlanPart};

@@ -3,7 +3,7 @@
 ghost use Rattle.std.specs.Prelude.{◌≡◌, ◌⊎◌, ◌<◌, ℕ, List, [], ◌∷◌, ◌++◌, true, false, None, Ok, IfOk, IfErr, OnOk, length, vec_len};
 ghost use Rattle.std.specs.Io.KnownBytes.{Consumes, IsAtEnd};
 ghost use Rattle.rw_types.specs.declared.entry.Entry.{Entry};
-ghost use Rattle.rw_codes.specs.Pieces.{bytes, entries};
+ghost use Rattle.rw_wal_format.specs.Pieces.{bytes, entries};
 ghost use Rattle.rw_relabel.specs.declared.choice.Choice.{Choice};
 ghost use Rattle.rw_tool.specs.Taking.{HasTaken, HasTakenAll, IsFaultOf, FeedsMore, ReadsSegment, StopsReading};
 ghost use Rattle.rw_tool.specs.declared.fault.ToolFault.TheVariants.{OutOfMemory, Device};

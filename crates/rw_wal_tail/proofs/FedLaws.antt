@@ -2,13 +2,13 @@
 use Rattle.std.proofs.Common.{◌≡◌, ℕ, ◌+◌, ◌≤◌, List, [], ◌∷◌, ◌++◌, length, Option, Some, None, Result, Ok, Err, Bool, true, false, nat_lt, ltb, refl, sym, ap, ◌∙◌, arith, append_assoc, append-nil, length-append, lt-ltb, le-ltb, subst}
 use Rattle.std.specs.Prelude.{slice_get, if◌then◌else◌}
 use Rattle.rw_types.specs.declared.entry.Entry.{Entry}
-use Rattle.rw_codes.specs.declared.tail_fault.TailFault.{TailFault}
-use Rattle.rw_codes.specs.declared.tail_fault.TailFault.TheVariants.{OutOfMemory, BadType, BadLength, BadCrc, Compressed, NonzeroPadding, Sequence, BadRecord, TornSegment}
-use Rattle.rw_codes.specs.Segments.{Reading, Stop, between, inside, at_fault, stopped}
-use Rattle.rw_codes.specs.Pieces.{Piece, bytes, page_size, reading, entries, skipped, fault, fault_at}
-use Rattle.rw_codes.proofs.Growing.{reading-append, reading-cut}
-use Rattle.rw_codes.specs.Laws.{Extends}
-use Rattle.rw_codes.proofs.Tailing.{read_on, read_on-start}
+use Rattle.rw_wal_format.specs.declared.tail_fault.TailFault.{TailFault}
+use Rattle.rw_wal_format.specs.declared.tail_fault.TailFault.TheVariants.{OutOfMemory, BadType, BadLength, BadCrc, Compressed, NonzeroPadding, Sequence, BadRecord, TornSegment}
+use Rattle.rw_wal_format.specs.Segments.{Reading, Stop, between, inside, at_fault, stopped}
+use Rattle.rw_wal_format.specs.Pieces.{Piece, bytes, page_size, reading, entries, skipped, fault, fault_at}
+use Rattle.rw_wal_format.proofs.Growing.{reading-append, reading-cut}
+use Rattle.rw_wal_format.specs.Laws.{Extends}
+use Rattle.rw_wal_format.proofs.Tailing.{read_on, read_on-start}
 use Rattle.rw_wal_tail.specs.declared.reader.Reader.{Reader}
 use Rattle.rw_wal_tail.specs.Held.{Held, waiting}
 use Rattle.rw_wal_tail.specs.Still.{after, still, from_here, open_data}

@@ -2,7 +2,7 @@
 use Rattle.std.proofs.Common.{◌≡◌, ℤ, Bool, true, false, ◌==◌, drop, get_or, ℕ, zero, suc, ◌+◌, ◌-◌, ◌<◌, ◌≤◌, List, [], ◌∷◌, ◌++◌, length, Option, Some, None, refl, sym, ap, ◌∙◌, arith, append_assoc, append-nil, length-append, length-drop, take, take_all}
 use Rattle.std.proofs.lemmas.Bool.{ne_eqb}
 use Rattle.std.proofs.Math.Dec.{eqb, eqb-suc-zero}
-use Rattle.rw_codes.specs.Records.{◌then◌, all_of, label_at, label_list_at, series_entries, sample_entries, record_entries, samples_at, sample_at}
+use Rattle.rw_wal_format.specs.Records.{◌then◌, all_of, label_at, label_list_at, series_entries, sample_entries, record_entries, samples_at, sample_at}
 use Rattle.rw_wal_tail.specs.Unread.{BadFormOnly}
 use Rattle.rw_types.specs.declared.entry.Entry.{Entry}
 use Rattle.rw_types.specs.Labels.{Labels}

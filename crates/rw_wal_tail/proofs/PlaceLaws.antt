@@ -1,14 +1,14 @@
 -- The place where the reading of a segment stops, an item at a time.
 use Rattle.std.proofs.Common.{◌≡◌, ℕ, zero, suc, ◌+◌, ◌<◌, ◌≤◌, List, [], ◌∷◌, ◌++◌, length, drop, Option, Some, None, Bool, true, false, refl, sym, ap, ◌∙◌, arith, length-drop, le_refl, add_assoc, append_assoc, append-nil}
 use Rattle.rw_types.specs.declared.entry.Entry.{Entry}
-use Rattle.rw_codes.specs.Records.{record_entries}
-use Rattle.rw_codes.specs.Segments.{Kind, full, first, middle, last, Item, nothing, begun, zeros, fragment, wrong, item_at, Stop, between, inside, at_fault, left_after, Reading, with_entries, end_of, read_from, segment}
-use Rattle.rw_codes.specs.Pieces.{Piece, bytes, next_segment, page_size}
-use Rattle.rw_codes.specs.declared.tail_fault.TailFault.{TailFault}
-use Rattle.rw_codes.specs.declared.tail_fault.TailFault.TheVariants.{Sequence, BadRecord}
-use Rattle.rw_codes.proofs.Growing.{left_after_pos}
-use Rattle.rw_codes.proofs.Items.{read_step, read_zeros, read_nothing, read_begun, read_wrong, read_full, read_first, read_middle, read_last}
-use Rattle.rw_codes.proofs.Tailing.{fragment_stays_at, zeros_stay_at}
+use Rattle.rw_wal_format.specs.Records.{record_entries}
+use Rattle.rw_wal_format.specs.Segments.{Kind, full, first, middle, last, Item, nothing, begun, zeros, fragment, wrong, item_at, Stop, between, inside, at_fault, left_after, Reading, with_entries, end_of, read_from, segment}
+use Rattle.rw_wal_format.specs.Pieces.{Piece, bytes, next_segment, page_size}
+use Rattle.rw_wal_format.specs.declared.tail_fault.TailFault.{TailFault}
+use Rattle.rw_wal_format.specs.declared.tail_fault.TailFault.TheVariants.{Sequence, BadRecord}
+use Rattle.rw_wal_format.proofs.Growing.{left_after_pos}
+use Rattle.rw_wal_format.proofs.Items.{read_step, read_zeros, read_nothing, read_begun, read_wrong, read_full, read_first, read_middle, read_last}
+use Rattle.rw_wal_format.proofs.Tailing.{fragment_stays_at, zeros_stay_at}
 use Rattle.rw_wal_tail.specs.Places.{closes, opens, count_after, count_from, count_of, read_count, stop_offset, stop_after}
 use Rattle.rw_wal_tail.specs.Held.{Held, has_ended, begun_with, extend_last, fed_with}
 use Rattle.rw_wal_tail.specs.Placed.{stop_at, place_at, place_on, place_held, place_from}

@@ -3,10 +3,10 @@ use Rattle.std.proofs.Common.{◌≡◌, ℕ, ◌+◌, ◌<◌, ◌^◌, List, [
 use Rattle.std.proofs.lemmas.Bool.{cases_lt}
 use Rattle.std.specs.Prelude.{◌&&◌}
 use borrow.Author.Tests.{ltb-true}
-use Rattle.rw_codes.specs.Segments as grammar
-use Rattle.rw_codes.specs.Segments.{Kind, fragment, item_at, left_after, inside}
-use Rattle.rw_codes.specs.Pieces.{Piece, next_segment, bytes, page_size}
-use Rattle.rw_codes.specs.declared.tail_fault.TailFault.{TailFault}
+use Rattle.rw_wal_format.specs.Segments as grammar
+use Rattle.rw_wal_format.specs.Segments.{Kind, fragment, item_at, left_after, inside}
+use Rattle.rw_wal_format.specs.Pieces.{Piece, next_segment, bytes, page_size}
+use Rattle.rw_wal_format.specs.declared.tail_fault.TailFault.{TailFault}
 use Rattle.rw_wal_tail.specs.declared.reader.Reader.{Reader}
 use Rattle.rw_wal_tail.specs.Held.{Held, has_ended, begun_with, fed_with, fed, passed, one_more, marked, can_count}
 use Rattle.rw_wal_tail.specs.Still.{open_data}

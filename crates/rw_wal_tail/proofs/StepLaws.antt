@@ -2,13 +2,13 @@
 use Rattle.std.proofs.Common.{◌≡◌, ℕ, ◌+◌, ◌<◌, ◌≤◌, ◌^◌, List, [], ◌∷◌, ◌++◌, length, take, drop, Some, None, Bool, true, false, refl, sym, ap, ◌∙◌, arith, subst, length-take, length-drop, length-append, inl, inr, ◌⊎◌}
 use Rattle.std.proofs.lemmas.List.{take-append-le}
 use Rattle.rw_types.specs.declared.entry.Entry.{Entry}
-use Rattle.rw_codes.specs.Segments as grammar
-use Rattle.rw_codes.specs.Segments.{full, first, middle, last, fragment, item_at, left_after}
-use Rattle.rw_codes.specs.Records.{record_entries}
-use Rattle.rw_codes.specs.declared.tail_fault.TailFault.{TailFault}
-use Rattle.rw_codes.specs.declared.tail_fault.TailFault.TheVariants.{BadRecord, Sequence, TornSegment}
-use Rattle.rw_codes.specs.Pieces.{Piece, next_segment, bytes, page_size}
-use Rattle.rw_codes.proofs.Growing.{left_after_pos}
+use Rattle.rw_wal_format.specs.Segments as grammar
+use Rattle.rw_wal_format.specs.Segments.{full, first, middle, last, fragment, item_at, left_after}
+use Rattle.rw_wal_format.specs.Records.{record_entries}
+use Rattle.rw_wal_format.specs.declared.tail_fault.TailFault.{TailFault}
+use Rattle.rw_wal_format.specs.declared.tail_fault.TailFault.TheVariants.{BadRecord, Sequence, TornSegment}
+use Rattle.rw_wal_format.specs.Pieces.{Piece, next_segment, bytes, page_size}
+use Rattle.rw_wal_format.proofs.Growing.{left_after_pos}
 use Rattle.rw_wal_tail.specs.declared.reader.Reader.{Reader}
 use Rattle.rw_wal_tail.specs.Found.{KnownZeros}
 use Rattle.rw_wal_tail.specs.Held.{Held, waiting, has_ended, begun_with, fed_with, fed, passed, marked, can_count}

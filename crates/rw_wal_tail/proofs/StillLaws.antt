@@ -1,15 +1,15 @@
 -- The steps of a reader leave what it still reads as it is.
 use Rattle.std.proofs.Common.{◌≡◌, ℕ, ◌+◌, ◌<◌, List, [], ◌∷◌, ◌++◌, length, drop, Option, Some, None, Bool, true, false, sym, ap, ◌∙◌, subst, append_assoc, append-nil, add_assoc, arith, inl, inr, ◌⊎◌}
 use Rattle.rw_types.specs.declared.entry.Entry.{Entry}
-use Rattle.rw_codes.specs.Records.{record_entries}
-use Rattle.rw_codes.specs.Segments.{Kind, full, first, middle, last, Item, nothing, begun, zeros, fragment, wrong, item_at, Stop, between, inside, at_fault, Reading, stopped, with_entries, with_record, left_after, read_from}
+use Rattle.rw_wal_format.specs.Records.{record_entries}
+use Rattle.rw_wal_format.specs.Segments.{Kind, full, first, middle, last, Item, nothing, begun, zeros, fragment, wrong, item_at, Stop, between, inside, at_fault, Reading, stopped, with_entries, with_record, left_after, read_from}
 use Rattle.rw_wal_tail.specs.Still.{skip_of}
-use Rattle.rw_codes.specs.Pieces.{Piece, bytes, next_segment, then_next, reading_after, page_size}
-use Rattle.rw_codes.specs.declared.tail_fault.TailFault.{TailFault}
-use Rattle.rw_codes.specs.declared.tail_fault.TailFault.TheVariants.{Sequence, BadRecord, TornSegment}
-use Rattle.rw_codes.proofs.Growing.{Stays, item_stays}
-use Rattle.rw_codes.proofs.Items.{read_step, read_zeros, read_nothing, read_begun, read_wrong, read_full, read_first, read_middle, read_last}
-use Rattle.rw_codes.proofs.Tailing.{read_on, read_on-start, read_on-step, read_on-record, fragment_stays_at, zeros_stay_at}
+use Rattle.rw_wal_format.specs.Pieces.{Piece, bytes, next_segment, then_next, reading_after, page_size}
+use Rattle.rw_wal_format.specs.declared.tail_fault.TailFault.{TailFault}
+use Rattle.rw_wal_format.specs.declared.tail_fault.TailFault.TheVariants.{Sequence, BadRecord, TornSegment}
+use Rattle.rw_wal_format.proofs.Growing.{Stays, item_stays}
+use Rattle.rw_wal_format.proofs.Items.{read_step, read_zeros, read_nothing, read_begun, read_wrong, read_full, read_first, read_middle, read_last}
+use Rattle.rw_wal_format.proofs.Tailing.{read_on, read_on-start, read_on-step, read_on-record, fragment_stays_at, zeros_stay_at}
 use Rattle.rw_wal_tail.specs.Still.{after, open_data, still}
 
 abbrev pub NoFault : Stop → Type 0

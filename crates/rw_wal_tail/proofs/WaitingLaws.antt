@@ -1,11 +1,11 @@
 -- What waits after the segment at hand.
 use Rattle.std.proofs.Common.{◌≡◌, ℕ, ◌<◌, List, [], ◌∷◌, ◌++◌, Option, Some, None, Bool, true, false, refl, sym, ap, ◌∙◌, ◌⊎◌}
 use Rattle.rw_types.specs.declared.entry.Entry.{Entry}
-use Rattle.rw_codes.specs.Segments.{nothing, begun, item_at, read_from, segment}
-use Rattle.rw_codes.specs.Pieces.{Piece, bytes, next_segment, then_next, reading_after, page_size}
-use Rattle.rw_codes.specs.declared.tail_fault.TailFault.{TailFault}
-use Rattle.rw_codes.specs.declared.tail_fault.TailFault.TheVariants.{TornSegment}
-use Rattle.rw_codes.proofs.Tailing.{read_on, read_on-start}
+use Rattle.rw_wal_format.specs.Segments.{nothing, begun, item_at, read_from, segment}
+use Rattle.rw_wal_format.specs.Pieces.{Piece, bytes, next_segment, then_next, reading_after, page_size}
+use Rattle.rw_wal_format.specs.declared.tail_fault.TailFault.{TailFault}
+use Rattle.rw_wal_format.specs.declared.tail_fault.TailFault.TheVariants.{TornSegment}
+use Rattle.rw_wal_format.proofs.Tailing.{read_on, read_on-start}
 use Rattle.rw_wal_tail.specs.Held.{Held, waiting, has_ended, begun_with, extend_last, fed_with, fed}
 use Rattle.rw_wal_tail.specs.Still.{after, open_data, still}
 use Rattle.rw_wal_tail.proofs.StillLaws.{none_first, still_next, still_torn}

@@ -1,10 +1,10 @@
 -- What was fed to a reader, and what it answers.
 use Rattle.std.specs.Prelude.{◌≡◌, ℕ, ◌+◌, ◌<◌, ◌^◌, List, [], ◌∷◌, ◌++◌, length, Option, Some, None, Result, Ok, Err, slice_get, nat_lt, Bool, true, false, if◌then◌else◌}
 use Rattle.rw_types.specs.declared.entry.Entry.{Entry}
-use Rattle.rw_codes.specs.Pieces as pieces
-use Rattle.rw_codes.specs.Pieces.{page_size, reading, entries, skipped, fault}
-use Rattle.rw_codes.specs.declared.tail_fault.TailFault.{TailFault}
-use Rattle.rw_codes.specs.declared.tail_fault.TailFault.TheVariants.{OutOfMemory}
+use Rattle.rw_wal_format.specs.Pieces as pieces
+use Rattle.rw_wal_format.specs.Pieces.{page_size, reading, entries, skipped, fault}
+use Rattle.rw_wal_format.specs.declared.tail_fault.TailFault.{TailFault}
+use Rattle.rw_wal_format.specs.declared.tail_fault.TailFault.TheVariants.{OutOfMemory}
 use Rattle.rw_wal_tail.specs.declared.piece.Piece.{Piece}
 use Rattle.rw_wal_tail.specs.declared.piece.Piece.TheVariants as piece
 use Rattle.rw_wal_tail.specs.declared.piece.Told.{Told}

@@ -1,10 +1,10 @@
 -- What was found at a fragment's place, as the item of the grammar.
 use Rattle.std.specs.List.{list_all}
 use Rattle.std.specs.Prelude.{◌≡◌, ◌==◌, true, ℕ, ◌+◌, ◌≤◌, List, length, take, nat_le, nat_lt, if◌then◌else◌}
-use Rattle.rw_codes.specs.declared.tail_fault.TailFault.{TailFault}
-use Rattle.rw_codes.specs.declared.tail_fault.TailFault.TheVariants.{BadType, Compressed}
-use Rattle.rw_codes.specs.Segments as grammar
-use Rattle.rw_codes.specs.Segments.{full, first, middle, last, Item, nothing, begun, zeros, fragment, wrong}
+use Rattle.rw_wal_format.specs.declared.tail_fault.TailFault.{TailFault}
+use Rattle.rw_wal_format.specs.declared.tail_fault.TailFault.TheVariants.{BadType, Compressed}
+use Rattle.rw_wal_format.specs.Segments as grammar
+use Rattle.rw_wal_format.specs.Segments.{full, first, middle, last, Item, nothing, begun, zeros, fragment, wrong}
 use Rattle.rw_wal_tail.specs.declared.item.Kind.{Kind}
 use Rattle.rw_wal_tail.specs.declared.item.Kind.TheVariants.{Full, First, Middle, Last}
 use Rattle.rw_wal_tail.specs.declared.item.Found.{Found}

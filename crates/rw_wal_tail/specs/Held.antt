@@ -1,6 +1,6 @@
 -- What a reader holds of a log: the rest of the segment at hand, and the segments after it.
 use Rattle.std.specs.Prelude.{ℕ, ◌+◌, ◌^◌, List, [], ◌∷◌, ◌++◌, length, drop, Bool, true, false, nat_lt, ◌&&◌, if◌then◌else◌}
-use Rattle.rw_codes.specs.Pieces.{Piece, bytes, next_segment}
+use Rattle.rw_wal_format.specs.Pieces.{Piece, bytes, next_segment}
 use Rattle.rw_wal_tail.specs.declared.input.Segment.{Segment}
 
 pub record Held : Type 0 where

@@ -1,8 +1,8 @@
 -- Where the reading stops of what a reader still reads, and how many segments it counts.
 use Rattle.std.specs.Prelude.{ℕ, ◌+◌, List, [], ◌∷◌, ◌++◌, Option, Some, None, Bool, true, false}
-use Rattle.rw_codes.specs.Segments.{Stop, read_from}
-use Rattle.rw_codes.specs.Pieces.{Piece, bytes, next_segment, page_size}
-use Rattle.rw_codes.specs.declared.tail_fault.TailFault.{TailFault}
+use Rattle.rw_wal_format.specs.Segments.{Stop, read_from}
+use Rattle.rw_wal_format.specs.Pieces.{Piece, bytes, next_segment, page_size}
+use Rattle.rw_wal_format.specs.declared.tail_fault.TailFault.{TailFault}
 use Rattle.rw_wal_tail.specs.declared.place.FaultPlace.{FaultPlace}
 use Rattle.rw_wal_tail.specs.Places.{read_count, place_then, stop_after}
 use Rattle.rw_wal_tail.specs.Held.{Held}

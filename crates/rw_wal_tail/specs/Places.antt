@@ -4,10 +4,10 @@
 -- item that is not whole there, or the end of the segment where each is whole.
 use Rattle.std.specs.Prelude.{ℕ, zero, suc, ◌+◌, List, [], ◌∷◌, ◌++◌, length, drop, Option, Some, None}
 use Rattle.rw_types.specs.declared.entry.Entry.{Entry}
-use Rattle.rw_codes.specs.Records.{record_entries}
-use Rattle.rw_codes.specs.Segments.{Kind, full, first, middle, last, Item, nothing, begun, zeros, fragment, wrong, item_at, Stop, between, left_after, segment}
-use Rattle.rw_codes.specs.Pieces.{Piece, bytes, next_segment, page_size, fault}
-use Rattle.rw_codes.specs.declared.tail_fault.TailFault.{TailFault}
+use Rattle.rw_wal_format.specs.Records.{record_entries}
+use Rattle.rw_wal_format.specs.Segments.{Kind, full, first, middle, last, Item, nothing, begun, zeros, fragment, wrong, item_at, Stop, between, left_after, segment}
+use Rattle.rw_wal_format.specs.Pieces.{Piece, bytes, next_segment, page_size, fault}
+use Rattle.rw_wal_format.specs.declared.tail_fault.TailFault.{TailFault}
 use Rattle.rw_wal_tail.specs.declared.place.FaultPlace.{FaultPlace}
 
 -- no record is open after a whole one, where it is of its type's form

@@ -1,12 +1,12 @@
 -- What a step of a reader may do.
 use Rattle.std.specs.Prelude.{◌≡◌, ℕ, ◌+◌, ◌<◌, ◌≤◌, ◌^◌, List, [], ◌∷◌, length, drop, take, Option, Some, None, Bool, true, false, ◌⊎◌}
 use Rattle.rw_types.specs.declared.entry.Entry.{Entry}
-use Rattle.rw_codes.specs.Records.{record_entries}
-use Rattle.rw_codes.specs.Segments as grammar
-use Rattle.rw_codes.specs.Segments.{full, first, middle, last, nothing, begun, fragment, item_at, Reading}
-use Rattle.rw_codes.specs.Pieces.{Piece, page_size}
-use Rattle.rw_codes.specs.declared.tail_fault.TailFault.{TailFault}
-use Rattle.rw_codes.specs.declared.tail_fault.TailFault.TheVariants.{OutOfMemory}
+use Rattle.rw_wal_format.specs.Records.{record_entries}
+use Rattle.rw_wal_format.specs.Segments as grammar
+use Rattle.rw_wal_format.specs.Segments.{full, first, middle, last, nothing, begun, fragment, item_at, Reading}
+use Rattle.rw_wal_format.specs.Pieces.{Piece, page_size}
+use Rattle.rw_wal_format.specs.declared.tail_fault.TailFault.{TailFault}
+use Rattle.rw_wal_format.specs.declared.tail_fault.TailFault.TheVariants.{OutOfMemory}
 use Rattle.rw_wal_tail.specs.declared.reader.Reader.{Reader}
 use Rattle.rw_wal_tail.specs.declared.reader.Step.{Step}
 use Rattle.rw_wal_tail.specs.declared.reader.Step.TheVariants.{More, Waits, Failed}

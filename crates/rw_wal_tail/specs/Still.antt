@@ -1,11 +1,11 @@
 -- What a reader still reads.
 use Rattle.std.specs.Prelude.{ℕ, ◌+◌, List, ◌++◌, Option, Some, None, Bool, true, false, if◌then◌else◌}
 use Rattle.rw_types.specs.declared.entry.Entry.{Entry}
-use Rattle.rw_codes.specs.Records.{is_skipped}
-use Rattle.rw_codes.specs.Segments.{Reading, at_fault, stopped}
-use Rattle.rw_codes.specs.Pieces.{Piece, page_size}
-use Rattle.rw_codes.proofs.Tailing.{read_on}
-use Rattle.rw_codes.specs.declared.tail_fault.TailFault.{TailFault}
+use Rattle.rw_wal_format.specs.Records.{is_skipped}
+use Rattle.rw_wal_format.specs.Segments.{Reading, at_fault, stopped}
+use Rattle.rw_wal_format.specs.Pieces.{Piece, page_size}
+use Rattle.rw_wal_format.proofs.Tailing.{read_on}
+use Rattle.rw_wal_format.specs.declared.tail_fault.TailFault.{TailFault}
 
 -- how many records more are passed over with this one
 abbrev pub skip_of : List ℕ → ℕ

@@ -2,11 +2,12 @@
 
 ghost use Rattle.std.specs.Prelude.{◌≡◌, ◌==◌, drop};
 ghost use Rattle.std.specs.List.{list_all};
-ghost use Rattle.rw_codes.specs.Segments.{zeros_at, data_at, fragment_at, item_at};
+ghost use Rattle.rw_wal_format.specs.Segments.{zeros_at, data_at, fragment_at, item_at};
 ghost use Rattle.rw_wal_tail.specs.Found.{kind_of, item_of, wrong_type_of, KnownZeros, Fits, FragmentFits, DataFits};
 
 use byteorder::{BigEndian, ByteOrder};
-use rw_codes::{TailFault, crc32c};
+use rw_codes::crc32c;
+use rw_wal_format::TailFault;
 
 /// The type of a fragment.
 #[derive(Clone, Copy, Debug, PartialEq, Eq, Drop)]

@@ -16,5 +16,5 @@ mod tail;
 
 pub use piece::Piece;
 pub use place::FaultPlace;
-pub use rw_codes::TailFault;
+pub use rw_wal_format::TailFault;
 pub use tail::{Tail, is_out_of_memory};

@@ -2,7 +2,7 @@
 
 ghost use Rattle.std.specs.Prelude.{◌≡◌, ◌≤◌, ◌<◌, ◌+◌, length, MatchOption, IfSome, None, Some};
 ghost use Rattle.std.specs.Int.{cast_signed, w64};
-ghost use Rattle.rw_codes.specs.Records.{eight_at, text_at, label_at, sample_at, found};
+ghost use Rattle.rw_wal_format.specs.Records.{eight_at, text_at, label_at, sample_at, found};
 ghost use Rattle.rw_codes.specs.Varint.{read_uvarint, read_varint};
 
 use byteorder::{BigEndian, ByteOrder};

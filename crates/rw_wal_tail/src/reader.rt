@@ -1,9 +1,9 @@
 //! The steps in which a log is read.
 
 ghost use Rattle.std.specs.Prelude.{◌≡◌, ◌+◌, ◌<◌, ◌≤◌, ◌^◌, [], ◌∷◌, true, length, drop, take, MatchResult, IfOk, OnOk, OnErr};
-ghost use Rattle.rw_codes.specs.Records as grammar;
-ghost use Rattle.rw_codes.specs.Segments.{left_after, full, first, middle, last};
-ghost use Rattle.rw_codes.specs.Pieces.{page_size, bytes, next_segment};
+ghost use Rattle.rw_wal_format.specs.Records as grammar;
+ghost use Rattle.rw_wal_format.specs.Segments.{left_after, full, first, middle, last};
+ghost use Rattle.rw_wal_format.specs.Pieces.{page_size, bytes, next_segment};
 ghost use Rattle.rw_wal_tail.specs.declared.reader.Step.TheVariants.{Failed};
 ghost use Rattle.rw_wal_tail.specs.Found.{kind_of};
 ghost use Rattle.rw_wal_tail.specs.Held.{passed, can_count};
@@ -14,8 +14,8 @@ use crate::input::{COUNT_END, Input, copy_of};
 use crate::item::{Found, Kind, item};
 use crate::place::FaultPlace;
 use crate::record::{Unread, read_record};
-use rw_codes::TailFault;
 use rw_types::Entry;
+use rw_wal_format::TailFault;
 use std::alloc::{AllocError, Global};
 use std::collections::VecDeque;
 

@@ -1,10 +1,10 @@
 //! Follows a log that grows.
 
 ghost use Rattle.std.specs.Prelude.{◌≡◌, ◌⊎◌, ◌≤◌, ◌<◌, ◌^◌, [], ◌∷◌, ◌++◌, length, Err, Some, None, IfOk, OnOk, OnErr};
-ghost use Rattle.rw_codes.specs.Laws.{Extends};
-ghost use Rattle.rw_codes.specs.Pieces.{bytes, next_segment, entries, fault, page_size, reading};
-ghost use Rattle.rw_codes.specs.declared.tail_fault.TailFault.{TailFault};
-ghost use Rattle.rw_codes.specs.declared.tail_fault.TailFault.TheVariants.{OutOfMemory};
+ghost use Rattle.rw_wal_format.specs.Laws.{Extends};
+ghost use Rattle.rw_wal_format.specs.Pieces.{bytes, next_segment, entries, fault, page_size, reading};
+ghost use Rattle.rw_wal_format.specs.declared.tail_fault.TailFault.{TailFault};
+ghost use Rattle.rw_wal_format.specs.declared.tail_fault.TailFault.TheVariants.{OutOfMemory};
 ghost use Rattle.rw_wal_tail.specs.Fed.{next_of, answered, piece_of, is_out_of_memory, CutsDoNotMatter};
 ghost use Rattle.rw_wal_tail.specs.Places.{told_place};
 
@@ -12,9 +12,9 @@ use crate::input::COUNT_END;
 use crate::piece::{Piece, Told};
 use crate::place::FaultPlace;
 use crate::reader::{Reader, Step};
-use rw_codes::TailFault;
 use rw_history::History;
 use rw_types::Entry;
+use rw_wal_format::TailFault;
 use std::alloc::{AllocError, Global};
 use std::marker::Model;
 

@@ -2,9 +2,9 @@
 use Rattle.std.proofs.Common.{◌≡◌, ℕ, zero, suc, ◌+◌, ◌-◌, ◌*◌, ◌/◌, ◌%◌, ◌<◌, ◌≤◌, List, length, take, drop, replicate, Bool, true, false, if◌then◌else◌, ltb, refl, sym, ap, ◌∙◌, subst, inl, inr, arith, lt-ltb, le-ltb, length-append, length-drop}
 use Rattle.std.proofs.lemmas.Bool.{cases_lt}
 use Rattle.std.proofs.lemmas.List.{length-take-le}
-use Rattle.rw_codes.specs.Segments.{full, first, middle, last}
-use Rattle.rw_codes.specs.Pieces.{page_size}
-use Rattle.rw_codes.specs.Writing.{frame, padding, frames, log_bytes, room}
+use Rattle.rw_wal_format.specs.Segments.{full, first, middle, last}
+use Rattle.rw_wal_format.specs.Pieces.{page_size}
+use Rattle.rw_wal_format.specs.Writing.{frame, padding, frames, log_bytes, room}
 use Rattle.rw_wal_write.specs.Segment.{IsPlace}
 use Rattle.rw_wal_write.proofs.Underway.{left_at, next_page, frames_more, frames_end, length-frame}
 

@@ -1,6 +1,6 @@
 -- The zeros of a page's end.
 use Rattle.std.proofs.Common.{◌≡◌, ℕ, zero, suc, ◌<◌, ◌≤◌, List, [], ◌∷◌, take, replicate, true, ltb, refl, ap, arith, lt-ltb}
-use Rattle.rw_codes.specs.Writing.{padding}
+use Rattle.rw_wal_format.specs.Writing.{padding}
 
 zeros : ℕ → List ℕ
 zeros n = replicate n 0

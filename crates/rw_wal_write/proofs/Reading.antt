@@ -3,11 +3,11 @@ use Rattle.std.proofs.Common.{◌≡◌, ℕ, suc, arith, List, [], ◌∷◌, �
 use Rattle.std.specs.Io.KnownBytes.{Appends}
 use Rattle.rw_types.proofs.KnownLemmas.{appends_appends}
 use Rattle.rw_types.specs.declared.entry.Entry.{Entry}
-use Rattle.rw_codes.specs.Records.{record_entries}
-use Rattle.rw_codes.specs.Segments.{Reading, between, with_entries, segment}
-use Rattle.rw_codes.specs.Pieces.{bytes, reading, page_size, entries, fault, fault_at}
-use Rattle.rw_codes.specs.Laws.{AreRecords, log_all, reading_of_records}
-use Rattle.rw_codes.proofs.Written.{segment_read}
+use Rattle.rw_wal_format.specs.Records.{record_entries}
+use Rattle.rw_wal_format.specs.Segments.{Reading, between, with_entries, segment}
+use Rattle.rw_wal_format.specs.Pieces.{bytes, reading, page_size, entries, fault, fault_at}
+use Rattle.rw_wal_format.specs.Laws.{AreRecords, log_all, reading_of_records}
+use Rattle.rw_wal_format.proofs.Written.{segment_read}
 use Rattle.rw_wal_write.specs.Segment.{Segment, AreLogged, HasEntries}
 use Rattle.rw_wal_write.proofs.Taking.{appends-none}
 

@@ -2,9 +2,9 @@
 use Rattle.std.proofs.Common.{◌≡◌, ℕ, zero, suc, ◌+◌, ◌-◌, ◌%◌, ◌<◌, ◌≤◌, List, [], ◌++◌, length, take, drop, Option, Result, Bool, true, false, if◌then◌else◌, leb, refl, sym, ap, ◌∙◌, subst, arith, le-leb, append_assoc, length-append, length-drop}
 use Rattle.std.proofs.lemmas.Bool.{lt-leb}
 use Rattle.std.proofs.lemmas.List.{length-take-le}
-use Rattle.rw_codes.specs.Segments.{Kind, full, first, middle, last}
-use Rattle.rw_codes.specs.Pieces.{page_size}
-use Rattle.rw_codes.specs.Writing.{frame, padding, frames, log_bytes}
+use Rattle.rw_wal_format.specs.Segments.{Kind, full, first, middle, last}
+use Rattle.rw_wal_format.specs.Pieces.{page_size}
+use Rattle.rw_wal_format.specs.Writing.{frame, padding, frames, log_bytes}
 use Rattle.rw_wal_write.specs.Sinks.{TakesAll, TakesPart, Takes}
 use Rattle.rw_wal_write.proofs.Taking.{takes_none, takes_both, takes_more, takes_part_after, takes_part_before}
 

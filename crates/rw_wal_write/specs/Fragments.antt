@@ -1,5 +1,5 @@
 -- The parts of a record that fragments are.
-use Rattle.rw_codes.specs.Segments.{Kind, full, first, middle, last}
+use Rattle.rw_wal_format.specs.Segments.{Kind, full, first, middle, last}
 use Rattle.rw_wal_write.specs.declared.fragment.FragmentType.{FragmentType}
 use Rattle.rw_wal_write.specs.declared.fragment.FragmentType.TheVariants.{Full, First, Middle, Last}
 

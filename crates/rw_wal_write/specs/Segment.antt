@@ -1,9 +1,9 @@
 -- A segment that is being written, and what it refuses.
 use Rattle.std.specs.Prelude.{◌≡◌, ℕ, ◌+◌, ◌-◌, ◌*◌, ◌%◌, ◌<◌, ◌≤◌, List, [], ◌∷◌, length, get_or, Bool, Option, Some, None, nat_lt, if◌then◌else◌}
 use Rattle.rw_types.specs.declared.entry.Entry.{Entry}
-use Rattle.rw_codes.specs.Pieces.{page_size}
-use Rattle.rw_codes.specs.Records.{record_entries}
-use Rattle.rw_codes.specs.Writing.{log_bytes, room}
+use Rattle.rw_wal_format.specs.Pieces.{page_size}
+use Rattle.rw_wal_format.specs.Records.{record_entries}
+use Rattle.rw_wal_format.specs.Writing.{log_bytes, room}
 use Rattle.rw_wal_write.specs.Sinks.{TakesAll}
 use Rattle.rw_wal_write.specs.declared.log_fault.LogFault.{LogFault}
 use Rattle.rw_wal_write.specs.declared.log_fault.LogFault.TheVariants.{SegmentFull, Device, RecordTooLong}

@@ -1,9 +1,9 @@
 //! The fragments of records (wal.md, "Segment encoding").
 
 ghost use Rattle.std.specs.Prelude.{◌≡◌, ◌++◌, ◌+◌, ◌-◌, ◌%◌, ◌^◌, ◌<◌, ◌≤◌, length, IfOk, if◌then◌else◌};
-ghost use Rattle.rw_codes.specs.Segments.{full, first, middle, last};
-ghost use Rattle.rw_codes.specs.Pieces.{page_size};
-ghost use Rattle.rw_codes.specs.Writing.{type_byte, frame, padding, log_bytes};
+ghost use Rattle.rw_wal_format.specs.Segments.{full, first, middle, last};
+ghost use Rattle.rw_wal_format.specs.Pieces.{page_size};
+ghost use Rattle.rw_wal_format.specs.Writing.{type_byte, frame, padding, log_bytes};
 ghost use Rattle.rw_wal_write.specs.Fragments.{kind_of};
 ghost use Rattle.rw_wal_write.specs.Sinks.{Takes};
 
@@ -51,7 +51,7 @@ impl FragmentType {
 }
 
 /// What stands before the data of a fragment.
-#[tactic(auto, unfolding(rw_codes::specs::Writing::frame))]
+#[tactic(auto, unfolding(rw_wal_format::specs::Writing::frame))]
 fn header(kind: FragmentType, part: &[u8]) -> [u8; HEADER_BYTES]
     requires { length part.now < 2 ^ 16 }
     ensures { result ++ part.now ≡ frame (kind_of kind) part.now }

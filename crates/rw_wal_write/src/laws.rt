@@ -3,7 +3,7 @@
 ghost use Rattle.std.specs.Prelude.{◌≡◌, ℕ, List, [], ◌∷◌, None, All, map, flat_map};
 ghost use Rattle.std.specs.Io.KnownBytes.{Appends};
 ghost use Rattle.rw_types.specs.declared.entry.Entry.{Entry};
-ghost use Rattle.rw_codes.specs.Pieces.{bytes, entries, fault};
+ghost use Rattle.rw_wal_format.specs.Pieces.{bytes, entries, fault};
 ghost use Rattle.rw_wal_write.specs.Segment.{Segment, AreLogged, HasEntries};
 
 use rw_types::Sink;

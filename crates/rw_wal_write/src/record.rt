@@ -3,7 +3,7 @@
 ghost use Rattle.std.specs.Prelude.{◌≡◌, ◌++◌, IfOk, OnOk, flat_map, map};
 ghost use Rattle.byteorder.specs.Endian.{big_bytes};
 ghost use Rattle.rw_types.specs.Labels.{bytes_label};
-ghost use Rattle.rw_codes.specs.Records.{text_bytes, label_bytes, sample_bytes, series_record as bytes_of_series, sample_record as bytes_of_samples};
+ghost use Rattle.rw_wal_format.specs.Records.{text_bytes, label_bytes, sample_bytes, series_record as bytes_of_series, sample_record as bytes_of_samples};
 
 use byteorder::{BigEndian, ByteOrder};
 use rw_codes::{put_uvarint, put_varint};

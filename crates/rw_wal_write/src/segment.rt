@@ -1,8 +1,8 @@
 //! The writer of a segment (wal.md, "Segment encoding").
 
 ghost use Rattle.std.specs.Prelude.{◌≡◌, ◌<◌, ◌≤◌, length, false, true, IfSome, None, Err, IfErr, OnOk};
-ghost use Rattle.rw_codes.specs.Pieces.{page_size};
-ghost use Rattle.rw_codes.specs.Writing.{log_bytes, room};
+ghost use Rattle.rw_wal_format.specs.Pieces.{page_size};
+ghost use Rattle.rw_wal_format.specs.Writing.{log_bytes, room};
 ghost use Rattle.rw_wal_write.specs.Segment.{IsPlace, IsLogged, refusal};
 ghost use Rattle.rw_wal_write.specs.Sinks.{TakesPart};
 

@@ -5,10 +5,10 @@ use Rattle.std.proofs.lemmas.Option.{slice_get_within, get_or_from_slice_get}
 use Rattle.std.proofs.lemmas.Bool.Decides.{nat_tests}
 use Rattle.std.specs.Prelude.{slice_get, nat_lt}
 use Rattle.rw_types.specs.declared.entry.Entry.{Entry}
-use Rattle.rw_codes.specs.Segments.{segment}
-use Rattle.rw_codes.specs.Pieces.{entries, fault, reading}
-use Rattle.rw_codes.specs.declared.tail_fault.TailFault.{TailFault}
-use Rattle.rw_codes.specs.declared.tail_fault.TailFault.TheVariants.{OutOfMemory}
+use Rattle.rw_wal_format.specs.Segments.{segment}
+use Rattle.rw_wal_format.specs.Pieces.{entries, fault, reading}
+use Rattle.rw_wal_format.specs.declared.tail_fault.TailFault.{TailFault}
+use Rattle.rw_wal_format.specs.declared.tail_fault.TailFault.TheVariants.{OutOfMemory}
 use Rattle.rw_wal_tail.specs.Fed.{Fed, next_of, end_of, answered, is_out_of_memory}
 use Rattle.rw_world.specs.Reading.{Drains, HasRead}
 

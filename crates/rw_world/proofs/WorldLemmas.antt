@@ -6,8 +6,8 @@ use Rattle.std.specs.Prelude.{slice_get, fold}
 use Rattle.rw_types.specs.Labels.{Labels}
 use Rattle.rw_types.specs.declared.entry.Entry.{Entry}
 use Rattle.rw_types.specs.declared.entry.Entry.TheVariants.{Def}
-use Rattle.rw_codes.specs.Laws.{Extends}
-use Rattle.rw_codes.specs.Pieces.{Piece, entries, reading, page_size}
+use Rattle.rw_wal_format.specs.Laws.{Extends}
+use Rattle.rw_wal_format.specs.Pieces.{Piece, entries, reading, page_size}
 use Rattle.rw_relabel.specs.declared.choice.Choice.{Choice}
 use Rattle.rw_series_cache.specs.Known.{standing_of}
 use Rattle.rw_series_cache.specs.Numbers.{with_series, with_entry, series_of}

@@ -3,7 +3,7 @@ use Rattle.std.specs.Arc.{arc_value}
 use Rattle.std.specs.Prelude.{◌≡◌, ℕ, ℤ, ◌≤◌, List, length, take, Bool, true, false, Option, Some, None, if◌then◌else◌, is_some, slice_get}
 use Rattle.rw_types.specs.declared.entry.Entry.{Entry}
 use Rattle.rw_types.specs.declared.entry.Entry.TheVariants.{Sample}
-use Rattle.rw_codes.specs.Pieces.{Piece, entries}
+use Rattle.rw_wal_format.specs.Pieces.{Piece, entries}
 use Rattle.rw_series_cache.specs.Numbers.{series_of, HasNumber}
 use Rattle.rw_ledger.specs.declared.ledger.Reason.{Reason}
 use Rattle.rw_router.specs.Fates.{Drops, Sends, fate}

@@ -1,8 +1,8 @@
 -- The entries of a log that were taken from its reader.
 use Rattle.std.specs.Prelude.{◌≡◌, List, length, take, Option}
 use Rattle.rw_types.specs.declared.entry.Entry.{Entry}
-use Rattle.rw_codes.specs.Pieces.{entries, fault}
-use Rattle.rw_codes.specs.declared.tail_fault.TailFault.{TailFault}
+use Rattle.rw_wal_format.specs.Pieces.{entries, fault}
+use Rattle.rw_wal_format.specs.declared.tail_fault.TailFault.{TailFault}
 use Rattle.rw_wal_tail.specs.Fed.{Fed}
 
 -- what the reader gave is what was taken

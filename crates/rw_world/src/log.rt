@@ -1,14 +1,14 @@
 //! The log, as it was read so far.
 
 ghost use Rattle.std.specs.Prelude.{◌≡◌, ◌<◌, ◌+◌, ◌^◌, ◌++◌, ◌∷◌, [], Some, length, take, slice_get, IfOk, OnOk, OnErr};
-ghost use Rattle.rw_codes.specs.Laws.{Extends};
-ghost use Rattle.rw_codes.specs.Pieces.{entries, fault, reading, page_size};
+ghost use Rattle.rw_wal_format.specs.Laws.{Extends};
+ghost use Rattle.rw_wal_format.specs.Pieces.{entries, fault, reading, page_size};
 ghost use Rattle.rw_wal_tail.specs.Fed.{piece_of};
 ghost use Rattle.rw_world.specs.Reading.{Drains, HasRead};
 ghost use Rattle.rw_world.specs.Rounds.{ahead_of};
 
-use rw_codes::TailFault;
 use rw_types::Entry;
+use rw_wal_format::TailFault;
 use rw_wal_tail::{Piece, Tail, is_out_of_memory};
 use std::alloc::{AllocError, Global};
 use std::marker::Model;
@@ -24,7 +24,7 @@ pub(crate) struct Log {
 
 impl Model for Log {
     ghost use Rattle.std.specs.Prelude.{List};
-    ghost use Rattle.rw_codes.specs.Pieces.{Piece};
+    ghost use Rattle.rw_wal_format.specs.Pieces.{Piece};
     ghost use Rattle.rw_world.specs.Reading.{HasRead};
 
     ghost Value = { List Piece };

@@ -1,10 +1,10 @@
 //! The command `body`. Segments and bodies are written out in hexadecimal; they were made by another program.
 
 use crate::rows::none_is_wrong;
-use rw_codes::TailFault;
 use rw_hex::read_digits;
 use rw_tool::{ToolFault, run_body};
 use rw_types::Room;
+use rw_wal_format::TailFault;
 use std::alloc::{AllocError, Global};
 use std::test::Fail;
 

@@ -2,8 +2,8 @@
 #![tactic(auto)]
 
 ghost use Rattle.std.specs.Prelude.{◌≡◌, ◌⊎◌, ◌∷◌, [], Err};
-ghost use Rattle.rw_codes.specs.Pieces.{bytes};
-ghost use Rattle.rw_codes.specs.declared.tail_fault.TailFault.TheVariants.{OutOfMemory};
+ghost use Rattle.rw_wal_format.specs.Pieces.{bytes};
+ghost use Rattle.rw_wal_format.specs.declared.tail_fault.TailFault.TheVariants.{OutOfMemory};
 ghost use Rattle.rw_wal_tail.specs.Fed.{next_of};
 
 use rw_types::Entry;

@@ -1,5 +1,5 @@
 use Rattle.std.proofs.Common.{Ok, Err}
-use Rattle.rw_codes.specs.Pieces.{bytes}
+use Rattle.rw_wal_format.specs.Pieces.{bytes}
 use Rattle.rw_send.proofs.FollowLemmas.{fed_piece, part_piece}
 use Rattle.rw_send.proofs.PartLemmas.{also_on_err, joins_or_not}
 use Rattle.rw_send.proofs.ShortLemmas.{short_fed}

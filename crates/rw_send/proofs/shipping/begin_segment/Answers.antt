@@ -1,5 +1,5 @@
 use Rattle.std.proofs.Common.{Ok, Err}
-use Rattle.rw_codes.specs.Pieces.{next_segment}
+use Rattle.rw_wal_format.specs.Pieces.{next_segment}
 use Rattle.rw_send.proofs.PartLemmas.{also_on_err, begun_or_not}
 use Rattle.rw_send.proofs.ShortLemmas.{short_fed}
 use Rattle.rw_send.proofs.shipping.begin_segment.Goals as goal

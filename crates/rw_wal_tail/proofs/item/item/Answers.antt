@@ -1,6 +1,6 @@
 use Rattle.std.proofs.Common.{◌≡◌, ◌<◌, ◌∙◌, length, ap, sym, arith, get_or}
-use Rattle.rw_codes.specs.Segments.{full, first, middle, last, item_at, zeros_at, wrong}
-use Rattle.rw_codes.specs.declared.tail_fault.TailFault.{TailFault}
+use Rattle.rw_wal_format.specs.Segments.{full, first, middle, last, item_at, zeros_at, wrong}
+use Rattle.rw_wal_format.specs.declared.tail_fault.TailFault.{TailFault}
 use Rattle.rw_wal_tail.proofs.ItemLaws.{not_empty, is_empty}
 use Rattle.rw_wal_tail.proofs.FoundLaws.{item_none, item_little, item_zero, item_fragment, item_wrong, NoType}
 use Rattle.rw_wal_tail.proofs.item.item.Goals as goal

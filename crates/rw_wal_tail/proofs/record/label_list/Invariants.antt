@@ -1,5 +1,5 @@
 use Rattle.std.proofs.Common.{◌≡◌, ◌≤◌, length, ◌-◌}
-use Rattle.rw_codes.specs.Records.{label_list_at}
+use Rattle.rw_wal_format.specs.Records.{label_list_at}
 use Rattle.rw_wal_tail.proofs.ItemLaws.{with_labels}
 use Rattle.rw_wal_tail.proofs.record.label_list.Given as goal
 

@@ -1,6 +1,6 @@
 use Rattle.std.proofs.Common.{length}
 use Rattle.std.specs.Int.{cast_signed, w64}
-use Rattle.rw_codes.specs.Records.{sample_at}
+use Rattle.rw_wal_format.specs.Records.{sample_at}
 use Rattle.rw_wal_tail.proofs.ItemLaws.{Left}
 use Rattle.rw_wal_tail.proofs.record.samples.Given as goal
 

@@ -1,6 +1,6 @@
 use Rattle.std.proofs.Common.{◌≡◌, ◌<◌, length, None}
 use Rattle.std.proofs.lemmas.Result.{err_from_is_err_and}
-use Rattle.rw_codes.specs.Records.{definition_at, series_entries}
+use Rattle.rw_wal_format.specs.Records.{definition_at, series_entries}
 use Rattle.rw_wal_tail.proofs.ItemLaws.{not_empty, is_empty, left_start, left_step, left_done, left_fails, bad_form}
 use Rattle.rw_wal_tail.proofs.record.series.Goals as goal
 

@@ -1,5 +1,5 @@
 use Rattle.std.proofs.Common.{length}
-use Rattle.rw_codes.specs.Records.{definition_at}
+use Rattle.rw_wal_format.specs.Records.{definition_at}
 use Rattle.rw_wal_tail.proofs.ItemLaws.{Left}
 use Rattle.rw_wal_tail.proofs.record.series.Given as goal
 

@@ -1,6 +1,6 @@
 use Rattle.std.proofs.Common.{◌-◌, ◌^◌}
-use Rattle.rw_codes.specs.Pieces.{page_size}
-use Rattle.rw_codes.specs.Writing.{log_bytes}
+use Rattle.rw_wal_format.specs.Pieces.{page_size}
+use Rattle.rw_wal_format.specs.Writing.{log_bytes}
 use Rattle.rw_wal_write.proofs.Underway.{Underway}
 use Rattle.rw_wal_write.proofs.fragment.put_record.Given as goal
 

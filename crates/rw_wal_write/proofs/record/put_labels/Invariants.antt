@@ -1,6 +1,6 @@
 use Rattle.std.proofs.Common.{◌≡◌, ◌++◌, flat_map, map, take}
 use Rattle.rw_types.specs.Labels.{bytes_label}
-use Rattle.rw_codes.specs.Records.{label_bytes}
+use Rattle.rw_wal_format.specs.Records.{label_bytes}
 use Rattle.rw_wal_write.proofs.record.put_labels.Given as goal
 
 abbrev pub invariant-loop-label : goal.invariant-loop-label

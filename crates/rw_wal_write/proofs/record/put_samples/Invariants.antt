@@ -1,5 +1,5 @@
 use Rattle.std.proofs.Common.{◌≡◌, ◌++◌, flat_map, take}
-use Rattle.rw_codes.specs.Records.{sample_bytes}
+use Rattle.rw_wal_format.specs.Records.{sample_bytes}
 use Rattle.rw_wal_write.proofs.record.put_samples.Given as goal
 
 abbrev pub invariant-loop-sample : goal.invariant-loop-sample

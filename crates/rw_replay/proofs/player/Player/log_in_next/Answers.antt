@@ -1,7 +1,7 @@
 use Rattle.std.proofs.Common.{◌≡◌, length, arith}
 use Rattle.std.proofs.lemmas.Result.{on_ok_weaker}
-use Rattle.rw_codes.specs.Pieces.{page_size}
-use Rattle.rw_codes.specs.Writing.{log_bytes}
+use Rattle.rw_wal_format.specs.Pieces.{page_size}
+use Rattle.rw_wal_format.specs.Writing.{log_bytes}
 use Rattle.rw_replay.proofs.PlayedLemmas.{on_machine, same_fed, segment_fed}
 use Rattle.rw_replay.specs.Writing.{IsWritten}
 use Rattle.rw_replay.specs.Played.{Played}

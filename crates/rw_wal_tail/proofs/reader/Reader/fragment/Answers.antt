@@ -1,5 +1,5 @@
 use Rattle.std.proofs.Common.{◌∙◌, ap}
-use Rattle.rw_codes.specs.declared.tail_fault.TailFault.TheVariants.{Sequence}
+use Rattle.rw_wal_format.specs.declared.tail_fault.TailFault.TheVariants.{Sequence}
 use Rattle.rw_wal_tail.specs.declared.reader.Reader.{Reader}
 use Rattle.rw_wal_tail.specs.Found.{kind_of}
 use Rattle.rw_wal_tail.proofs.StillLaws.{IsInner, IsBegin}

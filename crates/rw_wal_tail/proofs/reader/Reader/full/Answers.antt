@@ -1,5 +1,5 @@
 use Rattle.std.proofs.Common.{◌∙◌, true, false, ap, sym, arith, Some, take, drop}
-use Rattle.rw_codes.specs.declared.tail_fault.TailFault.TheVariants.{BadRecord}
+use Rattle.rw_wal_format.specs.declared.tail_fault.TailFault.TheVariants.{BadRecord}
 use Rattle.rw_wal_tail.specs.declared.reader.Reader.{Reader}
 use Rattle.rw_wal_tail.proofs.StepLaws.{Advanced, Failing, data_of, read_as, same_full, bad_full}
 use Rattle.rw_wal_tail.proofs.reader.Reader.full.Goals as goal

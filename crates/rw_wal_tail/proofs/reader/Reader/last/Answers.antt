@@ -1,5 +1,5 @@
 use Rattle.std.proofs.Common.{◌∙◌, ◌++◌, ℕ, List, true, false, ap, sym, arith, Some, take, drop}
-use Rattle.rw_codes.specs.declared.tail_fault.TailFault.TheVariants.{BadRecord}
+use Rattle.rw_wal_format.specs.declared.tail_fault.TailFault.TheVariants.{BadRecord}
 use Rattle.rw_wal_tail.specs.declared.reader.Reader.{Reader}
 use Rattle.rw_wal_tail.proofs.StepLaws.{Advanced, Failing, data_of, read_as, same_last, bad_last}
 use Rattle.rw_wal_tail.proofs.reader.Reader.last.Goals as goal

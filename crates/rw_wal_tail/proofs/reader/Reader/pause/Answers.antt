@@ -1,5 +1,5 @@
 use Rattle.std.proofs.Common.{◌∙◌, true, false, ap, sym, refl}
-use Rattle.rw_codes.specs.declared.tail_fault.TailFault.TheVariants.{TornSegment}
+use Rattle.rw_wal_format.specs.declared.tail_fault.TailFault.TheVariants.{TornSegment}
 use Rattle.rw_wal_tail.specs.declared.reader.Reader.{Reader}
 use Rattle.rw_wal_tail.specs.Steps.{PausesAt}
 use Rattle.rw_wal_tail.proofs.StepLaws.{Failing, same_begun, same_torn}

@@ -1,5 +1,5 @@
 use Rattle.std.proofs.Common.{◌≡◌, ◌∙◌, ap, sym, refl, inr}
-use Rattle.rw_codes.specs.Segments.{nothing, zeros, wrong, item_at}
+use Rattle.rw_wal_format.specs.Segments.{nothing, zeros, wrong, item_at}
 use Rattle.rw_wal_tail.specs.declared.reader.Reader.{Reader}
 use Rattle.rw_wal_tail.specs.Steps.{CanStep}
 use Rattle.rw_wal_tail.proofs.FoundLaws.{wrong_of_log, nothing_known}

@@ -1,5 +1,5 @@
 use Rattle.std.proofs.Common.{◌≡◌, ◌≤◌, ap, length, map, arith}
-use Rattle.rw_codes.specs.Pieces.{entries}
+use Rattle.rw_wal_format.specs.Pieces.{entries}
 use Rattle.rw_wal_tail.specs.Fed.{Fed, told_of}
 use Rattle.rw_wal_tail.proofs.FedLaws.{given_within}
 use Rattle.rw_wal_tail.proofs.tail.Tail.entries_read.Goals as goal

@@ -1,7 +1,7 @@
 use Rattle.std.proofs.Common.{◌∙◌, ◌+◌, ◌∷◌, [], Some, ap, sym, inr, arith, length-append, subst, Option, map}
 use Rattle.rw_wal_tail.specs.declared.reader.Step.TheVariants.{Failed}
 use Rattle.rw_wal_tail.specs.Steps.{IsOfLog, Ends, Ran}
-use Rattle.rw_codes.specs.declared.tail_fault.TailFault.{TailFault}
+use Rattle.rw_wal_format.specs.declared.tail_fault.TailFault.{TailFault}
 use Rattle.rw_wal_tail.specs.Fed.{Fed, answered, IsStuck, told_of}
 use Rattle.rw_wal_tail.proofs.FedLaws.{follows_same, follows_given, gives_entry, gives_none, passes_none, gives_fault, passes_fault, asked, counted_none, counted_fault}
 use Rattle.rw_wal_tail.proofs.tail.Tail.next_entry.Goals as goal

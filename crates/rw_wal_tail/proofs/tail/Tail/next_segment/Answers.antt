@@ -1,6 +1,6 @@
 use Rattle.std.proofs.Common.{◌≡◌, ◌∙◌, ◌++◌, ◌∷◌, [], ap, map}
 use Rattle.std.proofs.lemmas.List.{map-append}
-use Rattle.rw_codes.specs.Pieces.{next_segment}
+use Rattle.rw_wal_format.specs.Pieces.{next_segment}
 use Rattle.rw_wal_tail.specs.declared.piece.Told.TheVariants as told
 use Rattle.rw_wal_tail.specs.Fed.{Fed, told_of}
 use Rattle.rw_wal_tail.proofs.FedLaws.{goes_on, follows_taken, still_stuck}

@@ -1,6 +1,6 @@
 use Rattle.std.proofs.Common.{◌≤◌, length, arith}
-use Rattle.rw_codes.specs.Pieces.{page_size}
-use Rattle.rw_codes.specs.Writing.{room}
+use Rattle.rw_wal_format.specs.Pieces.{page_size}
+use Rattle.rw_wal_format.specs.Writing.{room}
 use Rattle.rw_wal_write.proofs.Fitting.{room_fits}
 use Rattle.rw_wal_write.proofs.segment.SegmentWriter.log.Goals as goal
 

@@ -3,7 +3,7 @@ use Rattle.std.proofs.lemmas.Int.{to_z-of_z}
 use Rattle.std.specs.Int.{w64}
 use Rattle.std.specs.Prelude.{FitsSigned}
 use Rattle.std.specs.Prelude.{slice_get}
-use Rattle.rw_codes.specs.Pieces.{entries}
+use Rattle.rw_wal_format.specs.Pieces.{entries}
 use Rattle.rw_series_cache.specs.Known.{known}
 use Rattle.rw_machine.specs.Settling.{can_place, can_place_known}
 use Rattle.rw_world.specs.Machine.{Machine}

@@ -1,6 +1,6 @@
 use Rattle.std.proofs.Common.{◌∙◌, take, ap, subst}
 use Rattle.std.proofs.Math.Facts.{to_z-of_z}
-use Rattle.rw_codes.specs.Pieces.{entries}
+use Rattle.rw_wal_format.specs.Pieces.{entries}
 use Rattle.rw_series_cache.specs.Known.{known}
 use Rattle.rw_series_cache.specs.Numbers.{number_of}
 use Rattle.rw_router.specs.Fates.{fate}

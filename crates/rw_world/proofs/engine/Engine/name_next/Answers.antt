@@ -1,7 +1,7 @@
 use Rattle.std.proofs.Common.{◌≡◌, ◌∙◌, ◌+◌, suc, add-one, ap, sym, subst, take, arith}
 use Rattle.std.specs.FinMap.{insert}
 use Rattle.rw_types.specs.declared.entry.Entry.TheVariants.{Sample}
-use Rattle.rw_codes.specs.Pieces.{entries}
+use Rattle.rw_wal_format.specs.Pieces.{entries}
 use Rattle.rw_router.proofs.KnowsLemmas.{knows_dropped}
 use Rattle.rw_world.specs.Sending.{Sending}
 use Rattle.rw_world.specs.Machine.{Machine, IsDroppedNext}

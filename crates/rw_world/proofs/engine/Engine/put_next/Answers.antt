@@ -4,7 +4,7 @@ use Rattle.std.specs.Int.{w64}
 use Rattle.std.specs.Prelude.{FitsSigned, slice_get}
 use Rattle.std.specs.Arc.{arc_value}
 use Rattle.rw_types.specs.declared.entry.Entry.TheVariants.{Sample}
-use Rattle.rw_codes.specs.Pieces.{entries}
+use Rattle.rw_wal_format.specs.Pieces.{entries}
 use Rattle.rw_series_cache.specs.Numbers.{number_of}
 use Rattle.rw_router.specs.Routing.{Routing, IsSentNext}
 use Rattle.rw_machine.specs.Steps.{shard_of, put_if_room}

@@ -1,5 +1,0 @@
-use Rattle.rw_codes.proofs.SeriesRows.{labels_of-append}
-use Rattle.rw_codes.proofs.laws.labels_stay.Goals as goal
-
-pub returns : goal.returns
-returns c = labels_of-append

@@ -1,5 +1,0 @@
-use Rattle.rw_codes.proofs.RecordLaws.{sample_record_again}
-use Rattle.rw_codes.proofs.laws.sample_record_is_read.Goals as goal
-
-pub returns : goal.returns
-returns c = sample_record_again

@@ -1,0 +1,46 @@
+//! Why a log cannot be read further.
+
+ghost use Rattle.std.specs.Prelude.{◌≡◌};
+ghost use Rattle.rw_wal_format.specs.Faults.{log_fault_number};
+
+/// Why the next entry of a log cannot be given. Each fault but `OutOfMemory` is one of the log, and stays.
+#[derive(Clone, Copy, Debug, PartialEq, Eq)]
+pub enum TailFault {
+    /// Memory ran out, which is no fault of the log. The call may be made again.
+    OutOfMemory,
+    /// The type byte of a fragment is none that the format has.
+    BadType,
+    /// The length of a fragment passes the end of its page.
+    BadLength,
+    /// The CRC-32C in the header of a fragment is not that of its data.
+    BadCrc,
+    /// A fragment is compressed, or other flags are set in its type byte.
+    Compressed,
+    /// A byte is not zero in the rest of a page, where only zeros may stand.
+    NonzeroPadding,
+    /// A fragment begins a record while one is open, or continues one while none is.
+    Sequence,
+    /// A record of series or of samples is not well-formed.
+    BadRecord,
+    /// A segment ends inside a record, and the next one begins.
+    TornSegment,
+}
+
+impl TailFault {
+    /// The number that stands for the fault in text: 1 to 8, and 0 for `OutOfMemory`, which is no fault of the log.
+    pub fn number(self) -> u8
+        ensures { result ≡ log_fault_number self }
+    {
+        match self {
+            TailFault::OutOfMemory => 0,
+            TailFault::BadType => 1,
+            TailFault::BadLength => 2,
+            TailFault::BadCrc => 3,
+            TailFault::Compressed => 4,
+            TailFault::NonzeroPadding => 5,
+            TailFault::Sequence => 6,
+            TailFault::BadRecord => 7,
+            TailFault::TornSegment => 8,
+        }
+    }
+}
