@@ -13,7 +13,7 @@ use Rattle.rw_types.specs.LabelOrder.{labels_eq}
 use Rattle.rw_write_request.specs.Canon.{sample_fields}
 use Rattle.rw_write_request.specs.Message.{Sample, TimeSeries, WriteRequest}
 use Rattle.rw_write_request.proofs.Spelled.{AllByRecursion-append, sample-field-length}
-use Rattle.rw_shard_queue.proofs.Lists.{get_front, get_below}
+use Rattle.rw_plain_queue.proofs.Lists.{get_front, get_below}
 use Rattle.rw_batch.specs.Grouping.{LabelledSample, message, with_labels, labels_of, distinct, series_at}
 use Rattle.rw_batch.specs.Kept.{samples_alone, field_at, GoesBack, IsTrail, IsLine, HasLines, Shared, AreRows}
 use Rattle.rw_batch.specs.declared.rows.Line.{Line}

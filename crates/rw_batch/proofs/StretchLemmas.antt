@@ -3,7 +3,7 @@ use Rattle.std.proofs.Common.{◌≡◌, zero, suc, ◌+◌, ◌-◌, List, [], 
 use Rattle.std.proofs.lemmas.Option.{slice_get-get_or}
 use Rattle.rw_types.specs.declared.place.Place.{Place}
 use Rattle.rw_batch.specs.Batches.{Follows, IsStretch}
-use Rattle.rw_shard_queue.proofs.Lists.{get_snoc}
+use Rattle.rw_plain_queue.proofs.Lists.{get_snoc}
 
 pub no_places : (ps : List Place) → ps ≡ [] → IsStretch ps
 no_places ps e k p q first at = absurd (let none : slice_get [] 0 ≡ Some p = ap (λ xs. slice_get xs 0) (sym e) ∙ first in cc)

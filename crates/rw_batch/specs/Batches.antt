@@ -2,8 +2,8 @@
 use Rattle.std.specs.Global.{Global}
 use Rattle.std.specs.Prelude.{◌≡◌, ℕ, ◌+◌, ◌-◌, ◌≤◌, Vec, vec_capacity, List, [], ◌∷◌, ◌++◌, length, Some, slice_get}
 use Rattle.rw_types.specs.declared.place.Place.{Place}
-use Rattle.rw_shard_queue.specs.declared.item.Item.{Item}
-use Rattle.rw_shard_queue.specs.declared.item.Item.TheVariants.{Sample, Flush, End}
+use Rattle.rw_plain_queue.specs.declared.item.Item.{Item}
+use Rattle.rw_plain_queue.specs.declared.item.Item.TheVariants.{Sample, Flush, End}
 use Rattle.rw_write_request.specs.Canon.{canon}
 use Rattle.rw_batch.specs.Grouping.{LabelledSample, message}
 use Rattle.rw_batch.specs.Kept.{Fielded, Rowed, samples_alone}

@@ -13,7 +13,7 @@ use crate::fields::Fields;
 use crate::rows::{Labelled, Rows};
 use bytes::Bytes;
 use rw_ledger::Ledger;
-use rw_shard_queue::Item;
+use rw_plain_queue::Item;
 use rw_types::Place;
 use std::alloc::{AllocError, Global};
 use std::marker::Model;

@@ -3,9 +3,9 @@ use Rattle.std.proofs.Common.{◌≡◌, inl, inr, ℕ, zero, suc, ◌+◌, ◌<
 use Rattle.std.specs.Prelude.{get_or}
 use Rattle.std.proofs.Math.ListN.{set}
 use Rattle.std.proofs.lemmas.List.{set-get_or}
-use Rattle.rw_sender.specs.declared.config.ConfigFields.{ConfigFields}
-use Rattle.rw_shard_queue.specs.Items.{samples_in}
-use Rattle.rw_shard_queue.specs.declared.item.Item.TheVariants as item
+use Rattle.rw_shard_core.specs.declared.config.ConfigFields.{ConfigFields}
+use Rattle.rw_plain_queue.specs.Items.{samples_in}
+use Rattle.rw_plain_queue.specs.declared.item.Item.TheVariants as item
 use Rattle.rw_router.specs.declared.sample.RoutedSample.{RoutedSample}
 use Rattle.rw_fleet.specs.ShardHistories.{ShardHistory, IsSetUp, AreSetUp, AreSame, AreFresh, IsPut, put_as, marks_in, marked, marks}
 use Rattle.rw_fleet.proofs.PutLemmas.{samples_mark}

@@ -3,10 +3,10 @@ use Rattle.std.proofs.Common.{◌≡◌, ℕ, suc, ◌^◌, ◌<◌, map, List, 
 use Rattle.std.specs.Prelude.{ℤ}
 use Rattle.std.specs.Arc.{arc_value}
 use Rattle.rw_types.specs.declared.place.Place.{Place}
-use Rattle.rw_shard_queue.specs.declared.item.Item.{Item}
-use Rattle.rw_shard_queue.specs.declared.item.Item.TheVariants as item
-use Rattle.rw_shard_queue.specs.Items.{Placed, samples_in, places_in}
-use Rattle.rw_shard_queue.specs.History.{IsFew}
+use Rattle.rw_plain_queue.specs.declared.item.Item.{Item}
+use Rattle.rw_plain_queue.specs.declared.item.Item.TheVariants as item
+use Rattle.rw_plain_queue.specs.Items.{Placed, samples_in, places_in}
+use Rattle.rw_plain_queue.specs.History.{IsFew}
 use Rattle.rw_fleet.specs.ShardHistories.{ShardHistory, put_as, marks_in}
 use Rattle.rw_router.specs.declared.sample.RoutedSample.{RoutedSample}
 use Rattle.rw_fleet.specs.Work.{positions_in}

@@ -1,12 +1,12 @@
 -- The shards of all epochs.
 use Rattle.std.specs.Prelude.{◌≡◌, ℕ, ◌+◌, List, [], ◌++◌, length, map, drop}
-use Rattle.rw_sender.specs.declared.config.ConfigFields.{ConfigFields}
+use Rattle.rw_shard_core.specs.declared.config.ConfigFields.{ConfigFields}
 use Rattle.rw_fleet.specs.ShardHistories.{ShardHistory, AreSame}
 use Rattle.rw_fleet.specs.Work.{AreEndedBy, lane_of, put_by, finished_of}
 use Rattle.rw_fleet.specs.declared.joined.StoppedShard.{StoppedShard}
 use Rattle.rw_fleet.specs.declared.joined.Finished.{Finished}
-use Rattle.rw_shard_queue.specs.declared.item.Kind.{Kind}
-use Rattle.rw_shard_queue.specs.declared.item.Kind.TheVariants.{Reshard}
+use Rattle.rw_plain_queue.specs.declared.item.Kind.{Kind}
+use Rattle.rw_plain_queue.specs.declared.item.Kind.TheVariants.{Reshard}
 
 -- how the workers are set up, the epoch, the shards at work, and those that have ended, oldest first
 pub record Shards (T : Type 0) : Type 0 where

@@ -1,10 +1,10 @@
 -- The shards of an epoch as the one who feeds them sees them.
 use Rattle.std.specs.Prelude.{◌≡◌, ℕ, zero, suc, ◌≤◌, ◌^◌, List, [], ◌∷◌, ◌++◌, length, set, Some, slice_get, ⊤}
 use Rattle.std.specs.Arc.{arc_value}
-use Rattle.rw_sender.specs.declared.config.ConfigFields.{ConfigFields}
-use Rattle.rw_shard_queue.specs.Items.{Placed, samples_in, places_in}
-use Rattle.rw_shard_queue.specs.declared.item.Item.{Item}
-use Rattle.rw_shard_queue.specs.declared.item.Item.TheVariants as item
+use Rattle.rw_shard_core.specs.declared.config.ConfigFields.{ConfigFields}
+use Rattle.rw_plain_queue.specs.Items.{Placed, samples_in, places_in}
+use Rattle.rw_plain_queue.specs.declared.item.Item.{Item}
+use Rattle.rw_plain_queue.specs.declared.item.Item.TheVariants as item
 use Rattle.rw_worker.specs.Setups.{Setup}
 use Rattle.rw_router.specs.declared.sample.RoutedSample.{RoutedSample}
 

@@ -1,11 +1,11 @@
 -- What a shard did, once its worker's thread has ended.
 use Rattle.std.specs.Prelude.{◌≡◌, ◌⊎◌, ℕ, ◌+◌, ◌≤◌, ◌==◌, ◌&&◌, Bool, true, false, List, [], ◌∷◌, ◌++◌, length, map, drop, Some, None, IsSome, slice_get, ⊤}
 use Rattle.rw_types.specs.declared.place.Place.{Place}
-use Rattle.rw_shard_queue.specs.Items.{places_in}
-use Rattle.rw_shard_queue.specs.declared.item.Item.{Item}
-use Rattle.rw_shard_queue.specs.declared.item.Item.TheVariants as item
-use Rattle.rw_shard_queue.specs.declared.item.Kind.{Kind}
-use Rattle.rw_shard_queue.specs.declared.item.Kind.TheVariants.{Hard}
+use Rattle.rw_plain_queue.specs.Items.{places_in}
+use Rattle.rw_plain_queue.specs.declared.item.Item.{Item}
+use Rattle.rw_plain_queue.specs.declared.item.Item.TheVariants as item
+use Rattle.rw_plain_queue.specs.declared.item.Kind.{Kind}
+use Rattle.rw_plain_queue.specs.declared.item.Kind.TheVariants.{Hard}
 use Rattle.rw_shard_channel.specs.Ends.{Feeding, QueueId, IsBeginning}
 use Rattle.rw_worker.specs.Report.{IsReport, drain_of}
 use Rattle.rw_worker.specs.Transcript.{Exchange}

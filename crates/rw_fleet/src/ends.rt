@@ -1,7 +1,7 @@
 //! The two ends of a queue that was ended.
 
 ghost use Rattle.std.specs.Prelude.{◌≡◌, ◌+◌, ◌≤◌, length, true, false};
-ghost use Rattle.rw_shard_queue.specs.Items.{samples_in, places_in};
+ghost use Rattle.rw_plain_queue.specs.Items.{samples_in, places_in};
 ghost use Rattle.rw_worker.specs.Report.{drain_of};
 ghost use Rattle.rw_fleet.specs.Work.{feeding, queue_of, put_of, taken_of, is_compared, IsApart, IsTakenOf, IsUnended, IsEndedBy, IsEndTaken};
 

@@ -2,7 +2,7 @@
 
 ghost use Rattle.std.specs.Prelude.{◌≡◌, ◌+◌, ◌<◌, ◌≤◌, ◌^◌, ℕ, List, [], ◌∷◌, ◌++◌, length, map, MatchResult, IfOk, IfErr, OnOk, OnErr, Some, Err, true, false, slice_get};
 ghost use Rattle.rw_types.specs.declared.place.Place.{Place};
-ghost use Rattle.rw_shard_queue.specs.Items.{places_in};
+ghost use Rattle.rw_plain_queue.specs.Items.{places_in};
 ghost use Rattle.rw_fleet.specs.ShardHistories.{ShardHistory, AreFresh, AreSame, AreSetUp, IsPut, IsUsedUp, marked};
 ghost use Rattle.rw_worker.specs.Report.{is_hard};
 ghost use Rattle.rw_fleet.specs.Work.{AreResolved, AreWorked, HasCut, lane_of, finished_of};
@@ -17,8 +17,8 @@ use crate::lists::{
 use crate::load::Load;
 use crate::running::{Fault, RunningShard, StoppingShard};
 use rw_router::RoutedSample;
-use rw_sender::Config;
 use rw_shard_channel::Kind;
+use rw_shard_core::Config;
 use rw_worker::StopFlag;
 use std::alloc::{AllocError, Global};
 use std::marker::Model;

@@ -2,7 +2,7 @@
 
 ghost use Rattle.std.specs.Prelude.{◌≡◌, ◌<◌, ◌≤◌, ◌^◌, ℕ, List, [], ◌∷◌, ◌++◌, length, IfOk, MatchResult, Err, Some, slice_get};
 ghost use Rattle.rw_types.specs.declared.place.Place.{Place};
-ghost use Rattle.rw_shard_queue.specs.Items.{samples_in, places_in};
+ghost use Rattle.rw_plain_queue.specs.Items.{samples_in, places_in};
 ghost use Rattle.rw_fleet.specs.ShardHistories.{IsSetUp, put_as, marks_in};
 ghost use Rattle.rw_fleet.specs.Loads.{count_in, left_at_work};
 ghost use Rattle.rw_fleet.specs.Work.{lane_of, IsEndedBy, IsWorked};
@@ -11,8 +11,8 @@ use crate::ends::{Fed, end_of, meet};
 use crate::joined::{Finished, StoppedShard};
 use crate::window::Window;
 use rw_router::RoutedSample;
-use rw_sender::Config;
 use rw_shard_channel::{Feed, Item, Kind, Open, open};
+use rw_shard_core::Config;
 use rw_types::Place;
 use rw_worker::{Begun, Pause, StopFlag, Tally, Transport, Worker, WorkerReport, spawn};
 use std::alloc::{AllocError, Global};

@@ -13,11 +13,11 @@ use Rattle.rw_machine.proofs.Resolves.{holds_each, open_id}
 use Rattle.rw_machine.proofs.Others.{pending_parts}
 use Rattle.rw_machine.proofs.Heads.{accept_all, all_distinct, by_answer, Takes}
 use Rattle.rw_batch.specs.Grouping.{distinct}
-use Rattle.rw_recv_head.specs.Head.{Answer}
-use Rattle.rw_recv_head.specs.Store as head
+use Rattle.rw_head.specs.Head.{Answer}
+use Rattle.rw_head.specs.Store as head
 use Rattle.std.specs.FinMap.{get}
-use Rattle.rw_recv_head.specs.Order.{accept, holds}
-use Rattle.rw_recv_head.specs.Store.{list_of}
+use Rattle.rw_head.specs.Order.{accept, holds}
+use Rattle.rw_head.specs.Store.{list_of}
 use Rattle.rw_retry.specs.Judgements.{judgement_of}
 use Rattle.rw_retry.specs.declared.judgement.Judgement.TheVariants.{Again, Done, Refused}
 use Rattle.rw_machine.proofs.Views.{IsKept, Ledger, Pairs, Store, is_let_in, logged_points, message, of, owed_by, pairs, points}
@@ -27,8 +27,8 @@ use Rattle.rw_machine.specs.Steps.{answered, arrive, endpoint_answer}
 use Rattle.rw_machine.specs.Worlds.{Reply, Request, Setup, World, log}
 use Rattle.rw_machine.specs.declared.event.How.{How}
 use Rattle.rw_machine.specs.declared.event.How.TheVariants.{Busy, Plain, OutOfMemory}
-use Rattle.rw_sender.specs.Shard.{batch_id, is_empty}
-use Rattle.rw_shard_queue.specs.Items.{Placed}
+use Rattle.rw_shard_core.specs.Shard.{batch_id, is_empty}
+use Rattle.rw_plain_queue.specs.Items.{Placed}
 use Rattle.rw_types.specs.LabelOrder.{labels_eq}
 use Rattle.rw_types.specs.Labels.{Labels}
 

@@ -5,7 +5,7 @@ use Rattle.rw_machine.proofs.Steps.{always, either, Each, each_change, each_new,
 use Rattle.rw_machine.proofs.Invariant.{by_bool}
 use Rattle.rw_machine.proofs.Places.{get_below}
 use Rattle.rw_machine.specs.declared.event.Event.TheVariants as event
-use Rattle.rw_shard_queue.specs.declared.item.Kind.TheVariants as kind
+use Rattle.rw_plain_queue.specs.declared.item.Kind.TheVariants as kind
 use Rattle.rw_retry.specs.Judgements.{judgement_of}
 use Rattle.rw_retry.specs.declared.judgement.Judgement.{Judgement}
 use Rattle.rw_retry.specs.declared.judgement.Judgement.TheVariants.{Again, Done, Refused}
@@ -13,12 +13,12 @@ use Rattle.rw_machine.specs.Shards.{EndMark, FlushMark, One, Queued, Shard, has_
 use Rattle.rw_machine.specs.Steps.{act, arrive, change, changed, close, feed, flush_shard, happens, mark, next_sample, place, place_entry, place_kept, place_sample, put_if_room, reply_to, restart_as, run, send_batch, shard_of, take_reply, unless_over}
 use Rattle.rw_machine.specs.Worlds.{Reply, Request, Setup, World, all_drained, is_at, is_finished, is_over, log, new_shards, start}
 use Rattle.rw_machine.specs.Promises.{IsClosedForGood}
-use Rattle.rw_shard_queue.specs.declared.item.Kind.{Kind}
+use Rattle.rw_plain_queue.specs.declared.item.Kind.{Kind}
 use Rattle.rw_wal_tail.specs.Fed.{piece_of}
 use Rattle.rw_machine.specs.declared.event.Event.{Event}
 use Rattle.rw_machine.specs.declared.event.How.{How}
 use Rattle.rw_machine.specs.declared.event.How.TheVariants.{Busy, Plain, OutOfMemory}
-use Rattle.rw_sender.specs.Shard.{Core, again, awaits, can_freeze, can_send, can_take, settle}
+use Rattle.rw_shard_core.specs.Shard.{Core, again, awaits, can_freeze, can_send, can_take, settle}
 use Rattle.rw_series_cache.specs.Known.{Bad, Filtered, Kept, Standing, Unknown, known}
 use Rattle.rw_series_cache.specs.Rising.{rises}
 use Rattle.rw_types.specs.Labels.{Labels}

@@ -17,7 +17,7 @@ use Rattle.rw_machine.specs.Worlds.{Request, Setup, World, is_finished, log, sta
 use Rattle.rw_machine.specs.declared.event.Event.{Event}
 use Rattle.rw_machine.specs.declared.event.How.{How}
 use Rattle.rw_machine.specs.declared.event.How.TheVariants.{Busy, Plain, OutOfMemory}
-use Rattle.rw_sender.specs.Shard.{can_send}
+use Rattle.rw_shard_core.specs.Shard.{can_send}
 use Rattle.rw_series_cache.specs.Known.{Bad, Filtered, Kept, Standing, Unknown, known}
 use Rattle.rw_series_cache.specs.Rising.{rises}
 use Rattle.rw_types.specs.Labels.{Labels}

@@ -7,18 +7,18 @@ use Rattle.rw_types.specs.LabelOrder.{labels_eq}
 use Rattle.rw_batch.specs.Grouping.{LabelledSample, distinct, samples_of}
 use Rattle.rw_batch.specs.Grouping as grouping
 use Rattle.rw_write_request.specs.Message.{TimeSeries, WriteRequest}
-use Rattle.rw_recv_head.specs.declared.verdict.Verdict.{Verdict}
-use Rattle.rw_recv_head.specs.declared.verdict.Verdict.TheVariants.{BadLabels, OverLimit}
-use Rattle.rw_recv_head.specs.Order.{accept}
-use Rattle.rw_recv_head.specs.Order as order
-use Rattle.rw_recv_head.specs.Store.{list_of, with_list}
-use Rattle.rw_recv_head.specs.Store as head
-use Rattle.rw_recv_head.specs.Verdicts.{LabelLimits, is_over, refusal, accepted, taken, taken_unless, taken_next, taken_all}
-use Rattle.rw_recv_head.specs.Verdicts as verdicts
-use Rattle.rw_recv_head.specs.Head.{State, Answer, status_of, answer_to, answered}
-use Rattle.rw_recv_head.proofs.StoreLemmas.{list_of-with_list}
-use Rattle.rw_sender.specs.Shard.{body_of, labelled}
-use Rattle.rw_shard_queue.specs.Items.{Placed}
+use Rattle.rw_head.specs.declared.verdict.Verdict.{Verdict}
+use Rattle.rw_head.specs.declared.verdict.Verdict.TheVariants.{BadLabels, OverLimit}
+use Rattle.rw_head.specs.Order.{accept}
+use Rattle.rw_head.specs.Order as order
+use Rattle.rw_head.specs.Store.{list_of, with_list}
+use Rattle.rw_head.specs.Store as head
+use Rattle.rw_head.specs.Verdicts.{LabelLimits, is_over, refusal, accepted, taken, taken_unless, taken_next, taken_all}
+use Rattle.rw_head.specs.Verdicts as verdicts
+use Rattle.rw_head.specs.Head.{State, Answer, status_of, answer_to, answered}
+use Rattle.rw_head.proofs.StoreLemmas.{list_of-with_list}
+use Rattle.rw_shard_core.specs.Shard.{body_of, labelled}
+use Rattle.rw_plain_queue.specs.Items.{Placed}
 use Rattle.rw_machine.specs.Steps.{endpoint_answer}
 use Rattle.rw_machine.specs.Worlds.{Setup}
 use Rattle.rw_machine.proofs.Names.{one_answer}

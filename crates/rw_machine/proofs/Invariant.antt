@@ -4,11 +4,11 @@ use Rattle.std.specs.List.{list_any}
 use Rattle.rw_machine.proofs.Steps.{either, Each, each_change, AllOf, all_more}
 use Rattle.rw_machine.proofs.Others.{pending_flush, pending_end, pending_take, pending_freeze, pending_lost}
 use Rattle.rw_machine.proofs.Places.{at_change, Numbered, length_change}
-use Rattle.rw_shard_queue.specs.declared.item.Kind.TheVariants as kind
+use Rattle.rw_plain_queue.specs.declared.item.Kind.TheVariants as kind
 use Rattle.std.specs.FinMap.{get}
 use Rattle.rw_batch.specs.declared.batch.BatchId.{BatchId}
-use Rattle.rw_recv_head.specs.Order.{holds}
-use Rattle.rw_recv_head.specs.Store.{list_of}
+use Rattle.rw_head.specs.Order.{holds}
+use Rattle.rw_head.specs.Store.{list_of}
 use Rattle.rw_retry.specs.Judgements.{judgement_of}
 use Rattle.rw_retry.specs.declared.judgement.Judgement.TheVariants.{Done, Refused}
 use Rattle.rw_machine.proofs.Views.{IsKept, Ledger, Store, is_let_in, of, owed_by, pairs, points, shard_again}
@@ -16,10 +16,10 @@ use Rattle.rw_machine.specs.Promises.{Point, pair_of}
 use Rattle.rw_machine.specs.Shards.{EndMark, FlushMark, One, Queued, Shard, has_room, pending, shard_end, shard_flush, shard_freeze, shard_lost, shard_send, shard_take, take_front}
 use Rattle.rw_machine.specs.Steps.{change, changed, flush_shard, mark}
 use Rattle.rw_machine.specs.Worlds.{Reply, Request, Setup, World, is_finished, log}
-use Rattle.rw_sender.specs.Shard.{Core, again, awaits, batch_id, can_freeze, can_send, can_take, is_empty}
+use Rattle.rw_shard_core.specs.Shard.{Core, again, awaits, batch_id, can_freeze, can_send, can_take, is_empty}
 use Rattle.rw_series_cache.specs.Known.{Kept, known}
 use Rattle.rw_series_cache.specs.Numbers.{number_of}
-use Rattle.rw_shard_queue.specs.Items.{Placed}
+use Rattle.rw_plain_queue.specs.Items.{Placed}
 use Rattle.rw_types.specs.LabelOrder.{labels_eq}
 use Rattle.rw_types.specs.Labels.{Labels}
 

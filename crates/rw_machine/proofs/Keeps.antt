@@ -20,7 +20,7 @@ use Rattle.rw_series_cache.proofs.KnownLemmas.{definitions_of-sample, known-defi
 use Rattle.rw_batch.specs.declared.batch.BatchId.{BatchId}
 use Rattle.rw_ledger.specs.declared.ledger.Reason.{Reason}
 use Rattle.rw_ledger.specs.declared.ledger.Reason.TheVariants.{BadLabels, NoSeries, NotRising, Status}
-use Rattle.rw_recv_head.specs.Store.{list_of}
+use Rattle.rw_head.specs.Store.{list_of}
 use Rattle.rw_machine.proofs.Views.{IsKept, Ledger, is_let_in, is_of, named_at, of, owed_by, pairs, point_of, points}
 use Rattle.rw_machine.specs.Promises.{Point, pair_of}
 use Rattle.rw_machine.specs.Shards.{Shard, has_room, pending, samples_in, shard_put}
@@ -29,7 +29,7 @@ use Rattle.rw_machine.specs.Worlds.{Reply, Request, Setup, World, log}
 use Rattle.rw_series_cache.specs.Known.{Bad, Filtered, Kept, Standing, Unknown, known, label_fault_number, standing_of}
 use Rattle.rw_series_cache.specs.Rising.{rises}
 use Rattle.rw_series_cache.specs.Numbers.{number_of, with_series}
-use Rattle.rw_shard_queue.specs.Items.{Placed}
+use Rattle.rw_plain_queue.specs.Items.{Placed}
 use Rattle.rw_types.specs.LabelOrder.{labels_eq}
 use Rattle.rw_types.specs.Labels.{Labels}
 use Rattle.rw_types.specs.declared.entry.Entry.{Entry}

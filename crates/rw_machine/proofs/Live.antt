@@ -11,7 +11,7 @@ use Rattle.rw_machine.proofs.Keeps.{some_is}
 use Rattle.rw_machine.proofs.Resolves.{length_new}
 use Rattle.rw_machine.proofs.Closed.{Ends, ends_act, ends_at, Shape, ShapeOf}
 use Rattle.rw_machine.specs.declared.event.Event.TheVariants as event
-use Rattle.rw_shard_queue.specs.declared.item.Kind.TheVariants as kind
+use Rattle.rw_plain_queue.specs.declared.item.Kind.TheVariants as kind
 use Rattle.rw_batch.specs.declared.batch.BatchId.{BatchId}
 use Rattle.rw_wal_tail.specs.Fed.{piece_of}
 use Rattle.rw_wal_tail.specs.declared.piece.Piece.{Piece}
@@ -25,10 +25,10 @@ use Rattle.rw_machine.specs.Worlds.{Reply, Request, Setup, World, is_finished, l
 use Rattle.rw_machine.specs.declared.event.Event.{Event}
 use Rattle.rw_machine.specs.declared.event.How.{How}
 use Rattle.rw_machine.specs.declared.event.How.TheVariants.{Busy, Plain, OutOfMemory}
-use Rattle.rw_sender.specs.Shard.{Core, again, awaits, batch_id, can_freeze, can_send, can_take, is_empty, new_core, same_id, settle}
+use Rattle.rw_shard_core.specs.Shard.{Core, again, awaits, batch_id, can_freeze, can_send, can_take, is_empty, new_core, same_id, settle}
 use Rattle.rw_series_cache.specs.Known.{Bad, Filtered, Kept, Standing, Unknown, known}
 use Rattle.rw_series_cache.specs.Rising.{rises}
-use Rattle.rw_shard_queue.specs.Items.{Placed}
+use Rattle.rw_plain_queue.specs.Items.{Placed}
 use Rattle.rw_types.specs.Labels.{Labels}
 use Rattle.rw_types.specs.declared.entry.Entry.{Entry}
 use Rattle.rw_types.specs.declared.entry.Entry.TheVariants.{Def, Sample}

@@ -3,7 +3,7 @@ use Rattle.std.proofs.Common.{◌≡◌, ℕ, zero, suc, ◌+◌, ◌-◌, ◌*�
 use Rattle.rw_machine.specs.Shards.{Shard}
 use Rattle.rw_machine.specs.Steps.{change}
 use Rattle.rw_machine.specs.Worlds.{Setup, World, log, new_shards}
-use Rattle.rw_shard_queue.specs.Items.{Placed}
+use Rattle.rw_plain_queue.specs.Items.{Placed}
 
 abbrev pub builder_work : List Placed → ℕ
 builder_work [] = 0

@@ -2,11 +2,11 @@
 use Rattle.std.proofs.Common.{◌≡◌, ℕ, ◌==◌, Bool, true, false, cond, List, [], ◌∷◌, ◌++◌, map, filter, Option, Some, None, refl, sym, ap, ◌∙◌, subst, ℤ, pos, negsuc, int_lt, int_eq, ◌||◌, ◌&&◌, not, append-nil, append_assoc, arith, ltb}
 use Rattle.std.proofs.lemmas.Bool.Decides.{Decides-int_eq, Decides-eqb, nat_tests}
 use Rattle.rw_machine.proofs.Steps.{either, AllOf, all_left, all_filter, all_more, and_left, and_both, same_is, is_same, not_true}
-use Rattle.rw_recv_head.specs.Order.{accept, accept_one, holds, is_later}
+use Rattle.rw_head.specs.Order.{accept, accept_one, holds, is_later}
 use Rattle.rw_machine.proofs.Views.{Pairs, Store, of, pairs, series_of}
 use Rattle.rw_machine.proofs.Heads.{store_at, put_series, accept_series, accept_all}
 use Rattle.rw_batch.specs.Grouping.{distinct}
-use Rattle.rw_shard_queue.specs.Items.{Placed}
+use Rattle.rw_plain_queue.specs.Items.{Placed}
 use Rattle.rw_types.specs.LabelOrder.{labels_eq}
 use Rattle.rw_types.specs.Labels.{Labels}
 

@@ -18,19 +18,19 @@ use Rattle.rw_wal_tail.specs.Fed.{piece_of}
 use Rattle.rw_retry.specs.Judgements.{judgement_of}
 use Rattle.rw_retry.specs.declared.judgement.Judgement.{Judgement}
 use Rattle.rw_retry.specs.declared.judgement.Judgement.TheVariants.{Again, Done, Refused}
-use Rattle.rw_shard_queue.specs.Items.{Placed}
-use Rattle.rw_shard_queue.specs.declared.item.Kind.{Kind}
-use Rattle.rw_shard_queue.specs.declared.item.Kind.TheVariants as kind
+use Rattle.rw_plain_queue.specs.Items.{Placed}
+use Rattle.rw_plain_queue.specs.declared.item.Kind.{Kind}
+use Rattle.rw_plain_queue.specs.declared.item.Kind.TheVariants as kind
 use Rattle.rw_batch.specs.Grouping.{distinct}
 use Rattle.rw_batch.specs.Grouping as grouping
 use Rattle.rw_write_request.specs.Message.{TimeSeries, WriteRequest}
-use Rattle.rw_sender.specs.Shard.{Core, body_of, labelled, can_freeze, can_send, can_take, awaits, is_empty, settle}
-use Rattle.rw_sender.specs.Shard as core
-use Rattle.rw_recv_head.specs.Head.{Answer, State, answer_to, answered, judged_body}
-use Rattle.rw_recv_head.specs.Store.{Store, list_of}
-use Rattle.rw_recv_head.specs.Verdicts.{LabelLimits, accepted, judged, refusal, taken, taken_all, taken_unless}
-use Rattle.rw_recv_head.specs.declared.verdict.Verdict.{Verdict}
-use Rattle.rw_recv_head.proofs.StoreLemmas.{list_of-empty, list_of-with_list}
+use Rattle.rw_shard_core.specs.Shard.{Core, body_of, labelled, can_freeze, can_send, can_take, awaits, is_empty, settle}
+use Rattle.rw_shard_core.specs.Shard as core
+use Rattle.rw_head.specs.Head.{Answer, State, answer_to, answered, judged_body}
+use Rattle.rw_head.specs.Store.{Store, list_of}
+use Rattle.rw_head.specs.Verdicts.{LabelLimits, accepted, judged, refusal, taken, taken_all, taken_unless}
+use Rattle.rw_head.specs.declared.verdict.Verdict.{Verdict}
+use Rattle.rw_head.proofs.StoreLemmas.{list_of-empty, list_of-with_list}
 use Rattle.rw_machine.specs.declared.event.Event.{Event}
 use Rattle.rw_machine.specs.declared.event.Event.TheVariants as event
 use Rattle.rw_machine.specs.declared.event.How.{How}

@@ -12,7 +12,7 @@ use Rattle.rw_series_cache.specs.Known.{Standing, Unknown, Bad, Filtered, Kept, 
 use Rattle.rw_series_cache.proofs.PointLemmas.{definition_gives_none, sample_is_kept, sample_is_other}
 use Rattle.rw_series_cache.specs.Numbers.{number_of}
 use Rattle.rw_series_cache.specs.Rising.{rises}
-use Rattle.rw_shard_queue.specs.Items.{Placed}
+use Rattle.rw_plain_queue.specs.Items.{Placed}
 use Rattle.rw_types.specs.LabelOrder.{labels_eq}
 use Rattle.rw_types.specs.Labels.{Labels}
 use Rattle.rw_types.specs.declared.entry.Entry.{Entry}

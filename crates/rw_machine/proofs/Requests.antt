@@ -13,12 +13,12 @@ use Rattle.rw_machine.specs.Promises.{CarriesItsBatch, CarriesEachBatch, SendsSa
 use Rattle.rw_machine.specs.Shards.{EndMark, FlushMark, One, Queued, Shard, has_room, shard_end, shard_flush, shard_freeze, shard_lost, shard_put, shard_send, shard_take, take_front, with_core}
 use Rattle.rw_machine.specs.Steps.{act, arrive, changed, flush_shard, mark, next_sample, place, place_entry, place_kept, place_sample, put_if_room, reply_to, request_by, restart_as, run, send_batch, shard_of, take_reply}
 use Rattle.rw_machine.specs.Worlds.{Reply, Request, Setup, World, is_finished, log, start}
-use Rattle.rw_sender.specs.Shard.{Core, again, awaits, body_of, can_freeze, can_send, can_take, settle}
-use Rattle.rw_sender.specs.SentRequest.{request_of}
-use Rattle.rw_sender.specs.declared.config.Target.{Target}
+use Rattle.rw_shard_core.specs.Shard.{Core, again, awaits, body_of, can_freeze, can_send, can_take, settle}
+use Rattle.rw_shard_core.specs.SentRequest.{request_of}
+use Rattle.rw_shard_core.specs.declared.config.Target.{Target}
 use Rattle.rw_series_cache.specs.Known.{Bad, Filtered, Kept, Standing, Unknown, known}
 use Rattle.rw_series_cache.specs.Rising.{rises}
-use Rattle.rw_shard_queue.specs.declared.item.Kind.TheVariants as kind
+use Rattle.rw_plain_queue.specs.declared.item.Kind.TheVariants as kind
 use Rattle.rw_types.specs.Labels.{Labels}
 use Rattle.rw_types.specs.declared.entry.Entry.{Entry}
 use Rattle.rw_types.specs.declared.entry.Entry.TheVariants.{Def, Sample}

@@ -15,8 +15,8 @@ use Rattle.rw_ledger.specs.declared.ledger.Reason.{Reason}
 use Rattle.rw_machine.proofs.Others.{pending_parts}
 use Rattle.rw_machine.proofs.Names.{ledger_name_all, name_batch}
 use Rattle.rw_batch.specs.declared.batch.BatchId.{BatchId}
-use Rattle.rw_recv_head.specs.Order.{holds}
-use Rattle.rw_recv_head.specs.Store.{list_of}
+use Rattle.rw_head.specs.Order.{holds}
+use Rattle.rw_head.specs.Store.{list_of}
 use Rattle.rw_retry.specs.Judgements.{judgement_of}
 use Rattle.rw_retry.specs.declared.judgement.Judgement.{Judgement}
 use Rattle.rw_retry.specs.declared.judgement.Judgement.TheVariants.{Again, Done, Refused}
@@ -25,8 +25,8 @@ use Rattle.rw_machine.specs.Promises.{Point, pair_of}
 use Rattle.rw_machine.specs.Shards.{Shard, is_drained, pending, samples_in, shard_send, with_core}
 use Rattle.rw_machine.specs.Steps.{change, reply_to, request_by, restart_as, send_batch, take_reply}
 use Rattle.rw_machine.specs.Worlds.{Reply, Request, Setup, World, all_drained, is_finished, log, new_shards}
-use Rattle.rw_sender.specs.Shard.{awaits, batch_id, can_send, is_answer, is_empty, name_all, positions, same_id, settle, settle_names}
-use Rattle.rw_shard_queue.specs.Items.{Placed}
+use Rattle.rw_shard_core.specs.Shard.{awaits, batch_id, can_send, is_answer, is_empty, name_all, positions, same_id, settle, settle_names}
+use Rattle.rw_plain_queue.specs.Items.{Placed}
 use Rattle.rw_types.specs.LabelOrder.{labels_eq}
 use Rattle.rw_types.specs.Labels.{Labels}
 

@@ -8,22 +8,22 @@ use Rattle.rw_machine.proofs.Places.{get_below}
 use Rattle.rw_machine.proofs.Live.{HasId, Going, same_id_own}
 use Rattle.rw_machine.proofs.Measure.{builder_work, batch_work, end_work, shard_work, shards_work, drain_work, work, work_change}
 use Rattle.rw_machine.specs.declared.event.Event.TheVariants as event
-use Rattle.rw_shard_queue.specs.declared.item.Kind.{Kind}
-use Rattle.rw_shard_queue.specs.declared.item.Kind.TheVariants as kind
+use Rattle.rw_plain_queue.specs.declared.item.Kind.{Kind}
+use Rattle.rw_plain_queue.specs.declared.item.Kind.TheVariants as kind
 use Rattle.rw_batch.specs.declared.batch.BatchId.{BatchId}
 use Rattle.rw_retry.specs.Judgements.{judgement_of}
 use Rattle.rw_retry.specs.declared.judgement.Judgement.{Judgement}
 use Rattle.rw_retry.specs.declared.judgement.Judgement.TheVariants.{Again, Done, Refused}
 use Rattle.rw_machine.proofs.Resolves.{same_id_is}
 use Rattle.rw_machine.proofs.Views.{shard_again, shard_resolve}
-use Rattle.rw_recv_head.specs.Head.{Answer, State, answer_to, status_of}
-use Rattle.rw_recv_head.specs.Head as head
-use Rattle.rw_recv_head.specs.Order.{Point, points, accept}
-use Rattle.rw_recv_head.specs.Store.{Store, list_of}
-use Rattle.rw_recv_head.specs.Verdicts.{LabelLimits, accepted, judged, refusal, taken, taken_all, taken_unless}
-use Rattle.rw_recv_head.specs.Verdicts as verdicts
+use Rattle.rw_head.specs.Head.{Answer, State, answer_to, status_of}
+use Rattle.rw_head.specs.Head as head
+use Rattle.rw_head.specs.Order.{Point, points, accept}
+use Rattle.rw_head.specs.Store.{Store, list_of}
+use Rattle.rw_head.specs.Verdicts.{LabelLimits, accepted, judged, refusal, taken, taken_all, taken_unless}
+use Rattle.rw_head.specs.Verdicts as verdicts
 use Rattle.rw_machine.proofs.Heads.{RefusedForGood, refused_for_good}
-use Rattle.rw_recv_head.specs.declared.verdict.Verdict.{Verdict}
+use Rattle.rw_head.specs.declared.verdict.Verdict.{Verdict}
 use Rattle.rw_batch.specs.Grouping.{message}
 use Rattle.rw_write_request.specs.Message.{TimeSeries, WriteRequest}
 use Rattle.rw_router.specs.Fates.{kept_fate}
@@ -33,10 +33,10 @@ use Rattle.rw_machine.specs.Steps.{act, answered, arrive, change, changed, endpo
 use Rattle.rw_machine.specs.Worlds.{Reply, Request, Setup, World, is_finished, is_over, log}
 use Rattle.rw_machine.specs.declared.event.Event.{Event}
 use Rattle.rw_machine.specs.declared.event.How.TheVariants.{Plain}
-use Rattle.rw_sender.specs.Shard.{Core, awaits, batch_id, body_of, can_freeze, can_send, can_take, is_answer, is_empty, labelled, same_id, settle}
+use Rattle.rw_shard_core.specs.Shard.{Core, awaits, batch_id, body_of, can_freeze, can_send, can_take, is_answer, is_empty, labelled, same_id, settle}
 use Rattle.rw_series_cache.specs.Known.{Bad, Filtered, Kept, Standing, Unknown, known}
 use Rattle.rw_series_cache.specs.Rising.{rises}
-use Rattle.rw_shard_queue.specs.Items.{Placed}
+use Rattle.rw_plain_queue.specs.Items.{Placed}
 use Rattle.rw_types.specs.Labels.{Labels}
 use Rattle.rw_types.specs.declared.entry.Entry.{Entry}
 use Rattle.rw_types.specs.declared.entry.Entry.TheVariants.{Def, Sample}

@@ -19,12 +19,12 @@ use Rattle.rw_wal_format.specs.Pieces.{fault}
 use Rattle.rw_wal_format.specs.Series.{samples_after}
 use Rattle.rw_wal_format.specs.declared.tail_fault.TailFault.{TailFault}
 use Rattle.rw_relabel.specs.Rules.{keeps}
-use Rattle.rw_recv_head.proofs.StoreLemmas.{list_of-empty}
+use Rattle.rw_head.proofs.StoreLemmas.{list_of-empty}
 use Rattle.rw_series_cache.specs.Points.{is_kept}
 use Rattle.rw_series_cache.proofs.KnownLemmas.{known-none}
 use Rattle.rw_series_cache.proofs.PointLemmas.{below_a_position}
 use Rattle.rw_types.specs.declared.label_fault.LabelFault.{LabelFault}
-use Rattle.rw_recv_head.specs.Store.{list_of}
+use Rattle.rw_head.specs.Store.{list_of}
 use Rattle.rw_machine.proofs.Views.{IsKept, logged_from, logged_points, of, owed_by, pairs, points}
 use Rattle.rw_machine.specs.Promises.{HasOneClassEach, HoldsAll, HoldsBeginning, HoldsNothingElse, IsInOrder, IsWhole, IsWholeBeforeDamage, Point, owed, pair_of}
 use Rattle.rw_machine.specs.Shards.{Shard, pending, samples_in, shard_freeze, shard_lost, shard_take}
@@ -32,7 +32,7 @@ use Rattle.rw_machine.specs.Steps.{act, flush_shard, happens, run}
 use Rattle.rw_machine.specs.Worlds.{Abandoned, Complete, Damaged, Setup, World, all_drained, ended_as, is_finished, is_over, is_pending, log, new_shards, report, start, up_to}
 use Rattle.rw_machine.specs.declared.event.Event.{Event}
 use Rattle.rw_series_cache.specs.Known.{Kept, Unknown}
-use Rattle.rw_shard_queue.specs.Items.{Placed}
+use Rattle.rw_plain_queue.specs.Items.{Placed}
 use Rattle.rw_types.specs.LabelOrder.{labels_eq}
 use Rattle.rw_types.specs.Labels.{Labels, label_fault}
 use Rattle.rw_types.specs.declared.entry.Entry.{Entry}

@@ -1,6 +1,6 @@
 -- What the replies say of the batches: no batch is both taken and refused.
 use Rattle.std.proofs.Common.{◌≡◌, ℕ, true, false, List, [], ◌∷◌, ◌++◌, Option, Some, None, is_some, slice_get, refl, sym, ap, ◌∙◌, ◌&&◌, not, nat_le}
-use Rattle.rw_recv_head.specs.Store.{list_of}
+use Rattle.rw_head.specs.Store.{list_of}
 use Rattle.rw_retry.specs.Judgements.{judgement_of}
 use Rattle.rw_retry.specs.declared.judgement.Judgement.TheVariants.{Again, Done, Refused}
 use Rattle.rw_machine.proofs.Steps.{either, AllOf, all_append, all_more, all_get}
@@ -18,7 +18,7 @@ use Rattle.rw_machine.specs.declared.event.Event.{Event}
 use Rattle.rw_machine.specs.declared.event.Event.TheVariants as event
 use Rattle.rw_machine.specs.declared.event.How.{How}
 use Rattle.rw_machine.specs.declared.event.How.TheVariants.{Busy, Plain, OutOfMemory}
-use Rattle.rw_sender.specs.Shard.{can_send}
+use Rattle.rw_shard_core.specs.Shard.{can_send}
 
 -- a reply is one to a request, and says whether the receiver's limits let its batch in
 record Says (c : Setup) (requests : List Request) (a : Reply) : Type 0 where

@@ -24,7 +24,7 @@ use Rattle.rw_machine.specs.Shards.{Shard, has_room, is_drained, pending, sample
 use Rattle.rw_machine.specs.Steps.{close, flush_shard, happens, restart_as, run, shard_of, unless_over}
 use Rattle.rw_machine.specs.Worlds.{Abandoned, Ending, Setup, World, all_drained, ended_as, is_at, is_finished, is_over, is_pending, log, new_shards, report, start, up_to}
 use Rattle.rw_machine.specs.declared.event.Event.{Event}
-use Rattle.rw_sender.specs.Shard.{can_take, is_due, is_empty}
+use Rattle.rw_shard_core.specs.Shard.{can_take, is_due, is_empty}
 use Rattle.rw_series_cache.specs.Known.{Bad, Filtered, Kept, Standing, Unknown, known}
 use Rattle.rw_series_cache.specs.Rising.{rises}
 use Rattle.rw_series_cache.specs.Numbers.{number_of}

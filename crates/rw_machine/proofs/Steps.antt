@@ -7,7 +7,7 @@ use Rattle.rw_machine.specs.Shards.{Shard, new_shard}
 use Rattle.rw_machine.specs.Steps.{act, change, happens, run, unless_over}
 use Rattle.rw_machine.specs.Worlds.{Setup, World, is_over, new_shards}
 use Rattle.rw_machine.specs.declared.event.Event.{Event}
-use Rattle.rw_sender.specs.Shard.{new_core}
+use Rattle.rw_shard_core.specs.Shard.{new_core}
 use Rattle.rw_types.specs.LabelOrder.{labels_eq, labels_cmp-total, same_if_equal}
 use Rattle.rw_types.specs.Labels.{Labels}
 

@@ -11,8 +11,8 @@ use Rattle.rw_machine.proofs.Classes.{classes}
 use Rattle.rw_machine.proofs.Owed.{named_fallen}
 use Rattle.rw_machine.proofs.Runs.{holds_at_end}
 use Rattle.std.specs.FinMap.{get}
-use Rattle.rw_recv_head.specs.Order.{holds}
-use Rattle.rw_recv_head.specs.Store.{list_of}
+use Rattle.rw_head.specs.Order.{holds}
+use Rattle.rw_head.specs.Store.{list_of}
 use Rattle.rw_machine.proofs.Views.{IsKept, Ledger, is_of, of, owed_by, pairs, point_of, points, points_from}
 use Rattle.rw_machine.specs.Promises.{AccountedEntry, Point, StoresResolved, pair_of}
 use Rattle.rw_machine.specs.Shards.{Shard, pending}
@@ -22,7 +22,7 @@ use Rattle.rw_machine.specs.Worlds.{Setup, World, is_pending, log, start}
 use Rattle.rw_ledger.specs.declared.ledger.Reason.TheVariants.{NotRising}
 use Rattle.rw_series_cache.specs.Known.{Kept, known}
 use Rattle.rw_series_cache.specs.Rising.{rises}
-use Rattle.rw_shard_queue.specs.Items.{Placed}
+use Rattle.rw_plain_queue.specs.Items.{Placed}
 use Rattle.rw_types.specs.LabelOrder.{labels_eq}
 use Rattle.rw_types.specs.Labels.{Labels}
 use Rattle.rw_types.specs.declared.entry.Entry.{Entry}

@@ -10,11 +10,11 @@ use Rattle.rw_series_cache.specs.Known.{Standing, Unknown, Bad, Filtered, Kept, 
 use Rattle.rw_series_cache.specs.Points.{kept_points}
 use Rattle.rw_series_cache.specs.Rising.{rises}
 use Rattle.rw_ledger.specs.declared.ledger.Reason.{Reason}
-use Rattle.rw_shard_queue.specs.Items.{Placed}
+use Rattle.rw_plain_queue.specs.Items.{Placed}
 use Rattle.rw_batch.specs.Grouping.{distinct}
-use Rattle.rw_sender.specs.Shard.{body_of}
-use Rattle.rw_sender.specs.Shard as core
-use Rattle.rw_recv_head.specs.Verdicts.{LabelLimits, refusal}
+use Rattle.rw_shard_core.specs.Shard.{body_of}
+use Rattle.rw_shard_core.specs.Shard as core
+use Rattle.rw_head.specs.Verdicts.{LabelLimits, refusal}
 use Rattle.rw_machine.specs.Shards.{Shard, with_core}
 use Rattle.rw_machine.specs.Worlds.{Setup}
 use Rattle.rw_machine.specs.Promises.{Point}

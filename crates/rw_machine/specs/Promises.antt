@@ -15,10 +15,10 @@ use Rattle.rw_ledger.specs.declared.ledger.Reason.TheVariants.{Status, BadLabels
 use Rattle.rw_retry.specs.Judgements.{judgement_of}
 use Rattle.rw_retry.specs.declared.judgement.Judgement.{Judgement}
 use Rattle.rw_retry.specs.declared.judgement.Judgement.TheVariants.{Done, Again, Refused}
-use Rattle.rw_sender.specs.Shard.{is_answer, positions, body_of}
-use Rattle.rw_sender.specs.SentRequest.{request_of}
-use Rattle.rw_recv_head.specs.Order.{holds}
-use Rattle.rw_recv_head.specs.Store.{list_of}
+use Rattle.rw_shard_core.specs.Shard.{is_answer, positions, body_of}
+use Rattle.rw_shard_core.specs.SentRequest.{request_of}
+use Rattle.rw_head.specs.Order.{holds}
+use Rattle.rw_head.specs.Store.{list_of}
 use Rattle.rw_machine.specs.Shards.{Shard, samples_in}
 use Rattle.rw_machine.specs.Worlds.{Setup, Request, Reply, World, log, start, up_to, is_pending, is_over, report, Ending, Complete, Damaged, ended_as}
 use Rattle.rw_machine.specs.Steps.{happens, run}

@@ -6,7 +6,7 @@ use Rattle.rw_types.specs.declared.entry.Entry.TheVariants.{Def, Sample}
 use Rattle.rw_series_cache.specs.Known.{Standing, known}
 use Rattle.rw_router.specs.Fates.{Fate, Drops, Filters, Sends, fate_by}
 use Rattle.rw_batch.specs.declared.batch.BatchId.{BatchId}
-use Rattle.rw_sender.specs.Shard.{is_empty, batch_id, same_id, is_due, can_take}
+use Rattle.rw_shard_core.specs.Shard.{is_empty, batch_id, same_id, is_due, can_take}
 use Rattle.rw_machine.specs.Shards.{Shard, has_room}
 use Rattle.rw_machine.specs.Worlds.{Setup, Request, World, log, is_finished, is_over}
 use Rattle.rw_machine.specs.Steps.{shard_of, happens, run}

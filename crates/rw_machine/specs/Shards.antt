@@ -1,9 +1,9 @@
 -- One shard of the machine of events: its queue, and the core behind it.
 use Rattle.std.specs.Prelude.{ℕ, Bool, true, false, ◌&&◌, if◌then◌else◌, List, [], ◌∷◌, ◌++◌, length, ◌==◌, nat_lt}
-use Rattle.rw_shard_queue.specs.Items.{Placed}
-use Rattle.rw_shard_queue.specs.declared.item.Kind.{Kind}
-use Rattle.rw_sender.specs.Shard.{Core}
-use Rattle.rw_sender.specs.Shard as core
+use Rattle.rw_plain_queue.specs.Items.{Placed}
+use Rattle.rw_plain_queue.specs.declared.item.Kind.{Kind}
+use Rattle.rw_shard_core.specs.Shard.{Core}
+use Rattle.rw_shard_core.specs.Shard as core
 
 -- what waits in a queue: a sample or a mark
 pub data Queued : Type 0 where

@@ -12,13 +12,13 @@ use Rattle.rw_wal_tail.specs.declared.piece.Piece.{Piece}
 use Rattle.rw_wal_tail.specs.Fed.{piece_of}
 use Rattle.rw_ledger.specs.declared.ledger.Reason.{Reason}
 use Rattle.rw_retry.specs.Judgements.{judgement_of}
-use Rattle.rw_shard_queue.specs.Items.{Placed}
-use Rattle.rw_shard_queue.specs.declared.item.Kind.TheVariants as kind
+use Rattle.rw_plain_queue.specs.Items.{Placed}
+use Rattle.rw_plain_queue.specs.declared.item.Kind.TheVariants as kind
 use Rattle.rw_batch.specs.Grouping.{message}
 use Rattle.rw_batch.specs.declared.batch.BatchId.{BatchId}
-use Rattle.rw_sender.specs.Shard.{labelled, body_of, batch_id, is_answer, settle, settle_names}
-use Rattle.rw_sender.specs.Shard as core
-use Rattle.rw_recv_head.specs.Head.{State, Answer, answer_to}
+use Rattle.rw_shard_core.specs.Shard.{labelled, body_of, batch_id, is_answer, settle, settle_names}
+use Rattle.rw_shard_core.specs.Shard as core
+use Rattle.rw_head.specs.Head.{State, Answer, answer_to}
 use Rattle.rw_machine.specs.Shards.{Shard, has_room, shard_put, shard_flush, shard_end, with_core, shard_take, shard_freeze, shard_send, shard_lost}
 use Rattle.rw_machine.specs.Worlds.{Setup, Request, Reply, World, log, new_shards, is_finished, all_drained, is_over}
 use Rattle.rw_machine.specs.declared.event.How.{How}

@@ -10,12 +10,12 @@ use Rattle.rw_wal_format.specs.Pieces.{Piece, entries, fault}
 use Rattle.rw_wal_format.specs.declared.tail_fault.TailFault.{TailFault}
 use Rattle.rw_relabel.specs.declared.choice.Choice.{Choice}
 use Rattle.rw_ledger.specs.declared.ledger.Reason.{Reason}
-use Rattle.rw_shard_queue.specs.Items.{Placed}
+use Rattle.rw_plain_queue.specs.Items.{Placed}
 use Rattle.rw_batch.specs.declared.batch.BatchId.{BatchId}
-use Rattle.rw_sender.specs.declared.config.Target.{Target}
-use Rattle.rw_sender.specs.Shard.{new_core}
-use Rattle.rw_recv_head.specs.Verdicts.{LabelLimits}
-use Rattle.rw_recv_head.specs.Head.{State}
+use Rattle.rw_shard_core.specs.declared.config.Target.{Target}
+use Rattle.rw_shard_core.specs.Shard.{new_core}
+use Rattle.rw_head.specs.Verdicts.{LabelLimits}
+use Rattle.rw_head.specs.Head.{State}
 use Rattle.rw_machine.specs.Shards.{Shard, new_shard, is_drained, pending}
 
 -- what the sender and the receiver are set to

@@ -1,8 +1,8 @@
 -- What a run of the command `receive` does to its writer.
 use Rattle.std.specs.Prelude.{ℕ, ◌≤◌, List, length, take, Option}
 use Rattle.std.specs.Io.KnownBytes.{Appends}
-use Rattle.rw_recv_head.specs.Store.{Store}
-use Rattle.rw_recv_head.specs.Growth.{EachRises}
+use Rattle.rw_head.specs.Store.{Store}
+use Rattle.rw_head.specs.Growth.{EachRises}
 use Rattle.rw_script.specs.StateText.{store_text}
 
 -- a beginning of the text was written

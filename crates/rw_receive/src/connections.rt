@@ -1,13 +1,13 @@
 //! Connections, each served in a thread of its own.
 
 ghost use Rattle.std.specs.Prelude.{◌≡◌, ◌+◌, ◌<◌, ◌⊎◌, IfOk, IfErr, vec_len};
-ghost use Rattle.rw_recv_head.specs.Growth.{EachRises};
-ghost use Rattle.rw_tool.specs.declared.fault.ToolFault.TheVariants.{OutOfMemory, Device};
+ghost use Rattle.rw_head.specs.Growth.{EachRises};
+ghost use Rattle.rw_log_commands.specs.declared.fault.ToolFault.TheVariants.{OutOfMemory, Device};
 
 use crate::serving::{Post, served};
-use rw_recv_head::Head;
+use rw_head::Head;
+use rw_log_commands::ToolFault;
 use rw_shared_head::{Seat, SharedHead};
-use rw_tool::ToolFault;
 use std::alloc::{AllocError, Global};
 use std::net::{TcpListener, TcpStream};
 use std::sync::Wait;

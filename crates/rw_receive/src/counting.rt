@@ -1,7 +1,7 @@
 //! A seat that answers bodies, and counts.
 
+use rw_endpoint::Answer;
 use rw_metrics::ReceiveCounters;
-use rw_recv_http::Answer;
 use rw_shared_head::{Seat, SharedHead};
 use std::sync::Wait;
 use std::sync::ledger::Ledger;

@@ -1,16 +1,16 @@
 //! Connections that are served until a sign is set.
 
 ghost use Rattle.std.specs.Prelude.{◌≡◌, ◌+◌, ◌<◌, ◌⊎◌, sum, IfOk, IfErr, vec_len};
-ghost use Rattle.rw_recv_head.specs.Store.{total};
-ghost use Rattle.rw_recv_head.specs.Growth.{EachRises};
-ghost use Rattle.rw_tool.specs.declared.fault.ToolFault.TheVariants.{OutOfMemory, Device};
+ghost use Rattle.rw_head.specs.Store.{total};
+ghost use Rattle.rw_head.specs.Growth.{EachRises};
+ghost use Rattle.rw_log_commands.specs.declared.fault.ToolFault.TheVariants.{OutOfMemory, Device};
 
 use crate::door::accept_in_ticks;
 use crate::places::{Places, serve_on};
 use crate::serving::Post;
-use rw_recv_head::Head;
+use rw_head::Head;
+use rw_log_commands::ToolFault;
 use rw_shared_head::{Seat, SharedHead};
-use rw_tool::ToolFault;
 use std::alloc::AllocError;
 use std::net::TcpListener;
 use std::sync::Wait;

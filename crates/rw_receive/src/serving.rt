@@ -3,9 +3,9 @@
 use crate::counting::Counting;
 use crate::parting::part;
 use crate::patient::{Patience, Patient};
+use rw_endpoint::serve;
+use rw_head::Limits;
 use rw_metrics::ReceiveCounters;
-use rw_recv_head::Limits;
-use rw_recv_http::serve;
 use rw_shared_head::{Seat, SharedHead};
 use rw_stop::Sign;
 use rw_types::{Bounded, Std};

@@ -1,14 +1,14 @@
 -- What is read of a connection with one request.
 use Rattle.std.proofs.Common.{◌≡◌, ◌||◌, ℕ, List, [], ◌++◌, Option, Some, true, IsTrue, subst, inl, inr}
 use Rattle.std.proofs.lemmas.Bool.{or_left, or_right}
-use Rattle.rw_sender.specs.Replies.{Reads}
-use Rattle.rw_sender.specs.declared.replies.ReplyRead.{ReplyRead}
-use Rattle.rw_sender.specs.declared.replies.ReplyRead.TheVariants.{Status}
-use Rattle.rw_recv_http.specs.Alone.{IsServedAlone, IsTurnedAway}
-use Rattle.rw_recv_http.specs.Judgement.{is_refusal}
-use Rattle.rw_recv_http.specs.Replies.{reply, is_verdict}
-use Rattle.rw_recv_http.specs.declared.serve_end.ServeEnd.{ServeEnd}
-use Rattle.rw_recv_http.specs.declared.serve_end.ServeEnd.TheVariants.{OutOfMemory}
+use Rattle.rw_shard_core.specs.Replies.{Reads}
+use Rattle.rw_shard_core.specs.declared.replies.ReplyRead.{ReplyRead}
+use Rattle.rw_shard_core.specs.declared.replies.ReplyRead.TheVariants.{Status}
+use Rattle.rw_endpoint.specs.Alone.{IsServedAlone, IsTurnedAway}
+use Rattle.rw_endpoint.specs.Judgement.{is_refusal}
+use Rattle.rw_endpoint.specs.Replies.{reply, is_verdict}
+use Rattle.rw_endpoint.specs.declared.serve_end.ServeEnd.{ServeEnd}
+use Rattle.rw_endpoint.specs.declared.serve_end.ServeEnd.TheVariants.{OutOfMemory}
 use Rattle.rw_roundtrip.proofs.ReplyLemmas.{reply_status}
 
 -- a reply alone

@@ -13,11 +13,11 @@ use Rattle.std.specs.Str.{bytes_eq}
 use Rattle.httparse.specs.Grammar.{AllPass, skip_ows, trim_ows}
 use Rattle.httparse.specs.Spans.{name_and_value}
 use Rattle.httparse.proofs.TrimLemmas.{trim_ows_space, AllPass-reverse}
-use Rattle.rw_recv_http.specs.Fields.{NameValue, has_field, each_value}
-use Rattle.rw_recv_http.specs.Judgement.{finding_of, body_finding, closes_after}
-use Rattle.rw_recv_http.specs.Values.{announced, length_value, is_length, is_some_length, agreed, is_protobuf, is_identity}
-use Rattle.rw_recv_http.specs.declared.finding.Finding.{Finding}
-use Rattle.rw_recv_http.specs.declared.finding.Finding.TheVariants.{Refused, Body}
+use Rattle.rw_endpoint.specs.Fields.{NameValue, has_field, each_value}
+use Rattle.rw_endpoint.specs.Judgement.{finding_of, body_finding, closes_after}
+use Rattle.rw_endpoint.specs.Values.{announced, length_value, is_length, is_some_length, agreed, is_protobuf, is_identity}
+use Rattle.rw_endpoint.specs.declared.finding.Finding.{Finding}
+use Rattle.rw_endpoint.specs.declared.finding.Finding.TheVariants.{Refused, Body}
 use Rattle.rw_roundtrip.proofs.Heads.{head_of, fields_of}
 use Rattle.rw_roundtrip.proofs.ByteLemmas.{AreDigits, decimal_is_digits, no_ows}
 

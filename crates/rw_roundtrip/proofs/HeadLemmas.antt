@@ -3,7 +3,7 @@ use Rattle.std.proofs.Common.{◌≡◌, ◌+◌, ◌*◌, ℕ, List, [], ◌++�
 use Rattle.std.proofs.lemmas.List.{append-nil}
 use Rattle.httparse.specs.Ascii.{crlf_bytes}
 use Rattle.httparse.specs.Grammar.{print_request}
-use Rattle.rw_sender.specs.SentRequest.{request_head}
+use Rattle.rw_shard_core.specs.SentRequest.{request_head}
 use Rattle.rw_roundtrip.proofs.Heads.{head_of}
 
 -- the parts in a row

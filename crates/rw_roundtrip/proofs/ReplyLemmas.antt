@@ -9,11 +9,11 @@ use Rattle.std.specs.Char.{is_ascii_digit}
 use Rattle.std.specs.List.{list_all}
 use Rattle.httparse.specs.Grammar.{Field, IsField, is_token_byte, is_value_byte, crlf, ResponseHead, print_response, status_code, reason_phrase}
 use Rattle.httparse.proofs.GrammarLemmas.{response_unique}
-use Rattle.rw_sender.specs.Replies.{BeginsWith, IsInformational, Reads}
-use Rattle.rw_sender.specs.declared.replies.ReplyRead.{ReplyRead}
-use Rattle.rw_sender.specs.declared.replies.ReplyRead.TheVariants.{Status, Partial, Bad}
-use Rattle.rw_recv_http.specs.Judgement.{is_refusal}
-use Rattle.rw_recv_http.specs.Replies.{reply, is_verdict, phrase, status_code as code_digits}
+use Rattle.rw_shard_core.specs.Replies.{BeginsWith, IsInformational, Reads}
+use Rattle.rw_shard_core.specs.declared.replies.ReplyRead.{ReplyRead}
+use Rattle.rw_shard_core.specs.declared.replies.ReplyRead.TheVariants.{Status, Partial, Bad}
+use Rattle.rw_endpoint.specs.Judgement.{is_refusal}
+use Rattle.rw_endpoint.specs.Replies.{reply, is_verdict, phrase, status_code as code_digits}
 use Rattle.rw_roundtrip.proofs.Heads.{field}
 
 -- a text that is one head has its status, and nothing else is read

@@ -6,9 +6,9 @@ use Rattle.std.proofs.lemmas.List.Sums.{AllPass-from_list_all}
 use Rattle.std.specs.List.{All, list_all}
 use Rattle.httparse.specs.Grammar.{is_token_byte, is_value_byte, AllPass, IsField, IsRequestHead, trim_ows}
 use Rattle.rw_types.specs.Requests.{is_host_name, is_request_path}
-use Rattle.rw_sender.specs.SentRequest.{request_of}
-use Rattle.rw_recv_http.specs.Alone.{IsOneRequest, IsOneRefusal}
-use Rattle.rw_recv_http.specs.Reading.{BeginsWithHead}
+use Rattle.rw_shard_core.specs.SentRequest.{request_of}
+use Rattle.rw_endpoint.specs.Alone.{IsOneRequest, IsOneRefusal}
+use Rattle.rw_endpoint.specs.Reading.{BeginsWithHead}
 use Rattle.rw_roundtrip.specs.Exchanges.{IsRequest}
 use Rattle.rw_roundtrip.proofs.Heads.{head_of, fields_of, field}
 use Rattle.rw_roundtrip.proofs.ByteLemmas.{IsTarget, path_is_target, IsValue, host_is_value, AreDigits, decimal_is_digits, digits_are_value}

@@ -1,8 +1,8 @@
 -- One request and its reply (RFC 9112, section 9.3): what the endpoint makes of it, and the status that is read in its reply.
 use Rattle.std.specs.Prelude.{◌≡◌, ℕ, ◌⊎◌, List, IsTrue, Result, Ok, Err}
 use Rattle.std.specs.declared.alloc.AllocError.{AllocError}
-use Rattle.rw_recv_http.specs.Alone.{IsOneRequest, IsOneRefusal}
-use Rattle.rw_recv_http.specs.Replies.{is_verdict}
+use Rattle.rw_endpoint.specs.Alone.{IsOneRequest, IsOneRefusal}
+use Rattle.rw_endpoint.specs.Replies.{is_verdict}
 
 -- one request with its body, or one that its head refuses
 abbrev pub IsRequest : List ℕ → ℕ → List ℕ → Type 0

@@ -1,12 +1,12 @@
 //! A request and its reply in memory.
 
 ghost use Rattle.std.specs.Prelude.{◌≡◌, ℕ, List};
-ghost use Rattle.rw_recv_http.specs.Alone.{IsOneRequest, IsOneRefusal};
+ghost use Rattle.rw_endpoint.specs.Alone.{IsOneRequest, IsOneRefusal};
 ghost use Rattle.rw_roundtrip.specs.Exchanges.{IsRequest, IsAnswered, IsRefused};
 
-use rw_recv_head::Limits;
-use rw_recv_http::{Answer, ServeEnd, serve};
-use rw_sender::{ReplyRead, read_reply};
+use rw_endpoint::{Answer, ServeEnd, serve};
+use rw_head::Limits;
+use rw_shard_core::{ReplyRead, read_reply};
 use rw_types::Room;
 use std::alloc::{AllocError, Global};
 

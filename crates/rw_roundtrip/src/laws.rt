@@ -2,13 +2,13 @@
 
 ghost use Rattle.std.specs.Prelude.{◌≡◌, ◌<◌, ◌≤◌, ◌^◌, ◌||◌, ℕ, List, length, true, IsTrue};
 ghost use Rattle.rw_types.specs.Requests.{is_host_name, is_request_path};
-ghost use Rattle.rw_sender.specs.SentRequest.{request_of};
-ghost use Rattle.rw_sender.specs.Replies.{Reads};
-ghost use Rattle.rw_sender.specs.declared.replies.ReplyRead.{ReplyRead};
-ghost use Rattle.rw_sender.specs.declared.replies.ReplyRead.TheVariants.{Status};
-ghost use Rattle.rw_recv_http.specs.Alone.{IsOneRequest, IsOneRefusal};
-ghost use Rattle.rw_recv_http.specs.Judgement.{is_refusal};
-ghost use Rattle.rw_recv_http.specs.Replies.{reply, is_verdict};
+ghost use Rattle.rw_shard_core.specs.SentRequest.{request_of};
+ghost use Rattle.rw_shard_core.specs.Replies.{Reads};
+ghost use Rattle.rw_shard_core.specs.declared.replies.ReplyRead.{ReplyRead};
+ghost use Rattle.rw_shard_core.specs.declared.replies.ReplyRead.TheVariants.{Status};
+ghost use Rattle.rw_endpoint.specs.Alone.{IsOneRequest, IsOneRefusal};
+ghost use Rattle.rw_endpoint.specs.Judgement.{is_refusal};
+ghost use Rattle.rw_endpoint.specs.Replies.{reply, is_verdict};
 ghost use Rattle.rw_roundtrip.specs.Exchanges.{IsRequest};
 
 /// Law: the endpoint reads a request as the sender makes it, as one request with the body that it carries; where that is over the limit, it answers 413.

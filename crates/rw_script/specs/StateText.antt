@@ -8,10 +8,10 @@ use Rattle.rw_text.specs.LabelText.{labels_text}
 use Rattle.rw_text.specs.ValueText.{value_text}
 use Rattle.rw_ledger.specs.declared.ledger.Reason.{Reason}
 use Rattle.rw_ledger.specs.declared.ledger.Reason.TheVariants.{Status, BadLabels, NoSeries, NotRising}
-use Rattle.rw_recv_head.specs.Order.{Point}
-use Rattle.rw_recv_head.specs.Store.{Store, list_of, label_sets}
-use Rattle.rw_sender.specs.declared.outcome.Outcome.{Outcome}
-use Rattle.rw_sender.specs.declared.outcome.Outcome.TheVariants as outcome
+use Rattle.rw_head.specs.Order.{Point}
+use Rattle.rw_head.specs.Store.{Store, list_of, label_sets}
+use Rattle.rw_shard_core.specs.declared.outcome.Outcome.{Outcome}
+use Rattle.rw_shard_core.specs.declared.outcome.Outcome.TheVariants as outcome
 use Rattle.rw_machine.specs.Worlds.{World, Ending, Complete, Abandoned, Damaged, report}
 
 -- ` T=VALUE`

@@ -6,9 +6,9 @@ ghost use Rattle.std.specs.Option.{option_map};
 ghost use Rattle.rw_text.specs.Growing.{Grown};
 ghost use Rattle.rw_script.specs.StateText.{point_text, received_text, store_text, reason_text, dropped_text, filtered_text, abandoned_text, ending_text, ending_of, work_text};
 
+use rw_head::Head;
 use rw_ledger::{Ledger, Reason};
-use rw_recv_head::Head;
-use rw_sender::Outcome;
+use rw_shard_core::Outcome;
 use rw_text::{push_integer, push_labels, push_number, push_value};
 use rw_types::{LabelSet, Word};
 use std::alloc::AllocError;

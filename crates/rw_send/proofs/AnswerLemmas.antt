@@ -1,12 +1,12 @@
 -- How a run answers.
 use Rattle.std.proofs.Common.{◌≡◌, List, Option, None, Some, Result, Ok, Err, IsOk, IfErr, OnOk, refl, sym, subst}
 use Rattle.rw_fleet.specs.declared.joined.StoppedShard.{StoppedShard}
-use Rattle.rw_sender.specs.declared.outcome.Outcome.{Outcome}
-use Rattle.rw_sender.specs.declared.outcome.Outcome.TheVariants as outcome
+use Rattle.rw_shard_core.specs.declared.outcome.Outcome.{Outcome}
+use Rattle.rw_shard_core.specs.declared.outcome.Outcome.TheVariants as outcome
 use Rattle.rw_shipper.specs.Reports.{IsAbandoned}
 use Rattle.rw_shipper.specs.Shipping.{Shipping, Ends}
-use Rattle.rw_tool.specs.declared.fault.ToolFault.{ToolFault}
-use Rattle.rw_tool.specs.declared.fault.ToolFault.TheVariants as fault
+use Rattle.rw_log_commands.specs.declared.fault.ToolFault.{ToolFault}
+use Rattle.rw_log_commands.specs.declared.fault.ToolFault.TheVariants as fault
 use Rattle.rw_send.specs.declared.halt.Halt.{Halt}
 use Rattle.rw_send.specs.declared.halt.Halt.TheVariants as halt
 use Rattle.rw_send.specs.Sending.{answer_to, hard_fault, Answers, IsHalted}

@@ -2,10 +2,10 @@
 use Rattle.std.proofs.Common.{◌≡◌, ℕ, Bool, List, Option, Result, Ok, Err, OnOk, sym, ap, subst}
 use Rattle.std.specs.Result.{IsErrAnd}
 use Rattle.std.specs.Io.KnownBytes.{Appends}
-use Rattle.rw_sender.specs.declared.config.ConfigFields.{ConfigFields}
+use Rattle.rw_shard_core.specs.declared.config.ConfigFields.{ConfigFields}
 use Rattle.rw_worker.specs.Transcript.{Exchange}
 use Rattle.rw_shipper.specs.declared.report.Report.{Report}
-use Rattle.rw_tool.specs.declared.fault.ToolFault.{ToolFault}
+use Rattle.rw_log_commands.specs.declared.fault.ToolFault.{ToolFault}
 use Rattle.rw_send.specs.ReportText.{IsTextOf, WritesPart}
 use Rattle.rw_send.specs.Sending.{IsSent, IsPrinted, IsPrintedPart}
 

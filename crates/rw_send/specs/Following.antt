@@ -9,13 +9,13 @@ use Rattle.rw_follow.specs.declared.follower.Stop.{Stop}
 use Rattle.rw_follow.specs.declared.follower.Stop.TheVariants as stop
 use Rattle.rw_follow.specs.declared.watch.Wish.{Wish}
 use Rattle.rw_follow.specs.declared.watch.Wish.TheVariants as wish
-use Rattle.rw_sender.specs.declared.config.ConfigFields.{ConfigFields}
-use Rattle.rw_sender.specs.declared.outcome.Outcome.{Outcome}
+use Rattle.rw_shard_core.specs.declared.config.ConfigFields.{ConfigFields}
+use Rattle.rw_shard_core.specs.declared.outcome.Outcome.{Outcome}
 use Rattle.rw_worker.specs.Transcript.{Exchange}
 use Rattle.rw_shipper.specs.Reports.{IsAbandoned}
 use Rattle.rw_shipper.specs.Shipping.{Shipping}
 use Rattle.rw_shipper.specs.declared.report.Report.{Report}
-use Rattle.rw_tool.specs.declared.fault.ToolFault.{ToolFault}
+use Rattle.rw_log_commands.specs.declared.fault.ToolFault.{ToolFault}
 use Rattle.rw_types.specs.declared.transfer.ReadFault.TheVariants as read
 use Rattle.rw_send.specs.declared.follow_fault.FollowFault.{FollowFault}
 use Rattle.rw_send.specs.declared.follow_fault.FollowFault.TheVariants as fault

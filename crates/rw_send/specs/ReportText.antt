@@ -5,8 +5,8 @@ use Rattle.std.specs.List.Sorted.{IsPermutation, IsNonDecreasing, IsNonDecreasin
 use Rattle.std.specs.FinMap.{entries}
 use Rattle.rw_ledger.specs.Names.{Named}
 use Rattle.rw_ledger.specs.declared.ledger.Reason.{Reason}
-use Rattle.rw_sender.specs.declared.outcome.Outcome.{Outcome}
-use Rattle.rw_sender.specs.declared.outcome.Outcome.TheVariants as outcome
+use Rattle.rw_shard_core.specs.declared.outcome.Outcome.{Outcome}
+use Rattle.rw_shard_core.specs.declared.outcome.Outcome.TheVariants as outcome
 use Rattle.rw_machine.specs.Worlds.{Ending, Complete, Abandoned, Damaged}
 use Rattle.rw_script.specs.StateText.{work_text}
 use Rattle.rw_shipper.specs.declared.report.Report.{Report}

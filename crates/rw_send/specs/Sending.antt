@@ -3,18 +3,18 @@ use Rattle.std.specs.Prelude.{◌≡◌, ℕ, Bool, true, List, [], ◌∷◌, O
 use Rattle.std.specs.Io.KnownBytes.{Appends}
 use Rattle.rw_wal_format.specs.Pieces.{Piece}
 use Rattle.rw_feeder.specs.Feeders.{HasRead}
-use Rattle.rw_sender.specs.Configs.{choice_of}
-use Rattle.rw_sender.specs.declared.config.ConfigFields.{ConfigFields}
-use Rattle.rw_sender.specs.declared.outcome.Outcome.{Outcome}
-use Rattle.rw_sender.specs.declared.outcome.Outcome.TheVariants as outcome
+use Rattle.rw_shard_core.specs.Configs.{choice_of}
+use Rattle.rw_shard_core.specs.declared.config.ConfigFields.{ConfigFields}
+use Rattle.rw_shard_core.specs.declared.outcome.Outcome.{Outcome}
+use Rattle.rw_shard_core.specs.declared.outcome.Outcome.TheVariants as outcome
 use Rattle.rw_worker.specs.Transcript.{Exchange}
 use Rattle.rw_shipper.specs.Reports.{IsAbandoned}
 use Rattle.rw_shipper.specs.Shipping.{Shipping, HasStopped}
 use Rattle.rw_shipper.specs.declared.report.Report.{Report}
 use Rattle.rw_shipper.specs.declared.shipper.FeedFault.{FeedFault}
 use Rattle.rw_shipper.specs.declared.shipper.FeedFault.TheVariants as feed
-use Rattle.rw_tool.specs.declared.fault.ToolFault.{ToolFault}
-use Rattle.rw_tool.specs.declared.fault.ToolFault.TheVariants as fault
+use Rattle.rw_log_commands.specs.declared.fault.ToolFault.{ToolFault}
+use Rattle.rw_log_commands.specs.declared.fault.ToolFault.TheVariants as fault
 use Rattle.rw_send.specs.declared.halt.Halt.{Halt}
 use Rattle.rw_send.specs.declared.halt.Halt.TheVariants as halt
 use Rattle.rw_send.specs.ReportText.{IsTextOf, WritesPart}

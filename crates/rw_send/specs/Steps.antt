@@ -7,7 +7,7 @@ use Rattle.rw_fleet.specs.Loads.{IsLoad}
 use Rattle.rw_fleet.specs.Work.{AreResolved}
 use Rattle.rw_fleet.specs.declared.load.Load.{Load}
 use Rattle.rw_reshard.specs.Wanted.{wanted}
-use Rattle.rw_sender.specs.declared.config.ConfigFields.{ConfigFields}
+use Rattle.rw_shard_core.specs.declared.config.ConfigFields.{ConfigFields}
 use Rattle.rw_shipper.specs.Shipping.{Shipping, HasCompared, PlacesAll}
 use Rattle.rw_send.specs.Segments.{Begins, IsFed, IsFedPart}
 

@@ -2,8 +2,8 @@
 
 use crate::files::{SegmentName, names_in};
 use rw_follow::{Ahead, Segments};
+use rw_log_commands::ToolFault;
 use rw_metrics::SendCounters;
-use rw_tool::ToolFault;
 use rw_types::{ReadFault, Source, Std};
 use std::alloc::{AllocError, Global};
 use std::fs;

@@ -9,7 +9,7 @@ ghost use Rattle.rw_send.specs.Steps.{HasPutAll, IsSet, wanted_since};
 
 use crate::halt::Halt;
 use rw_reshard::want;
-use rw_sender::Config;
+use rw_shard_core::Config;
 use rw_shipper::{Connect, Load, Shipper};
 use std::sync::Wait;
 use std::thread::{self, Threads};

@@ -3,7 +3,7 @@ use Rattle.std.proofs.Common.{◌≡◌, ◌⊎◌, inl, inr, List, [], ◌∷�
 use Rattle.std.specs.List.{AllByRecursion}
 use Rattle.toml.specs.Data.{Members, no_members, no_items, get_member}
 use Rattle.rw_relabel.specs.Rules.{RuleConfig}
-use Rattle.rw_sender.specs.Configs.{is_ordered}
+use Rattle.rw_shard_core.specs.Configs.{is_ordered}
 use Rattle.rw_settings.specs.Faults.{fault_number, lesser, least}
 use Rattle.rw_settings.specs.RuleTables.{rules_of}
 use Rattle.rw_settings.specs.Sending.{send_fields, order_fault, send_fault}

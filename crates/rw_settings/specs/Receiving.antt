@@ -4,7 +4,7 @@ use Rattle.std.specs.Result.{result_err}
 use Rattle.toml.specs.Data.{Members, get_member}
 use Rattle.rw_types.specs.Requests.{is_request_path}
 use Rattle.rw_types.specs.declared.names.Names.TheVariants.{Legacy}
-use Rattle.rw_recv_head.specs.declared.limits.Limits.{Limits}
+use Rattle.rw_head.specs.declared.limits.Limits.{Limits}
 use Rattle.rw_settings.specs.Faults.{least}
 use Rattle.rw_settings.specs.Values.{keys_fault, number_at, text_at, names_at, found_or}
 use Rattle.rw_settings.specs.declared.fault.SettingsFault.{SettingsFault}

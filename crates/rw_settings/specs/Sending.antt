@@ -5,8 +5,8 @@ use Rattle.toml.specs.Data.{Members, get_member}
 use Rattle.rw_types.specs.Requests.{is_host_name, is_request_path}
 use Rattle.rw_types.specs.declared.names.Names.TheVariants.{Legacy}
 use Rattle.rw_relabel.specs.Rules.{RuleConfig}
-use Rattle.rw_sender.specs.Configs.{is_ordered}
-use Rattle.rw_sender.specs.declared.config.ConfigFields.{ConfigFields}
+use Rattle.rw_shard_core.specs.Configs.{is_ordered}
+use Rattle.rw_shard_core.specs.declared.config.ConfigFields.{ConfigFields}
 use Rattle.rw_settings.specs.Faults.{least}
 use Rattle.rw_settings.specs.Values.{keys_fault, number_at, text_at, names_at, found_or}
 use Rattle.rw_settings.specs.declared.fault.SettingsFault.{SettingsFault}

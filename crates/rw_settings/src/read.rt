@@ -18,7 +18,7 @@ use crate::sending::{send_fault, send_fields};
 use crate::settings::Settings;
 use crate::values::{keys_fault, list_at, list_or_none, section, section_or};
 use rw_relabel::Rules;
-use rw_sender::Config;
+use rw_shard_core::Config;
 use std::alloc::{AllocError, Global};
 use toml::Table;
 

@@ -8,7 +8,7 @@ use crate::fault::{SettingsFault, least};
 use crate::values::{
     keys_fault, names_fault, names_or_legacy, number_fault, number_or, path_fault, path_or_default,
 };
-use rw_recv_head::Limits;
+use rw_head::Limits;
 use rw_types::Bounded;
 use std::alloc::{AllocError, Global};
 use toml::Table;

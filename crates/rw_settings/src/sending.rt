@@ -10,7 +10,7 @@ use crate::values::{
     path_fault, path_or_default,
 };
 use rw_relabel::Rules;
-use rw_sender::{ConfigFields, Target};
+use rw_shard_core::{ConfigFields, Target};
 use rw_types::Bounded;
 use std::alloc::{AllocError, Global};
 use toml::Table;

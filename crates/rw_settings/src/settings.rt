@@ -1,7 +1,7 @@
 //! The settings of the program.
 
-use rw_recv_head::Limits;
-use rw_sender::Config;
+use rw_head::Limits;
+use rw_shard_core::Config;
 
 /// The settings of the program, as a text sets them or by default.
 #[derive(Debug, Drop)]

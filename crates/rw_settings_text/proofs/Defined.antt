@@ -4,8 +4,8 @@ use Rattle.toml.specs.Data.{string, array, table, Items, no_items, item, push_it
 use Rattle.toml.specs.Tables.{value, open_table, open_array, header, Nodes, no_nodes, node, close, Expression, Document, define, along_header, along_dots, at_key}
 use Rattle.toml.proofs.ReadLines.{run}
 use Rattle.rw_relabel.specs.Rules.{RuleConfig}
-use Rattle.rw_sender.specs.declared.config.ConfigFields.{ConfigFields}
-use Rattle.rw_recv_head.specs.declared.limits.Limits.{Limits}
+use Rattle.rw_shard_core.specs.declared.config.ConfigFields.{ConfigFields}
+use Rattle.rw_head.specs.declared.limits.Limits.{Limits}
 use Rattle.rw_settings.specs.declared.settings.Settings.{Settings}
 use Rattle.rw_settings_text.specs.SettingsText.{names_text, action_text}
 use Rattle.rw_settings_text.proofs.Written.{number, text_items, send_expressions, receive_expressions, rule_expressions}

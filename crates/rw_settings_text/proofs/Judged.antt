@@ -10,9 +10,9 @@ use Rattle.rw_types.specs.declared.names.Names.TheVariants.{Legacy, Utf8}
 use Rattle.rw_relabel.specs.Rules.{RuleConfig}
 use Rattle.rw_relabel.specs.declared.rule.Action.{Action}
 use Rattle.rw_relabel.specs.declared.rule.Action.TheVariants.{Keep, Drop}
-use Rattle.rw_sender.specs.Configs.{is_ordered}
-use Rattle.rw_sender.specs.declared.config.ConfigFields.{ConfigFields}
-use Rattle.rw_recv_head.specs.declared.limits.Limits.{Limits}
+use Rattle.rw_shard_core.specs.Configs.{is_ordered}
+use Rattle.rw_shard_core.specs.declared.config.ConfigFields.{ConfigFields}
+use Rattle.rw_head.specs.declared.limits.Limits.{Limits}
 use Rattle.rw_settings.specs.Faults.{lesser, least}
 use Rattle.rw_settings.specs.Receiving.{receive_limits, receive_fault}
 use Rattle.rw_settings.specs.RuleTables.{are_texts, labels_fault, source_fault, rule_table_fault, rule_fault_of, with_rules_fault, texts_of, rule_config, rules_of}

@@ -4,8 +4,8 @@ use Rattle.toml.specs.Data.{items_depth, items_have_valid_dates}
 use Rattle.toml.specs.Tables.{Expression}
 use Rattle.toml.proofs.ReadLines.{AllPrinted}
 use Rattle.rw_relabel.specs.Rules.{RuleConfig}
-use Rattle.rw_sender.specs.declared.config.ConfigFields.{ConfigFields}
-use Rattle.rw_recv_head.specs.declared.limits.Limits.{Limits}
+use Rattle.rw_shard_core.specs.declared.config.ConfigFields.{ConfigFields}
+use Rattle.rw_head.specs.declared.limits.Limits.{Limits}
 use Rattle.rw_settings.specs.declared.settings.Settings.{Settings}
 use Rattle.rw_settings_text.proofs.Written.{text_items, send_expressions, receive_expressions, rule_expressions}
 use Rattle.rw_settings_text.proofs.Defined.{settings_expressions}

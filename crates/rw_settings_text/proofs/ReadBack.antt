@@ -8,8 +8,8 @@ use Rattle.toml.specs.Tables.{no_nodes}
 use Rattle.toml.specs.Text.{IsLinesText}
 use Rattle.toml.proofs.ReadLines.{read_lines}
 use Rattle.rw_relabel.specs.Rules.{RuleConfig}
-use Rattle.rw_sender.specs.declared.config.ConfigFields.{ConfigFields}
-use Rattle.rw_recv_head.specs.declared.limits.Limits.{Limits}
+use Rattle.rw_shard_core.specs.declared.config.ConfigFields.{ConfigFields}
+use Rattle.rw_head.specs.declared.limits.Limits.{Limits}
 use Rattle.rw_settings.specs.Faults.{least}
 use Rattle.rw_settings.specs.Receiving.{receive_limits, receive_fault}
 use Rattle.rw_settings.specs.RuleTables.{with_rules_fault, rules_of}

@@ -6,8 +6,8 @@ use Rattle.toml.specs.Data.{Data, string, integer, array, Items, no_items, item}
 use Rattle.toml.specs.Tables.{Expression, key_value, std_table, array_table}
 use Rattle.toml.specs.Text.{breaks_lines, IsValueText, IsItemsText, IsLineText, IsLinesText}
 use Rattle.rw_relabel.specs.Rules.{RuleConfig}
-use Rattle.rw_sender.specs.declared.config.ConfigFields.{ConfigFields}
-use Rattle.rw_recv_head.specs.declared.limits.Limits.{Limits}
+use Rattle.rw_shard_core.specs.declared.config.ConfigFields.{ConfigFields}
+use Rattle.rw_head.specs.declared.limits.Limits.{Limits}
 use Rattle.rw_settings_text.specs.SettingsText.{pair_line, list_text, send_lines, send_text, receive_lines, receive_text, names_text, action_text, rule_lines, rule_text}
 
 -- a line of a table

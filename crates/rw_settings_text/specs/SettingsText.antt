@@ -7,8 +7,8 @@ use Rattle.rw_types.specs.declared.names.Names.TheVariants.{Legacy, Utf8}
 use Rattle.rw_relabel.specs.Rules.{RuleConfig}
 use Rattle.rw_relabel.specs.declared.rule.Action.{Action}
 use Rattle.rw_relabel.specs.declared.rule.Action.TheVariants.{Keep, Drop}
-use Rattle.rw_sender.specs.declared.config.ConfigFields.{ConfigFields}
-use Rattle.rw_recv_head.specs.declared.limits.Limits.{Limits}
+use Rattle.rw_shard_core.specs.declared.config.ConfigFields.{ConfigFields}
+use Rattle.rw_head.specs.declared.limits.Limits.{Limits}
 use Rattle.rw_settings.specs.declared.settings.Settings.{Settings}
 
 -- `KEY = VALUE`

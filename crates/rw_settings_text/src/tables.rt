@@ -5,10 +5,10 @@ ghost use Rattle.rw_settings.specs.RuleTables.{written_rule};
 ghost use Rattle.rw_settings_text.specs.SettingsText.{number_text, send_text, receive_text, names_text, action_text, rule_text};
 
 use crate::values::{push_list, push_number, push_text};
-use rw_recv_head::Limits;
+use rw_head::Limits;
 use rw_relabel::Action;
-use rw_sender::ConfigFields;
 use rw_settings::RuleFields;
+use rw_shard_core::ConfigFields;
 use rw_types::Names;
 use std::alloc::{AllocError, Global};
 

@@ -5,15 +5,15 @@ use mathlib.Core.Option.{some, some-ne-none, some-injective}
 use lib.ListN.{get_elem?}
 use Rattle.crossbeam_channel.specs.Fifo.{Pushes, Pops, Forks, Merges, Learns}
 use Rattle.atomic_table.proofs.Lists.{at_set, at_snoc}
-use Rattle.rw_shard_queue.specs.declared.item.Item.{Item}
+use Rattle.rw_plain_queue.specs.declared.item.Item.{Item}
 use Rattle.rw_shard_channel.specs.declared.rule.Log.{Log}
 use Rattle.rw_shard_channel.specs.declared.rule.Name.{Name}
-use Rattle.rw_shard_queue.specs.Items.{is_end}
-use Rattle.rw_shard_queue.specs.declared.item.Kind.{Kind}
-use Rattle.rw_shard_queue.specs.declared.item.Item.TheVariants.{End}
-use Rattle.rw_shard_queue.specs.History.{IsHistory, EndIsLast, IsOpen, IsEnded, MayFollow}
+use Rattle.rw_plain_queue.specs.Items.{is_end}
+use Rattle.rw_plain_queue.specs.declared.item.Kind.{Kind}
+use Rattle.rw_plain_queue.specs.declared.item.Item.TheVariants.{End}
+use Rattle.rw_plain_queue.specs.History.{IsHistory, EndIsLast, IsOpen, IsEnded, MayFollow}
 use Rattle.rw_shard_channel.specs.Rule.{Filled, joined, AreBlocks, IsRoomy, both, feeder, drainer, unnamed, no_name, nobody, Fits, IsRelayed, Took, Remains}
-use Rattle.rw_shard_queue.proofs.Histories.{history-nil, history-front, history-put, history-end, open-put, open-push}
+use Rattle.rw_plain_queue.proofs.Histories.{history-nil, history-front, history-put, history-end, open-put, open-push}
 
 off : false ≡ true → ⊥
 off e = true≢false (sym e)

@@ -4,7 +4,7 @@ use Rattle.atomic_table.specs.Seated.{TableId}
 use Rattle.atomic_table.specs.declared.badge.Badge.{Badge}
 use Rattle.crossbeam_channel.specs.declared.flavors.array.Key.{Key}
 use Rattle.crossbeam_channel.specs.Claims.{Pass, view}
-use Rattle.rw_shard_queue.specs.declared.item.Item.{Item}
+use Rattle.rw_plain_queue.specs.declared.item.Item.{Item}
 use Rattle.rw_shard_channel.specs.Rule.{Filled}
 use Rattle.rw_shard_channel.specs.declared.rule.Log.{Log}
 

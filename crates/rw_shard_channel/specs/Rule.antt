@@ -2,10 +2,10 @@
 use Rattle.std.specs.Prelude.{◌≡◌, ℕ, ◌≤◌, ◌<◌, ◌+◌, ◌*◌, true, false, List, [], ◌∷◌, ◌++◌, length, ⊤}
 use mathlib.Core.Option.{some}
 use lib.ListN.{get_elem?}
-use Rattle.rw_shard_queue.specs.declared.item.Item.{Item}
+use Rattle.rw_plain_queue.specs.declared.item.Item.{Item}
 use Rattle.rw_shard_channel.specs.declared.rule.Log.{Log}
 use Rattle.rw_shard_channel.specs.declared.rule.Name.{Name}
-use Rattle.rw_shard_queue.specs.History.{IsHistory, EndIsLast}
+use Rattle.rw_plain_queue.specs.History.{IsHistory, EndIsLast}
 
 -- what a block holds, the front first, and how many items it holds at most
 pub record Filled : Type 0 where

@@ -1,8 +1,8 @@
 -- What a take gives.
 use Rattle.std.specs.Prelude.{◌≡◌, [], ◌∷◌, ◌++◌, false}
-use Rattle.rw_shard_queue.specs.declared.item.Item.TheVariants as item
-use Rattle.rw_shard_queue.specs.Items.{is_end}
-use Rattle.rw_shard_queue.specs.History.{IsHistory}
+use Rattle.rw_plain_queue.specs.declared.item.Item.TheVariants as item
+use Rattle.rw_plain_queue.specs.Items.{is_end}
+use Rattle.rw_plain_queue.specs.History.{IsHistory}
 use Rattle.rw_shard_channel.specs.declared.ends.Taken.{Taken}
 use Rattle.rw_shard_channel.specs.declared.ends.Taken.TheVariants.{Item, End, Gone}
 use Rattle.rw_shard_channel.specs.Ends.{Draining}

@@ -2,7 +2,7 @@
 
 ghost use Rattle.std.specs.Prelude.{◌≡◌, ◌++◌, ◌∷◌, [], List, length, IfOk, IfNone, ◌≤◌, ◌<◌, MatchOption};
 
-use rw_shard_queue::Item;
+use rw_plain_queue::Item;
 use std::alloc::{AllocError, Global};
 use std::collections::VecDeque;
 use std::marker::Model;

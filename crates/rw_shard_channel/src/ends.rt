@@ -5,7 +5,7 @@ ghost use Rattle.crossbeam_channel.specs.Claims.{IsSeatAt};
 ghost use Rattle.crossbeam_channel.specs.Ends.{sends_on, receives_on, ruled_capacity};
 ghost use Rattle.rw_shard_channel.specs.Ends.{log_of, queue_of};
 ghost use Rattle.rw_shard_channel.specs.Rule.{feeder, drainer, name_of, IsNamed, IsRoomy, HandsOver};
-ghost use Rattle.rw_shard_queue.specs.History.{MayFollow, IsHistory, IsOpen};
+ghost use Rattle.rw_plain_queue.specs.History.{MayFollow, IsHistory, IsOpen};
 ghost use Rattle.rw_shard_channel.specs.Taken.{TakesFront};
 
 use crate::block::Block;
@@ -13,7 +13,7 @@ use crate::rule::{InOrder, Log, Naming, Opens, Puts, Takes};
 use crate::stage::{Deserted, Ended, Killed, Open, Stage};
 use crossbeam_channel::{Pass, RuledReceiver, RuledSender, bounded_with};
 use rw_history::History;
-use rw_shard_queue::{Item, Kind};
+use rw_plain_queue::{Item, Kind};
 use std::alloc::{AllocError, Global};
 use std::marker::{Brand, Model, PhantomData};
 use std::mem;

@@ -9,6 +9,6 @@ mod stage;
 mod whole;
 
 pub use ends::{Drain, Feed, Gone, Taken, open};
-pub use rw_shard_queue::{Item, Kind};
+pub use rw_plain_queue::{Item, Kind};
 pub use stage::{Deserted, Ended, Killed, Open, Stage};
 pub use whole::{Whole, begins, compare};

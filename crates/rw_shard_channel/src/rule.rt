@@ -2,7 +2,7 @@
 
 use crate::block::Block;
 use crossbeam_channel::protocol::{Join, Lesson, Outcome, Protocol, Split};
-use rw_shard_queue::Item;
+use rw_plain_queue::Item;
 use std::collections::LinkedList;
 use std::marker::{Brand, PhantomData};
 

@@ -3,7 +3,7 @@
 /// How far an end of a queue has come: `Open`, `Deserted`, `Ended` or `Killed`.
 pub trait Stage {
     ghost use Rattle.std.specs.Prelude.{List};
-    ghost use Rattle.rw_shard_queue.specs.declared.item.Item.{Item};
+    ghost use Rattle.rw_plain_queue.specs.declared.item.Item.{Item};
 
     /// What is known of the items that went through the end.
     ghost stands: { List Item → Type 0 };
@@ -28,7 +28,7 @@ pub struct Ended;
 pub struct Killed;
 
 impl Stage for Open {
-    ghost use Rattle.rw_shard_queue.specs.History.{IsOpen};
+    ghost use Rattle.rw_plain_queue.specs.History.{IsOpen};
     ghost use Rattle.std.specs.Prelude.{⊤};
 
     ghost stands = { IsOpen };
@@ -40,7 +40,7 @@ impl Stage for Open {
 
 impl Stage for Deserted {
     ghost use Rattle.std.specs.Prelude.{⊤};
-    ghost use Rattle.rw_shard_queue.specs.History.{IsOpen};
+    ghost use Rattle.rw_plain_queue.specs.History.{IsOpen};
 
     ghost stands = { IsOpen };
 
@@ -50,7 +50,7 @@ impl Stage for Deserted {
 }
 
 impl Stage for Ended {
-    ghost use Rattle.rw_shard_queue.specs.History.{IsEnded};
+    ghost use Rattle.rw_plain_queue.specs.History.{IsEnded};
     ghost use Rattle.std.specs.Prelude.{◌≡◌, []};
 
     ghost stands = { IsEnded };

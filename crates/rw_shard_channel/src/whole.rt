@@ -1,7 +1,7 @@
 //! What the two ends of a queue tell of each other.
 
 ghost use Rattle.std.specs.Prelude.{◌≡◌, ◌+◌, ◌≤◌, length};
-ghost use Rattle.rw_shard_queue.specs.History.{IsHistory, IsEnded};
+ghost use Rattle.rw_plain_queue.specs.History.{IsHistory, IsEnded};
 ghost use Rattle.rw_shard_channel.specs.Ends.{IsBeginning};
 
 use crate::block::Block;

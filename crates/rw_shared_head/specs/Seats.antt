@@ -2,8 +2,8 @@
 use Rattle.std.specs.Prelude.{◌≡◌, ◌≢◌, ℕ, ◌+◌, ◌-◌, ◌^◌, ◌≤◌, List, length, Ok}
 use Rattle.rw_write_request.specs.Message.{WriteRequest}
 use Rattle.rw_write_request.specs.Read.{read}
-use Rattle.rw_recv_head.specs.Store.{Store, total, label_sets}
-use Rattle.rw_recv_head.specs.Growth.{EachRises, sample_count}
+use Rattle.rw_head.specs.Store.{Store, total, label_sets}
+use Rattle.rw_head.specs.Growth.{EachRises, sample_count}
 
 -- the body spells a message, and at most its samples were stored
 abbrev pub HasStored : List ℕ → ℕ → ℕ → Type 0

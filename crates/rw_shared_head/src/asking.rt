@@ -2,7 +2,7 @@
 
 use crate::seat::Seat;
 use crate::shared_head::SharedHead;
-use rw_recv_http::Answer;
+use rw_endpoint::Answer;
 use std::sync::Wait;
 use std::sync::ledger::Ledger;
 

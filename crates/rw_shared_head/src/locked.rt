@@ -1,13 +1,13 @@
 //! What the lock keeps.
 
 ghost use Rattle.std.specs.Prelude.{◌≡◌, ◌≢◌, ◌+◌, ◌≤◌, length};
-ghost use Rattle.rw_recv_head.specs.Head.{answer, IsStatus};
-ghost use Rattle.rw_recv_head.specs.Store.{total, label_sets};
-ghost use Rattle.rw_recv_head.specs.Growth.{EachRises};
+ghost use Rattle.rw_head.specs.Head.{answer, IsStatus};
+ghost use Rattle.rw_head.specs.Store.{total, label_sets};
+ghost use Rattle.rw_head.specs.Growth.{EachRises};
 ghost use Rattle.rw_shared_head.specs.Seats.{most, HasAsked};
 
 use crate::seat::Seat;
-use rw_recv_head::Head;
+use rw_head::Head;
 use std::marker::Model;
 use std::sync::ledger::{Ledger, Share, Total};
 
@@ -21,7 +21,7 @@ pub(crate) struct Locked<L: Ledger> {
 impl<L: Ledger> Model for Locked<L> {
     ghost use Rattle.std.specs.Coded.{codes};
     ghost use Rattle.std.specs.FinMap as map;
-    ghost use Rattle.rw_recv_head.specs.Head.{State};
+    ghost use Rattle.rw_head.specs.Head.{State};
     ghost use Rattle.rw_shared_head.specs.Seats.{IsKept};
 
     ghost Value = { State };

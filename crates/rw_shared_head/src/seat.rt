@@ -1,7 +1,7 @@
 //! The right of one thread to ask.
 
 ghost use Rattle.std.specs.Prelude.{◌≡◌, ◌+◌, ◌≤◌, ◌<◌};
-ghost use Rattle.rw_recv_head.specs.Head.{IsStatus};
+ghost use Rattle.rw_head.specs.Head.{IsStatus};
 ghost use Rattle.rw_shared_head.specs.Seats.{most, HasAsked, HasLabelSets};
 
 use crate::shared_head::SharedHead;

@@ -1,14 +1,14 @@
 //! A head under a lock.
 
 ghost use Rattle.std.specs.Prelude.{◌≡◌, ◌+◌, ◌<◌, All, IfOk, IfErr, sum, vec_len};
-ghost use Rattle.rw_recv_head.specs.Head.{IsStatus};
-ghost use Rattle.rw_recv_head.specs.Store.{total};
-ghost use Rattle.rw_recv_head.specs.Growth.{EachRises};
+ghost use Rattle.rw_head.specs.Head.{IsStatus};
+ghost use Rattle.rw_head.specs.Store.{total};
+ghost use Rattle.rw_head.specs.Growth.{EachRises};
 ghost use Rattle.rw_shared_head.specs.Seats.{HasAsked, HasLabelSets};
 
 use crate::locked::Locked;
 use crate::seat::{Asked, Seat};
-use rw_recv_head::Head;
+use rw_head::Head;
 use std::alloc::{AllocError, Global};
 use std::marker::Model;
 use std::sync::ledger::{Blank, Ledger, Total};

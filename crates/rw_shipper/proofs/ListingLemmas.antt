@@ -3,11 +3,11 @@ use Rattle.std.proofs.Common.{◌≡◌, ℕ, zero, suc, ◌+◌, ◌≤◌, Lis
 use Rattle.std.specs.Prelude.{◌*◌, ◌==◌, ◌&&◌, vec_len, vec_capacity, Bool, true, false, Result, Ok, is_ok, if◌then◌else◌}
 use Rattle.std.proofs.Math.Nat.{suc-mul, zero-mul, mul_comm, mul-le-mul_right}
 use Rattle.std.proofs.lemmas.Bool.Decides.{nat_tests}
-use Rattle.rw_sender.specs.declared.config.ConfigFields.{ConfigFields}
+use Rattle.rw_shard_core.specs.declared.config.ConfigFields.{ConfigFields}
 use Rattle.rw_worker.specs.Transcript.{Exchange}
 use Rattle.rw_ledger.specs.Names.{Named}
 use Rattle.rw_fleet.specs.ShardHistories.{AreSame, AreSetUp, IsPut}
-use Rattle.rw_shard_queue.specs.declared.item.Kind.{Kind}
+use Rattle.rw_plain_queue.specs.declared.item.Kind.{Kind}
 use Rattle.rw_worker.specs.Report.{is_hard}
 use Rattle.rw_fleet.specs.Work.{lane_of, finished_of, is_compared, is_resolved, AreResolved, AreWorked, HasCut}
 use Rattle.rw_fleet.specs.Fleets.{Shards, AreAll, EndBy, HasClosed}

@@ -4,7 +4,7 @@ use Rattle.std.specs.Prelude.{◌==◌, set, slice_get}
 use Rattle.std.proofs.lemmas.List.Elements.{filter-append}
 use Rattle.std.proofs.lemmas.Bool.{eq-eqb, eqb-true}
 use Rattle.rw_worker.specs.Setups.{Setup}
-use Rattle.rw_shard_queue.specs.Items.{Placed, samples_in}
+use Rattle.rw_plain_queue.specs.Items.{Placed, samples_in}
 use Rattle.rw_fleet.specs.ShardHistories.{ShardHistory, AreSame, AreFresh, IsPut, put_as}
 use Rattle.rw_router.specs.declared.sample.RoutedSample.{RoutedSample}
 use Rattle.rw_feeder.specs.Feeders.{sent_by}

@@ -7,8 +7,8 @@ use Rattle.rw_types.specs.declared.entry.Entry.{Entry}
 use Rattle.rw_types.specs.declared.entry.Entry.TheVariants as entry
 use Rattle.rw_types.specs.declared.place.Place.{Place}
 use Rattle.rw_relabel.specs.declared.choice.Choice.{Choice}
-use Rattle.rw_shard_queue.specs.Items.{places_in}
-use Rattle.rw_shard_queue.specs.declared.item.Kind.TheVariants.{Reshard}
+use Rattle.rw_plain_queue.specs.Items.{places_in}
+use Rattle.rw_plain_queue.specs.declared.item.Kind.TheVariants.{Reshard}
 use Rattle.rw_fleet.specs.ShardHistories.{ShardHistory, AreFresh, AreSame, IsPut, marks_of}
 use Rattle.rw_fleet.specs.Work.{lane_of, finished_of, AreResolved, HasCut}
 use Rattle.rw_fleet.specs.declared.running.Fault.{Fault}
@@ -23,8 +23,8 @@ use Rattle.rw_shipper.specs.Placement.{shard_of, IsPlacing, ArePlaced, AreKept}
 use Rattle.rw_wal_format.specs.Pieces.{Piece, reading}
 use Rattle.rw_wal_format.specs.Segments.{segment}
 use Rattle.rw_wal_format.specs.declared.tail_fault.TailFault.{TailFault}
-use Rattle.rw_sender.specs.declared.outcome.Outcome.{Outcome}
-use Rattle.rw_sender.specs.declared.outcome.Outcome.TheVariants as outcome
+use Rattle.rw_shard_core.specs.declared.outcome.Outcome.{Outcome}
+use Rattle.rw_shard_core.specs.declared.outcome.Outcome.TheVariants as outcome
 use Rattle.rw_shipper.specs.Reports.{abandoned_in, end_of, IsAbandoned, IsAbandonedAt, ListsCut}
 use Rattle.rw_shipper.specs.Shipping.{Shipping, PlacesAll, IsReady, IsRead, GoesOn, HasCompared, Ends, HasStopped}
 use Rattle.rw_shipper.proofs.PlacementLemmas.{same_length, placing_put, placing_closed, placing_whole, placing_opened, placing_begun, placing_same, set_length, kept_self, kept_on, kept_put}

@@ -2,12 +2,12 @@
 use Rattle.std.specs.Prelude.{slice_get, false, ◌≡◌, ◌≤◌, ◌+◌, ◌*◌, ℕ, Bool, true, List, [], ◌∷◌, ◌++◌, length, map, vec_len, vec_capacity, Option, Some, None, ⊤}
 use Rattle.rw_wal_format.specs.declared.tail_fault.TailFault.{TailFault}
 use Rattle.rw_ledger.specs.Names.{Named}
-use Rattle.rw_sender.specs.declared.outcome.Outcome.{Outcome}
-use Rattle.rw_sender.specs.declared.outcome.Outcome.TheVariants.{Complete, Abandoned, Damaged}
+use Rattle.rw_shard_core.specs.declared.outcome.Outcome.{Outcome}
+use Rattle.rw_shard_core.specs.declared.outcome.Outcome.TheVariants.{Complete, Abandoned, Damaged}
 use Rattle.rw_worker.specs.Transcript.{Exchange}
 use Rattle.rw_fleet.specs.ShardHistories.{AreSetUp}
-use Rattle.rw_shard_queue.specs.declared.item.Kind.{Kind}
-use Rattle.rw_shard_queue.specs.declared.item.Kind.TheVariants.{Orderly, Hard}
+use Rattle.rw_plain_queue.specs.declared.item.Kind.{Kind}
+use Rattle.rw_plain_queue.specs.declared.item.Kind.TheVariants.{Orderly, Hard}
 use Rattle.rw_worker.specs.Report.{is_hard}
 use Rattle.rw_fleet.specs.Work.{lane_of, finished_of, AreResolved, AreWorked, IsCut, HasCut}
 use Rattle.rw_fleet.specs.Fleets.{Shards, AreAll, EndBy}

@@ -2,7 +2,7 @@
 use Rattle.std.specs.Prelude.{◌≡◌, ◌⊎◌, ◌<◌, List, [], ◌∷◌, ◌++◌, length, map, Option, Some, None, Result, Ok, Err, ⊤, ℕ}
 use Rattle.rw_worker.specs.Transcript.{Exchange}
 use Rattle.rw_fleet.specs.ShardHistories.{AreSetUp, marks_of}
-use Rattle.rw_shard_queue.specs.declared.item.Kind.TheVariants.{Reshard}
+use Rattle.rw_plain_queue.specs.declared.item.Kind.TheVariants.{Reshard}
 use Rattle.rw_fleet.specs.Work.{lane_of, finished_of, AreResolved, AreWorked}
 use Rattle.rw_fleet.specs.Fleets.{Shards, AreAll, EndBy}
 use Rattle.rw_fleet.specs.declared.running.Fault.{Fault}
@@ -11,8 +11,8 @@ use Rattle.rw_types.specs.declared.entry.Entry.{Entry}
 use Rattle.rw_wal_format.specs.Pieces.{Piece}
 use Rattle.rw_wal_format.specs.declared.tail_fault.TailFault.{TailFault}
 use Rattle.rw_ledger.specs.Names.{Named}
-use Rattle.rw_sender.specs.declared.outcome.Outcome.{Outcome}
-use Rattle.rw_sender.specs.declared.outcome.Outcome.TheVariants as outcome
+use Rattle.rw_shard_core.specs.declared.outcome.Outcome.{Outcome}
+use Rattle.rw_shard_core.specs.declared.outcome.Outcome.TheVariants as outcome
 use Rattle.rw_fleet.specs.declared.joined.StoppedShard.{StoppedShard}
 use Rattle.rw_feeder.specs.Feeders.{Sorting, HasRead}
 use Rattle.rw_feeder.specs.Logs.{sent, named, dropped, filtered}

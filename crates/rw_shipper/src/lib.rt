@@ -11,5 +11,5 @@ mod shipper;
 pub use laws::samples_are_spread;
 pub use report::Report;
 pub use rw_fleet::{Connect, Ends, Fault, Fed, Finished, Load};
-pub use rw_sender::Outcome;
+pub use rw_shard_core::Outcome;
 pub use shipper::{FeedFault, Shipper};

@@ -2,7 +2,7 @@
 
 ghost use Rattle.std.specs.Prelude.{◌≡◌, ◌+◌, ◌<◌, ◌≤◌, ◌^◌, ℕ, [], length, map, IfOk, OnOk, OnErr, Some, Err, true, false, slice_get};
 ghost use Rattle.rw_types.specs.declared.place.Place.{Place};
-ghost use Rattle.rw_shard_queue.specs.Items.{places_in};
+ghost use Rattle.rw_plain_queue.specs.Items.{places_in};
 ghost use Rattle.rw_fleet.specs.ShardHistories.{ShardHistory, AreFresh, AreSame, IsPut, IsUsedUp, marked};
 ghost use Rattle.rw_fleet.specs.Work.{AreResolved, HasCut};
 ghost use Rattle.rw_fleet.specs.Fleets.{HasClosed};
@@ -13,8 +13,8 @@ use crate::lists::{Lists, list_all};
 use rw_fleet::{Connect, Fault, Load, ShardSet};
 use rw_ledger::Ledger;
 use rw_router::RoutedSample;
-use rw_sender::Config;
 use rw_shard_channel::Kind;
+use rw_shard_core::Config;
 use std::alloc::{AllocError, Global};
 use std::marker::Model;
 use std::sync::Wait;

@@ -2,7 +2,7 @@
 
 use rw_fleet::Finished;
 use rw_ledger::Ledger;
-use rw_sender::Outcome;
+use rw_shard_core::Outcome;
 
 /// What a shipper has done.
 #[derive(Drop)]

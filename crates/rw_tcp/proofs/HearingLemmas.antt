@@ -1,8 +1,8 @@
 -- What the heads of a reply say of its text.
 use Rattle.std.proofs.Common.{◌≡◌, ℕ, ◌+◌, ◌-◌, ◌<◌, ◌≤◌, List, [], ◌∷◌, length, ap, ◌∙◌, arith, length-append}
 use Rattle.httparse.specs.Grammar.{ResponseHead, print_response}
-use Rattle.rw_sender.specs.Replies.{Follows, Answers, EndsEarly, Reads}
-use Rattle.rw_sender.specs.declared.replies.ReplyRead.TheVariants.{Status, Partial}
+use Rattle.rw_shard_core.specs.Replies.{Follows, Answers, EndsEarly, Reads}
+use Rattle.rw_shard_core.specs.declared.replies.ReplyRead.TheVariants.{Status, Partial}
 
 follows_status : (status room : ℕ) (text : List ℕ) (heads : List ResponseHead) → Follows (Answers status) room text heads → (200 ≤ status) × (status < 1000)
 follows_status status room text [] r = (r.4, r.5)

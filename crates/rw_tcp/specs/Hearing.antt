@@ -3,8 +3,8 @@ use Rattle.std.specs.Prelude.{ℕ, List, Option}
 use Rattle.std.specs.Io.KnownBytes.{Consumes}
 use Rattle.rw_types.specs.declared.transfer.ReadFault.{ReadFault}
 use Rattle.rw_types.specs.declared.transfer.ReadFault.TheVariants as reading
-use Rattle.rw_sender.specs.Replies.{Reads}
-use Rattle.rw_sender.specs.declared.replies.ReplyRead.{ReplyRead}
+use Rattle.rw_shard_core.specs.Replies.{Reads}
+use Rattle.rw_shard_core.specs.declared.replies.ReplyRead.{ReplyRead}
 use Rattle.rw_tcp.specs.declared.reply.NoReply.{NoReply}
 use Rattle.rw_tcp.specs.declared.reply.NoReply.TheVariants as fault
 

@@ -8,7 +8,7 @@ ghost use Rattle.rw_tcp.specs.Hearing.{Hears};
 
 use http::StatusCode;
 use rw_retry::{Judgement, judge};
-use rw_sender::{MAX_HEAD_BYTES, ReplyRead, read_reply};
+use rw_shard_core::{MAX_HEAD_BYTES, ReplyRead, read_reply};
 use rw_types::{ReadFault, Sink, Source, write_all};
 use rw_worker::Reply;
 use std::alloc::{AllocError, Global};

@@ -3,7 +3,7 @@
 ghost use Rattle.std.specs.Prelude.{◌≡◌, ◌<◌, ◌*◌, Ok, IfOk, IsOk, IsSome, vec_len};
 ghost use Rattle.std.specs.Io.KnownBytes.{Appends};
 ghost use Rattle.rw_retry.specs.Judgements.{judgement_of};
-ghost use Rattle.rw_sender.specs.declared.replies.ReplyRead.TheVariants as read;
+ghost use Rattle.rw_shard_core.specs.declared.replies.ReplyRead.TheVariants as read;
 ghost use Rattle.rw_retry.specs.declared.judgement.Judgement.TheVariants as judgement;
 ghost use Rattle.rw_tcp.specs.Hearing.{Hears};
 

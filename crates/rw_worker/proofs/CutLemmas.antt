@@ -1,8 +1,8 @@
 -- Items cut into batches.
 use Rattle.std.proofs.Common.{◌≡◌, ℕ, Bool, true, false, List, [], ◌∷◌, ◌++◌, refl, sym, ap, append-nil, cond}
 use Rattle.std.specs.Prelude.{fold}
-use Rattle.rw_shard_queue.specs.Items.{Placed}
-use Rattle.rw_shard_queue.specs.declared.item.Item.{Item}
+use Rattle.rw_plain_queue.specs.Items.{Placed}
+use Rattle.rw_plain_queue.specs.declared.item.Item.{Item}
 use Rattle.rw_worker.specs.Cut.{Cutting, cutting, one_of, close, cut_by, cut}
 
 fold-push : (n : ℕ) (c : Cutting) (xs : List Item) (x : Item) → fold (cut_by n) c (xs ++ x ∷ []) ≡ cut_by n (fold (cut_by n) c xs) x

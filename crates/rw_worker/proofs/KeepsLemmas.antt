@@ -10,12 +10,12 @@ use Rattle.rw_retry.specs.Judgements.{judgement_of}
 use Rattle.rw_retry.specs.declared.judgement.Judgement.{Judgement}
 use Rattle.rw_retry.specs.declared.judgement.Judgement.TheVariants.{Done, Again, Refused}
 use Rattle.rw_batch.specs.declared.batch.BatchId.{BatchId}
-use Rattle.rw_shard_queue.specs.Items.{Placed, samples_in}
-use Rattle.rw_shard_queue.specs.declared.item.Item.{Item}
-use Rattle.rw_shard_queue.specs.declared.item.Item.TheVariants.{Sample, Flush, End}
-use Rattle.rw_sender.specs.Shard.{Core, is_empty, is_due, can_take, take_item, placed, can_freeze, freeze, freeze_room, can_send, send, request_for, batch_id, same_id, is_answer, awaits, lose, settle, settle_names, reply, reply_names}
-use Rattle.rw_sender.specs.declared.config.Target.{Target}
-use Rattle.rw_sender.proofs.KeptLemmas.{samples_in-append}
+use Rattle.rw_plain_queue.specs.Items.{Placed, samples_in}
+use Rattle.rw_plain_queue.specs.declared.item.Item.{Item}
+use Rattle.rw_plain_queue.specs.declared.item.Item.TheVariants.{Sample, Flush, End}
+use Rattle.rw_shard_core.specs.Shard.{Core, is_empty, is_due, can_take, take_item, placed, can_freeze, freeze, freeze_room, can_send, send, request_for, batch_id, same_id, is_answer, awaits, lose, settle, settle_names, reply, reply_names}
+use Rattle.rw_shard_core.specs.declared.config.Target.{Target}
+use Rattle.rw_shard_core.proofs.KeptLemmas.{samples_in-append}
 use Rattle.rw_worker.specs.declared.transport.Reply.{Reply}
 use Rattle.rw_worker.specs.declared.transport.Lost.{Lost}
 use Rattle.rw_worker.specs.Cut.{cutting, close, one_of, cut_by}

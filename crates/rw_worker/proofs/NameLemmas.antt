@@ -10,8 +10,8 @@ use Rattle.rw_ledger.specs.declared.ledger.Reason.TheVariants as Why
 use Rattle.rw_retry.specs.Judgements.{judgement_of}
 use Rattle.rw_retry.specs.declared.judgement.Judgement.{Judgement}
 use Rattle.rw_retry.specs.declared.judgement.Judgement.TheVariants.{Done, Again, Refused}
-use Rattle.rw_shard_queue.specs.Items.{Placed}
-use Rattle.rw_sender.specs.Shard.{AreInRow, positions, name_all}
+use Rattle.rw_plain_queue.specs.Items.{Placed}
+use Rattle.rw_shard_core.specs.Shard.{AreInRow, positions, name_all}
 use Rattle.rw_worker.specs.Transcript.{Settled, samples_of, names_after, with_names}
 
 -- all these samples stand before this position

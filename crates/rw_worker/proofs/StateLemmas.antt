@@ -5,15 +5,15 @@ use Rattle.std.specs.Ordering.{nat_cmp}
 use Rattle.std.specs.FinMap.{FinMap, get, empty, get-empty}
 use Rattle.rw_ledger.specs.declared.ledger.Reason.{Reason}
 use Rattle.rw_ledger.specs.Names.{Named}
-use Rattle.rw_shard_queue.specs.Items.{Placed, samples_in}
-use Rattle.rw_shard_queue.specs.History.{IsHistory}
-use Rattle.rw_shard_queue.specs.declared.item.Item.{Item}
-use Rattle.rw_shard_queue.specs.declared.item.Item.TheVariants as item
-use Rattle.rw_shard_queue.specs.declared.item.Kind.{Kind}
-use Rattle.rw_shard_queue.specs.declared.item.Kind.TheVariants.{Orderly, Reshard, Hard}
-use Rattle.rw_shard_queue.proofs.Histories.{history-nil}
+use Rattle.rw_plain_queue.specs.Items.{Placed, samples_in}
+use Rattle.rw_plain_queue.specs.History.{IsHistory}
+use Rattle.rw_plain_queue.specs.declared.item.Item.{Item}
+use Rattle.rw_plain_queue.specs.declared.item.Item.TheVariants as item
+use Rattle.rw_plain_queue.specs.declared.item.Kind.{Kind}
+use Rattle.rw_plain_queue.specs.declared.item.Kind.TheVariants.{Orderly, Reshard, Hard}
+use Rattle.rw_plain_queue.proofs.Histories.{history-nil}
 use Rattle.rw_shard_channel.specs.Ends.{QueueId, Draining}
-use Rattle.rw_sender.specs.Shard.{Core, IsCore, AreInRow, HasRoomFor, is_empty, is_due, can_take, can_freeze, can_send, freeze, freeze_room, take_item, pending, places_of, request_for, MayTake}
+use Rattle.rw_shard_core.specs.Shard.{Core, IsCore, AreInRow, HasRoomFor, is_empty, is_due, can_take, can_freeze, can_send, freeze, freeze_room, take_item, pending, places_of, request_for, MayTake}
 use Rattle.rw_worker.specs.declared.report.TakingEnd.{TakingEnd}
 use Rattle.rw_worker.specs.declared.report.TakingEnd.TheVariants as end
 use Rattle.rw_worker.specs.declared.report.WorkerReport.{WorkerReport}

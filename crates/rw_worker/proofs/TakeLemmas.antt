@@ -3,12 +3,12 @@ use Rattle.std.proofs.Common.{◌≡◌, ℕ, suc, ◌<◌, ◌≤◌, ◌^◌, 
 use Rattle.std.proofs.lemmas.List.{map-append, length-map}
 use Rattle.std.specs.Prelude.{slice_get}
 use Rattle.rw_types.specs.declared.place.Place.{Place}
-use Rattle.rw_shard_queue.specs.Items.{Placed, samples_in, places_in}
-use Rattle.rw_shard_queue.specs.History.{IsHistory}
-use Rattle.rw_shard_queue.specs.declared.item.Item.{Item}
-use Rattle.rw_shard_queue.specs.declared.item.Item.TheVariants.{Sample, Flush, End}
-use Rattle.rw_shard_queue.proofs.Histories.{places_in-append}
-use Rattle.rw_sender.specs.Shard.{Core, MayTake, last_of, places_of, placed, IsNext}
+use Rattle.rw_plain_queue.specs.Items.{Placed, samples_in, places_in}
+use Rattle.rw_plain_queue.specs.History.{IsHistory}
+use Rattle.rw_plain_queue.specs.declared.item.Item.{Item}
+use Rattle.rw_plain_queue.specs.declared.item.Item.TheVariants.{Sample, Flush, End}
+use Rattle.rw_plain_queue.proofs.Histories.{places_in-append}
+use Rattle.rw_shard_core.specs.Shard.{Core, MayTake, last_of, places_of, placed, IsNext}
 
 pub places_are : (xs : List Item) → places_of (samples_in xs) ≡ places_in xs
 places_are [] = refl

@@ -7,10 +7,10 @@ use Rattle.std.specs.FinMap.{FinMap, empty}
 use Rattle.rw_ledger.specs.declared.ledger.Reason.{Reason}
 use Rattle.rw_retry.specs.Judgements.{judgement_of}
 use Rattle.rw_retry.specs.declared.judgement.Judgement.TheVariants.{Again}
-use Rattle.rw_shard_queue.specs.Items.{Placed}
-use Rattle.rw_shard_queue.specs.declared.item.Item.{Item}
-use Rattle.rw_sender.specs.Shard.{is_empty}
-use Rattle.rw_sender.specs.declared.config.Target.{Target}
+use Rattle.rw_plain_queue.specs.Items.{Placed}
+use Rattle.rw_plain_queue.specs.declared.item.Item.{Item}
+use Rattle.rw_shard_core.specs.Shard.{is_empty}
+use Rattle.rw_shard_core.specs.declared.config.Target.{Target}
 use Rattle.rw_worker.specs.declared.transport.Reply.{Reply}
 use Rattle.rw_worker.specs.declared.transport.Lost.{Lost}
 use Rattle.rw_worker.specs.Cut.{Cutting, cutting, one_of, cut_by}

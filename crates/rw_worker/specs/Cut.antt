@@ -1,9 +1,9 @@
 -- How the samples of a queue are cut into batches (remote_write configuration, "max_samples_per_send"): a batch ends when it is full, or at a mark.
 use Rattle.std.specs.Prelude.{ℕ, nat_le, List, [], ◌∷◌, ◌++◌, length, fold, if◌then◌else◌}
-use Rattle.rw_shard_queue.specs.Items.{Placed}
-use Rattle.rw_shard_queue.specs.declared.item.Item.{Item}
-use Rattle.rw_shard_queue.specs.declared.item.Item.TheVariants.{Sample, Flush, End}
-use Rattle.rw_sender.specs.Shard.{placed}
+use Rattle.rw_plain_queue.specs.Items.{Placed}
+use Rattle.rw_plain_queue.specs.declared.item.Item.{Item}
+use Rattle.rw_plain_queue.specs.declared.item.Item.TheVariants.{Sample, Flush, End}
+use Rattle.rw_shard_core.specs.Shard.{placed}
 
 -- the batches, and the samples after them
 pub record Cutting : Type 0 where

@@ -1,13 +1,13 @@
 -- How far a worker is, and what it reports of its run.
 use Rattle.std.specs.Prelude.{◌≡◌, ℕ, ◌+◌, ◌-◌, ◌^◌, ◌<◌, ◌≤◌, min, Bool, true, false, List, [], ◌∷◌, ◌++◌, length, Option, None, IfSome, ⊤}
-use Rattle.rw_shard_queue.specs.Items.{samples_in}
-use Rattle.rw_shard_queue.specs.declared.item.Item.{Item}
-use Rattle.rw_shard_queue.specs.History.{IsHistory}
-use Rattle.rw_shard_queue.specs.declared.item.Item.TheVariants as item
-use Rattle.rw_shard_queue.specs.declared.item.Kind.{Kind}
-use Rattle.rw_shard_queue.specs.declared.item.Kind.TheVariants.{Orderly, Reshard, Hard}
+use Rattle.rw_plain_queue.specs.Items.{samples_in}
+use Rattle.rw_plain_queue.specs.declared.item.Item.{Item}
+use Rattle.rw_plain_queue.specs.History.{IsHistory}
+use Rattle.rw_plain_queue.specs.declared.item.Item.TheVariants as item
+use Rattle.rw_plain_queue.specs.declared.item.Kind.{Kind}
+use Rattle.rw_plain_queue.specs.declared.item.Kind.TheVariants.{Orderly, Reshard, Hard}
 use Rattle.rw_shard_channel.specs.Ends.{Draining}
-use Rattle.rw_sender.specs.Shard.{Core, is_due}
+use Rattle.rw_shard_core.specs.Shard.{Core, is_due}
 use Rattle.rw_worker.specs.declared.report.TakingEnd.{TakingEnd}
 use Rattle.rw_worker.specs.declared.report.TakingEnd.TheVariants as end
 use Rattle.rw_worker.specs.declared.report.WorkerReport.{WorkerReport}

@@ -4,10 +4,10 @@ use Rattle.std.specs.Ordering.{nat_cmp}
 use Rattle.std.specs.FinMap.{FinMap, empty}
 use Rattle.rw_ledger.specs.declared.ledger.Reason.{Reason}
 use Rattle.rw_ledger.specs.Names.{Named}
-use Rattle.rw_shard_queue.specs.Items.{Placed}
-use Rattle.rw_shard_queue.specs.declared.item.Item.{Item}
-use Rattle.rw_sender.specs.Shard.{Core, new_core, is_empty, can_take, MayTake, take_item, is_due, can_freeze, freeze, freeze_room, can_send, send, request_for, batch_id, reply, reply_names, lose}
-use Rattle.rw_sender.specs.declared.config.Target.{Target}
+use Rattle.rw_plain_queue.specs.Items.{Placed}
+use Rattle.rw_plain_queue.specs.declared.item.Item.{Item}
+use Rattle.rw_shard_core.specs.Shard.{Core, new_core, is_empty, can_take, MayTake, take_item, is_due, can_freeze, freeze, freeze_room, can_send, send, request_for, batch_id, reply, reply_names, lose}
+use Rattle.rw_shard_core.specs.declared.config.Target.{Target}
 use Rattle.rw_worker.specs.declared.transport.Reply.{Reply}
 use Rattle.rw_worker.specs.declared.transport.Lost.{Lost}
 use Rattle.rw_worker.specs.Transcript.{Exchange, exchange_of, is_again, Adds, Settled, IsTranscript, AreTriesOf, samples_of, names_of}

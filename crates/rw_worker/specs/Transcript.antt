@@ -6,10 +6,10 @@ use Rattle.rw_ledger.specs.declared.ledger.Reason.{Reason}
 use Rattle.rw_retry.specs.Judgements.{judgement_of}
 use Rattle.rw_retry.specs.declared.judgement.Judgement.{Judgement}
 use Rattle.rw_retry.specs.declared.judgement.Judgement.TheVariants.{Done, Again, Refused}
-use Rattle.rw_shard_queue.specs.Items.{Placed}
-use Rattle.rw_sender.specs.Shard.{is_empty, body_of, positions, name_all}
-use Rattle.rw_sender.specs.SentRequest.{request_of}
-use Rattle.rw_sender.specs.declared.config.Target.{Target}
+use Rattle.rw_plain_queue.specs.Items.{Placed}
+use Rattle.rw_shard_core.specs.Shard.{is_empty, body_of, positions, name_all}
+use Rattle.rw_shard_core.specs.SentRequest.{request_of}
+use Rattle.rw_shard_core.specs.declared.config.Target.{Target}
 use Rattle.rw_worker.specs.declared.transport.Reply.{Reply}
 use Rattle.rw_worker.specs.declared.transport.Lost.{Lost}
 

@@ -4,7 +4,7 @@ ghost use Rattle.std.specs.Prelude.{◌≡◌};
 ghost use Rattle.rw_retry.specs.Backoff.{delay_of};
 
 use rw_retry::delay;
-use rw_sender::Config;
+use rw_shard_core::Config;
 use std::marker::Model;
 
 /// The pause before the first retry of a batch and the longest one, in milliseconds.

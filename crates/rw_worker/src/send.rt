@@ -1,7 +1,7 @@
 //! One attempt to send a batch.
 
 ghost use Rattle.std.specs.Prelude.{◌≡◌, true, false, not, IfOk, OnErr};
-ghost use Rattle.rw_sender.specs.Shard.{HasRoomFor, awaits, can_send, batch_id};
+ghost use Rattle.rw_shard_core.specs.Shard.{HasRoomFor, awaits, can_send, batch_id};
 ghost use Rattle.rw_worker.specs.Transcript.{is_again};
 ghost use Rattle.rw_worker.specs.Steps.{working, answered, resolved_after, WasSent};
 
@@ -9,7 +9,7 @@ use crate::transport::{Lost, Reply, Transport};
 use rw_batch::BatchId;
 use rw_ledger::Ledger;
 use rw_retry::Judgement;
-use rw_sender::{Attempt, ShardCore};
+use rw_shard_core::{Attempt, ShardCore};
 use std::alloc::AllocError;
 
 /// Notes the answer to the attempt that is under way: whether it settles the batch.

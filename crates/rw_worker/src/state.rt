@@ -9,8 +9,8 @@ use crate::stop::Stopped;
 use crate::tally::Tally;
 use crate::worker::Worker;
 use rw_ledger::Ledger;
-use rw_sender::ShardCore;
 use rw_shard_channel::{Drain, Ended, Kind, Open};
+use rw_shard_core::ShardCore;
 use std::snapshot::Snapshot;
 
 /// What a worker began with, which contracts alone see.

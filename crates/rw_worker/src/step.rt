@@ -1,7 +1,7 @@
 //! The steps of a worker.
 
 ghost use Rattle.std.specs.Prelude.{◌≡◌, Some, true, false};
-ghost use Rattle.rw_sender.specs.Shard.{IsCore, can_take, is_empty};
+ghost use Rattle.rw_shard_core.specs.Shard.{IsCore, can_take, is_empty};
 ghost use Rattle.rw_worker.specs.Report.{is_hard, given_back, IsSendingFrom, IsStateFrom, IsProgressFrom, HasStepped, StepsOn, IsNotStopped, IsStoppedAt};
 ghost use Rattle.rw_worker.specs.declared.state.Progress.TheVariants as progress;
 

@@ -11,8 +11,8 @@ use crate::stop::StopFlag;
 use crate::tally::Tally;
 use crate::transport::{Pause, Transport};
 use rw_ledger::Ledger;
-use rw_sender::{Config, ShardCore};
 use rw_shard_channel::{Drain, Open};
+use rw_shard_core::{Config, ShardCore};
 use std::alloc::{AllocError, Global};
 use std::marker::Model;
 use std::snapshot::Snapshot;
@@ -31,7 +31,7 @@ pub struct Worker {
 impl Model for Worker {
     ghost use Rattle.std.specs.Prelude.{◌≡◌, ◌<◌, ◌^◌, []};
     ghost use Rattle.std.specs.FinMap.{empty};
-    ghost use Rattle.rw_sender.specs.Shard.{new_core};
+    ghost use Rattle.rw_shard_core.specs.Shard.{new_core};
     ghost use Rattle.rw_worker.specs.Setups.{Setup};
 
     ghost Value = { Setup };

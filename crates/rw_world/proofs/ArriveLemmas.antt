@@ -8,19 +8,19 @@ use Rattle.std.specs.declared.alloc.AllocError.{AllocError}
 use Rattle.http.specs.StatusCode.{IsStatusCode}
 use Rattle.rw_types.specs.Requests.{is_host_name, is_request_path}
 use Rattle.rw_batch.specs.Grouping.{message}
-use Rattle.rw_shard_queue.specs.Items.{Placed}
+use Rattle.rw_plain_queue.specs.Items.{Placed}
 use Rattle.rw_write_request.specs.Message.{WriteRequest}
-use Rattle.rw_sender.specs.declared.config.Target.{Target}
-use Rattle.rw_sender.specs.Shard.{labelled, body_of, IsReadAgain, can_send, request_for}
+use Rattle.rw_shard_core.specs.declared.config.Target.{Target}
+use Rattle.rw_shard_core.specs.Shard.{labelled, body_of, IsReadAgain, can_send, request_for}
 use Rattle.rw_machine.specs.Shards.{Shard}
-use Rattle.rw_sender.specs.SentRequest.{request_of, request_head}
-use Rattle.rw_recv_head.specs.Head.{State, Answer, answer, answer_to, answered, judged_body}
-use Rattle.rw_recv_head.specs.Store.{Store}
-use Rattle.rw_recv_head.specs.Verdicts.{judged, taken_all}
-use Rattle.rw_recv_head.specs.declared.verdict.Verdict.{Verdict}
-use Rattle.rw_recv_http.specs.Alone.{IsOneRequest, IsOneRefusal}
-use Rattle.rw_recv_http.specs.HeadAnswers.{HasAnswered}
-use Rattle.rw_recv_http.specs.Replies.{is_verdict}
+use Rattle.rw_shard_core.specs.SentRequest.{request_of, request_head}
+use Rattle.rw_head.specs.Head.{State, Answer, answer, answer_to, answered, judged_body}
+use Rattle.rw_head.specs.Store.{Store}
+use Rattle.rw_head.specs.Verdicts.{judged, taken_all}
+use Rattle.rw_head.specs.declared.verdict.Verdict.{Verdict}
+use Rattle.rw_endpoint.specs.Alone.{IsOneRequest, IsOneRefusal}
+use Rattle.rw_endpoint.specs.HeadAnswers.{HasAnswered}
+use Rattle.rw_endpoint.specs.Replies.{is_verdict}
 use Rattle.rw_roundtrip.specs.Exchanges.{IsAnswered, IsRefused}
 use Rattle.rw_machine.specs.Worlds.{Setup, Request, World}
 use Rattle.rw_machine.specs.Steps.{arrive, endpoint_answer, request_by}

@@ -3,7 +3,7 @@ use Rattle.std.proofs.Common.{◌≡◌, ℕ, suc, ◌+◌, Bool, true, false, n
 use Rattle.std.proofs.lemmas.List.{length-map}
 use Rattle.std.specs.Prelude.{slice_get, nat_lt}
 use Rattle.std.specs.List.{position, position_or_len, prefix_len}
-use Rattle.rw_sender.specs.Shard.{is_empty}
+use Rattle.rw_shard_core.specs.Shard.{is_empty}
 use Rattle.rw_machine.specs.Shards.{Shard}
 use Rattle.rw_world.specs.Held.{Held}
 use Rattle.rw_world.specs.Guards.{may_flush}

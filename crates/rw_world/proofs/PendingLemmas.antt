@@ -9,11 +9,11 @@ use Rattle.std.specs.List.{list_any}
 use Rattle.std.specs.List.Sorted.{IsPermutation, IsNonDecreasing, IsBinarySearchResult}
 use Rattle.std.specs.Ordering.{nat_cmp}
 use Rattle.rw_types.specs.declared.place.Place.{Place}
-use Rattle.rw_shard_queue.specs.Items.{Placed, places_in}
-use Rattle.rw_shard_queue.specs.declared.item.Item.{Item}
-use Rattle.rw_shard_queue.specs.declared.item.Item.TheVariants.{Sample, Flush, End}
-use Rattle.rw_sender.specs.Shard.{Core, places_of, positions_of, positions}
-use Rattle.rw_sender.specs.Shard as core
+use Rattle.rw_plain_queue.specs.Items.{Placed, places_in}
+use Rattle.rw_plain_queue.specs.declared.item.Item.{Item}
+use Rattle.rw_plain_queue.specs.declared.item.Item.TheVariants.{Sample, Flush, End}
+use Rattle.rw_shard_core.specs.Shard.{Core, places_of, positions_of, positions}
+use Rattle.rw_shard_core.specs.Shard as core
 use Rattle.rw_machine.specs.Shards.{samples_in, pending}
 use Rattle.rw_machine.specs.Worlds.{up_to}
 use Rattle.rw_world.specs.Held.{Held, queued_of}

@@ -15,9 +15,9 @@ use Rattle.rw_retry.specs.declared.judgement.Judgement.TheVariants.{Done, Again,
 use Rattle.rw_ledger.specs.Names.{Named}
 use Rattle.rw_ledger.specs.declared.ledger.Reason.{Reason}
 use Rattle.rw_ledger.specs.declared.ledger.Reason.TheVariants as why
-use Rattle.rw_shard_queue.specs.Items.{Placed}
-use Rattle.rw_sender.specs.declared.config.Target.{Target}
-use Rattle.rw_sender.specs.Shard.{HasRoomFor, positions, last_of, is_answer, settle, resolve, again, reply, reply_names, settle_names, name_all}
+use Rattle.rw_plain_queue.specs.Items.{Placed}
+use Rattle.rw_shard_core.specs.declared.config.Target.{Target}
+use Rattle.rw_shard_core.specs.Shard.{HasRoomFor, positions, last_of, is_answer, settle, resolve, again, reply, reply_names, settle_names, name_all}
 use Rattle.rw_machine.specs.Shards.{Shard, One, samples_in, pending, has_room, shard_put, with_core}
 use Rattle.rw_machine.specs.Steps.{change}
 use Rattle.rw_world.specs.Held.{Held, sample_for}

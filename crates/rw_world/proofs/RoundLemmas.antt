@@ -11,7 +11,7 @@ use Rattle.rw_router.specs.Fates.{Fate, Drops, Filters, Sends}
 use Rattle.rw_types.specs.Labels.{Labels}
 use Rattle.rw_types.specs.declared.entry.Entry.{Entry}
 use Rattle.rw_types.specs.declared.entry.Entry.TheVariants.{Def, Sample}
-use Rattle.rw_sender.specs.Shard.{is_empty, batch_id, same_id}
+use Rattle.rw_shard_core.specs.Shard.{is_empty, batch_id, same_id}
 use Rattle.rw_machine.specs.Shards.{Shard}
 use Rattle.rw_machine.specs.Steps.{shard_of}
 use Rattle.rw_machine.specs.Worlds.{Setup, Request, World, log, is_finished}

@@ -7,11 +7,11 @@ use Rattle.std.specs.Ordering.{nat_cmp}
 use Rattle.std.specs.FinMap.{FinMap, get}
 use Rattle.rw_ledger.specs.Names.{Named}
 use Rattle.rw_ledger.specs.declared.ledger.Reason.{Reason}
-use Rattle.rw_shard_queue.specs.Items.{Placed}
-use Rattle.rw_sender.specs.declared.config.Target.{Target}
-use Rattle.rw_sender.specs.Shard.{Core, positions, new_core, is_empty, can_take, can_freeze, freeze_room, can_send, awaits, send, lose, again}
+use Rattle.rw_plain_queue.specs.Items.{Placed}
+use Rattle.rw_shard_core.specs.declared.config.Target.{Target}
+use Rattle.rw_shard_core.specs.Shard.{Core, positions, new_core, is_empty, can_take, can_freeze, freeze_room, can_send, awaits, send, lose, again}
 use Rattle.rw_machine.specs.Shards.{Shard, Queued, One, FlushMark, EndMark, samples_in, pending, new_shard, has_room, shard_flush, shard_end, take_queued, take_front, shard_take, shard_freeze, shard_send, shard_lost, is_drained}
-use Rattle.rw_shard_queue.specs.declared.item.Kind.{Kind}
+use Rattle.rw_plain_queue.specs.declared.item.Kind.{Kind}
 use Rattle.rw_machine.specs.Steps.{change}
 use Rattle.rw_world.specs.Held.{Held, put_mark, flushed}
 use Rattle.rw_world.specs.Sending.{Sending, new_held, times, waiting, open_samples, IsShardAt, IsSending}

@@ -7,11 +7,11 @@ use Rattle.rw_batch.specs.declared.batch.BatchId.{BatchId}
 use Rattle.rw_retry.specs.Judgements.{judgement_of}
 use Rattle.rw_retry.specs.declared.judgement.Judgement.{Judgement}
 use Rattle.rw_retry.specs.declared.judgement.Judgement.TheVariants.{Done, Again, Refused}
-use Rattle.rw_shard_queue.specs.Items.{Placed, samples_in}
-use Rattle.rw_shard_queue.specs.Queue.{Queue, put_in, front, next_item, after_take}
-use Rattle.rw_shard_queue.specs.declared.item.Item.{Item}
-use Rattle.rw_shard_queue.specs.declared.item.Item.TheVariants.{Sample, Flush, End}
-use Rattle.rw_sender.specs.Shard.{Core, IsCore, is_empty, pending, last_of, IsNext, AreInRow, MayTake, placed, take_item, is_answer, settle, reply}
+use Rattle.rw_plain_queue.specs.Items.{Placed, samples_in}
+use Rattle.rw_plain_queue.specs.Queue.{Queue, put_in, front, next_item, after_take}
+use Rattle.rw_plain_queue.specs.declared.item.Item.{Item}
+use Rattle.rw_plain_queue.specs.declared.item.Item.TheVariants.{Sample, Flush, End}
+use Rattle.rw_shard_core.specs.Shard.{Core, IsCore, is_empty, pending, last_of, IsNext, AreInRow, MayTake, placed, take_item, is_answer, settle, reply}
 use Rattle.rw_world.specs.Held.{held_of, queued_of, samples_of, IsShard}
 
 pub samples_in-append : (xs ys : List Item) → samples_in (xs ++ ys) ≡ samples_in xs ++ samples_in ys

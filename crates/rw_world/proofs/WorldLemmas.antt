@@ -14,16 +14,16 @@ use Rattle.rw_series_cache.specs.Numbers.{with_series, with_entry, series_of}
 use Rattle.rw_series_cache.specs.Cached.{Taken}
 use Rattle.rw_series_cache.proofs.KnownLemmas.{series_of-definitions_of}
 use Rattle.rw_router.specs.Routing.{Routing, Knows}
-use Rattle.rw_sender.specs.Shard.{can_send, new_core}
-use Rattle.rw_sender.specs.declared.config.Target.{Target}
+use Rattle.rw_shard_core.specs.Shard.{can_send, new_core}
+use Rattle.rw_shard_core.specs.declared.config.Target.{Target}
 use Rattle.rw_machine.specs.Shards.{Shard, new_shard, shard_send}
 use Rattle.rw_machine.specs.Worlds.{Setup, Request, Reply, World, new_shards, start, is_finished, all_drained}
 use Rattle.rw_machine.specs.Steps.{change, send_batch, restart}
 use Rattle.std.specs.FinMap.{empty}
-use Rattle.rw_recv_head.specs.Head.{State}
-use Rattle.rw_recv_head.specs.declared.limits.Limits.{Limits}
-use Rattle.rw_sender.specs.Configs.{choice_of}
-use Rattle.rw_sender.specs.declared.config.ConfigFields.{ConfigFields}
+use Rattle.rw_head.specs.Head.{State}
+use Rattle.rw_head.specs.declared.limits.Limits.{Limits}
+use Rattle.rw_shard_core.specs.Configs.{choice_of}
+use Rattle.rw_shard_core.specs.declared.config.ConfigFields.{ConfigFields}
 use Rattle.rw_world.specs.Held.{Held}
 use Rattle.rw_world.specs.Sending.{Sending, new_held, sent_at}
 use Rattle.rw_world.specs.Machine.{Machine, IsWorld, label_limits, setup_of}

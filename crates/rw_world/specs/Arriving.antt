@@ -3,12 +3,12 @@ use Rattle.std.specs.Prelude.{◌≡◌, ℕ, ◌<◌, ◌^◌, ◌⊎◌, List,
 use Rattle.std.specs.declared.alloc.AllocError.{AllocError}
 use Rattle.http.specs.StatusCode.{IsStatusCode}
 use Rattle.rw_batch.specs.Grouping.{message}
-use Rattle.rw_shard_queue.specs.Items.{Placed}
-use Rattle.rw_sender.specs.declared.config.Target.{Target}
-use Rattle.rw_sender.specs.Shard.{labelled, body_of, IsReadAgain}
-use Rattle.rw_sender.specs.SentRequest.{request_of}
-use Rattle.rw_recv_head.specs.Head.{State, Answer, answer, answer_to}
-use Rattle.rw_recv_http.specs.Alone.{IsOneRequest, IsOneRefusal}
+use Rattle.rw_plain_queue.specs.Items.{Placed}
+use Rattle.rw_shard_core.specs.declared.config.Target.{Target}
+use Rattle.rw_shard_core.specs.Shard.{labelled, body_of, IsReadAgain}
+use Rattle.rw_shard_core.specs.SentRequest.{request_of}
+use Rattle.rw_head.specs.Head.{State, Answer, answer, answer_to}
+use Rattle.rw_endpoint.specs.Alone.{IsOneRequest, IsOneRefusal}
 use Rattle.rw_machine.specs.Worlds.{Setup, World, Request}
 use Rattle.rw_machine.specs.Steps.{answered, happens}
 use Rattle.rw_machine.specs.declared.event.Event.TheVariants as event

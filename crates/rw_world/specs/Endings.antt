@@ -1,7 +1,7 @@
 -- How the work has ended, as an outcome tells it.
 use Rattle.rw_machine.specs.Worlds.{Ending, Complete, Abandoned, Damaged}
-use Rattle.rw_sender.specs.declared.outcome.Outcome.{Outcome}
-use Rattle.rw_sender.specs.declared.outcome.Outcome.TheVariants as outcome
+use Rattle.rw_shard_core.specs.declared.outcome.Outcome.{Outcome}
+use Rattle.rw_shard_core.specs.declared.outcome.Outcome.TheVariants as outcome
 
 abbrev pub ending_of : Outcome → Ending
 ending_of (outcome.Complete end) = Complete end

@@ -1,7 +1,7 @@
 -- What a shard may do next.
 use Rattle.std.specs.Prelude.{◌≡◌, ℕ, Bool, true, not, ◌&&◌, Option, None, Some, if◌then◌else◌}
 use Rattle.rw_batch.specs.declared.batch.BatchId.{BatchId}
-use Rattle.rw_sender.specs.Shard.{is_empty, is_due, can_take, batch_id}
+use Rattle.rw_shard_core.specs.Shard.{is_empty, is_due, can_take, batch_id}
 use Rattle.rw_machine.specs.Shards.{Shard, has_room}
 
 -- a batch is open

@@ -1,12 +1,12 @@
 -- One shard of the world: what its queue and its core keep.
 use Rattle.std.specs.Prelude.{◌≡◌, ℕ, ℤ, ◌+◌, ◌≤◌, ◌^◌, List, length, map, Bool, false, not, ◌&&◌, if◌then◌else◌, Option, None, Some, All, IfSome}
 use Rattle.rw_types.specs.Labels.{Labels}
-use Rattle.rw_shard_queue.specs.Items.{Placed, samples_in}
-use Rattle.rw_shard_queue.specs.Queue.{Queue, put_in}
-use Rattle.rw_shard_queue.specs.declared.item.Kind.{Kind}
-use Rattle.rw_shard_queue.specs.declared.item.Item.{Item}
-use Rattle.rw_shard_queue.specs.declared.item.Item.TheVariants.{Sample, Flush, End}
-use Rattle.rw_sender.specs.Shard.{Core, AreInRow, last_of, can_send}
+use Rattle.rw_plain_queue.specs.Items.{Placed, samples_in}
+use Rattle.rw_plain_queue.specs.Queue.{Queue, put_in}
+use Rattle.rw_plain_queue.specs.declared.item.Kind.{Kind}
+use Rattle.rw_plain_queue.specs.declared.item.Item.{Item}
+use Rattle.rw_plain_queue.specs.declared.item.Item.TheVariants.{Sample, Flush, End}
+use Rattle.rw_shard_core.specs.Shard.{Core, AreInRow, last_of, can_send}
 use Rattle.rw_machine.specs.Shards.{Shard, Queued, One, FlushMark, EndMark, has_room, shard_flush, shard_end}
 use Rattle.rw_machine.specs.Worlds.{Request}
 use Rattle.rw_machine.specs.Steps.{request_by}

@@ -9,12 +9,12 @@ use Rattle.rw_ledger.specs.declared.ledger.Reason.{Reason}
 use Rattle.rw_router.specs.Fates.{Drops, Sends, fate}
 use Rattle.rw_router.specs.Routing.{Routing, Knows}
 use Rattle.rw_router.specs.declared.sample.RoutedSample.{RoutedSample}
-use Rattle.rw_shard_queue.specs.declared.item.Kind.{Kind}
-use Rattle.rw_shard_queue.specs.declared.item.Kind.TheVariants as kind
-use Rattle.rw_sender.specs.Configs.{choice_of}
-use Rattle.rw_sender.specs.declared.config.ConfigFields.{ConfigFields}
-use Rattle.rw_recv_head.specs.declared.limits.Limits.{Limits}
-use Rattle.rw_recv_head.specs.Verdicts.{LabelLimits}
+use Rattle.rw_plain_queue.specs.declared.item.Kind.{Kind}
+use Rattle.rw_plain_queue.specs.declared.item.Kind.TheVariants as kind
+use Rattle.rw_shard_core.specs.Configs.{choice_of}
+use Rattle.rw_shard_core.specs.declared.config.ConfigFields.{ConfigFields}
+use Rattle.rw_head.specs.declared.limits.Limits.{Limits}
+use Rattle.rw_head.specs.Verdicts.{LabelLimits}
 use Rattle.rw_machine.specs.Worlds.{Setup, World, is_finished}
 use Rattle.rw_machine.specs.Steps.{place_as, place_entry}
 use Rattle.rw_machine.specs.declared.event.Event.{Event}

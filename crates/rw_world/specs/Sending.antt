@@ -4,9 +4,9 @@ use Rattle.std.specs.Ordering.{nat_cmp}
 use Rattle.std.specs.FinMap.{FinMap, get}
 use Rattle.rw_ledger.specs.Names.{Named}
 use Rattle.rw_ledger.specs.declared.ledger.Reason.{Reason}
-use Rattle.rw_shard_queue.specs.Items.{Placed}
-use Rattle.rw_sender.specs.declared.config.Target.{Target}
-use Rattle.rw_sender.specs.Shard.{positions, new_core, is_answer, settle}
+use Rattle.rw_plain_queue.specs.Items.{Placed}
+use Rattle.rw_shard_core.specs.declared.config.Target.{Target}
+use Rattle.rw_shard_core.specs.Shard.{positions, new_core, is_answer, settle}
 use Rattle.rw_retry.specs.Judgements.{judgement_of}
 use Rattle.rw_batch.specs.declared.batch.BatchId.{BatchId}
 use Rattle.rw_types.specs.Labels.{Labels}

@@ -1,7 +1,7 @@
 //! A sender, the network and a receiving head.
 
 ghost use Rattle.std.specs.Prelude.{◌≡◌, ◌^◌, ◌<◌, true, false, Some, None, length, IfOk};
-ghost use Rattle.rw_recv_head.specs.Store.{list_of, label_sets};
+ghost use Rattle.rw_head.specs.Store.{list_of, label_sets};
 ghost use Rattle.rw_machine.specs.Worlds.{start, is_finished, is_over};
 ghost use Rattle.rw_machine.specs.Promises.{CanWork};
 ghost use Rattle.rw_world.specs.Machine.{setup_of};
@@ -10,11 +10,11 @@ use crate::log::Log;
 use crate::receiver::{copy_of, limits_at};
 use crate::sending::Shards;
 use crate::sent::{Answer, Sent};
+use rw_head::{Head, LabelSets, Limits};
 use rw_ledger::Ledger;
-use rw_recv_head::{Head, LabelSets, Limits};
 use rw_relabel::Choice;
 use rw_router::Router;
-use rw_sender::{Config, ConfigFields};
+use rw_shard_core::{Config, ConfigFields};
 use rw_types::{Bounded, HostName, LabelSet, Word};
 use std::alloc::{AllocError, Global};
 use std::marker::Model;

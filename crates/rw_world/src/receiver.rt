@@ -5,7 +5,7 @@ ghost use Rattle.rw_world.specs.Arriving.{IsSentTo, IsReplied, answer_within};
 
 use crate::sent::Sent;
 use http::StatusCode;
-use rw_recv_head::{Head, Limits};
+use rw_head::{Head, Limits};
 use rw_roundtrip::{exchange, requests_are_read};
 use rw_types::{HostName, RequestPath};
 use std::alloc::{AllocError, Global};

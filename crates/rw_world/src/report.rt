@@ -8,7 +8,7 @@ ghost use Rattle.rw_machine.specs.Worlds.{is_pending, report, up_to};
 ghost use Rattle.rw_world.specs.Endings.{ending_of};
 
 use crate::engine::Engine;
-use rw_sender::Outcome;
+use rw_shard_core::Outcome;
 use std::alloc::AllocError;
 
 /// Whether the position is one of these.

@@ -7,7 +7,7 @@ ghost use Rattle.rw_machine.specs.Settling.{at_first, first_of_these, can_place,
 ghost use Rattle.rw_machine.specs.Steps.{happens, run};
 ghost use Rattle.rw_machine.specs.Worlds.{is_finished, is_over};
 ghost use Rattle.rw_machine.specs.declared.event.Event.TheVariants as event;
-ghost use Rattle.rw_sender.specs.Shard.{same_id};
+ghost use Rattle.rw_shard_core.specs.Shard.{same_id};
 ghost use Rattle.rw_world.specs.Guards.{is_open, is_ready, may_take, may_flush, IsOpen};
 ghost use Rattle.rw_world.specs.Machine.{placed_entries};
 ghost use Rattle.rw_world.specs.Rounds.{events_of, HasSettled};

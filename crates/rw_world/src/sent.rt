@@ -1,14 +1,14 @@
 //! What was sent, and what was answered.
 
 ghost use Rattle.std.specs.Prelude.{◌≡◌};
-ghost use Rattle.rw_shard_queue.specs.Items.{samples_in};
+ghost use Rattle.rw_plain_queue.specs.Items.{samples_in};
 
 use bytes::Bytes;
 use http::StatusCode;
 use rw_batch::BatchId;
 use rw_history::History;
-use rw_sender::Attempt;
-use rw_shard_queue::Item;
+use rw_plain_queue::Item;
+use rw_shard_core::Attempt;
 use std::marker::Model;
 
 /// A batch that was sent.
@@ -20,7 +20,7 @@ pub(crate) struct Sent {
 }
 
 impl Model for Sent {
-    ghost use Rattle.rw_shard_queue.specs.Items.{samples_in};
+    ghost use Rattle.rw_plain_queue.specs.Items.{samples_in};
     ghost use Rattle.rw_machine.specs.Worlds.{Request};
 
     ghost Value = { Request };

@@ -1,13 +1,13 @@
 //! One shard of the world.
 
 ghost use Rattle.std.specs.Prelude.{◌≡◌, ◌<◌, ◌≤◌, ◌^◌, ◌==◌, [], ◌∷◌, ◌++◌, true, false, length, Some, None, IfOk, IfSome, OnOk, OnErr, if◌then◌else◌};
-ghost use Rattle.rw_sender.specs.Shard.{HasRoomFor, IsReadAgain, new_core, freeze_room, last_of, reply_names, places_of, positions_of};
-ghost use Rattle.rw_sender.specs.Shard as core;
+ghost use Rattle.rw_shard_core.specs.Shard.{HasRoomFor, IsReadAgain, new_core, freeze_room, last_of, reply_names, places_of, positions_of};
+ghost use Rattle.rw_shard_core.specs.Shard as core;
 ghost use Rattle.rw_machine.specs.Shards.{new_shard, has_room, shard_put, shard_flush, shard_end, with_core, shard_take, shard_freeze, shard_send, shard_lost, is_drained, pending};
-ghost use Rattle.rw_shard_queue.specs.Items.{places_in};
-ghost use Rattle.rw_shard_queue.specs.declared.item.Item.{Item};
+ghost use Rattle.rw_plain_queue.specs.Items.{places_in};
+ghost use Rattle.rw_plain_queue.specs.declared.item.Item.{Item};
 ghost use Rattle.rw_types.specs.declared.place.Place.{Place};
-ghost use Rattle.rw_shard_queue.specs.Queue.{refusal};
+ghost use Rattle.rw_plain_queue.specs.Queue.{refusal};
 ghost use Rattle.rw_world.specs.Guards.{is_open, is_ready, may_take, may_flush, waiting_id};
 ghost use Rattle.rw_world.specs.Held.{sample_for, queued_of, samples_of, flushed, sent_by};
 
@@ -15,8 +15,8 @@ use crate::sent::Sent;
 use http::StatusCode;
 use rw_batch::{BatchId, MAX_BATCH};
 use rw_ledger::Ledger;
-use rw_sender::{ShardCore, Target};
-use rw_shard_queue::{Item, Kind, PlainQueue};
+use rw_plain_queue::{Item, Kind, PlainQueue};
+use rw_shard_core::{ShardCore, Target};
 use rw_types::{LabelSet, Place, Word};
 use std::alloc::{AllocError, Global};
 use std::marker::Model;

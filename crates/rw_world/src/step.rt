@@ -8,7 +8,7 @@ ghost use Rattle.rw_world.specs.Machine.{is_arrive, takes_memory, mark_kind};
 
 use crate::engine::Engine;
 use rw_machine::Event;
-use rw_shard_queue::Kind;
+use rw_plain_queue::Kind;
 use rw_wal_tail::Piece;
 use std::alloc::AllocError;
 

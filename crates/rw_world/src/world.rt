@@ -1,7 +1,7 @@
 //! The world: whatever happens, each logged sample arrives once and in order.
 
 ghost use Rattle.std.specs.Prelude.{◌≡◌, ◌<◌, ◌^◌, true, false, Some, length, take, slice_get, IsOk, IfOk, IfErr, OnOk, OnErr};
-ghost use Rattle.rw_recv_head.specs.Store.{list_of, label_sets};
+ghost use Rattle.rw_head.specs.Store.{list_of, label_sets};
 ghost use Rattle.std.specs.Option.{option_map};
 ghost use Rattle.rw_machine.specs.Worlds.{Request, start, report, is_over};
 ghost use Rattle.rw_machine.specs.Promises.{IsSettled};
@@ -12,14 +12,14 @@ ghost use Rattle.rw_world.specs.Reached.{IsKept};
 ghost use Rattle.rw_world.specs.Rounds.{HasShutDown};
 
 use crate::engine::Engine;
+use rw_head::{LabelSets, Limits};
 use rw_ledger::Ledger;
 use rw_machine::{
     Event, closed_queues_hand_out_nothing, each_batch_has_one_fate, each_sample_has_one_class,
     logged_samples_arrive_in_order, requests_carry_their_batches, shards_keep_their_lists,
     shutdown_comes_to_its_report,
 };
-use rw_recv_head::{LabelSets, Limits};
-use rw_sender::{Config, Outcome};
+use rw_shard_core::{Config, Outcome};
 use rw_types::{LabelSet, Word};
 use std::alloc::{AllocError, Global};
 use std::marker::Model;

@@ -2,15 +2,15 @@
 
 ghost use Rattle.std.specs.Prelude.{◌≡◌, MatchResult};
 ghost use Rattle.std.specs.Process as process;
-ghost use Rattle.rw_tool.specs.Printed.{exit_status};
+ghost use Rattle.rw_log_commands.specs.Printed.{exit_status};
 ghost use Rattle.rwship.specs.Statuses.{follow_status, unset_status};
 
 use crate::settings::Unset;
 use clap::ArgMatches;
 use clap::error::ErrorKind;
+use rw_log_commands::ToolFault;
 use rw_send::FollowFault;
 use rw_settings::SettingsNote;
-use rw_tool::ToolFault;
 use rw_words::bad_address;
 use std::io::Error;
 use std::process::ExitCode;

@@ -2,8 +2,8 @@
 
 use crate::ending::tell_device;
 use rw_inspect::{Named, Report, inspect, json_of, table_of};
+use rw_log_commands::ToolFault;
 use rw_send::{Opened, SegmentFile, segment_files};
-use rw_tool::ToolFault;
 use rw_types::{Std, write_all};
 use std::alloc::AllocError;
 use std::fs;

@@ -2,12 +2,12 @@
 //! again, and the head has each sample once.
 
 ghost use Rattle.std.specs.Prelude.{◌≡◌, []};
-ghost use Rattle.rw_shard_queue.specs.declared.item.Item.TheVariants as item;
+ghost use Rattle.rw_plain_queue.specs.declared.item.Item.TheVariants as item;
 
 use crate::line::{Line, Quick};
-use rw_recv_head::Limits;
-use rw_sender::Config;
+use rw_head::Limits;
 use rw_shard_channel::{Feed, Item, Kind, Open, open};
+use rw_shard_core::Config;
 use rw_types::{LabelFault, LabelSet, Place, RawLabels, Word};
 use rw_worker::{StopFlag, Worker, WorkerReport};
 use std::alloc::Global;

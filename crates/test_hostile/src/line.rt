@@ -1,8 +1,8 @@
 //! A transport to a head in memory, over devices of which one call fails.
 
 use crate::devices::{Giving, Taking};
-use rw_recv_head::{Head, Limits};
-use rw_recv_http::serve;
+use rw_endpoint::serve;
+use rw_head::{Head, Limits};
 use rw_tcp::ask;
 use rw_types::{Room, write_all};
 use rw_worker::{Lost, Pause, Reply, Transport};

@@ -1,6 +1,6 @@
 //! A plain reading of a reply whose heads are short: byte by byte, by the words of the format alone.
 
-use rw_sender::ReplyRead;
+use rw_shard_core::ReplyRead;
 
 /// What stands before a reason: `v` for 0 or 1, and `d` for a digit.
 static START: &[u8] = b"HTTP/1.v ddd";

@@ -1,10 +1,10 @@
 //! The machine's program where memory is refused. What takes memory is done again where it is refused, so the test holds whichever growth
 //! is refused; `tools/refuse-each` refuses each of them in turn.
 
+use rw_head::Limits;
 use rw_machine::Event;
-use rw_recv_head::Limits;
 use rw_script::{Command, push_received, push_work, read_script};
-use rw_sender::{Config, ConfigFields};
+use rw_shard_core::{Config, ConfigFields};
 use rw_types::Bounded;
 use rw_world::World;
 use std::alloc::{AllocError, Global};

@@ -2,7 +2,7 @@
 
 use crate::changed::{Readings, wrong_byte};
 use crate::plain_reply::plain_reply;
-use rw_sender::read_reply;
+use rw_shard_core::read_reply;
 use std::alloc::{AllocError, Global};
 
 /// One that comes behind another head, and one with fields.

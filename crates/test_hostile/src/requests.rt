@@ -1,8 +1,8 @@
 //! The sender's request with each byte changed to each value: the replies that each part of it may have then. `rt try --test` is too slow for it.
 
 use crate::bodies::ONE;
-use rw_recv_head::{Head, Limits};
-use rw_recv_http::{ServeEnd, serve};
+use rw_endpoint::{ServeEnd, serve};
+use rw_head::{Head, Limits};
 use rw_types::Room;
 use std::alloc::{AllocError, Global};
 

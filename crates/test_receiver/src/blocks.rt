@@ -3,7 +3,7 @@
 use crate::messages::{
     DOWN, Labels, Parts, Row, Samples, UP, are_same, asked, first_wrong, holds, narrow,
 };
-use rw_recv_head::{Head, Verdict};
+use rw_head::{Head, Verdict};
 use std::alloc::{AllocError, Global};
 
 /// The samples `i` at `10 * i`, for `i` from the first to the last of each range.

@@ -1,7 +1,7 @@
 //! Request bodies and the statuses that answer them.
 
 use crate::messages::{UP, message, standard};
-use rw_recv_head::{Head, Limits};
+use rw_head::{Head, Limits};
 use rw_types::Bounded;
 use rw_write_request::encode;
 use std::alloc::{AllocError, Global};

@@ -4,7 +4,7 @@ ghost use Rattle.std.specs.Prelude.{⊤};
 
 use crate::devices::{Giving, Taking};
 use crate::store::{Store, is_served_by, served};
-use rw_recv_http::{Answer, ServeEnd};
+use rw_endpoint::{Answer, ServeEnd};
 use rw_types::Room;
 use std::alloc::{AllocError, Global};
 

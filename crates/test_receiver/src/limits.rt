@@ -1,7 +1,7 @@
 //! Heads at their limits: 64 fields, and 8,192 bytes with the last empty line.
 
 use crate::store::is_served;
-use rw_recv_http::ServeEnd;
+use rw_endpoint::ServeEnd;
 use std::alloc::{AllocError, Global};
 
 const START: &[u8] = b"POST /api/v1/write HTTP/1.1\r\nContent-Length: 0\r\nConnection: close\r\n";

@@ -3,7 +3,7 @@
 
 use crate::bodies::{ONE, TWO};
 use crate::messages::narrow;
-use rw_recv_head::Head;
+use rw_head::Head;
 use std::alloc::{AllocError, Global};
 
 /// How many samples and how many label sets a head holds.

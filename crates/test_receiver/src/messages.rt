@@ -1,6 +1,6 @@
 //! Messages as rows give them, and what a head makes of them.
 
-use rw_recv_head::{Head, Limits, Verdict};
+use rw_head::{Head, Limits, Verdict};
 use rw_types::{Bounded, LabelFault, LabelSet, Names, Word};
 use rw_write_request::{Message, Series};
 use std::alloc::{AllocError, Global};

@@ -1,7 +1,7 @@
 //! Names of labels, which a head takes by its setting.
 
 use crate::messages::{FALLING, Labels, Row, Samples, UP, first_wrong};
-use rw_recv_head::{Head, Limits, Verdict};
+use rw_head::{Head, Limits, Verdict};
 use rw_types::Names;
 use std::alloc::{AllocError, Global};
 

@@ -3,7 +3,7 @@
 use crate::messages::{
     DOWN, FALLING, Labels, Row, Samples, UP, WIDE, asked, first_wrong, label_set, narrow, standard,
 };
-use rw_recv_head::{Head, Verdict};
+use rw_head::{Head, Verdict};
 use rw_types::LabelSet;
 use std::alloc::{AllocError, Global};
 

@@ -1,7 +1,7 @@
 //! Series that come in one order and then in another: what the head expects next changes nothing that it answers.
 
 use crate::messages::{DOWN, FALLING, Labels, Row, Samples, UP, first_wrong, narrow};
-use rw_recv_head::Verdict;
+use rw_head::Verdict;
 use std::alloc::{AllocError, Global};
 
 const IDLE: Labels<'static> = &[("__name__", "idle")];

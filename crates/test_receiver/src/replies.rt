@@ -4,7 +4,7 @@ use crate::devices::Giving;
 use crate::store::{Store, is_served, served};
 use crate::waiting::{Hearing, Waiting};
 use ServeEnd::{Closed, Eof, Torn};
-use rw_recv_http::ServeEnd;
+use rw_endpoint::ServeEnd;
 use std::alloc::{AllocError, Global};
 use std::cell::Cell;
 

@@ -1,13 +1,13 @@
 //! Seats of one head, in one thread and in two.
 
 ghost use Rattle.std.specs.Prelude.{◌≡◌, ◌+◌, IfOk};
-ghost use Rattle.rw_recv_head.specs.Store.{total};
+ghost use Rattle.rw_head.specs.Store.{total};
 
 use crate::bodies::{ONE, TWO, WORD_OF_ONE};
 use crate::messages::{UP, holds, standard};
 use crate::store::is_served_by;
-use rw_recv_head::Head;
-use rw_recv_http::{Answer, ServeEnd};
+use rw_endpoint::{Answer, ServeEnd};
+use rw_head::Head;
 use rw_shared_head::{Asking, Seat, SharedHead};
 use std::alloc::{AllocError, Global};
 use std::marker::Brand;

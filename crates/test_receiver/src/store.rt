@@ -2,8 +2,8 @@
 
 ghost use Rattle.std.specs.Prelude.{⊤};
 
-use rw_recv_head::Limits;
-use rw_recv_http::{Answer, ServeEnd, serve};
+use rw_endpoint::{Answer, ServeEnd, serve};
+use rw_head::Limits;
 use rw_types::{Bounded, Room, Sink, Source};
 use std::alloc::{AllocError, Global};
 

@@ -1,9 +1,9 @@
 //! A world that is moved by several events in one call. Worlds that are moved by one event at a time, and settled, are those of the replays.
 
+use rw_head::Limits;
 use rw_machine::Event;
-use rw_recv_head::Limits;
 use rw_script::{Command, push_received, push_work, read_script};
-use rw_sender::Config;
+use rw_shard_core::Config;
 use rw_types::Room;
 use rw_wal_tail::Piece;
 use rw_wal_write::SegmentWriter;

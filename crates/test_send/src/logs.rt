@@ -1,6 +1,6 @@
 //! Segments of a log.
 
-use rw_tool::run_log;
+use rw_log_commands::run_log;
 use rw_types::{Failed, Room, Source};
 use std::alloc::{AllocError, Global};
 

@@ -7,7 +7,7 @@ use crate::rows::none_is_wrong;
 use crate::samples::{Row, sample};
 use rw_batch::{Batch, BatchId, Builder};
 use rw_ledger::Ledger;
-use rw_shard_queue::{Item, Kind};
+use rw_plain_queue::{Item, Kind};
 use rw_types::LabelFault;
 use std::alloc::{AllocError, Global};
 use std::test::Fail;

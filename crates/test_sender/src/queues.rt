@@ -2,7 +2,7 @@
 //! with each allocation refused in turn.
 
 use crate::rows::none_is_wrong;
-use rw_shard_queue::{Item, Kind, PlainQueue, PutFault};
+use rw_plain_queue::{Item, Kind, PlainQueue, PutFault};
 use std::alloc::{AllocError, Global};
 use std::test::Fail;
 

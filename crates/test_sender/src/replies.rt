@@ -1,7 +1,7 @@
 //! What the bytes of replies say.
 
 use crate::rows::none_is_wrong;
-use rw_sender::{MAX_FIELDS, MAX_HEAD_BYTES, ReplyRead, read_reply};
+use rw_shard_core::{MAX_FIELDS, MAX_HEAD_BYTES, ReplyRead, read_reply};
 use std::alloc::{AllocError, Global};
 use std::test::Fail;
 

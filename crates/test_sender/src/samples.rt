@@ -2,7 +2,7 @@
 
 ghost use Rattle.std.specs.Prelude.{◌≡◌, ◌∷◌, [], codes, IfOk};
 
-use rw_shard_queue::Item;
+use rw_plain_queue::Item;
 use rw_types::{LabelFault, LabelSet, Place, RawLabels, Word};
 use std::alloc::Global;
 use std::sync::Arc;

@@ -47,7 +47,8 @@ fn does_with<R: Net<Stream = TcpStream, Listener = TcpListener> + Threads + Wait
     settings: &Settings,
     printed: &mut Room,
 ) -> io::Result<bool> {
-    let (Some(most), Some(idle_ms)) = (Bounded::try_new(row.most), Bounded::try_new(row.idle_ms)) else {
+    let (Some(most), Some(idle_ms)) = (Bounded::try_new(row.most), Bounded::try_new(row.idle_ms))
+    else {
         return Ok(false);
     };
     let listener = TcpListener::bind(rt, "127.0.0.1:0")?;

@@ -2,9 +2,9 @@
 
 use crate::peers::Quick;
 use http::StatusCode;
-use rw_recv_head::Limits;
-use rw_recv_http::serve;
-use rw_sender::{ReplyRead, read_reply};
+use rw_endpoint::serve;
+use rw_head::Limits;
+use rw_shard_core::{ReplyRead, read_reply};
 use rw_shared_head::{Asking, Seat, SharedHead};
 use rw_shipper::Connect;
 use rw_types::Room;

@@ -2,7 +2,7 @@
 
 use crate::rows::none_is_wrong;
 use rw_hex::read_digits;
-use rw_tool::{ToolFault, run_body};
+use rw_log_commands::{ToolFault, run_body};
 use rw_types::Room;
 use rw_wal_format::TailFault;
 use std::alloc::{AllocError, Global};

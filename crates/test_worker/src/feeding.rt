@@ -1,7 +1,7 @@
 //! What a queue between threads is fed.
 
 ghost use Rattle.std.specs.Prelude.{◌≡◌, [], IfSome};
-ghost use Rattle.rw_shard_queue.specs.declared.item.Item.TheVariants as item;
+ghost use Rattle.rw_plain_queue.specs.declared.item.Item.TheVariants as item;
 
 use rw_shard_channel::{Ended, Feed, Item, Kind, Open};
 use rw_types::{LabelSet, Place, Word};

@@ -1,10 +1,10 @@
-//! A caller of `rw_recv_head`: a head that has taken one message.
+//! A caller of `rw_head`: a head that has taken one message.
 #![tactic(auto)]
 
 ghost use Rattle.std.specs.Prelude.{IfOk};
-ghost use Rattle.rw_recv_head.specs.Growth.{EachRises};
+ghost use Rattle.rw_head.specs.Growth.{EachRises};
 
-use rw_recv_head::{Head, Limits, Verdict};
+use rw_head::{Head, Limits, Verdict};
 use rw_write_request::Message;
 use std::alloc::Global;
 

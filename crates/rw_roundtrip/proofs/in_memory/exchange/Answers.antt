@@ -1,8 +1,8 @@
 use Rattle.std.proofs.Common.{◌≡◌, ◌⊎◌, ◌<◌, ◌-◌, ◌^◌, ℕ, List, [], length, Some, refl, ap, subst, inl, inr, arith}
 use Rattle.rw_types.specs.Memory.{Reserved}
-use Rattle.rw_sender.specs.declared.replies.ReplyRead.{ReplyRead}
-use Rattle.rw_sender.specs.declared.replies.ReplyRead.TheVariants.{Status, Partial, Bad}
-use Rattle.rw_sender.specs.Replies.{Reads}
+use Rattle.rw_shard_core.specs.declared.replies.ReplyRead.{ReplyRead}
+use Rattle.rw_shard_core.specs.declared.replies.ReplyRead.TheVariants.{Status, Partial, Bad}
+use Rattle.rw_shard_core.specs.Replies.{Reads}
 use Rattle.rw_roundtrip.proofs.ExchangeLemmas.{heard, heard_status, turned, unheard}
 use Rattle.rw_roundtrip.proofs.in_memory.exchange.Goals as goal
 

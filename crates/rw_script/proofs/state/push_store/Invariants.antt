@@ -1,5 +1,5 @@
 use Rattle.std.proofs.Common.{length}
-use Rattle.rw_recv_head.specs.Store.{list_of}
+use Rattle.rw_head.specs.Store.{list_of}
 use Rattle.rw_script.specs.StateText.{received_text, store_text}
 use Rattle.rw_script.proofs.StateLemmas.{Written}
 use Rattle.rw_script.proofs.state.push_store.Given as goal

@@ -1,5 +1,5 @@
 use Rattle.std.proofs.Common.{◌≡◌, true}
-use Rattle.rw_sender.specs.Configs.{is_ordered}
+use Rattle.rw_shard_core.specs.Configs.{is_ordered}
 use Rattle.rw_settings.proofs.DocumentLemmas.{in_order}
 use Rattle.rw_settings.proofs.read.config_of.Goals as goal
 

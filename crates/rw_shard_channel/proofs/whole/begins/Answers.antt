@@ -1,5 +1,5 @@
 use Rattle.std.proofs.Common.{◌∙◌, sym, ap, ◌++◌, List}
-use Rattle.rw_shard_queue.specs.declared.item.Item.{Item}
+use Rattle.rw_plain_queue.specs.declared.item.Item.{Item}
 use Rattle.rw_shard_channel.specs.declared.rule.Log.{Log}
 use Rattle.rw_shard_channel.specs.Ends.{Feeding, Draining}
 use Rattle.rw_shard_channel.specs.Rule.{joined}

@@ -1,6 +1,6 @@
 use Rattle.std.proofs.Common.{◌≡◌, ◌∙◌, true, ap, sym, subst}
 use Rattle.rw_types.specs.Requests.{is_host_name, is_request_path}
-use Rattle.rw_sender.specs.Shard.{body_of}
+use Rattle.rw_shard_core.specs.Shard.{body_of}
 use Rattle.rw_roundtrip.specs.Exchanges.{IsRequest}
 use Rattle.rw_machine.specs.Worlds.{Request}
 use Rattle.rw_world.proofs.ArriveLemmas.{asked, body_small}

@@ -1,5 +1,5 @@
 use Rattle.std.proofs.Common.{◌≡◌, ◌∙◌, ◌+◌, ◌-◌, ◌<◌, true, false, length, get_or, sym, ap, arith}
-use Rattle.rw_sender.specs.Shard.{same_id}
+use Rattle.rw_shard_core.specs.Shard.{same_id}
 use Rattle.rw_machine.specs.Worlds.{Request}
 use Rattle.rw_world.proofs.RoundLemmas.{newest_found, newest_passed}
 use Rattle.rw_world.proofs.round.newest.Goals as goal

@@ -1,5 +1,5 @@
 use Rattle.std.proofs.Common.{◌≡◌, ◌∙◌, ◌+◌, ◌++◌, ◌∷◌, [], suc, sym, ap, arith}
-use Rattle.rw_sender.specs.Shard.{new_core}
+use Rattle.rw_shard_core.specs.Shard.{new_core}
 use Rattle.rw_machine.specs.Shards.{new_shard}
 use Rattle.rw_world.specs.Sending.{new_held}
 use Rattle.rw_world.proofs.SendingLemmas.{new-snoc}

@@ -1,5 +1,5 @@
 use Rattle.std.proofs.Common.{◌≡◌, ◌++◌, take}
-use Rattle.rw_sender.specs.Shard.{positions_of}
+use Rattle.rw_shard_core.specs.Shard.{positions_of}
 use Rattle.rw_world.proofs.shard.add_places.Given as goal
 
 abbrev pub invariant-loop-place : goal.invariant-loop-place

@@ -2,9 +2,9 @@ use Rattle.std.proofs.Common.{◌≡◌, ◌≤◌, ◌∙◌, ◌++◌, ◌∷�
 use Rattle.std.specs.VecDeque.Iter.{deque_iter_rest}
 use Rattle.std.proofs.lemmas.Iterator.Consumers.{YieldsList-from_deque, YieldsList-turn, YieldsList-end}
 use Rattle.std.proofs.lemmas.List.{length_push, take_all}
-use Rattle.rw_shard_queue.specs.Items.{places_in}
-use Rattle.rw_shard_queue.specs.declared.item.Item.{Item}
-use Rattle.rw_sender.specs.Shard.{positions_of}
+use Rattle.rw_plain_queue.specs.Items.{places_in}
+use Rattle.rw_plain_queue.specs.declared.item.Item.{Item}
+use Rattle.rw_shard_core.specs.Shard.{positions_of}
 use Rattle.rw_world.proofs.PendingLemmas.{items_more}
 use Rattle.rw_world.proofs.shard.add_queued.Goals as goal
 

@@ -1,6 +1,6 @@
 use Rattle.std.proofs.Common.{◌≡◌, ◌++◌, take, length}
-use Rattle.rw_shard_queue.specs.Items.{places_in}
-use Rattle.rw_sender.specs.Shard.{positions_of}
+use Rattle.rw_plain_queue.specs.Items.{places_in}
+use Rattle.rw_shard_core.specs.Shard.{positions_of}
 use Rattle.rw_world.proofs.shard.add_queued.Given as goal
 
 abbrev pub invariant-loop-item : goal.invariant-loop-item

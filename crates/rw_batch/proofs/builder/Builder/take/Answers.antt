@@ -3,8 +3,8 @@ use Rattle.std.proofs.lemmas.List.{length_push, map-append}
 use Rattle.std.proofs.lemmas.Int.{to_z-of_z}
 use Rattle.std.specs.Int.{w64}
 use Rattle.std.specs.Prelude.{FitsSigned}
-use Rattle.rw_shard_queue.specs.declared.item.Item.{Item}
-use Rattle.rw_shard_queue.specs.declared.item.Item.TheVariants as item
+use Rattle.rw_plain_queue.specs.declared.item.Item.{Item}
+use Rattle.rw_plain_queue.specs.declared.item.Item.TheVariants as item
 use Rattle.rw_batch.specs.Batches.{Building, MayBeTaken, IsStretch}
 use Rattle.rw_batch.specs.Grouping.{LabelledSample}
 use Rattle.rw_batch.specs.Kept.{Fielded, Rowed}

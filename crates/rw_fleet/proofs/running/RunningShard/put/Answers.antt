@@ -4,7 +4,7 @@ use Rattle.std.proofs.Common.{rules, ◌≡◌, ◌<◌, Some, ◌∷◌, ◌++�
 use Rattle.std.proofs.lemmas.Int.{to_z-of_z}
 use Rattle.std.specs.Prelude.{slice_get}
 use Rattle.rw_shard_channel.specs.Ends.{QueueId}
-use Rattle.rw_shard_queue.specs.Items.{Placed, samples_in, places_in}
+use Rattle.rw_plain_queue.specs.Items.{Placed, samples_in, places_in}
 use Rattle.rw_fleet.specs.ShardHistories.{ShardHistory, put_as, marks_in}
 use Rattle.rw_fleet.specs.Positions.{Positions}
 use Rattle.rw_fleet.proofs.PutLemmas.{few_more, samples_more, positions_more, positions_length, as_put, marks_same_but}

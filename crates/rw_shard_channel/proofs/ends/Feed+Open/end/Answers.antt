@@ -1,6 +1,6 @@
 use Rattle.std.proofs.Common.{rules, arith, refl, ◌≡◌, []}
 use Rattle.std.proofs.lemmas.Grind.{common_steps}
-use Rattle.rw_shard_queue.specs.History.{IsOpen, IsEnded}
+use Rattle.rw_plain_queue.specs.History.{IsOpen, IsEnded}
 use Rattle.rw_shard_channel.specs.Ends.{log_of}
 use Rattle.rw_shard_channel.proofs.Moves.{ends, handed, kept, any}
 use Rattle.rw_shard_channel.proofs.ends.Feed+Open.end.Goals as goal

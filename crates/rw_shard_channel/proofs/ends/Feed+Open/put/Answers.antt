@@ -1,5 +1,5 @@
 use Rattle.std.proofs.Common.{rules, sym, subst}
-use Rattle.rw_shard_queue.specs.History.{MayFollow, IsOpen}
+use Rattle.rw_plain_queue.specs.History.{MayFollow, IsOpen}
 use Rattle.rw_shard_channel.specs.Ends.{Feeding}
 use Rattle.rw_shard_channel.specs.Ends.{log_of}
 use Rattle.rw_shard_channel.proofs.Moves.{pushes, pushed, handed, any}

@@ -1,5 +1,5 @@
 use Rattle.std.proofs.Common.{sym, ap, ◌∙◌, subst, arith}
-use Rattle.rw_sender.specs.declared.config.ConfigFields.{ConfigFields}
+use Rattle.rw_shard_core.specs.declared.config.ConfigFields.{ConfigFields}
 use Rattle.rw_feeder.specs.Feeders.{Sorting}
 use Rattle.rw_fleet.specs.ShardHistories.{AreFresh}
 use Rattle.rw_fleet.specs.Fleets.{Shards}

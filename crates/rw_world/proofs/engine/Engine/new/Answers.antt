@@ -1,6 +1,6 @@
 use Rattle.std.proofs.Common.{rules, ◌≡◌, ◌∙◌, ap, arith}
-use Rattle.rw_sender.specs.declared.config.ConfigFields.{ConfigFields}
-use Rattle.rw_recv_head.specs.declared.limits.Limits.{Limits}
+use Rattle.rw_shard_core.specs.declared.config.ConfigFields.{ConfigFields}
+use Rattle.rw_head.specs.declared.limits.Limits.{Limits}
 use Rattle.rw_machine.specs.Worlds.{start}
 use Rattle.rw_world.specs.Machine.{setup_of}
 use Rattle.rw_world.specs.Sending.{Sending}

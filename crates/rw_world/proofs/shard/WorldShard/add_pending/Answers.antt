@@ -1,5 +1,5 @@
 use Rattle.std.proofs.Common.{◌≡◌, ◌++◌, OnOk, subst}
-use Rattle.rw_sender.specs.Shard.{positions}
+use Rattle.rw_shard_core.specs.Shard.{positions}
 use Rattle.rw_machine.specs.Shards.{pending}
 use Rattle.rw_world.specs.Held.{Held}
 use Rattle.rw_world.proofs.PendingLemmas.{both_added}

@@ -1,5 +1,5 @@
 use Rattle.std.proofs.Common.{◌≡◌, ◌∙◌, sym, true, false}
-use Rattle.rw_sender.specs.Shard.{is_empty, pending}
+use Rattle.rw_shard_core.specs.Shard.{is_empty, pending}
 use Rattle.rw_world.proofs.ShardLemmas.{drained_is}
 use Rattle.rw_world.proofs.shard.WorldShard.is_drained.Goals as goal
 

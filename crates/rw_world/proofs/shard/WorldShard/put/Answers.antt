@@ -1,11 +1,11 @@
 use Rattle.std.proofs.Common.{◌≡◌, ◌∙◌, ◌<◌, ◌^◌, ◌++◌, ◌∷◌, [], length, sym, ap, refl, IfSome, subst, ℤ, arith}
 use Rattle.std.proofs.Math.Facts.{to_z-of_z}
 use Rattle.rw_types.specs.declared.place.Place.{Place}
-use Rattle.rw_shard_queue.specs.Items.{Placed, samples_in}
-use Rattle.rw_shard_queue.specs.Queue.{put_in}
-use Rattle.rw_shard_queue.specs.declared.item.Item.{Item}
-use Rattle.rw_shard_queue.specs.declared.item.Item.TheVariants.{Sample}
-use Rattle.rw_sender.specs.Shard.{last_of}
+use Rattle.rw_plain_queue.specs.Items.{Placed, samples_in}
+use Rattle.rw_plain_queue.specs.Queue.{put_in}
+use Rattle.rw_plain_queue.specs.declared.item.Item.{Item}
+use Rattle.rw_plain_queue.specs.declared.item.Item.TheVariants.{Sample}
+use Rattle.rw_shard_core.specs.Shard.{last_of}
 use Rattle.rw_machine.specs.Shards.{shard_put}
 use Rattle.rw_world.specs.Held.{Held, held_of, sample_for}
 use Rattle.rw_world.proofs.ShardLemmas.{put_sample_kept, held_more}

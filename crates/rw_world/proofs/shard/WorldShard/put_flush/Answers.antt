@@ -1,7 +1,7 @@
 use Rattle.std.proofs.Common.{◌∙◌, ap, refl}
-use Rattle.rw_shard_queue.specs.Items.{samples_in}
-use Rattle.rw_shard_queue.specs.Queue.{put_in}
-use Rattle.rw_shard_queue.specs.declared.item.Item.TheVariants.{Flush}
+use Rattle.rw_plain_queue.specs.Items.{samples_in}
+use Rattle.rw_plain_queue.specs.Queue.{put_in}
+use Rattle.rw_plain_queue.specs.declared.item.Item.TheVariants.{Flush}
 use Rattle.rw_machine.specs.Shards.{shard_flush}
 use Rattle.rw_world.specs.Held.{Held}
 use Rattle.rw_world.proofs.ShardLemmas.{put_mark_kept, held_more}

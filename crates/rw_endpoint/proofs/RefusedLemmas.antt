@@ -1,0 +1,89 @@
+-- A request that its head refuses.
+use Rattle.std.proofs.Common.{◌≡◌, ◌≤◌, ℕ, List, [], ◌++◌, length, Bool, true, false, IsTrue, Option, Some, refl, sym, subst, ◌∙◌, ap, inl, inr, arith, length-append}
+use Rattle.std.proofs.lemmas.List.{append-nil}
+use Rattle.std.proofs.lemmas.Bool.{or_right}
+use Rattle.rw_endpoint.specs.Judgement.{finding_of, is_refusal}
+use Rattle.rw_endpoint.specs.Replies.{reply, is_verdict}
+use Rattle.rw_endpoint.specs.Serving.{Replies, RepliesTo, last, further, Ends, Serves, ends, stays, HasWritten, IsTooSmall}
+use Rattle.rw_endpoint.specs.Alone.{IsOneRefusal, IsTurnedAway}
+use Rattle.rw_endpoint.specs.declared.finding.Finding.TheVariants.{Refused, Body}
+use Rattle.rw_endpoint.specs.declared.serve_end.ServeEnd.{ServeEnd}
+use Rattle.rw_endpoint.specs.declared.serve_end.ServeEnd.TheVariants.{Eof, Closed, Torn, Device, OutOfMemory}
+use Rattle.rw_endpoint.proofs.AloneLemmas.{one_head, FindingWithin, finding_within}
+use Rattle.rw_endpoint.proofs.FrontLemmas.{begins_more, head_longer}
+use Rattle.rw_endpoint.proofs.ReplyLemmas.{reply_len}
+
+-- the reply
+record IsRefusal {S : Type 0} (status : ℕ) (old : S) (text : List ℕ) (closes : Bool) (new : S) : Type 0 where
+  closing : closes ≡ true
+  unasked : new ≡ old
+  written : text ≡ reply status true
+
+refusal_of : {S : Type 0} (path : List ℕ) (limit : ℕ) (answers : S → List ℕ → ℕ → S → Type 0) (input : List ℕ) (status : ℕ) (old : S) (text rest : List ℕ) (closes : Bool) (new : S) →
+    IsOneRefusal path limit input status → Replies path limit answers input old text rest closes new → IsRefusal status old text closes new
+refusal_of path limit answers input status old text rest closes new one (inl r) =
+    absurd (r.never [] one.head (one.rest ++ []) (begins_more input [] one.head one.rest one.begins))
+refusal_of path limit answers input status old text rest closes new one (inr (inl r)) =
+    let same = one_head input one.head r.head one.rest r.rest one.begins r.begins in
+    let e : Refused status ≡ Refused r.status = sym one.finding ∙ ap (finding_of path limit) same.0 ∙ r.finding in
+    let statuses : r.status ≡ status = cc in
+    record { closing = r.closing; unasked = r.unasked; written = r.written ∙ ap (λ (s : ℕ). reply s true) statuses }
+refusal_of path limit answers input status old text rest closes new one (inr (inr r)) =
+    let same = one_head input one.head r.head one.rest (r.body ++ rest) one.begins r.begins in
+    absurd (let e : Refused status ≡ Body (length r.body) closes = sym one.finding ∙ ap (finding_of path limit) same.0 ∙ r.finding in cc)
+
+-- its status
+refusal_status : (path : List ℕ) (limit : ℕ) (input : List ℕ) (status : ℕ) → IsOneRefusal path limit input status → IsTrue (is_refusal status)
+refusal_status path limit input status one = subst (FindingWithin limit) one.finding (finding_within path limit one.head).bound
+
+-- it is short
+refusal_len : (path : List ℕ) (limit : ℕ) (input : List ℕ) (status : ℕ) → IsOneRefusal path limit input status → length (reply status true) ≤ 86
+refusal_len path limit input status one =
+    reply_len status true (or_right (is_verdict status) (is_refusal status) (refusal_status path limit input status one))
+
+replies_short : {S : Type 0} (path : List ℕ) (limit : ℕ) (answers : S → List ℕ → ℕ → S → Type 0) (input : List ℕ) (status : ℕ) (old : S) (text : List ℕ) →
+    IsOneRefusal path limit input status → RepliesTo path limit answers input old text → length text ≤ 86
+replies_short path limit answers input status old text one (last {rest = rest} {closes = closes} {new = new} r) =
+    let p = refusal_of path limit answers input status old text rest closes new one r in
+    subst (λ (t : List ℕ). length t ≤ 86) (sym p.written) (refusal_len path limit input status one)
+replies_short path limit answers input status old text one (further {first = first} {rest = rest} {middle = middle} r more) =
+    let p = refusal_of path limit answers input status old first rest false middle one r in
+    absurd (let e : false ≡ true = p.closing in cc)
+
+-- how such a connection ends
+ended : {S : Type 0} (path : List ℕ) (limit : ℕ) (answers : S → List ℕ → ℕ → S → Type 0) (input : List ℕ) (status : ℕ) (old : S) (before text : List ℕ) (contents : Option (List ℕ)) (new : S) (how : ServeEnd) →
+    IsOneRefusal path limit input status → contents ≡ Some (before ++ text) → Ends path limit answers input old text new how → (how ≡ Device → ⊥) →
+    IsTurnedAway status old before contents new how
+ended path limit answers input status old before text contents new Eof one w e sound =
+    absurd (let some = head_longer one.head one.begins.0.0 in
+    let whole = simp length-append at (ap length one.begins.0.1) in
+    let none : length input ≡ 0 = ap length e.0 in
+    omega (arith, some, whole, none))
+ended path limit answers input status old before text contents new Torn one w ((inl e), silent) sound = absurd (e.1.0 one.head one.rest one.begins)
+ended path limit answers input status old before text contents new Torn one w ((inr e), silent) sound =
+    let same = one_head input one.head e.0 one.rest e.1 one.begins e.4 in
+    absurd (let f : Refused status ≡ Body e.2 e.3 = sym one.finding ∙ ap (finding_of path limit) same.0 ∙ e.5 in cc)
+ended path limit answers input status old before text contents new Closed one w e sound =
+    let p = refusal_of path limit answers input status old text e.0 true new one e.1 in
+    (p.unasked, inl (refl, refusal_status path limit input status one, w ∙ ap (λ (t : List ℕ). Some (before ++ t)) p.written))
+ended path limit answers input status old before text contents new Device one w e sound = absurd (sound refl)
+ended path limit answers input status old before text contents new OutOfMemory one w e sound =
+    (e.1, inr (refl, w ∙ ap (λ (t : List ℕ). Some (before ++ t)) e.0 ∙ ap Some (append-nil before)))
+
+served : {S : Type 0} (path : List ℕ) (limit : ℕ) (answers : S → List ℕ → ℕ → S → Type 0) (input : List ℕ) (status : ℕ) (old : S) (before text : List ℕ) (contents : Option (List ℕ)) (new : S) (how : ServeEnd) →
+    IsOneRefusal path limit input status → contents ≡ Some (before ++ text) → Serves path limit answers input old text new how → (how ≡ Device → ⊥) →
+    IsTurnedAway status old before contents new how
+served path limit answers input status old before text contents new how one w (ends e) sound = ended path limit answers input status old before text contents new how one w e sound
+served path limit answers input status old before text contents new how one w (stays {first = first} {rest = rest} {middle = middle} r more) sound =
+    let p = refusal_of path limit answers input status old first rest false middle one r in
+    absurd (let e : false ≡ true = p.closing in cc)
+
+-- it is turned away where there is room for a reply
+pub turned_away : {S : Type 0} (path : List ℕ) (limit : ℕ) (answers : S → List ℕ → ℕ → S → Type 0) (input : List ℕ) (status : ℕ) (old : S) (before : List ℕ) (contents : Option (List ℕ)) (new : S) (how : ServeEnd) (room : ℕ) →
+    IsOneRefusal path limit input status → HasWritten path limit answers input old before contents new how → 86 ≤ room →
+    (how ≡ Device → IsTooSmall path limit answers input old room) → IsTurnedAway status old before contents new how
+turned_away path limit answers input status old before contents new how room one w fits small =
+    served path limit answers input status old before w.0 contents new how one w.1 w.2 (λ e.
+    let s = small e in
+    let few = replies_short path limit answers input status old s.0 one s.1 in
+    omega (arith, few, s.2, fits))

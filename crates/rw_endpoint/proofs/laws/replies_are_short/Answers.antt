@@ -1,0 +1,5 @@
+use Rattle.rw_endpoint.proofs.ReplyLemmas.{reply_len}
+use Rattle.rw_endpoint.proofs.laws.replies_are_short.Goals as goal
+
+pub returns : goal.returns
+returns c = reply_len

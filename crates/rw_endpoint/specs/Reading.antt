@@ -1,0 +1,45 @@
+-- Request heads at the front of an input, and bodies after them.
+use Rattle.std.specs.Prelude.{◌≡◌, ℕ, ◌<◌, ◌≤◌, List, [], ◌++◌, length, drop, Option, None, Some}
+use Rattle.std.specs.Io.KnownBytes.{Consumes, IsAtEnd}
+use Rattle.httparse.specs.Grammar.{RequestHead, ReadsRequest, MayBecomeRequest, print_request}
+use Rattle.rw_endpoint.specs.Judgement.{finding_of}
+use Rattle.rw_endpoint.specs.declared.head.Reading.{Reading}
+use Rattle.rw_endpoint.specs.declared.head.Reading.TheVariants as Seen
+use Rattle.rw_endpoint.specs.declared.input.Front.{Front}
+use Rattle.rw_endpoint.specs.declared.input.Front.TheVariants.{Head, Never, End}
+
+-- the input is a head within the limits, and then the rest
+abbrev pub BeginsWithHead : List ℕ → RequestHead → List ℕ → Type 0
+BeginsWithHead input head rest =
+    ReadsRequest input head rest × (length (print_request head) ≤ 8192) × (length head.fields ≤ 64)
+
+-- no such head stands at the front
+abbrev pub HasNoHead : List ℕ → Type 0
+HasNoHead input = (head : RequestHead) (rest : List ℕ) → ¬ (BeginsWithHead input head rest)
+
+-- and none will, whatever follows
+abbrev pub NeverHasHead : List ℕ → Type 0
+NeverHasHead input = (more : List ℕ) → HasNoHead (input ++ more)
+
+-- a head is not there yet: the bytes are fewer than a head may have, and some of the grammar begin so
+abbrev pub IsPartOfHead : List ℕ → Type 0
+IsPartOfHead input = HasNoHead input × MayBecomeRequest input × (length input < 8192)
+
+-- what is found in the bytes that have come
+abbrev pub Judges : List ℕ → ℕ → List ℕ → Reading → Type 0
+Judges path limit input (Seen.Head finding len) =
+    (head : RequestHead) × BeginsWithHead input head (drop len input) × (len ≡ length (print_request head))
+    × (finding ≡ finding_of path limit head)
+Judges path limit input Seen.More = IsPartOfHead input
+Judges path limit input Seen.Never = NeverHasHead input
+
+-- what stands at the front of the bytes that wait, where the reader has some left behind them
+abbrev pub HasRead : List ℕ → ℕ → List ℕ → Option (List ℕ) → Front → Type 0
+HasRead path limit pending left (Head finding len) = Judges path limit pending (Seen.Head finding len) × (len ≤ length pending)
+HasRead path limit pending left Never = NeverHasHead pending
+HasRead path limit pending left End = IsPartOfHead pending × IsAtEnd left
+
+-- a body of n bytes was taken, or the input ended before
+abbrev pub HasBody : Option (List ℕ) → Option (List ℕ) → ℕ → Option (List ℕ) → Type 0
+HasBody old new n (Some body) = Consumes old new body × (length body ≡ n)
+HasBody old new n None = (part : List ℕ) × Consumes old (Some []) part × (length part < n)

@@ -1,0 +1,59 @@
+//! The head of a request, read.
+
+ghost use Rattle.std.specs.Prelude.{◌≡◌, ◌≤◌, length, map, All};
+ghost use Rattle.httparse.specs.Spans.{IsHeaderWithin, header_bytes};
+ghost use Rattle.rw_endpoint.specs.Reading.{Judges};
+
+use crate::fields::has_field;
+use crate::finding::{Finding, judge_body};
+use httparse::Status;
+use httparse::spans::{EMPTY_HEADER_SPAN, HeaderSpan, parse_request};
+
+/// The most bytes of a head, its last line and the empty lines before it included.
+pub(crate) const MAX_HEAD_BYTES: usize = 8192;
+
+/// The most fields of a head.
+const MAX_FIELDS: usize = 64;
+
+/// What the bytes that have come of a request say.
+#[derive(Clone, Copy, Debug, PartialEq, Eq)]
+pub enum Reading {
+    /// A whole head: what is found by it, and how many bytes it takes.
+    Head(Finding, usize),
+    /// More has to come.
+    More,
+    /// There is no head within the limits, whatever follows.
+    Never,
+}
+
+/// Reads the head of the request that these bytes begin.
+pub(crate) fn read_head(buf: &[u8], path: &[u8], limit: u64) -> Reading
+    requires { length buf.now ≤ 8192 }
+    ensures { Judges path.now limit buf.now result }
+{
+    let mut headers = [EMPTY_HEADER_SPAN; MAX_FIELDS];
+    let head = match parse_request(buf, &mut headers) {
+        Ok(Status::Complete(head)) => head,
+        Ok(Status::Partial) => {
+            return if buf.len() < MAX_HEAD_BYTES {
+                Reading::More
+            } else {
+                Reading::Never
+            };
+        }
+        Err(_) => return Reading::Never,
+    };
+    let fields = &headers[..head.headers];
+    let finding = if head.path.of(buf) != path {
+        Finding::Refused(404)
+    } else if head.method.of(buf) != b"POST".as_slice() {
+        Finding::Refused(405)
+    } else if has_field(buf, fields, b"transfer-encoding")
+        || !has_field(buf, fields, b"content-length")
+    {
+        Finding::Refused(411)
+    } else {
+        judge_body(buf, fields, head.version, limit)
+    };
+    Reading::Head(finding, head.len)
+}

@@ -1,0 +1,20 @@
+use Rattle.std.proofs.Common.{◌∙◌, ap, length, arith}
+use Rattle.std.proofs.lemmas.List.{length_push}
+use Rattle.rw_head.proofs.NameLemmas.{AreNamed-pop, below-pop, below_all}
+use Rattle.rw_head.proofs.places.Places.truncate.Goals as goal
+
+pub invariant_of-self-in-Some : goal.invariant_of-self-in-Some
+invariant_of-self-in-Some c = record {
+  named = AreNamed-pop c.loop-self.self.tree c.remove.new.self c.loop-self.self.names.items c.pop.new.self.items c.in-Some.name c.in-Some.ensures.items c.loop-self.self.named c.remove.ensures.updates;
+}
+
+pub loop-self-preserved-in-Some : goal.loop-self-preserved-in-Some
+loop-self-preserved-in-Some c = record {
+  below = λ q.
+      below-pop c.loop-self.self.tree c.remove.new.self c.loop-self.self.names.items c.pop.new.self.items c.in-Some.name q c.args.len c.in-Some.ensures.items c.loop-self.self.named c.remove.ensures.updates (omega arith)
+      ∙ c.loop-self.invariant.below q;
+  len = omega (arith, ap length c.in-Some.ensures.items, length_push c.pop.new.self.items c.in-Some.name, c.loop-self.invariant.len, c.loop-self-test.true, c.len.ensures);
+}
+
+pub returns-clause-below : goal.returns-clause-below
+returns-clause-below c = λ l. below_all c.loop-self.self.tree c.loop-self.self.names.items l c.args.len c.loop-self.self.named (omega arith) ∙ c.loop-self.invariant.below l

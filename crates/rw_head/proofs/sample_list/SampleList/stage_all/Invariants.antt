@@ -1,0 +1,11 @@
+use Rattle.std.proofs.Common.{◌≡◌, ◌+◌, ◌≤◌, length, drop, Some}
+use Rattle.rw_head.specs.Order.{points, accept}
+use Rattle.rw_head.proofs.sample_list.SampleList.stage_all.Given as goal
+
+abbrev pub invariant-loop-sample : goal.invariant-loop-sample
+invariant-loop-sample l = record {
+  kept : l.self.kept ≡ l.initial.self.kept;
+  grown : length l.initial.self.staged ≤ length l.self.staged;
+  few : length l.self.staged ≤ length l.initial.self.staged + l.sample-index;
+  staged : accept (Some l.initial.self.staged) (points l.samples) ≡ accept (Some l.self.staged) (points (drop l.sample-index l.samples));
+}

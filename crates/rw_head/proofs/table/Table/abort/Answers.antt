@@ -1,0 +1,32 @@
+use Rattle.std.proofs.Common.{◌≡◌, ◌-◌, length, take, ap, arith, ◌∙◌}
+use Rattle.std.proofs.lemmas.List.{length-take-le}
+use Rattle.rw_head.proofs.PlaceLemmas.{takes_out, Aborted, aborted_kept, aborted_staged, IsSound-aborted}
+use Rattle.rw_head.proofs.table.Table.abort.Goals as goal
+
+forgotten : (c : goal.After-self-1) → Aborted c.self.inside.places.tree c.truncate.new.self.tree c.self.inside.lists.items c.abort_all.new.lists.items c.truncate-2.new.self.items c.self.inside.fresh.items
+forgotten c = record {
+  out = takes_out c.self.inside.lists.items c.self.inside.places.tree c.truncate.new.self.tree c.self.inside.fresh.items _ c.self.invariant.0.brought (let few = c.self.invariant.0.brought.few in omega (arith, few, c.abort_all.ensures.len)) c.truncate.ensures.below;
+  len = c.abort_all.ensures.len;
+  settled = c.abort_all.ensures.staged;
+  same = c.abort_all.ensures.kept;
+  front =
+      let left : c.len.result - c.len-2.result ≡ length c.abort_all.new.lists.items - length c.self.inside.fresh.items = omega arith in
+      c.truncate-2.ensures.items ∙ ap (λ k. take k c.abort_all.new.lists.items) left;
+}
+
+pub invariant_of-self : goal.invariant_of-self
+invariant_of-self c = (
+  IsSound-aborted c.self.inside.places.tree c.truncate.new.self.tree c.self.inside.lists.items c.abort_all.new.lists.items c.truncate-2.new.self.items c.self.inside.touched.items c.clear.new.self.items
+      c.self.inside.fresh.items c.clear-2.new.self.items c.self.inside.count c.self.inside.staged_count c.self.invariant.0 (forgotten c) c.clear.ensures.items c.clear-2.ensures.items,
+  omega (arith, c.truncate.ensures.names, ap length c.truncate-2.ensures.items, length-take-le (c.len.result - c.len-2.result) c.abort_all.new.lists.items (omega arith), c.self.invariant.1, c.abort_all.ensures.len),
+)
+
+pub returns-clause-kept : goal.returns-clause-kept
+returns-clause-kept c =
+    aborted_kept c.self.inside.places.tree c.truncate.new.self.tree c.self.inside.lists.items c.abort_all.new.lists.items c.truncate-2.new.self.items c.self.inside.fresh.items c.self.invariant.0.places c.self.invariant.0.brought (forgotten c)
+    ∙ ap (λ s. s.kept) c.self.view_is
+
+pub returns-clause-staged : goal.returns-clause-staged
+returns-clause-staged c =
+    aborted_staged c.self.inside.places.tree c.truncate.new.self.tree c.self.inside.lists.items c.abort_all.new.lists.items c.truncate-2.new.self.items c.self.inside.fresh.items c.self.invariant.0.places c.self.invariant.0.brought (forgotten c)
+    ∙ ap (λ s. s.kept) c.self.view_is

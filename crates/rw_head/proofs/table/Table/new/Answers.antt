@@ -1,0 +1,12 @@
+use Rattle.std.proofs.Common.{◌≡◌, ◌+◌, length, ap, arith}
+use Rattle.rw_head.proofs.PlaceLemmas.{no_places, IsSound-empty}
+use Rattle.rw_head.proofs.table.Table.new.Goals as goal
+
+pub invariant_of-result : goal.invariant_of-result
+invariant_of-result c = (IsSound-empty c.new.result.tree _ _ _ c.new.ensures.tree c.new-2.ensures.items c.new-3.ensures.items c.new-4.ensures.items, omega (arith, ap length c.new.ensures.names, ap length c.new-2.ensures.items))
+
+pub returns : goal.returns
+returns c =
+    let stores = no_places c.new.result.tree.entries c.new-2.result.items c.new.ensures.tree in
+    let none : length c.new-3.result.items + length c.new-4.result.items ≡ 0 = omega (arith, ap length c.new-3.ensures.items, ap length c.new-4.ensures.items) in
+    λ i. record { kept = stores.0 i; staged = stores.1 i; noted = none i }

@@ -1,0 +1,109 @@
+-- The lists of a head while it judges a message: how each stood before, and how it would stand.
+use Rattle.std.specs.Prelude.{◌≡◌, ◌≢◌, ℕ, ◌+◌, ◌^◌, ◌<◌, ◌≤◌, int_lt, Bool, true, false, if◌then◌else◌, nat_eq, List, [], ◌∷◌, ◌++◌, length, map, slice_index, slice_index_or, Option, Some, None, Result, Ok, Err}
+use Rattle.std.specs.BTreeMap.{BTreeMap, get, Updates}
+use Rattle.std.specs.FinMap.{empty}
+use Rattle.std.specs.List.{AllByRecursion, list_any}
+use Rattle.rw_types.specs.Labels.{Labels}
+use Rattle.rw_types.specs.LabelOrder.{labels_cmp, labels_eq}
+use Rattle.rw_head.specs.declared.verdict.Verdict.{Verdict}
+use Rattle.rw_head.specs.declared.verdict.Verdict.TheVariants.{OutOfOrder, NoMemory}
+use Rattle.rw_head.specs.Order.{Point}
+use Rattle.rw_head.specs.Store.{Store, with_list, total}
+
+-- timestamps that rise
+abbrev pub Rises : List Point → Type 0
+Rises [] = Unit {0}
+Rises (x ∷ xs) = AllByRecursion (λ y. int_lt x.0 y.0 ≡ true) xs × Rises xs
+
+-- the samples that are kept, and these with those of the message so far
+pub record Lists : Type 0 where
+  pub kept : List Point
+  pub staged : List Point
+
+abbrev pub no_lists : Lists
+no_lists = record { kept = []; staged = [] }
+
+-- the store of these lists
+abbrev pub store_of_lists : List (Labels × List Point) → Store
+store_of_lists [] = empty
+store_of_lists (e ∷ es) = with_list e.0 e.1 (store_of_lists es)
+
+-- the lists at the places of their label sets
+abbrev pub listed : (Lists → List Point) → List Lists → List (Labels × ℕ) → List (Labels × List Point)
+listed f lists places = map (λ e. (e.0, f (slice_index_or lists e.1 no_lists))) places
+
+unfoldable pub kept_store : List (Labels × ℕ) → List Lists → Store
+kept_store places lists = store_of_lists (listed (λ l. l.kept) lists places)
+
+unfoldable pub staged_store : List (Labels × ℕ) → List Lists → Store
+staged_store places lists = store_of_lists (listed (λ l. l.staged) lists places)
+
+-- each label set has a place of its own
+pub record HasPlaces (index : BTreeMap Labels ℕ) (lists : List Lists) : Type 0 where
+  pub within : (l : Labels) (n : ℕ) → get labels_cmp index l ≡ Some n → n < length lists
+  pub apart : (l m : Labels) (n : ℕ) → get labels_cmp index l ≡ Some n → get labels_cmp index m ≡ Some n → l ≡ m
+
+-- only the lists at these places differ from what is kept
+pub record Settled (touched : List ℕ) (lists : List Lists) : Type 0 where
+  pub within : (k : ℕ) → k < length touched → slice_index touched k < length lists
+  pub others : (n : ℕ) → n < length lists → list_any (nat_eq n) touched ≡ false → (slice_index_or lists n no_lists).kept ≡ (slice_index_or lists n no_lists).staged
+
+abbrev pub has_samples : List Point → Bool
+has_samples [] = false
+has_samples (x ∷ xs) = true
+
+-- Of the label sets in the index, the fresh ones have the last lists, and nothing of these is kept. Of each other list something is.
+pub record IsFresh (index : BTreeMap Labels ℕ) (lists : List Lists) (fresh : List Labels) : Type 0 where
+  pub few : length fresh ≤ length lists
+  pub named : (l : Labels) (n : ℕ) → get labels_cmp index l ≡ Some n → length lists ≤ n + length fresh → list_any (labels_eq l) fresh ≡ true
+  pub last : (l : Labels) (n : ℕ) → list_any (labels_eq l) fresh ≡ true → get labels_cmp index l ≡ Some n → length lists ≤ n + length fresh
+  pub empty : (n : ℕ) → n < length lists → length lists ≤ n + length fresh → (slice_index_or lists n no_lists).kept ≡ []
+  pub others : (n : ℕ) → n + length fresh < length lists → has_samples (slice_index_or lists n no_lists).kept ≡ true
+
+-- each list has samples, with those that are staged
+abbrev pub AllFilled : List Lists → Type 0
+AllFilled lists = (n : ℕ) → n < length lists → has_samples (slice_index_or lists n no_lists).staged ≡ true
+
+-- a label set that had no list has the last one, with its place noted
+pub record IsAdded (index new : BTreeMap Labels ℕ) (old lists : List Lists) (touched noted : List ℕ) (fresh named : List Labels) (l : Labels) (x : Lists) : Type 0 where
+  pub place : Updates labels_cmp index new l (Some (length old))
+  pub behind : lists ≡ old ++ x ∷ []
+  pub note : noted ≡ touched ++ length old ∷ []
+  pub name : named ≡ fresh ++ l ∷ []
+
+-- the two stores, and how many places are noted that a message has touched or made
+pub record Stores : Type 0 where
+  pub kept : Store
+  pub staged : Store
+  pub noted : ℕ
+
+-- What a function that stages samples returned says what the order rule gives, unless memory ran out.
+abbrev pub ListGives : Result (Unit {0}) Verdict → Option (List Point) → List Point → Type 0
+ListGives (Ok u) given xs = given ≡ Some xs
+ListGives (Err v) given xs = v ≢ NoMemory → (v ≡ OutOfOrder) × (given ≡ None)
+
+-- the same of one that stages series
+abbrev pub StoreGives : Result (Unit {0}) Verdict → Result Store Verdict → Store → Type 0
+StoreGives (Ok u) given store = given ≡ Ok store
+StoreGives (Err v) given store = v ≢ NoMemory → given ≡ Err v
+
+-- Lists at their places, of which those at touched places differ from what is kept, and the last are of fresh label sets. Counted are the samples that are kept, and those
+-- that are staged behind them.
+pub record IsSound (index : BTreeMap Labels ℕ) (lists : List Lists) (touched : List ℕ) (fresh : List Labels) (count staged_count : ℕ) : Type 0 where
+  pub places : HasPlaces index lists
+  pub settled : Settled touched lists
+  pub brought : IsFresh index lists fresh
+  pub filled : AllFilled lists
+  pub counted : count ≡ total (kept_store index.entries lists)
+  pub counted_staged : count + staged_count ≡ total (staged_store index.entries lists)
+  pub few : count + staged_count ≤ 2 ^ 60
+
+-- the label sets that keep samples
+abbrev pub with_samples : List Lists → List (Labels × ℕ) → List Labels
+with_samples lists [] = []
+with_samples lists (e ∷ es) = if has_samples (slice_index_or lists e.1 no_lists).kept then e.0 ∷ with_samples lists es else with_samples lists es
+
+-- all places are below that number
+abbrev pub AreWithin : ℕ → List (Labels × ℕ) → Type 0
+AreWithin high [] = Unit {0}
+AreWithin high (e ∷ es) = (e.1 < high) × AreWithin high es

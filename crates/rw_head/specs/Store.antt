@@ -1,0 +1,31 @@
+-- What a head holds: the samples of each label set, in order.
+use Rattle.std.specs.Prelude.{◌≢◌, ℕ, List, [], ◌∷◌, length, sum_by, Some, unwrap_or}
+use Rattle.std.specs.FinMap.{FinMap, get, insert, remove, keys, values}
+use Rattle.rw_types.specs.Labels.{Labels}
+use Rattle.rw_types.specs.LabelOrder.{labels_cmp}
+use Rattle.rw_head.specs.Order.{Point}
+
+-- no label set has the empty list: it is absent instead
+abbrev pub Store : Type 0
+Store = FinMap labels_cmp (List Point)
+
+-- the samples of a label set; an absent one has none
+abbrev pub list_of : Store → Labels → List Point
+list_of store l = unwrap_or (get store l) []
+
+-- the store with this list for the label set
+abbrev pub with_list : Labels → List Point → Store → Store
+with_list l [] store = remove store l
+with_list l (x ∷ xs) store = insert store l (x ∷ xs)
+
+-- all its samples
+abbrev pub total : Store → ℕ
+total store = sum_by length (values store)
+
+-- those that have samples, by byte order of their lists of (name, value)
+abbrev pub label_sets : Store → List Labels
+label_sets store = keys store
+
+-- each label set in it has samples
+abbrev pub HasNoEmptyList : Store → Type 0
+HasNoEmptyList store = (l : Labels) → get store l ≢ Some []

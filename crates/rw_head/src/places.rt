@@ -1,0 +1,189 @@
+//! The places of label sets.
+
+ghost use Rattle.std.specs.Prelude.{◌≡◌, ◌≢◌, ◌+◌, min, map, ◌<◌, ◌≤◌, length, [], ◌^◌, ◌++◌, ◌∷◌, None, Some, IfOk, IfErr, IfSome, OnOk, OnErr, vec_len, vec_capacity};
+ghost use Rattle.std.specs.List.{All};
+ghost use Rattle.std.specs.BTreeMap.{get, Updates, IsOrdered};
+ghost use Rattle.rw_types.specs.Labels.{Labels, text_label};
+ghost use Rattle.rw_types.specs.LabelOrder.{labels_cmp};
+ghost use Rattle.rw_head.specs.declared.verdict.Verdict.TheVariants.{NoMemory};
+ghost use Rattle.rw_head.specs.Verdicts.{refusal};
+ghost use Rattle.rw_head.specs.Names.{below, AreNamed, HasNoneRefused};
+ghost use Rattle.rw_head.specs.Finds.{Finds};
+
+use crate::label_bounds::LabelBounds;
+use crate::name::Name;
+use crate::verdict::Verdict;
+use rw_types::LabelSet;
+use std::alloc::{AllocError, Global};
+use std::collections::{BTreeMap, btree_map};
+use std::mem;
+
+/// The places of label sets: each has its own, in the order in which they came. It is noted which one came behind which the last time.
+#[derive(Debug, Drop)]
+pub(crate) struct Places {
+    tree: BTreeMap<Name, usize>,
+    names: Vec<Name>,
+    after: Vec<usize>,
+    last: usize,
+    ghost named: { AreNamed tree names.items },
+}
+
+/// Puts an item behind the others, where there is room for it.
+pub(crate) fn put<T: Drop>(items: &mut Vec<T>, item: T)
+    requires { vec_len items.old < vec_capacity items.old }
+    ensures { items.new.items ≡ items.old.items ++ item ∷ [] }
+{
+    match items.push(item) {
+        Ok(()) => {}
+        Err(_) => unreachable!(),
+    }
+}
+
+/// What was found of a label set.
+#[derive(Drop)]
+pub(crate) enum Found {
+    /// It has this place.
+    At(usize),
+    /// It has none. This is a name for it.
+    Nowhere(Name),
+}
+
+impl Places {
+    /// No places. This takes no memory.
+    pub(crate) fn new(alloc: Global) -> Places
+        ensures tree { result.tree.entries ≡ [] }
+        ensures names { result.names.items ≡ [] }
+    {
+        Places {
+            tree: BTreeMap::new(alloc),
+            names: Vec::new(alloc),
+            after: Vec::new(alloc),
+            last: 0,
+        }
+    }
+
+    /// How many there are.
+    pub(crate) fn len(&self) -> usize
+        ensures len { result ≡ length self.now.tree.entries }
+        ensures ordered { IsOrdered labels_cmp self.now.tree }
+    {
+        self.tree.len()
+    }
+
+    /// The place that is expected next, if the label set of these labels stands there.
+    fn expected(&self, texts: &[(String, String)]) -> Option<usize>
+        ensures place { IfSome result (λ n.
+            get labels_cmp self.now.tree (map text_label texts.now) ≡ Some n) }
+    {
+        let place = *self.after.get(self.last)?;
+        if place < self.names.len() && self.names[place].labels().as_slice() == texts {
+            Some(place)
+        } else {
+            None
+        }
+    }
+
+    /// Notes that the label set at a place came after the last one.
+    fn follow(&mut self, place: usize)
+        ensures tree { self.new.tree ≡ self.old.tree }
+        ensures names { self.new.names.items ≡ self.old.names.items }
+    {
+        if let Some(after) = self.after.get_mut(self.last) {
+            *after = place;
+        }
+        self.last = place;
+    }
+
+    /// The place of the label set of these labels, or a name for it where it has none. First it is looked for at the place that came after the
+    /// last one the time before; where it stands there, it was judged when it came, and this takes no memory.
+    pub(crate) fn find(
+        &mut self,
+        alloc: Global,
+        labels: &mut LabelSet,
+        bounds: &LabelBounds,
+        texts: &[(String, String)],
+    ) -> Result<Found, Verdict>
+        requires { HasNoneRefused bounds.now self.old.tree }
+        ensures tree { self.new.tree ≡ self.old.tree }
+        ensures names { self.new.names.items ≡ self.old.names.items }
+        ensures found { IfOk result (λ f. Finds f (map text_label texts.now) (get labels_cmp self.old.tree (map text_label texts.now))) }
+        ensures taken { OnOk result (refusal bounds.now (map text_label texts.now) ≡ None) }
+        ensures err { IfErr result (λ v. v ≢ NoMemory → refusal bounds.now (map text_label texts.now) ≡ Some v) }
+    {
+        if let Some(place) = self.expected(texts) {
+            self.last = place;
+            return Ok(Found::At(place));
+        }
+        bounds.take(labels, texts)?;
+        let name = Name::of(alloc, mem::replace(labels, LabelSet::empty(alloc)))?;
+        match self.tree.get(&name) {
+            Some(place) => {
+                let place = *place;
+                self.follow(place);
+                Ok(Found::At(place))
+            }
+            None => Ok(Found::Nowhere(name)),
+        }
+    }
+
+    /// The place of a label set.
+    pub(crate) fn look(&self, alloc: Global, labels: &LabelSet) -> Result<Option<usize>, AllocError>
+        ensures { IfOk result (λ o. o ≡ get labels_cmp self.now.tree labels.now) }
+    {
+        let name = Name::copy_of(alloc, labels)?;
+        Ok(self.tree.get(&name).copied())
+    }
+
+    /// The place of a label set. This takes no memory, and time that grows with the number of places.
+    pub(crate) fn get(&self, labels: &LabelSet) -> Option<usize>
+        ensures { result ≡ get labels_cmp self.now.tree labels.now }
+    {
+        for (place, name) in self.names.iter().enumerate() {
+            if name.labels() == labels {
+                return Some(place);
+            }
+        }
+        None
+    }
+
+    /// Adds the next place, for a label set that has none.
+    pub(crate) fn push(&mut self, name: Name) -> Result<(), AllocError>
+        requires { get labels_cmp self.old.tree name ≡ None }
+        ensures ok { OnOk result (Updates labels_cmp self.old.tree self.new.tree name (Some (length self.old.names.items))) }
+        ensures names { OnOk result (self.new.names.items ≡ self.old.names.items ++ name ∷ []) }
+        ensures err { OnErr result (self.new.tree.entries ≡ self.old.tree.entries) }
+        ensures err_names { OnErr result (self.new.names.items ≡ self.old.names.items) }
+    {
+        self.names.reserve(1)?;
+        self.after.reserve(1)?;
+        let place = self.names.len();
+        self.tree.insert(name.share()?, place)?;
+        put(&mut self.names, name);
+        put(&mut self.after, 0);
+        self.follow(place);
+        Ok(())
+    }
+
+    /// Removes the places from number `len` on.
+    pub(crate) fn truncate(&mut self, len: usize)
+        ensures below { (l : Labels) → get labels_cmp self.new.tree l ≡ below len (get labels_cmp self.old.tree l) }
+        ensures names { length self.new.names.items ≡ min len (length self.old.names.items) }
+    {
+        self.after.truncate(len);
+        while self.names.len() > len {
+            if let Some(name) = self.names.pop() {
+                self.tree.remove(&name);
+            }
+        }
+    }
+
+    /// The label sets in order, with their places.
+    pub(crate) fn iter(&self) -> btree_map::Iter<'_, Name, usize>
+        ensures rest { result ≡ self.now.tree.entries }
+        ensures ordered { IsOrdered labels_cmp self.now.tree }
+        ensures fits { length self.now.tree.entries < 2 ^ 63 }
+        ensures found { All (λ e. get labels_cmp self.now.tree e.0 ≡ Some e.1) self.now.tree.entries }
+    {
+        self.tree.iter()
+    }
+}

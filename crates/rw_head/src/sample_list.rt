@@ -1,0 +1,132 @@
+//! The samples of one series.
+
+ghost use Rattle.std.specs.Prelude.{◌≡◌, ◌+◌, ◌^◌, ◌<◌, ◌≤◌, true, Err, IfOk, length, map};
+ghost use Rattle.rw_head.specs.Order.{points, is_later, accept_one, accept};
+ghost use Rattle.rw_head.specs.Lists.{no_lists, has_samples, ListGives};
+ghost use Rattle.rw_head.specs.Blocks.{sealed_of, open_of};
+ghost use Rattle.rw_head.specs.declared.verdict.Verdict.TheVariants.{NoMemory};
+
+use crate::block::Block;
+use crate::blocks::Blocks;
+use crate::verdict::Verdict;
+use rw_types::Word;
+use std::alloc::{AllocError, Global};
+use std::marker::Model;
+
+/// The samples of one series in order. Those of a message that is not judged yet are staged behind the others.
+/// Contracts see the samples that are kept, and these together with the staged ones.
+#[derive(Debug, Drop)]
+pub(crate) struct SampleList {
+    samples: Blocks,
+    kept: usize,
+}
+
+impl Model for SampleList {
+    ghost use Rattle.std.specs.Prelude.{◌≤◌, length, take};
+    ghost use Rattle.rw_head.specs.Lists.{Lists, Rises};
+
+    ghost Value = { Lists };
+
+    ghost view = { λ s. record { kept = take s.kept s.samples; staged = s.samples } };
+
+    ghost invariant = { λ s. (s.kept ≤ length s.samples) × Rises s.samples };
+}
+
+impl SampleList {
+    /// No samples. This takes no memory.
+    pub(crate) fn new(alloc: Global) -> SampleList
+        ensures { result ≡ no_lists }
+    {
+        SampleList {
+            samples: Blocks::new(alloc),
+            kept: 0,
+        }
+    }
+
+    /// Stages a sample, if it is later than the last one. A repeat changes nothing, and any other is refused.
+    fn stage(&mut self, t: i64, word: Word) -> Result<(), Verdict>
+        requires { length self.old.staged < 2 ^ 60 }
+        ensures kept { self.new.kept ≡ self.old.kept }
+        ensures staged { ListGives result (accept_one self.old.staged (t, word)) self.new.staged }
+        ensures grown { length self.old.staged ≤ length self.new.staged }
+        ensures few { length self.new.staged ≤ length self.old.staged + 1 }
+        ensures memory { result ≡ Err NoMemory → is_later t self.old.staged ≡ true }
+    {
+        if self.samples.is_later(t) {
+            self.samples.push((t, word))?;
+            return Ok(());
+        }
+        if self.samples.holds(t, word) {
+            return Ok(());
+        }
+        Err(Verdict::OutOfOrder)
+    }
+
+    /// Stages samples, one after the other, up to the first that is refused.
+    pub(crate) fn stage_all(&mut self, samples: &[(Word, i64)]) -> Result<(), Verdict>
+        requires { length self.old.staged + length samples.now ≤ 2 ^ 60 }
+        ensures kept { self.new.kept ≡ self.old.kept }
+        ensures staged { ListGives result (accept (Some self.old.staged) (points samples.now)) self.new.staged }
+        ensures grown { length self.old.staged ≤ length self.new.staged }
+        ensures few { length self.new.staged ≤ length self.old.staged + length samples.now }
+    {
+        for sample in samples {
+            self.stage(sample.1, sample.0)?;
+        }
+        Ok(())
+    }
+
+    /// Keeps what is staged. This takes no memory.
+    pub(crate) fn commit(&mut self)
+        ensures { self.new ≡ record { kept = self.old.staged; staged = self.old.staged } }
+    {
+        self.kept = self.samples.len();
+    }
+
+    /// Forgets what is staged. This takes no memory.
+    pub(crate) fn abort(&mut self)
+        ensures { self.new ≡ record { kept = self.old.kept; staged = self.old.kept } }
+    {
+        self.samples.truncate(self.kept);
+    }
+
+    /// A copy of the samples that are kept.
+    pub(crate) fn to_vec(&self, alloc: Global) -> Result<Vec<(i64, Word)>, AllocError>
+        ensures { IfOk result (λ v. v.items ≡ self.now.kept) }
+    {
+        let mut samples = self.samples.to_vec(alloc)?;
+        samples.truncate(self.kept);
+        Ok(samples)
+    }
+
+    /// The full blocks, where nothing is staged.
+    pub(crate) fn sealed(&self) -> &[Box<Block>]
+        requires { self.now.staged ≡ self.now.kept }
+        ensures { map (λ b. b.value) result.now ≡ sealed_of self.now.kept }
+    {
+        self.samples.sealed()
+    }
+
+    /// The samples behind the full blocks, where nothing is staged.
+    pub(crate) fn open(&self) -> &[(i64, Word)]
+        requires { self.now.staged ≡ self.now.kept }
+        ensures samples { result.now ≡ open_of self.now.kept }
+        ensures few { length result.now < 120 }
+    {
+        self.samples.open()
+    }
+
+    /// Whether there are samples that are kept.
+    pub(crate) fn has_samples(&self) -> bool
+        ensures { result ≡ has_samples self.now.kept }
+    {
+        self.kept > 0
+    }
+
+    /// How many samples there are with those that are staged.
+    pub(crate) fn staged_len(&self) -> usize
+        ensures { result ≡ length self.now.staged }
+    {
+        self.samples.len()
+    }
+}

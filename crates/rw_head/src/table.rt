@@ -1,0 +1,315 @@
+//! The lists of all label sets, and what a message would make of them.
+
+ghost use Rattle.std.specs.Prelude.{◌≡◌, ◌≢◌, ◌↔◌, ◌+◌, ◌-◌, ◌^◌, ◌<◌, ◌≤◌, ◌++◌, ◌∷◌, [], ℕ, length, None, Some, IsTrue, IfOk, IfErr, OnOk, OnErr, if◌then◌else◌, vec_len, vec_capacity, map, slice_index_or, slice_set};
+ghost use Rattle.std.specs.BTreeMap.{get};
+ghost use Rattle.std.specs.FinMap.{empty};
+ghost use Rattle.rw_types.specs.LabelOrder.{labels_cmp};
+ghost use Rattle.rw_head.specs.declared.verdict.Verdict.TheVariants.{OutOfOrder, NoMemory};
+ghost use Rattle.rw_head.specs.Order.{points, accept};
+ghost use Rattle.rw_head.specs.Store.{list_of, total, label_sets, HasNoEmptyList};
+ghost use Rattle.rw_head.specs.Verdicts.{taken};
+ghost use Rattle.rw_head.specs.Growth.{HoldsNoneRefused};
+ghost use Rattle.rw_head.specs.Blocks.{sealed_of, open_of};
+ghost use Rattle.rw_head.specs.Lists.{no_lists, Settled, IsAdded, ListGives, StoreGives};
+
+use crate::block::Block;
+use crate::label_bounds::LabelBounds;
+use crate::label_sets::LabelSets;
+use crate::name::Name;
+use crate::places::{Found, Places, put};
+use crate::sample_list::SampleList;
+use crate::verdict::Verdict;
+use rw_types::{LabelSet, Word};
+use rw_write_request::Series;
+use std::alloc::{AllocError, Global};
+use std::marker::Model;
+
+/// How many samples all lists may have together.
+const MOST_SAMPLES: u64 = 1 << 60;
+
+/// A list of samples for each label set that has some. Those of a message that is not judged yet are staged, and then kept or forgotten
+/// together, with the label sets that the message brought. Contracts see the store that is kept, the store that it is with what is staged,
+/// and how many places and label sets are noted for the message.
+#[derive(Debug, Drop)]
+pub(crate) struct Table {
+    places: Places,
+    lists: Vec<SampleList>,
+    touched: Vec<usize>,
+    fresh: Vec<Name>,
+    count: u64,
+    staged_count: u64,
+}
+
+impl Model for Table {
+    ghost use Rattle.std.specs.Prelude.{◌≡◌, ◌+◌, length};
+    ghost use Rattle.std.specs.Coded.{codes};
+    ghost use Rattle.std.specs.FinMap as map;
+    ghost use Rattle.rw_head.specs.Lists.{Stores, kept_store, staged_store, IsSound};
+
+    ghost Value = { Stores };
+
+    ghost coded = { Prim.hlevel (codes, map.code) };
+
+    ghost view = { λ t. record { kept = kept_store t.places.tree.entries t.lists.items; staged = staged_store t.places.tree.entries t.lists.items; noted = length t.touched.items + length t.fresh.items } };
+
+    ghost invariant = { λ t. IsSound t.places.tree t.lists.items t.touched.items t.fresh.items t.count t.staged_count × (length t.places.names.items ≡ length t.lists.items) };
+}
+
+/// Whether there is room for `more` samples beside `count`.
+fn has_room(count: u64, more: usize) -> bool
+    requires { count ≤ 2 ^ 60 }
+    ensures { IsTrue result ↔ (count + more ≤ 2 ^ 60) }
+{
+    more as u64 <= MOST_SAMPLES - count
+}
+
+/// A list of samples of a label set that had none, all of them staged.
+fn new_list(alloc: Global, samples: &[(Word, i64)]) -> Result<SampleList, Verdict>
+    requires { length samples.now ≤ 2 ^ 60 }
+    ensures kept { IfOk result (λ x. x.kept ≡ []) }
+    ensures staged { IfOk result (λ x. accept (Some []) (points samples.now) ≡ Some x.staged) }
+    ensures few { IfOk result (λ x. length x.staged ≤ length samples.now) }
+    ensures err { IfErr result (λ v. v ≢ NoMemory → (v ≡ OutOfOrder) × (accept (Some []) (points samples.now) ≡ None)) }
+{
+    let mut list = SampleList::new(alloc);
+    list.stage_all(samples)?;
+    Ok(list)
+}
+
+/// Adds the list of a label set that has none.
+fn add_list(
+    places: &mut Places,
+    lists: &mut Vec<SampleList>,
+    touched: &mut Vec<usize>,
+    fresh: &mut Vec<Name>,
+    name: Name,
+    list: SampleList,
+) -> Result<(), AllocError>
+    requires absent { get labels_cmp places.old.tree name ≡ None }
+    requires next { length places.old.names.items ≡ length lists.old.items }
+    ensures ok { OnOk result (IsAdded places.old.tree places.new.tree lists.old.items lists.new.items touched.old.items touched.new.items fresh.old.items fresh.new.items name list) }
+    ensures names { length places.new.names.items ≡ length lists.new.items }
+    ensures places { OnErr result (places.new.tree.entries ≡ places.old.tree.entries) }
+    ensures lists { OnErr result (lists.new.items ≡ lists.old.items) }
+    ensures touched { OnErr result (touched.new.items ≡ touched.old.items) }
+    ensures fresh { OnErr result (fresh.new.items ≡ fresh.old.items) }
+{
+    lists.reserve(1)?;
+    touched.reserve(1)?;
+    fresh.reserve(1)?;
+    let share = name.share()?;
+    places.push(name)?;
+    put(touched, lists.len());
+    put(lists, list);
+    put(fresh, share);
+    Ok(())
+}
+
+/// Stages samples in the list at a place.
+fn stage_at(
+    lists: &mut Vec<SampleList>,
+    place: usize,
+    samples: &[(Word, i64)],
+) -> Result<(), Verdict>
+    requires place { place < length lists.old.items }
+    requires room { length (slice_index_or lists.old.items place no_lists).staged + length samples.now ≤ 2 ^ 60 }
+    ensures list { lists.new.items ≡ slice_set lists.old.items place (slice_index_or lists.new.items place no_lists) }
+    ensures kept { (slice_index_or lists.new.items place no_lists).kept
+        ≡ (slice_index_or lists.old.items place no_lists).kept }
+    ensures staged { ListGives result (accept (Some (slice_index_or lists.old.items place no_lists).staged) (points samples.now)) (slice_index_or lists.new.items place no_lists).staged }
+    ensures grown { length (slice_index_or lists.old.items place no_lists).staged ≤ length (slice_index_or lists.new.items place no_lists).staged }
+    ensures few { length (slice_index_or lists.new.items place no_lists).staged ≤ length (slice_index_or lists.old.items place no_lists).staged + length samples.now }
+{
+    lists[place].stage_all(samples)
+}
+
+/// Keeps what is staged in the lists at these places.
+fn commit_all(lists: &mut Vec<SampleList>, touched: &[usize])
+    requires { Settled touched.now lists.old.items }
+    ensures len { length lists.new.items ≡ length lists.old.items }
+    ensures kept { (n : ℕ) → n < length lists.new.items
+        → (slice_index_or lists.new.items n no_lists).kept
+        ≡ (slice_index_or lists.new.items n no_lists).staged }
+    ensures staged { (n : ℕ) → (slice_index_or lists.new.items n no_lists).staged
+        ≡ (slice_index_or lists.old.items n no_lists).staged }
+{
+    for place in touched {
+        lists[*place].commit();
+    }
+}
+
+/// Forgets what is staged in the lists at these places.
+fn abort_all(lists: &mut Vec<SampleList>, touched: &[usize])
+    requires { Settled touched.now lists.old.items }
+    ensures len { length lists.new.items ≡ length lists.old.items }
+    ensures staged { (n : ℕ) → n < length lists.new.items
+        → (slice_index_or lists.new.items n no_lists).kept
+        ≡ (slice_index_or lists.new.items n no_lists).staged }
+    ensures kept { (n : ℕ) → (slice_index_or lists.new.items n no_lists).kept
+        ≡ (slice_index_or lists.old.items n no_lists).kept }
+{
+    for place in touched {
+        lists[*place].abort();
+    }
+}
+
+/// Notes that the list at a place is touched.
+fn note(touched: &mut Vec<usize>, place: usize) -> Result<(), AllocError>
+    ensures ok { OnOk result (touched.new.items ≡ touched.old.items ++ place ∷ []) }
+    ensures err { OnErr result (touched.new.items ≡ touched.old.items) }
+{
+    touched.push(place)?;
+    Ok(())
+}
+
+impl Table {
+    /// No samples. This takes no memory.
+    pub(crate) fn new(alloc: Global) -> Table
+        ensures { result ≡ record { kept = empty; staged = empty; noted = 0 } }
+    {
+        Table {
+            places: Places::new(alloc),
+            lists: Vec::new(alloc),
+            touched: Vec::new(alloc),
+            fresh: Vec::new(alloc),
+            count: 0,
+            staged_count: 0,
+        }
+    }
+
+    /// How many samples are kept.
+    pub(crate) fn total(&self) -> u64
+        ensures { result ≡ total self.now.kept }
+    {
+        self.count
+    }
+
+    /// Stages a series: its labels are judged, and then its samples, one after the other, up to the first that is refused.
+    pub(crate) fn stage(
+        &mut self,
+        labels: &mut LabelSet,
+        bounds: &LabelBounds,
+        series: &Series,
+    ) -> Result<(), Verdict>
+        requires { HoldsNoneRefused bounds.now self.old.staged }
+        ensures kept { self.new.kept ≡ self.old.kept }
+        ensures staged { StoreGives result (taken bounds.now self.old.staged series.now) self.new.staged }
+    {
+        let alloc = *self.lists.allocator();
+        let samples = series.samples.as_slice();
+        if samples.is_empty() {
+            return bounds.take(labels, &series.labels);
+        }
+        let found = self.places.find(alloc, labels, bounds, &series.labels)?;
+        if !has_room(self.count + self.staged_count, samples.len()) {
+            return Err(Verdict::NoMemory);
+        }
+        match found {
+            Found::At(place) => {
+                note(&mut self.touched, place)?;
+                let before = self.lists[place].staged_len();
+                let outcome = stage_at(&mut self.lists, place, samples);
+                self.staged_count += (self.lists[place].staged_len() - before) as u64;
+                outcome
+            }
+            Found::Nowhere(name) => {
+                let list = new_list(alloc, samples)?;
+                let count = list.staged_len() as u64;
+                add_list(
+                    &mut self.places,
+                    &mut self.lists,
+                    &mut self.touched,
+                    &mut self.fresh,
+                    name,
+                    list,
+                )?;
+                self.staged_count += count;
+                Ok(())
+            }
+        }
+    }
+
+    /// Keeps what is staged, and returns how many samples that is. This takes no memory.
+    pub(crate) fn commit(&mut self) -> u64
+        ensures kept { self.new.kept ≡ self.old.staged }
+        ensures staged { self.new.staged ≡ self.old.staged }
+        ensures count { result ≡ total self.old.staged - total self.old.kept }
+        ensures noted { self.new.noted ≡ 0 }
+    {
+        commit_all(&mut self.lists, &self.touched);
+        self.touched.clear();
+        self.fresh.clear();
+        let count = self.staged_count;
+        self.count += count;
+        self.staged_count = 0;
+        count
+    }
+
+    /// Forgets what is staged, with the label sets that came with it. This takes no memory.
+    pub(crate) fn abort(&mut self)
+        ensures kept { self.new.kept ≡ self.old.kept }
+        ensures staged { self.new.staged ≡ self.old.kept }
+        ensures noted { self.new.noted ≡ 0 }
+    {
+        abort_all(&mut self.lists, &self.touched);
+        let len = self.lists.len() - self.fresh.len();
+        self.places.truncate(len);
+        self.lists.truncate(len);
+        self.touched.clear();
+        self.fresh.clear();
+        self.staged_count = 0;
+    }
+
+    /// How many label sets have a place.
+    pub(crate) fn places(&self) -> usize
+        ensures { result ≡ length (label_sets self.now.staged) }
+    {
+        self.places.len()
+    }
+
+    /// A copy of the samples of a label set that are kept.
+    pub(crate) fn to_vec(
+        &self,
+        alloc: Global,
+        labels: &LabelSet,
+    ) -> Result<Vec<(i64, Word)>, AllocError>
+        ensures { IfOk result (λ v. v.items ≡ list_of self.now.kept labels.now) }
+    {
+        match self.places.look(alloc, labels)? {
+            Some(place) => self.lists[place].to_vec(alloc),
+            None => Ok(Vec::new(alloc)),
+        }
+    }
+
+    /// The full blocks of a label set, where nothing is staged.
+    pub(crate) fn sealed(&self, labels: &LabelSet) -> &[Box<Block>]
+        requires { self.now.staged ≡ self.now.kept }
+        ensures { map (λ b. b.value) result.now ≡ sealed_of (list_of self.now.kept labels.now) }
+    {
+        match self.places.get(labels) {
+            Some(place) => self.lists[place].sealed(),
+            None => &[],
+        }
+    }
+
+    /// The samples of a label set behind its full blocks, where nothing is staged.
+    pub(crate) fn open(&self, labels: &LabelSet) -> &[(i64, Word)]
+        requires { self.now.staged ≡ self.now.kept }
+        ensures samples { result.now ≡ open_of (list_of self.now.kept labels.now) }
+        ensures few { length result.now < 120 }
+    {
+        match self.places.get(labels) {
+            Some(place) => self.lists[place].open(),
+            None => &[],
+        }
+    }
+
+    /// The label sets that have samples which are kept, in order.
+    pub(crate) fn label_sets(&self) -> LabelSets<'_>
+        ensures list { result ≡ label_sets self.now.kept }
+        ensures filled { HasNoEmptyList self.now.kept }
+        ensures fits { length result < 2 ^ 63 }
+    {
+        LabelSets::new(self.places.iter(), self.lists.as_slice())
+    }
+}

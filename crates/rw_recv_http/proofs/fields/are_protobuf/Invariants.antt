@@ -1,9 +1,0 @@
-use Rattle.std.proofs.Common.{◌≡◌, map, drop, codes}
-use Rattle.httparse.specs.Spans.{header_bytes}
-use Rattle.rw_recv_http.specs.Fields.{each_value}
-use Rattle.rw_recv_http.specs.Values.{is_protobuf}
-use Rattle.rw_recv_http.proofs.fields.are_protobuf.Given as goal
-
-abbrev pub invariant-loop-header : goal.invariant-loop-header
-invariant-loop-header l =
-    each_value (codes "content-type") is_protobuf (map (header_bytes l.buf) l.headers) ≡ each_value (codes "content-type") is_protobuf (map (header_bytes l.buf) (drop l.header-index l.headers))

@@ -1,5 +1,0 @@
-use Rattle.rw_recv_http.proofs.ReplyLemmas.{reply_len}
-use Rattle.rw_recv_http.proofs.laws.replies_are_short.Goals as goal
-
-pub returns : goal.returns
-returns c = reply_len

@@ -1,6 +1,0 @@
-use Rattle.std.proofs.Common.{◌≡◌, drop}
-use Rattle.httparse.specs.Grammar.{skip_ows}
-use Rattle.rw_recv_http.proofs.values.without_blanks.Given as goal
-
-abbrev pub invariant-loop-i : goal.invariant-loop-i
-invariant-loop-i l = skip_ows l.text ≡ skip_ows (drop l.i l.text)

@@ -1,0 +1,109 @@
+-- Names for the samples of a batch.
+use Rattle.std.proofs.Common.{◌≡◌, ℕ, zero, suc, ◌+◌, ◌<◌, false, List, [], ◌∷◌, ◌++◌, length, drop, Option, None, Some, All, cond, eqb, Bool, true, ◌≢◌, get_or, refl, arith, ap, ◌∙◌}
+use Rattle.std.specs.Cmp.{nat_cmp_total, unsigned_tied}
+use Rattle.std.proofs.lemmas.Bool.{eqb-true, eqb-false}
+use Rattle.std.proofs.lemmas.List.{length-map}
+use Rattle.std.proofs.lemmas.Bool.Decides.{nat_tests}
+use Rattle.std.specs.Prelude.{slice_index_or}
+use Rattle.std.specs.Ordering.{nat_cmp, eq_by_cmp}
+use Rattle.std.specs.FinMap.{FinMap, get, insert, get-insert}
+use Rattle.rw_ledger.specs.declared.ledger.Reason.{Reason}
+use Rattle.rw_ledger.specs.declared.ledger.Reason.TheVariants as Why
+use Rattle.rw_types.specs.declared.place.Place.{Place}
+use Rattle.rw_plain_queue.specs.Items.{Placed}
+use Rattle.rw_shard_core.specs.Shard.{AreInRow, positions_of, positions, name_all}
+use Rattle.rw_shard_core.specs.Inside.{RiseStrictly, batch_part}
+use Rattle.rw_shard_core.specs.declared.shard.OpenBatch.{OpenBatch}
+
+-- what follows samples in a row is in a row
+pub AreInRow-rest : (xs ys : List Placed) → AreInRow (xs ++ ys) → AreInRow ys
+AreInRow-rest [] ys h = h
+AreInRow-rest (x ∷ []) [] h = tt
+AreInRow-rest (x ∷ []) (y ∷ ys) h = h.1
+AreInRow-rest (x ∷ w ∷ ws) ys h = AreInRow-rest (w ∷ ws) ys h.1
+
+-- their positions rise
+pub positions_rise : (xs : List Placed) → AreInRow xs → RiseStrictly (positions xs)
+positions_rise [] h = tt
+positions_rise (x ∷ []) h = tt
+positions_rise (x ∷ y ∷ ys) h = (h.0.1, positions_rise (y ∷ ys) h.1)
+
+-- those of the open batch, if there is one
+pub batch_rises : (current : Option OpenBatch) (pending : List Placed) → RiseStrictly (positions pending) → RiseStrictly (positions (batch_part current pending))
+batch_rises None pending h = tt
+batch_rises (Some o) pending h = h
+
+rise_rest : (p : ℕ) (ps : List ℕ) → RiseStrictly (p ∷ ps) → RiseStrictly ps
+rise_rest p [] h = tt
+rise_rest p (q ∷ qs) h = h.1
+
+-- each further one is above the first
+rise_above : (p : ℕ) (ps : List ℕ) → RiseStrictly (p ∷ ps) → All (λ q. p < q) ps
+rise_above p [] h = λ k d lt. absurd (omega arith)
+rise_above p (q ∷ qs) h = above (rise_above q qs h.1) where
+  above : All (λ r. q < r) qs → All (λ r. p < r) (q ∷ qs)
+  above rest zero d lt = h.0
+  above rest (suc k) d lt = let r = rest k d (omega arith) in omega (arith, h.0, r)
+
+apart : (p q : ℕ) → p < q → eq_by_cmp nat_cmp q p ≡ false
+apart p q lt = unsigned_tied q p ∙ grind (arith, nat_tests)
+
+-- a name for the first leaves the others without one
+name_first : (p : ℕ) (ps : List ℕ) (reason : Reason) (names : FinMap nat_cmp Reason) → RiseStrictly (p ∷ ps) →
+    All (λ q. get names q ≡ None) (p ∷ ps) → All (λ q. get (insert names p reason) q ≡ None) ps
+name_first p ps reason names rise none = λ k d lt.
+    let q : ℕ = slice_index_or ps k d in
+    let above : p < q = rise_above p ps rise k d lt in
+    let before : get names q ≡ None = none (suc k) d (omega arith) in
+    get-insert nat_cmp_total names p reason q ∙ ap (λ b. cond b (Some reason) (get names q)) (apart p q above) ∙ before
+
+-- the position at an index, and those after it
+pub left_is : (ps : List Place) (i : ℕ) (d : Place) → i < length ps →
+    drop i (positions_of ps) ≡ (get_or ps i d).pos ∷ drop (i + 1) (positions_of ps)
+left_is [] i d lt = absurd (omega arith)
+left_is (p ∷ ps) zero d lt = refl
+left_is (p ∷ ps) (suc i) d lt =
+    let up : suc i + 1 ≡ suc (i + 1) = omega arith in
+    rw up (left_is ps i d (omega arith))
+
+-- one more sample is named
+pub name_next : (status : ℕ) (ps : List Place) (i : ℕ) (d : Place) (names new : FinMap nat_cmp Reason) → i < length ps →
+    All (λ q. get names q ≡ None) (drop i (positions_of ps)) → RiseStrictly (drop i (positions_of ps)) →
+    new ≡ insert names (get_or ps i d).pos (Why.Status status) →
+    (name_all status (drop (i + 1) (positions_of ps)) new ≡ name_all status (drop i (positions_of ps)) names)
+    × All (λ q. get new q ≡ None) (drop (i + 1) (positions_of ps)) × RiseStrictly (drop (i + 1) (positions_of ps))
+name_next status ps i d names new lt none rise e =
+    let left = left_is ps i d lt in
+    let p : ℕ = (get_or ps i d).pos in
+    let rest : List ℕ = drop (i + 1) (positions_of ps) in
+    let none' : All (λ q. get names q ≡ None) (p ∷ rest) = rw left at none in
+    let rise' : RiseStrictly (p ∷ rest) = rw left at rise in
+    (rw (left, e) refl, rw e (name_first p rest (Why.Status status) names rise' none'), rise_rest p rest rise')
+
+-- the position at an index
+pub position_at : (ps : List Place) (i d : ℕ) (e : Place) → i < length ps → get_or (positions_of ps) i d ≡ (get_or ps i e).pos
+position_at [] i d e lt = absurd (omega arith)
+position_at (p ∷ ps) zero d e lt = refl
+position_at (p ∷ ps) (suc i) d e lt = position_at ps i d e (omega arith)
+
+-- a name at one of the positions
+pub one_named : (names : FinMap nat_cmp Reason) (ps : List Place) (i : ℕ) (e : Place) (reason : Reason) → i < length ps →
+    get names (get_or ps i e).pos ≡ Some reason → All (λ p. get names p ≡ None) (positions_of ps) → ⊥
+one_named names ps i e reason lt named all =
+    let at = position_at ps i 0 e lt in
+    let many : length (positions_of ps) ≡ length ps = length-map ps (λ (p : Place). p.pos) in
+    let none : get names (get_or (positions_of ps) i 0) ≡ None = all i 0 (omega (arith, many, lt)) in
+    absurd (let h : get names (get_or ps i e).pos ≡ None = rw (← at) none in cc)
+
+-- no name at one more position
+pub one_more : (names : FinMap nat_cmp Reason) (ps : List Place) (i : ℕ) (e : Place) → i < length ps →
+    get names (get_or ps i e).pos ≡ None → ((k d : ℕ) → k < i → get names (get_or (positions_of ps) k d) ≡ None) →
+    (k d : ℕ) → k < i + 1 → get names (get_or (positions_of ps) k d) ≡ None
+one_more names ps i e lt none below k d up = by_place (eqb k i) refl where
+  by_place : (t : Bool) → eqb k i ≡ t → get names (get_or (positions_of ps) k d) ≡ None
+  by_place true same =
+      let at : k ≡ i = eqb-true k i same in
+      rw (at, position_at ps i d e lt) none
+  by_place false other =
+      let apart' : k ≢ i = eqb-false k i other in
+      below k d (omega (arith, apart', up))

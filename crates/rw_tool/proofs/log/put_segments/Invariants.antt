@@ -1,7 +1,0 @@
-use Rattle.std.proofs.Common.{List, ℕ}
-use Rattle.rw_log_text.specs.RecordLines.{lines}
-use Rattle.rw_tool.specs.LogText.{AreRecords}
-use Rattle.rw_tool.proofs.log.put_segments.Given as goal
-
-abbrev pub invariant-loop-number : goal.invariant-loop-number
-invariant-loop-number g l = (recs : List (List ℕ)) × AreRecords (lines l.rest) recs
