@@ -12,3 +12,4 @@ pub mod LittleEnd
 pub mod Counts
 pub mod Faulty
 pub mod FaultyAgain
+pub mod ReadOn

@@ -7,3 +7,4 @@ pub mod Read
 pub mod View
 pub mod Valid
 pub mod Faults
+pub mod Parts

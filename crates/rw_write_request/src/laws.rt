@@ -5,6 +5,7 @@ ghost use Rattle.rw_types.specs.Labels.{Label};
 ghost use Rattle.rw_write_request.specs.Message.{Sample, WriteRequest};
 ghost use Rattle.rw_write_request.specs.Spells.{Spells};
 ghost use Rattle.rw_write_request.specs.Read.{read};
+ghost use Rattle.rw_write_request.specs.Parts.{read_on};
 ghost use Rattle.rw_write_request.specs.Faults.{RequestFault};
 ghost use Rattle.rw_write_request.specs.declared.fault.WireFault.{WireFault};
 ghost use Rattle.rw_write_request.specs.Valid.{IsMessage};
@@ -45,4 +46,10 @@ pub fn series_in_parts()
 /// Law: the field of a sample takes at most 22 bytes.
 pub fn sample_field_is_short()
     ensures { (sample : Sample) → length (sample_field sample) ≤ 22 }
+{}
+
+/// Law: the series that were read of a message stay its first ones.
+pub fn what_is_read_stays()
+    ensures { (bytes : List ℕ) (before whole : WriteRequest) → read_on before bytes ≡ Ok whole
+        → (more : WriteRequest) × (whole ≡ before ++ more) }
 {}

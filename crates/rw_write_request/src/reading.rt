@@ -109,7 +109,7 @@ fn judged(kind: Kind, number: u64, wire: u64) -> Result<u64, WireFault>
 }
 
 #[tactic(auto, unfolding(crate::specs::Read::field_at))]
-fn field_at(kind: Kind, bytes: &[u8]) -> Result<(Part<'_>, &[u8]), WireFault>
+pub(crate) fn field_at(kind: Kind, bytes: &[u8]) -> Result<(Part<'_>, &[u8]), WireFault>
     ensures { Gives (λ x. (field_view x.0, x.1.now)) result (field_at kind bytes.now) }
 {
     let (tag, rest) = uvarint_at(bytes)?;
@@ -120,7 +120,7 @@ fn field_at(kind: Kind, bytes: &[u8]) -> Result<(Part<'_>, &[u8]), WireFault>
 }
 
 /// How many fields have the number 1, and how many the number 2, before the first fault.
-fn field_counts(kind: Kind, bytes: &[u8]) -> (usize, usize)
+pub(crate) fn field_counts(kind: Kind, bytes: &[u8]) -> (usize, usize)
     ensures { (fields : List Field) → AreFieldsOf kind bytes.now fields
         → (result.0 ≡ length (contents 1 fields)) × (result.1 ≡ length (contents 2 fields)) }
 {
@@ -253,7 +253,7 @@ fn nested_label(alloc: Global, held: WireValue<'_>) -> Result<(String, String), 
 }
 
 #[tactic(auto, unfolding(crate::specs::Read::nested))]
-fn nested_sample(held: WireValue<'_>) -> Result<(Word, i64), WireFault>
+pub(crate) fn nested_sample(held: WireValue<'_>) -> Result<(Word, i64), WireFault>
     ensures { Gives (λ x. x) result (nested read_sample (content_view held.entry)) }
 {
     match held {
@@ -286,7 +286,8 @@ fn add_to_series(
     Ok(())
 }
 
-fn read_series(alloc: Global, bytes: &[u8]) -> Result<Series, WireFault>
+/// The series that the bytes spell, or the first fault in reading order. Where memory runs out nothing is kept.
+pub fn read_series(alloc: Global, bytes: &[u8]) -> Result<Series, WireFault>
     ensures { GivesOrMemory (λ s. s) result (read_series bytes.now) }
 {
     let (label_count, sample_count) = field_counts(Kind::TimeSeries, bytes);
