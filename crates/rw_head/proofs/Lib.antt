@@ -1,4 +1,5 @@
 pub mod BlockLemmas
+pub mod BodyLemmas
 pub mod GrowthLemmas
 pub mod NameLemmas
 pub mod OrderLemmas

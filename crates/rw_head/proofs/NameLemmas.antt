@@ -31,6 +31,9 @@ cases_below n m h = elim (cases_lt n m) [ inl lt ↦ inl lt | inr le ↦ inr (om
 pub stands_here : (index : Index) (names : List Labels) (n : ℕ) (x l : Labels) → AreNamed index names → n < length names → x ≡ get_or names n x → true ≡ labels_eq x l → get labels_cmp index l ≡ Some n
 stands_here index names n x l h lt here e = ap (get labels_cmp index) (sym (same_if_equal x l (sym e)) ∙ here ∙ any_default names n x [] lt) ∙ h.stands n lt
 
+pub stands : (index : Index) (names : List Labels) (n : ℕ) (x : Labels) → AreNamed index names → n < length names → x ≡ get_or names n x → get labels_cmp index x ≡ Some n
+stands index names n x h lt here = ap (get labels_cmp index) (here ∙ any_default names n x [] lt) ∙ h.stands n lt
+
 -- one that is at no place has none
 pub stands_nowhere : (index : Index) (names : List Labels) (l : Labels) → AreNamed index names → ((k : ℕ) → k < length names → get_or names k [] ≡ l → ⊥) → None ≡ get labels_cmp index l
 stands_nowhere index names l h none = by_case (get labels_cmp index l) refl

@@ -1,4 +1,5 @@
 pub mod Blocks
+pub mod Bodies
 pub mod Finds
 pub mod Growth
 pub mod Head

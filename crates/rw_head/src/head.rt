@@ -5,19 +5,21 @@ ghost use Rattle.std.specs.FinMap.{empty};
 ghost use Rattle.rw_head.specs.declared.verdict.Verdict.TheVariants.{NoMemory};
 ghost use Rattle.rw_head.specs.Store.{list_of, total, label_sets, HasNoEmptyList};
 ghost use Rattle.rw_head.specs.Verdicts.{taken_all, apply};
-ghost use Rattle.rw_head.specs.Head.{status_of, answer, IsStatus};
+ghost use Rattle.rw_write_request.specs.Read.{read};
+ghost use Rattle.rw_head.specs.Head.{status_of, judged_body, answer, IsStatus};
 ghost use Rattle.rw_head.specs.Lists.{StoreGives};
 ghost use Rattle.rw_head.specs.Blocks.{joined, sealed_of, AreFull, KeepsBlocks};
 ghost use Rattle.rw_head.specs.Growth.{sample_count, EachRises, HasTaken, HoldsNoneRefused};
 
 use crate::block::Block;
+use crate::body::stage_body;
 use crate::label_bounds::LabelBounds;
 use crate::label_sets::LabelSets;
 use crate::limits::Limits;
 use crate::table::Table;
 use crate::verdict::Verdict;
 use rw_types::{LabelSet, Word};
-use rw_write_request::{Message, Series, WireFault, decode, reads_spellings};
+use rw_write_request::{Message, Series};
 use std::alloc::{AllocError, Global};
 use std::marker::Model;
 
@@ -129,6 +131,29 @@ impl Head {
         }
     }
 
+    /// Takes the message that a body spells, as `apply` does, series by series.
+    fn apply_body(&mut self, body: &[u8]) -> Verdict
+        ensures verdict { result ≢ NoMemory
+            → status_of result ≡ status_of (judged_body self.old (read body.now)).verdict }
+        ensures store { result ≢ NoMemory → self.new.store ≡ (judged_body self.old (read body.now)).store }
+        ensures limits { self.new.limits ≡ self.old.limits }
+        ensures busy { self.new.busy ≡ self.old.busy }
+        ensures refused { status_of result ≢ 204 → self.new.store ≡ self.old.store }
+        ensures taken { status_of result ≡ 204 → HasTaken body.now self.old.store self.new.store }
+        ensures more { total self.old.store ≤ total self.new.store }
+        ensures rises { EachRises self.new.store }
+        ensures blocks { KeepsBlocks self.old.store self.new.store }
+    {
+        let staged = stage_body(&mut self.table, &mut self.labels, &self.bounds, body);
+        match staged {
+            Ok(()) => Verdict::Stored(self.table.commit()),
+            Err(verdict) => {
+                self.table.abort();
+                verdict
+            }
+        }
+    }
+
     /// The HTTP status for the body of a request. It is 429 for as many requests as the head is busy for at first, whatever they hold; then 204
     /// where the body is a message that is stored, and 400 where it is refused. 503 means that memory ran out, and nothing is stored; when that
     /// is, its contract leaves open.
@@ -147,12 +172,7 @@ impl Head {
             self.busy -= 1;
             return 429;
         }
-        reads_spellings();
-        match decode(self.alloc, body) {
-            Ok(message) => status_of(self.apply(&message)),
-            Err(WireFault::OutOfMemory) => 503,
-            Err(_) => 400,
-        }
+        status_of(self.apply_body(body))
     }
 
     /// How many samples there are, of all label sets. This takes no memory, and its time does not grow.

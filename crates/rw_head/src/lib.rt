@@ -3,12 +3,14 @@
 
 mod block;
 mod blocks;
+mod body;
 mod head;
 mod label_bounds;
 mod label_sets;
 mod laws;
 mod limits;
 mod name;
+mod place;
 mod places;
 mod sample_list;
 mod table;

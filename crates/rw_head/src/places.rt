@@ -9,20 +9,23 @@ ghost use Rattle.rw_head.specs.declared.verdict.Verdict.TheVariants.{NoMemory};
 ghost use Rattle.rw_head.specs.Verdicts.{refusal};
 ghost use Rattle.rw_head.specs.Names.{below, AreNamed, HasNoneRefused};
 ghost use Rattle.rw_head.specs.Finds.{Finds};
+ghost use Rattle.rw_head.specs.Bodies.{IsKnown};
 
 use crate::label_bounds::LabelBounds;
 use crate::name::Name;
+use crate::place::Place;
 use crate::verdict::Verdict;
 use rw_types::LabelSet;
 use std::alloc::{AllocError, Global};
 use std::collections::{BTreeMap, btree_map};
 use std::mem;
 
-/// The places of label sets: each has its own, in the order in which they came. It is noted which one came behind which the last time.
+/// The places of label sets: each has its own, in the order in which they came. It is noted which one came behind which the last time, and with
+/// which bytes a series of it began.
 #[derive(Debug, Drop)]
 pub(crate) struct Places {
     tree: BTreeMap<Name, usize>,
-    names: Vec<Name>,
+    names: Vec<Place>,
     after: Vec<usize>,
     last: usize,
     ghost named: { AreNamed tree names.items },
@@ -126,6 +129,31 @@ impl Places {
         }
     }
 
+    /// The place of a series and its bytes behind the head, where it begins with the head of the label set that is expected next. This takes no memory.
+    pub(crate) fn known<'a>(&mut self, series: &'a [u8]) -> Option<(usize, &'a [u8])>
+        ensures tree { self.new.tree ≡ self.old.tree }
+        ensures names { self.new.names.items ≡ self.old.names.items }
+        ensures known { IfSome result (λ x. IsKnown self.old.tree series.now x.0 x.1.now) }
+    {
+        let place = *self.after.get(self.last)?;
+        if place >= self.names.len() {
+            return None;
+        }
+        let rest = self.names[place].behind_head(series)?;
+        self.last = place;
+        Some((place, rest))
+    }
+
+    /// Keeps the head of a series at the place of the last one, if it is a head of the label set there.
+    pub(crate) fn learn(&mut self, series: &[u8])
+        ensures tree { self.new.tree ≡ self.old.tree }
+        ensures names { self.new.names.items ≡ self.old.names.items }
+    {
+        if let Some(place) = self.names.get_mut(self.last) {
+            place.learn(series);
+        }
+    }
+
     /// The place of a label set.
     pub(crate) fn look(&self, alloc: Global, labels: &LabelSet) -> Result<Option<usize>, AllocError>
         ensures { IfOk result (λ o. o ≡ get labels_cmp self.now.tree labels.now) }
@@ -158,7 +186,8 @@ impl Places {
         self.after.reserve(1)?;
         let place = self.names.len();
         self.tree.insert(name.share()?, place)?;
-        put(&mut self.names, name);
+        let alloc = *self.names.allocator();
+        put(&mut self.names, Place::new(alloc, name));
         put(&mut self.after, 0);
         self.follow(place);
         Ok(())
@@ -171,8 +200,8 @@ impl Places {
     {
         self.after.truncate(len);
         while self.names.len() > len {
-            if let Some(name) = self.names.pop() {
-                self.tree.remove(&name);
+            if let Some(place) = self.names.pop() {
+                self.tree.remove(place.name());
             }
         }
     }

@@ -7,7 +7,9 @@ ghost use Rattle.rw_types.specs.LabelOrder.{labels_cmp};
 ghost use Rattle.rw_head.specs.declared.verdict.Verdict.TheVariants.{OutOfOrder, NoMemory};
 ghost use Rattle.rw_head.specs.Order.{points, accept};
 ghost use Rattle.rw_head.specs.Store.{list_of, total, label_sets, HasNoEmptyList};
-ghost use Rattle.rw_head.specs.Verdicts.{taken};
+ghost use Rattle.rw_head.specs.Verdicts.{LabelLimits, taken};
+ghost use Rattle.rw_head.specs.Bodies.{known_of, KnownGives};
+ghost use Rattle.rw_write_request.specs.Read.{read_series};
 ghost use Rattle.rw_head.specs.Growth.{HoldsNoneRefused};
 ghost use Rattle.rw_head.specs.Blocks.{sealed_of, open_of};
 ghost use Rattle.rw_head.specs.Lists.{no_lists, Settled, IsAdded, ListGives, StoreGives};
@@ -20,7 +22,7 @@ use crate::places::{Found, Places, put};
 use crate::sample_list::SampleList;
 use crate::verdict::Verdict;
 use rw_types::{LabelSet, Word};
-use rw_write_request::Series;
+use rw_write_request::{Series, read_samples};
 use std::alloc::{AllocError, Global};
 use std::marker::Model;
 
@@ -38,6 +40,7 @@ pub(crate) struct Table {
     fresh: Vec<Name>,
     count: u64,
     staged_count: u64,
+    samples: Vec<(Word, i64)>,
 }
 
 impl Model for Table {
@@ -153,6 +156,16 @@ fn abort_all(lists: &mut Vec<SampleList>, touched: &[usize])
     }
 }
 
+/// That a series was known, or why it is refused.
+fn was_known(outcome: Result<(), Verdict>) -> Result<bool, Verdict>
+    ensures { result ≡ known_of outcome }
+{
+    match outcome {
+        Ok(()) => Ok(true),
+        Err(verdict) => Err(verdict),
+    }
+}
+
 /// Notes that the list at a place is touched.
 fn note(touched: &mut Vec<usize>, place: usize) -> Result<(), AllocError>
     ensures ok { OnOk result (touched.new.items ≡ touched.old.items ++ place ∷ []) }
@@ -174,7 +187,13 @@ impl Table {
             fresh: Vec::new(alloc),
             count: 0,
             staged_count: 0,
+            samples: Vec::new(alloc),
         }
+    }
+
+    /// The allocator of the lists.
+    pub(crate) fn allocator(&self) -> Global {
+        *self.lists.allocator()
     }
 
     /// How many samples are kept.
@@ -227,6 +246,36 @@ impl Table {
                 Ok(())
             }
         }
+    }
+
+    /// Stages a series from its bytes, where they begin with the head of the label set that is expected next, and answers whether they do. Its
+    /// labels were judged when they came.
+    pub(crate) fn stage_known(&mut self, bytes: &[u8]) -> Result<bool, Verdict>
+        ensures kept { self.new.kept ≡ self.old.kept }
+        ensures staged { (limits : LabelLimits) → HoldsNoneRefused limits self.old.staged
+            → KnownGives result limits self.old.staged (read_series bytes.now) self.new.staged }
+    {
+        let Some((place, rest)) = self.places.known(bytes) else {
+            return Ok(false);
+        };
+        if !read_samples(&mut self.samples, rest)? {
+            return Ok(false);
+        }
+        if !has_room(self.count + self.staged_count, self.samples.len()) {
+            return Err(Verdict::NoMemory);
+        }
+        note(&mut self.touched, place)?;
+        let before = self.lists[place].staged_len();
+        let outcome = stage_at(&mut self.lists, place, &self.samples);
+        self.staged_count += (self.lists[place].staged_len() - before) as u64;
+        was_known(outcome)
+    }
+
+    /// Keeps the head of the series that was staged last, for the next time. It may do nothing.
+    pub(crate) fn learn(&mut self, bytes: &[u8])
+        ensures { self.new ≡ self.old }
+    {
+        self.places.learn(bytes);
     }
 
     /// Keeps what is staged, and returns how many samples that is. This takes no memory.

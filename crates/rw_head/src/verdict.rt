@@ -1,5 +1,6 @@
 //! What becomes of a message.
 
+use rw_write_request::WireFault;
 use std::alloc::AllocError;
 
 /// What becomes of a message: it is stored whole, or it is refused and nothing changes.
@@ -27,5 +28,24 @@ impl From<AllocError> for Verdict {
 
     fn from(_e: AllocError) -> Verdict {
         Verdict::NoMemory
+    }
+}
+
+impl From<WireFault> for Verdict {
+    ghost use Rattle.std.specs.Prelude.{◌≡◌};
+    ghost use Rattle.rw_head.specs.Bodies.{verdict_of};
+
+    ghost from_gives = { λ e v. v ≡ verdict_of e };
+
+    fn from(fault: WireFault) -> Verdict {
+        match fault {
+            WireFault::OutOfMemory => Verdict::NoMemory,
+            WireFault::Truncated
+            | WireFault::VarintTooBig
+            | WireFault::WrongWire
+            | WireFault::BadWire
+            | WireFault::FieldZero
+            | WireFault::NotUtf8 => Verdict::BadBody,
+        }
     }
 }

@@ -17,7 +17,7 @@ invariant_of-self-2 c =
     let place : c.len-place.result ≡ length c.args.self.now.names.items = omega (arith, c.len-place.ensures, ap length c.reserve.ensures.items) in
     record {
       named =
-          subst (AreNamed c.insert.new.self) (sym (c.put.ensures ∙ ap (λ xs. xs ++ c.args.name ∷ []) c.reserve.ensures.items))
+          subst (AreNamed c.insert.new.self) (sym (c.put.ensures ∙ ap (λ x. c.reserve.new.self.items ++ x ∷ []) c.new.ensures ∙ ap (λ xs. xs ++ c.args.name ∷ []) c.reserve.ensures.items))
           (AreNamed-push c.args.self.now.tree c.insert.new.self c.args.self.now.names.items c.args.name c.args.self.now.named c.requires
           (subst (λ l. Updates labels_cmp c.args.self.now.tree c.insert.new.self l (Some (length c.args.self.now.names.items))) c.in_ok-share.ensures
           (subst (λ n. Updates labels_cmp c.args.self.now.tree c.insert.new.self c.in_ok-share.field-0 (Some n)) place c.in_ok-insert.ensures.updates)));

@@ -1,19 +1,21 @@
-use Rattle.std.proofs.Common.{◌∙◌, ap, length, arith}
+use Rattle.std.proofs.Common.{None, ◌∙◌, ap, subst, length, arith}
+use Rattle.std.specs.BTreeMap.{Updates}
+use Rattle.rw_types.specs.LabelOrder.{labels_cmp}
 use Rattle.std.proofs.lemmas.List.{length_push}
 use Rattle.rw_head.proofs.NameLemmas.{AreNamed-pop, below-pop, below_all}
 use Rattle.rw_head.proofs.places.Places.truncate.Goals as goal
 
 pub invariant_of-self-in-Some : goal.invariant_of-self-in-Some
 invariant_of-self-in-Some c = record {
-  named = AreNamed-pop c.loop-self.self.tree c.remove.new.self c.loop-self.self.names.items c.pop.new.self.items c.in-Some.name c.in-Some.ensures.items c.loop-self.self.named c.remove.ensures.updates;
+  named = AreNamed-pop c.loop-self.self.tree c.remove.new.self c.loop-self.self.names.items c.pop.new.self.items c.in-Some.place c.in-Some.ensures.items c.loop-self.self.named (subst (λ l. Updates labels_cmp c.loop-self.self.tree c.remove.new.self l None) c.name.ensures c.remove.ensures.updates);
 }
 
 pub loop-self-preserved-in-Some : goal.loop-self-preserved-in-Some
 loop-self-preserved-in-Some c = record {
   below = λ q.
-      below-pop c.loop-self.self.tree c.remove.new.self c.loop-self.self.names.items c.pop.new.self.items c.in-Some.name q c.args.len c.in-Some.ensures.items c.loop-self.self.named c.remove.ensures.updates (omega arith)
+      below-pop c.loop-self.self.tree c.remove.new.self c.loop-self.self.names.items c.pop.new.self.items c.in-Some.place q c.args.len c.in-Some.ensures.items c.loop-self.self.named (subst (λ l. Updates labels_cmp c.loop-self.self.tree c.remove.new.self l None) c.name.ensures c.remove.ensures.updates) (omega arith)
       ∙ c.loop-self.invariant.below q;
-  len = omega (arith, ap length c.in-Some.ensures.items, length_push c.pop.new.self.items c.in-Some.name, c.loop-self.invariant.len, c.loop-self-test.true, c.len.ensures);
+  len = omega (arith, ap length c.in-Some.ensures.items, length_push c.pop.new.self.items c.in-Some.place, c.loop-self.invariant.len, c.loop-self-test.true, c.len.ensures);
 }
 
 pub returns-clause-below : goal.returns-clause-below

@@ -1,0 +1,60 @@
+//! Bodies of requests, read and judged series by series.
+
+ghost use Rattle.std.specs.Prelude.{◌≡◌, OnOk};
+ghost use Rattle.rw_write_request.specs.Read.{read_series};
+ghost use Rattle.rw_head.specs.Bodies.{SeriesGives, BodyGives};
+ghost use Rattle.rw_head.specs.Growth.{HoldsNoneRefused};
+
+use crate::label_bounds::LabelBounds;
+use crate::table::Table;
+use crate::verdict::Verdict;
+use rw_types::LabelSet;
+use rw_write_request::{label_count, message_part, read_series, what_is_read_stays};
+
+/// Stages a series. Where its labels are known, by its first bytes, it is taken as it stands there; else it is read first, unless it has more labels
+/// than the head takes.
+fn stage_series(
+    table: &mut Table,
+    labels: &mut LabelSet,
+    bounds: &LabelBounds,
+    bytes: &[u8],
+) -> Result<(), Verdict>
+    requires { HoldsNoneRefused bounds.now table.old.staged }
+    ensures kept { table.new.kept ≡ table.old.kept }
+    ensures staged { SeriesGives result bounds.now table.old.staged (read_series bytes.now) table.new.staged }
+{
+    if table.stage_known(bytes)? {
+        return Ok(());
+    }
+    if label_count(bytes) > bounds.max_labels {
+        return Err(Verdict::OverLimit);
+    }
+    let series = read_series(table.allocator(), bytes)?;
+    table.stage(labels, bounds, &series)?;
+    table.learn(bytes);
+    Ok(())
+}
+
+/// Stages the series of a body, one after the other, up to the first that is refused or is no series.
+pub(crate) fn stage_body(
+    table: &mut Table,
+    labels: &mut LabelSet,
+    bounds: &LabelBounds,
+    body: &[u8],
+) -> Result<(), Verdict>
+    requires { HoldsNoneRefused bounds.now table.old.staged }
+    ensures kept { table.new.kept ≡ table.old.kept }
+    ensures staged { BodyGives result bounds.now table.old.staged body.now table.new.staged }
+    ensures within { OnOk result (HoldsNoneRefused bounds.now table.new.staged) }
+{
+    what_is_read_stays();
+    let mut rest = body;
+    while !rest.is_empty() {
+        let (series, after) = message_part(rest)?;
+        if let Some(bytes) = series {
+            stage_series(table, labels, bounds, bytes)?;
+        }
+        rest = after;
+    }
+    Ok(())
+}

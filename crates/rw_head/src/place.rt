@@ -1,0 +1,142 @@
+//! A label set at its place.
+
+ghost use Rattle.std.specs.Prelude.{◌≡◌, ℕ, ◌++◌, List, length, map, IsTrue, IfSome};
+ghost use Rattle.rw_types.specs.Labels.{text_label};
+ghost use Rattle.std.specs.Int.{w64, to_le_bytes};
+ghost use Rattle.rw_write_request.specs.Parts.{IsHeadOf};
+
+use crate::name::Name;
+use rw_types::LabelSet;
+use rw_write_request::{head_of, read_series};
+use std::alloc::Global;
+use std::marker::Model;
+
+/// The most bytes that a head has which is kept.
+const MOST_HEAD_BYTES: usize = 1024;
+
+/// A label set at its place, with the bytes that a series of it began with before its samples, once they were seen. Contracts see the label set.
+#[derive(Debug, Drop)]
+pub(crate) struct Place {
+    name: Name,
+    head: Vec<u8>,
+}
+
+impl Model for Place {
+    ghost use Rattle.std.specs.Prelude.{ℕ, List};
+    ghost use Rattle.rw_head.specs.Bodies.{HasHead};
+
+    ghost Value = { List (List ℕ × List ℕ) };
+
+    ghost view = { λ p. p.name };
+
+    ghost invariant = { λ p. HasHead p.head.items p.name };
+}
+
+/// The word of eight bytes, which are known by it.
+fn word_of(bytes: &[u8]) -> u64
+    requires { length bytes.now ≡ 8 }
+    ensures { to_le_bytes w64 result ≡ bytes.now }
+{
+    match <[u8; 8]>::try_from(bytes) {
+        Ok(word) => u64::from_le_bytes(word),
+        Err(_) => unreachable!(),
+    }
+}
+
+/// Whether the bytes are the same. Eight of them are compared at a time.
+fn is_same(one: &[u8], other: &[u8]) -> bool
+    ensures { IsTrue result → one.now ≡ other.now }
+{
+    let mut left = one;
+    let mut right = other;
+    while left.len() >= 8 && right.len() >= 8 {
+        let (a, left_rest) = left.split_at(8);
+        let (b, right_rest) = right.split_at(8);
+        if word_of(a) != word_of(b) {
+            return false;
+        }
+        left = left_rest;
+        right = right_rest;
+    }
+    left == right
+}
+
+/// Whether the texts are those of the labels.
+fn are_texts_of(texts: &[(String, String)], labels: &LabelSet) -> bool
+    ensures { IsTrue result → labels.now ≡ map text_label texts.now }
+{
+    labels.as_slice() == texts
+}
+
+/// Whether the bytes spell these labels, and no sample.
+fn is_head_of(alloc: Global, bytes: &[u8], labels: &LabelSet) -> bool
+    ensures { IsTrue result → IsHeadOf bytes.now labels.now }
+{
+    let Ok(series) = read_series(alloc, bytes) else {
+        return false;
+    };
+    if !series.samples.is_empty() {
+        return false;
+    }
+    are_texts_of(&series.labels, labels)
+}
+
+impl Place {
+    /// The place of this label set, of which no head was seen. This takes no memory.
+    pub(crate) fn new(alloc: Global, name: Name) -> Place
+        ensures { result ≡ name }
+    {
+        Place {
+            name,
+            head: Vec::new(alloc),
+        }
+    }
+
+    /// The label set.
+    pub(crate) fn name(&self) -> &Name
+        ensures { result.now ≡ self.now }
+    {
+        &self.name
+    }
+
+    /// The label set.
+    pub(crate) fn labels(&self) -> &LabelSet
+        ensures { result.now ≡ self.now }
+    {
+        self.name.labels()
+    }
+
+    /// The bytes of a series behind the head that is kept, where it begins with that.
+    pub(crate) fn behind_head<'a>(&self, series: &'a [u8]) -> Option<&'a [u8]>
+        ensures { IfSome result (λ rest. (head : List ℕ)
+            × IsHeadOf head self.now × (series.now ≡ head ++ rest.now)) }
+    {
+        if self.head.is_empty() || series.len() < self.head.len() {
+            return None;
+        }
+        let (front, rest) = series.split_at(self.head.len());
+        if is_same(&self.head, front) {
+            Some(rest)
+        } else {
+            None
+        }
+    }
+
+    /// Keeps the head of a series, where it spells this label set, is short, and none is kept. It is kept for speed alone: where memory runs
+    /// out, it is not.
+    pub(crate) fn learn(&mut self, series: &[u8])
+        ensures { self.new ≡ self.old }
+    {
+        let alloc = *self.head.allocator();
+        let head = head_of(series);
+        if !self.head.is_empty() || head.len() > MOST_HEAD_BYTES {
+            return;
+        }
+        if !is_head_of(alloc, head, self.name.labels()) {
+            return;
+        }
+        if let Ok(copy) = head.to_vec(alloc) {
+            self.head = copy;
+        }
+    }
+}
