@@ -1,0 +1,34 @@
+//! Types, codes, the log, rules, series, messages.
+
+use rw_codes::{CodeFault, crc32c, get_uvarint, get_varint, put_uvarint, put_varint};
+use rw_relabel::{Action, Rule, RuleFault, Rules};
+use rw_series_cache::{Cache, Known};
+use rw_types::{Entry, LabelFault, LabelSet, Names, Place, RawLabels, Sink, Source, Word};
+use rw_wal_tail::{Piece, Tail, TailFault};
+use rw_wal_write::{LogFault, SegmentWriter, sample_record, series_record};
+use rw_write_request::{Message, Series, WireFault, decode, encode};
+
+/// The types of these crates.
+pub type Types<'a> = (
+    (Word, RawLabels, LabelSet, LabelFault, Entry, Place, Names),
+    (CodeFault, LogFault, Piece, Tail, TailFault),
+    (Action, Rule, RuleFault, Rules, Cache, Known<'a>),
+    (Message, Series, WireFault),
+);
+
+/// The calls of rw_types, rw_codes, rw_wal_write and rw_wal_tail.
+pub fn of_the_log<R: Source, W: Sink>() {
+    let _ = (Word::of_int, Word::as_int, RawLabels::new, LabelSet::check);
+    let _ = (put_uvarint, get_uvarint, put_varint, get_varint, crc32c);
+    let _ = (R::read, W::write, series_record, sample_record);
+    let _ = (SegmentWriter::<W>::new, SegmentWriter::<W>::log);
+    let _ = (Tail::new, Tail::feed, Tail::next_segment, Tail::next_entry);
+    let _ = (Tail::entries_read, Tail::skipped);
+}
+
+/// The calls of rw_relabel, rw_series_cache and rw_write_request.
+pub fn of_series() {
+    let _ = (Rule::build, Rules::keeps);
+    let _ = (Cache::new, Cache::define, Cache::look);
+    let _ = (encode, decode);
+}
