@@ -1,10 +1,8 @@
 pub mod Body
-pub mod Faults
 pub mod Filling
 pub mod Labelling
 pub mod Logging
 pub mod LogText
 pub mod Planning
-pub mod Printed
 pub mod Running
 pub mod Taking

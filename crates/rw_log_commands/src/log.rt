@@ -6,12 +6,12 @@ ghost use Rattle.rw_log_text.specs.RecordLines.{lines};
 ghost use Rattle.rw_log_commands.specs.LogText.{have_room, segment_of, AreRecords};
 ghost use Rattle.rw_log_commands.specs.Logging.{IsFaultOfAny, IsFaultOfLog, ReadsAnyFault, ReadsRecords, ReadsFaulty, StopsLog, WritesLog, WritesLogPart};
 ghost use Rattle.rw_wal_format.specs.declared.tail_fault.TailFault.{TailFault};
-ghost use Rattle.rw_log_commands.specs.declared.fault.ToolFault.TheVariants.{OutOfMemory, Log, Line, SegmentFull, Device};
+ghost use Rattle.rw_fault.specs.declared.tool_fault.ToolFault.TheVariants.{OutOfMemory, Log, Line, SegmentFull, Device};
 
-use crate::fault::ToolFault;
 use crate::filling::fill;
 use crate::log_text::judge;
 use crate::run::{output_of, read_input};
+use rw_fault::ToolFault;
 use rw_types::{Sink, Source, write_all};
 use std::alloc::Global;
 use std::fs;

@@ -4,7 +4,7 @@ ghost use Rattle.std.specs.Prelude.{◌≡◌, ◌<◌, ◌≤◌, ℕ, List, []
 ghost use Rattle.rw_log_text.specs.RecordLines.{lines, IsRecordOf};
 ghost use Rattle.rw_log_commands.specs.LogText.{longest_of, AreRecords, IsFaultOfText};
 
-use crate::fault::ToolFault;
+use rw_fault::ToolFault;
 use rw_log_text::{first_line, read_record};
 use rw_text::TextFault;
 use std::alloc::Global;

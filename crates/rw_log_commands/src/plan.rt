@@ -7,11 +7,11 @@ ghost use Rattle.rw_shard_core.specs.Configs.{choice_of};
 ghost use Rattle.rw_log_commands.specs.Planning.{WritesPlan, WritesPlanPart};
 ghost use Rattle.rw_log_commands.specs.Running.{ReadsInput, ReadsFault, ReadsLine, StopsInput};
 ghost use Rattle.rw_log_commands.specs.Taking.{ReadsSegment, StopsReading};
-ghost use Rattle.rw_log_commands.specs.declared.fault.ToolFault.TheVariants.{Log, Line, SegmentFull, Device};
+ghost use Rattle.rw_fault.specs.declared.tool_fault.ToolFault.TheVariants.{Log, Line, SegmentFull, Device};
 
-use crate::fault::ToolFault;
 use crate::reading::{Taker, read_segment};
 use crate::run::read_input;
+use rw_fault::ToolFault;
 use rw_plan::Planner;
 use rw_relabel::Choice;
 use rw_settings::Settings;

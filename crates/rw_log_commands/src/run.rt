@@ -3,14 +3,14 @@
 ghost use Rattle.std.specs.Prelude.{◌≡◌, ◌≢◌, ◌⊎◌, ℕ, List, [], ◌∷◌, ◌++◌, true, false, Err, None, IfOk, OnOk, IfErr, MatchResult};
 ghost use Rattle.std.specs.Io.KnownBytes.{Consumes, IsAtEnd};
 ghost use Rattle.rw_wal_format.specs.declared.tail_fault.TailFault.{TailFault};
-ghost use Rattle.rw_log_commands.specs.declared.fault.ToolFault.TheVariants.{OutOfMemory, Log, Line, SegmentFull, Device};
+ghost use Rattle.rw_fault.specs.declared.tool_fault.ToolFault.TheVariants.{OutOfMemory, Log, Line, SegmentFull, Device};
 ghost use Rattle.rw_log_commands.specs.Body.{body_of};
 ghost use Rattle.rw_log_commands.specs.Taking.{ReadsSegment, StopsReading};
 ghost use Rattle.rw_log_commands.specs.Running.{output_of, ReadsInput, WritesBody, WritesPart, ReadsFault, ReadsLine, StopsInput};
 
-use crate::fault::ToolFault;
 use crate::labelling::Labelling;
 use crate::reading::read_segment;
+use rw_fault::ToolFault;
 use rw_types::{Sink, Source, read_to_end, write_all};
 use rw_write_request::encode;
 use std::alloc::{AllocError, Global};

@@ -3,7 +3,7 @@ use Rattle.std.specs.Prelude.{ℕ, ◌≤◌, List, length, take, Option}
 use Rattle.std.specs.Io.KnownBytes.{Appends}
 use Rattle.rw_head.specs.Store.{Store}
 use Rattle.rw_head.specs.Growth.{EachRises}
-use Rattle.rw_script.specs.StateText.{store_text}
+use Rattle.rw_state_text.specs.StateText.{store_text}
 
 -- a beginning of the text was written
 abbrev pub AppendsPart : Option (List ℕ) → Option (List ℕ) → List ℕ → Type 0

@@ -2,11 +2,11 @@
 
 ghost use Rattle.std.specs.Prelude.{◌≡◌, ◌+◌, ◌<◌, ◌⊎◌, IfOk, IfErr, vec_len};
 ghost use Rattle.rw_head.specs.Growth.{EachRises};
-ghost use Rattle.rw_log_commands.specs.declared.fault.ToolFault.TheVariants.{OutOfMemory, Device};
+ghost use Rattle.rw_fault.specs.declared.tool_fault.ToolFault.TheVariants.{OutOfMemory, Device};
 
 use crate::serving::{Post, served};
+use rw_fault::ToolFault;
 use rw_head::Head;
-use rw_log_commands::ToolFault;
 use rw_shared_head::{Seat, SharedHead};
 use std::alloc::{AllocError, Global};
 use std::net::{TcpListener, TcpStream};

@@ -2,18 +2,18 @@
 
 ghost use Rattle.std.specs.Prelude.{◌≡◌, ◌⊎◌, true, false, Err, IfErr, OnOk};
 ghost use Rattle.std.specs.Io.KnownBytes.{Appends};
-ghost use Rattle.rw_script.specs.StateText.{store_text};
+ghost use Rattle.rw_state_text.specs.StateText.{store_text};
 ghost use Rattle.rw_receive.specs.Receiving.{AppendsPart, WritesHeld, WritesHeldPart};
-ghost use Rattle.rw_log_commands.specs.declared.fault.ToolFault.TheVariants.{OutOfMemory, Device};
+ghost use Rattle.rw_fault.specs.declared.tool_fault.ToolFault.TheVariants.{OutOfMemory, Device};
 
 use crate::connections::receive_all;
 use crate::service::receive_until;
 use crate::serving::Post;
+use rw_fault::ToolFault;
 use rw_head::Head;
-use rw_log_commands::ToolFault;
 use rw_metrics::ReceiveCounters;
-use rw_script::push_store;
 use rw_settings::Settings;
+use rw_state_text::push_store;
 use rw_stop::Sign;
 use rw_types::{Bounded, Sink, write_all};
 use std::alloc::Global;

@@ -10,7 +10,7 @@ use Rattle.rw_machine.specs.declared.event.Event.TheVariants as event
 use Rattle.rw_wal_tail.specs.declared.piece.Piece.TheVariants as piece
 use Rattle.rw_script.specs.declared.command.Command.TheVariants as command
 use Rattle.rw_script.specs.ScriptText.{Order, logged, fed, order_of, order_of_event}
-use Rattle.rw_script.specs.StateText.{state_text}
+use Rattle.rw_state_text.specs.StateText.{state_text}
 use Rattle.rw_world.specs.Machine.{Machine}
 
 -- a machine of events, and how many bytes are written of the segment that its log has come to

@@ -1,9 +1,9 @@
 //! The state of a world printed.
 
 ghost use Rattle.std.specs.Prelude.{◌≡◌, ◌++◌, IfOk, OnOk};
-ghost use Rattle.rw_script.specs.StateText.{store_text, state_text};
+ghost use Rattle.rw_state_text.specs.StateText.{store_text, state_text};
 
-use rw_script::{push_received, push_work};
+use rw_state_text::{push_received, push_work};
 use rw_world::World;
 use std::alloc::{AllocError, Global};
 

@@ -1,3 +1,2 @@
 pub mod OrderLemmas
 pub mod ScriptLemmas
-pub mod StateLemmas

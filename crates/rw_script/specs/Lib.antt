@@ -1,4 +1,3 @@
 pub mod Scripts
 pub mod ScriptText
 pub mod Ways
-pub mod StateText

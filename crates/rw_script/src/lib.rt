@@ -1,4 +1,4 @@
-//! The text of `rwship replay`: event scripts are read, and the state at their end is printed.
+//! The text of `rwship replay`: event scripts are read.
 #![tactic(auto)]
 
 mod command;
@@ -6,7 +6,6 @@ mod fault;
 mod laws;
 mod lines;
 mod script;
-mod state;
 mod ways;
 mod words;
 
@@ -15,4 +14,3 @@ pub use fault::ScriptFault;
 pub use laws::order_is_one;
 pub use lines::read_command;
 pub use script::read_script;
-pub use state::{push_dropped, push_ending, push_filtered, push_received, push_store, push_work};

@@ -5,8 +5,8 @@ use Rattle.rw_shard_core.specs.declared.outcome.Outcome.{Outcome}
 use Rattle.rw_shard_core.specs.declared.outcome.Outcome.TheVariants as outcome
 use Rattle.rw_shipper.specs.Reports.{IsAbandoned}
 use Rattle.rw_shipper.specs.Shipping.{Shipping, Ends}
-use Rattle.rw_log_commands.specs.declared.fault.ToolFault.{ToolFault}
-use Rattle.rw_log_commands.specs.declared.fault.ToolFault.TheVariants as fault
+use Rattle.rw_fault.specs.declared.tool_fault.ToolFault.{ToolFault}
+use Rattle.rw_fault.specs.declared.tool_fault.ToolFault.TheVariants as fault
 use Rattle.rw_send.specs.declared.halt.Halt.{Halt}
 use Rattle.rw_send.specs.declared.halt.Halt.TheVariants as halt
 use Rattle.rw_send.specs.Sending.{answer_to, hard_fault, Answers, IsHalted}

@@ -20,8 +20,8 @@ use Rattle.rw_worker.specs.Transcript.{Exchange}
 use Rattle.rw_shipper.specs.Reports.{IsAbandoned}
 use Rattle.rw_shipper.specs.Shipping.{Shipping}
 use Rattle.rw_shipper.specs.declared.report.Report.{Report}
-use Rattle.rw_log_commands.specs.declared.fault.ToolFault.{ToolFault}
-use Rattle.rw_log_commands.specs.declared.fault.ToolFault.TheVariants as tool
+use Rattle.rw_fault.specs.declared.tool_fault.ToolFault.{ToolFault}
+use Rattle.rw_fault.specs.declared.tool_fault.ToolFault.TheVariants as tool
 use Rattle.rw_types.specs.declared.transfer.ReadFault.TheVariants as read
 use Rattle.rw_send.specs.declared.follow_fault.FollowFault.{FollowFault}
 use Rattle.rw_send.specs.declared.follow_fault.FollowFault.TheVariants as fault

@@ -13,8 +13,8 @@ use Rattle.rw_shipper.specs.Shipping.{Shipping, HasStopped}
 use Rattle.rw_shipper.specs.declared.report.Report.{Report}
 use Rattle.rw_shipper.specs.declared.shipper.FeedFault.{FeedFault}
 use Rattle.rw_shipper.specs.declared.shipper.FeedFault.TheVariants as feed
-use Rattle.rw_log_commands.specs.declared.fault.ToolFault.{ToolFault}
-use Rattle.rw_log_commands.specs.declared.fault.ToolFault.TheVariants as fault
+use Rattle.rw_fault.specs.declared.tool_fault.ToolFault.{ToolFault}
+use Rattle.rw_fault.specs.declared.tool_fault.ToolFault.TheVariants as fault
 use Rattle.rw_send.specs.declared.halt.Halt.{Halt}
 use Rattle.rw_send.specs.declared.halt.Halt.TheVariants as halt
 use Rattle.rw_send.specs.ReportText.{IsTextOf, WritesPart}

@@ -5,7 +5,7 @@ ghost use Rattle.std.specs.List.Sorted.{IsPermutation, IsSortedBy};
 ghost use Rattle.rw_send.specs.Folders.{IsNameOf, comes_before};
 
 use crate::opened::{Open, Opened};
-use rw_log_commands::ToolFault;
+use rw_fault::ToolFault;
 use rw_metrics::SendCounters;
 use rw_text::read_number;
 use rw_types::{Failed, Std};

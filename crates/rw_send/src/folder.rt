@@ -1,8 +1,8 @@
 //! The segments of a folder in which a writer goes on writing.
 
 use crate::files::{SegmentName, names_in};
+use rw_fault::ToolFault;
 use rw_follow::{Ahead, Segments};
-use rw_log_commands::ToolFault;
 use rw_metrics::SendCounters;
 use rw_types::{ReadFault, Source, Std};
 use std::alloc::{AllocError, Global};

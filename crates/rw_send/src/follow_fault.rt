@@ -1,6 +1,6 @@
 //! Why a log is followed no further.
 
-use rw_log_commands::ToolFault;
+use rw_fault::ToolFault;
 use std::alloc::AllocError;
 
 /// Why a following ends other than well.
@@ -27,7 +27,7 @@ impl From<ToolFault> for FollowFault {
 
 impl From<AllocError> for FollowFault {
     ghost use Rattle.std.specs.Prelude.{◌≡◌};
-    ghost use Rattle.rw_log_commands.specs.declared.fault.ToolFault.TheVariants.{OutOfMemory};
+    ghost use Rattle.rw_fault.specs.declared.tool_fault.ToolFault.TheVariants.{OutOfMemory};
     ghost use Rattle.rw_send.specs.declared.follow_fault.FollowFault.TheVariants.{Tool};
 
     ghost from_gives = { λ _ e. e ≡ Tool OutOfMemory };

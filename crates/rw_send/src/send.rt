@@ -4,8 +4,8 @@ ghost use Rattle.std.specs.Prelude.{◌≡◌, ◌⊎◌, ℕ, None, Some, map, 
 ghost use Rattle.rw_wal_format.specs.declared.tail_fault.TailFault.{TailFault};
 ghost use Rattle.rw_shipper.specs.Reports.{IsAbandoned, ListsCut};
 ghost use Rattle.rw_shipper.specs.Shipping.{HasStopped};
-ghost use Rattle.rw_log_commands.specs.declared.fault.ToolFault.{ToolFault};
-ghost use Rattle.rw_log_commands.specs.declared.fault.ToolFault.TheVariants.{OutOfMemory, Log, Line, SegmentFull, Device};
+ghost use Rattle.rw_fault.specs.declared.tool_fault.ToolFault.{ToolFault};
+ghost use Rattle.rw_fault.specs.declared.tool_fault.ToolFault.TheVariants.{OutOfMemory, Log, Line, SegmentFull, Device};
 ghost use Rattle.rw_send.specs.Sending.{answer_to, hard_fault, Answers, IsHalted, IsPrinted, IsPrintedPart, IsSent};
 
 use crate::halt::Halt;
@@ -13,7 +13,7 @@ use crate::printing::print_report;
 use crate::sharding::Sharding;
 use crate::shipping::ship_all;
 use crate::telling::{Counted, Means, tell, tell_report};
-use rw_log_commands::ToolFault;
+use rw_fault::ToolFault;
 use rw_settings::Settings;
 use rw_shard_core::Config;
 use rw_shipper::{Connect, Outcome, Report, Shipper};

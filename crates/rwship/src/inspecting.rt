@@ -1,8 +1,8 @@
 //! The command `inspect`, and what other commands tell of a log that they could not read.
 
 use crate::ending::tell_device;
+use rw_fault::ToolFault;
 use rw_inspect::{Named, Report, inspect, json_of, table_of};
-use rw_log_commands::ToolFault;
 use rw_send::{Opened, SegmentFile, segment_files};
 use rw_types::{Std, write_all};
 use std::alloc::AllocError;

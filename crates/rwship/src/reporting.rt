@@ -2,7 +2,7 @@
 
 use crate::ending::tell_device;
 use rw_address::Address;
-use rw_log_commands::ToolFault;
+use rw_fault::ToolFault;
 use rw_metrics::{Counters, Screen, serve_metrics, show_progress, write_end};
 use rw_words::Reporting;
 use std::io::{Error, IsTerminal};

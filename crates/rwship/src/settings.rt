@@ -4,7 +4,7 @@ ghost use Rattle.std.specs.Prelude.{◌≡◌, [], None, Ok, string_bytes, IfOk,
 ghost use Rattle.rw_settings.specs.Settings as toml;
 ghost use Rattle.rw_settings_text.specs.SettingsText.{settings_text};
 
-use rw_log_commands::ToolFault;
+use rw_fault::ToolFault;
 use rw_settings::{Settings, SettingsFault, SettingsNote, explain_settings, read_settings};
 use rw_settings_text::print_settings;
 use rw_words::SettingsFile;

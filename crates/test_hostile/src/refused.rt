@@ -3,8 +3,9 @@
 
 use rw_head::Limits;
 use rw_machine::Event;
-use rw_script::{Command, push_received, push_work, read_script};
+use rw_script::{Command, read_script};
 use rw_shard_core::{Config, ConfigFields};
+use rw_state_text::{push_received, push_work};
 use rw_types::Bounded;
 use rw_world::World;
 use std::alloc::{AllocError, Global};

@@ -2,7 +2,7 @@
 
 use crate::played::plays;
 use crate::rows::none_is_wrong;
-use rw_log_commands::ToolFault;
+use rw_fault::ToolFault;
 use std::alloc::{AllocError, Global};
 use std::test::Fail;
 

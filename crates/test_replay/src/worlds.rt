@@ -2,8 +2,9 @@
 
 use rw_head::Limits;
 use rw_machine::Event;
-use rw_script::{Command, push_received, push_work, read_script};
+use rw_script::{Command, read_script};
 use rw_shard_core::Config;
+use rw_state_text::{push_received, push_work};
 use rw_types::Room;
 use rw_wal_tail::Piece;
 use rw_wal_write::SegmentWriter;

@@ -5,7 +5,7 @@ use crate::receivers::Receivers;
 use crate::rows::none_is_wrong;
 use Part::{Changed, Cut, Fails, Whole};
 use http::StatusCode;
-use rw_log_commands::ToolFault;
+use rw_fault::ToolFault;
 use rw_metrics::SendCounters;
 use rw_send::{Counted, run_send};
 use rw_settings::read_settings;

@@ -1,8 +1,9 @@
 //! The command `body`. Segments and bodies are written out in hexadecimal; they were made by another program.
 
 use crate::rows::none_is_wrong;
+use rw_fault::ToolFault;
 use rw_hex::read_digits;
-use rw_log_commands::{ToolFault, run_body};
+use rw_log_commands::run_body;
 use rw_types::Room;
 use rw_wal_format::TailFault;
 use std::alloc::{AllocError, Global};

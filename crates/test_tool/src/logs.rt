@@ -1,7 +1,8 @@
 //! The command `log`. Records are written out in hexadecimal, field by field.
 
 use crate::rows::none_is_wrong;
-use rw_log_commands::{ToolFault, run_log, run_log_dir};
+use rw_fault::ToolFault;
+use rw_log_commands::{run_log, run_log_dir};
 use rw_types::{Failed, Room, Sink};
 use std::alloc::{AllocError, Global};
 use std::path::PathBuf;

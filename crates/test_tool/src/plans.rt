@@ -2,7 +2,8 @@
 
 use crate::rows::none_is_wrong;
 use crate::rule_making::raw_labels;
-use rw_log_commands::{ToolFault, run_plan};
+use rw_fault::ToolFault;
+use rw_log_commands::run_plan;
 use rw_settings::{SettingsFault, read_settings};
 use rw_types::{Room, Word};
 use rw_wal_format::TailFault;

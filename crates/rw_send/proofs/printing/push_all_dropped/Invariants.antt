@@ -1,5 +1,5 @@
 use Rattle.std.proofs.Common.{◌≡◌, ◌++◌, take, flat_map}
-use Rattle.rw_script.specs.StateText.{dropped_text}
+use Rattle.rw_state_text.specs.StateText.{dropped_text}
 use Rattle.rw_send.proofs.printing.push_all_dropped.Given as goal
 
 abbrev pub invariant-loop-name : goal.invariant-loop-name

@@ -5,8 +5,8 @@ use Rattle.rw_wal_format.specs.declared.tail_fault.TailFault.{TailFault}
 use Rattle.rw_wal_format.specs.declared.tail_fault.TailFault.TheVariants as tail
 use Rattle.rw_hex.specs.declared.fault.HexFault.{HexFault}
 use Rattle.rw_hex.specs.declared.fault.HexFault.TheVariants as hex
-use Rattle.rw_log_commands.specs.declared.fault.ToolFault.{ToolFault}
-use Rattle.rw_log_commands.specs.declared.fault.ToolFault.TheVariants.{OutOfMemory, Log, Line, Device}
+use Rattle.rw_fault.specs.declared.tool_fault.ToolFault.{ToolFault}
+use Rattle.rw_fault.specs.declared.tool_fault.ToolFault.TheVariants.{OutOfMemory, Log, Line, Device}
 
 -- of a log
 abbrev pub fault_of_log : TailFault → ToolFault

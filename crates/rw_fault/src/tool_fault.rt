@@ -22,7 +22,7 @@ pub enum ToolFault {
 
 impl From<AllocError> for ToolFault {
     ghost use Rattle.std.specs.Prelude.{◌≡◌};
-    ghost use Rattle.rw_log_commands.specs.declared.fault.ToolFault.TheVariants.{OutOfMemory};
+    ghost use Rattle.rw_fault.specs.declared.tool_fault.ToolFault.TheVariants.{OutOfMemory};
 
     ghost from_gives = { λ _ e. e ≡ OutOfMemory };
 
@@ -33,7 +33,7 @@ impl From<AllocError> for ToolFault {
 
 impl From<TailFault> for ToolFault {
     ghost use Rattle.std.specs.Prelude.{◌≡◌};
-    ghost use Rattle.rw_log_commands.specs.Faults.{fault_of_log};
+    ghost use Rattle.rw_fault.specs.Faults.{fault_of_log};
 
     ghost from_gives = { λ f e. e ≡ fault_of_log f };
 
@@ -47,7 +47,7 @@ impl From<TailFault> for ToolFault {
 
 impl From<HexFault> for ToolFault {
     ghost use Rattle.std.specs.Prelude.{◌≡◌};
-    ghost use Rattle.rw_log_commands.specs.Faults.{fault_of_hex};
+    ghost use Rattle.rw_fault.specs.Faults.{fault_of_hex};
 
     ghost from_gives = { λ f e. e ≡ fault_of_hex f };
 
@@ -61,7 +61,7 @@ impl From<HexFault> for ToolFault {
 
 impl From<ReadFault> for ToolFault {
     ghost use Rattle.std.specs.Prelude.{◌≡◌};
-    ghost use Rattle.rw_log_commands.specs.Faults.{fault_of_reading};
+    ghost use Rattle.rw_fault.specs.Faults.{fault_of_reading};
 
     ghost from_gives = { λ f e. e ≡ fault_of_reading f };
 
@@ -75,7 +75,7 @@ impl From<ReadFault> for ToolFault {
 
 impl From<Failed> for ToolFault {
     ghost use Rattle.std.specs.Prelude.{◌≡◌};
-    ghost use Rattle.rw_log_commands.specs.declared.fault.ToolFault.TheVariants.{Device};
+    ghost use Rattle.rw_fault.specs.declared.tool_fault.ToolFault.TheVariants.{Device};
 
     ghost from_gives = { λ _ e. e ≡ Device };
 

@@ -1,14 +1,15 @@
 //! What the program says of a fault.
 
 ghost use Rattle.std.specs.Prelude.{◌≡◌};
-ghost use Rattle.rw_log_commands.specs.Printed.{exit_status};
+ghost use Rattle.rw_fault.specs.Printed.{exit_status};
 
-use crate::fault::ToolFault;
+use crate::tool_fault::ToolFault;
+use std::error::Error;
 use std::fmt;
 
 impl fmt::Display for ToolFault {
     ghost use Rattle.std.specs.Prelude.{Some};
-    ghost use Rattle.rw_log_commands.specs.Printed.{fault_text};
+    ghost use Rattle.rw_fault.specs.Printed.{fault_text};
 
     ghost output = { λ f. Some (fault_text f) };
 
@@ -25,6 +26,8 @@ impl fmt::Display for ToolFault {
         }
     }
 }
+
+impl Error for ToolFault {}
 
 impl ToolFault {
     /// The exit status of the program: 1 for a fault of the data, 3 for want of memory, 4 for a device.

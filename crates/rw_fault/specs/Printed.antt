@@ -2,8 +2,8 @@
 use Rattle.std.specs.Prelude.{ℕ, List, ◌++◌, codes}
 use Rattle.std.specs.Fmt.{decimal}
 use Rattle.rw_wal_format.specs.Faults.{log_fault_number}
-use Rattle.rw_log_commands.specs.declared.fault.ToolFault.{ToolFault}
-use Rattle.rw_log_commands.specs.declared.fault.ToolFault.TheVariants.{OutOfMemory, Log, Line, SegmentFull, Device}
+use Rattle.rw_fault.specs.declared.tool_fault.ToolFault.{ToolFault}
+use Rattle.rw_fault.specs.declared.tool_fault.ToolFault.TheVariants.{OutOfMemory, Log, Line, SegmentFull, Device}
 
 abbrev pub fault_text : ToolFault → List ℕ
 fault_text OutOfMemory = codes "out of memory"

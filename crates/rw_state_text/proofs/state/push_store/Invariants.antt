@@ -1,8 +1,8 @@
 use Rattle.std.proofs.Common.{length}
 use Rattle.rw_head.specs.Store.{list_of}
-use Rattle.rw_script.specs.StateText.{received_text, store_text}
-use Rattle.rw_script.proofs.StateLemmas.{Written}
-use Rattle.rw_script.proofs.state.push_store.Given as goal
+use Rattle.rw_state_text.specs.StateText.{received_text, store_text}
+use Rattle.rw_state_text.proofs.StateLemmas.{Written}
+use Rattle.rw_state_text.proofs.state.push_store.Given as goal
 
 abbrev pub invariant-loop-labels : goal.invariant-loop-labels
 invariant-loop-labels l = Written (λ x. received_text x (list_of l.fn.head.store x)) l.fn.out.items (store_text l.fn.head.store) l.out.items l.label_sets
