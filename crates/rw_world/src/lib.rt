@@ -16,4 +16,7 @@ mod step;
 mod world;
 
 pub use laws::requests_are_answered_as_bytes;
+pub use rw_machine::{Event, How};
+pub use rw_shard_core::Outcome;
+pub use rw_wal_tail::{Piece, TailFault};
 pub use world::{Refused, World};

@@ -1,0 +1,10 @@
+pub use Rattle.rw_head.specs.Blocks
+pub use Rattle.rw_head.specs.Finds
+pub use Rattle.rw_head.specs.Growth
+pub use Rattle.rw_head.specs.Head
+pub use Rattle.rw_head.specs.Lists
+pub use Rattle.rw_head.specs.Names
+pub use Rattle.rw_head.specs.Order
+pub use Rattle.rw_head.specs.Store
+pub use Rattle.rw_head.specs.Verdicts
+pub use Rattle.rw_shared_head.specs.Seats

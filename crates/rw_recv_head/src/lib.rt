@@ -1,0 +1,7 @@
+//! The receiving head: what a receiver of samples holds, and the same for many threads under one lock. This crate passes on what those two crates have.
+#![tactic(auto)]
+
+pub use rw_head::{
+    Block, Head, LabelSets, Limits, Verdict, stores_are_lists, stores_hold_no_empty_list,
+};
+pub use rw_shared_head::{Asked, Seat, SharedHead};
