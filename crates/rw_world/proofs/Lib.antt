@@ -1,12 +1,7 @@
-pub mod ShardLemmas
-pub mod SendingLemmas
-pub mod ReplyLemmas
 pub mod WorldLemmas
-pub mod ReadingLemmas
 pub mod PlaceLemmas
 pub mod ArriveLemmas
 pub mod StepLemmas
-pub mod PendingLemmas
-pub mod GuardLemmas
+pub mod ReportLemmas
 pub mod RoundLemmas
 pub mod ShutdownLemmas

@@ -7,7 +7,7 @@ use Rattle.rw_machine.specs.Shards.{Shard, has_room, shard_put}
 use Rattle.rw_machine.specs.Worlds.{Setup, World}
 use Rattle.rw_machine.specs.Steps.{change, next_sample, place, place_entry, put_if_room}
 use Rattle.rw_plain_queue.specs.Items.{Placed}
-use Rattle.rw_world.specs.Sending.{Sending, room_at, sample_at, put_to}
+use Rattle.rw_world_parts.specs.Sending.{Sending, room_at, sample_at, put_to}
 use Rattle.rw_world.specs.Machine.{Machine, next_entry}
 
 -- the next entry is placed, while no shards are drained

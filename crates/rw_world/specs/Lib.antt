@@ -1,9 +1,5 @@
-pub mod Held
-pub mod Sending
-pub mod Reading
 pub mod Machine
 pub mod Arriving
 pub mod Reached
 pub mod Endings
-pub mod Guards
 pub mod Rounds

@@ -1,23 +1,13 @@
 -- A round of an orderly shutdown.
-use Rattle.std.specs.Prelude.{◌≡◌, ℕ, List, [], ◌∷◌, Option, None, Some}
-use Rattle.rw_types.specs.declared.entry.Entry.{Entry}
-use Rattle.rw_types.specs.declared.entry.Entry.TheVariants.{Def, Sample}
+use Rattle.std.specs.Prelude.{◌≡◌, ℕ, List, [], ◌∷◌}
 use Rattle.rw_machine.specs.Settling.{settle, settle_events}
 use Rattle.rw_machine.specs.Steps.{run}
 use Rattle.rw_machine.specs.declared.event.Event.{Event}
 use Rattle.rw_machine.specs.declared.event.Event.TheVariants as event
 use Rattle.rw_machine.specs.declared.event.How.TheVariants.{Plain}
 use Rattle.rw_world.specs.Machine.{Machine}
-use Rattle.rw_world.specs.declared.log.Ahead.{Ahead}
-use Rattle.rw_world.specs.declared.log.Ahead.TheVariants as ahead
 use Rattle.rw_world.specs.declared.round.Next.{Next}
 use Rattle.rw_world.specs.declared.round.Next.TheVariants as next
-
--- what stands at a position of a log
-abbrev pub ahead_of : Option Entry → Ahead
-ahead_of None = ahead.Nothing
-ahead_of (Some (Def r l)) = ahead.Definition
-ahead_of (Some (Sample r t word)) = ahead.Sample r t
 
 -- the events of a round
 abbrev pub events_of : Next → List Event

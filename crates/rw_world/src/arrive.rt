@@ -8,11 +8,10 @@ ghost use Rattle.rw_machine.specs.declared.event.How.TheVariants.{Plain};
 ghost use Rattle.rw_world.specs.Arriving.{turned_away, AnswersBytes};
 
 use crate::engine::Engine;
-use crate::receiver::answer_to;
-use crate::sent::Answer;
 use http::StatusCode;
 use rw_machine::How;
 use rw_roundtrip::requests_are_read;
+use rw_world_parts::{Answer, answer_to};
 use std::alloc::AllocError;
 
 impl Engine {
@@ -31,7 +30,7 @@ impl Engine {
             ≡ option_map (λ (r : Request). r.bytes) (slice_get self.now.world.requests k) }
     {
         match self.requests.get(k) {
-            Some(sent) => Some(sent.request.as_slice()),
+            Some(sent) => Some(sent.request()),
             None => None,
         }
     }
@@ -45,9 +44,9 @@ impl Engine {
     {
         self.replies.reserve(1)?;
         let sent = &self.requests[k];
-        let id = sent.id;
+        let id = sent.id();
         let status = answer_to(self.alloc, sent, &self.host, &mut self.head, &self.limits)?;
-        self.replies.push_reserved(Answer { id, status });
+        self.replies.push_reserved(Answer::new(id, status));
         Ok(())
     }
 
@@ -59,8 +58,8 @@ impl Engine {
         ensures err { OnErr result (self.new ≡ self.old) }
     {
         self.replies.reserve(1)?;
-        let id = self.requests[k].id;
-        self.replies.push_reserved(Answer { id, status });
+        let id = self.requests[k].id();
+        self.replies.push_reserved(Answer::new(id, status));
         Ok(())
     }
 

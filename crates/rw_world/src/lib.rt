@@ -4,14 +4,9 @@
 mod arrive;
 mod engine;
 mod laws;
-mod log;
 mod place;
-mod receiver;
 mod report;
 mod round;
-mod sending;
-mod sent;
-mod shard;
 mod step;
 mod world;
 

@@ -8,15 +8,14 @@ ghost use Rattle.rw_machine.specs.Steps.{happens, run};
 ghost use Rattle.rw_machine.specs.Worlds.{is_finished, is_over};
 ghost use Rattle.rw_machine.specs.declared.event.Event.TheVariants as event;
 ghost use Rattle.rw_shard_core.specs.Shard.{same_id};
-ghost use Rattle.rw_world.specs.Guards.{is_open, is_ready, may_take, may_flush, IsOpen};
+ghost use Rattle.rw_world_parts.specs.Guards.{is_open, is_ready, may_take, may_flush, IsOpen};
 ghost use Rattle.rw_world.specs.Machine.{placed_entries};
 ghost use Rattle.rw_world.specs.Rounds.{events_of, HasSettled};
 
 use crate::engine::Engine;
-use crate::log::Ahead;
-use crate::sent::Sent;
 use rw_batch::BatchId;
 use rw_machine::{Event, How};
+use rw_world_parts::{Ahead, Sent};
 use std::alloc::AllocError;
 
 /// What comes next.
@@ -46,7 +45,7 @@ fn newest(requests: &[Sent], id: BatchId) -> u64
     while k > 0 {
         k -= 1;
         let sent = &requests[k];
-        if is_same(id, sent.id) {
+        if is_same(id, sent.id()) {
             return k as u64;
         }
     }

@@ -106,8 +106,8 @@ impl Engine {
         if k >= self.replies.len() {
             return;
         }
-        let id = self.replies[k].id;
-        let status = self.replies[k].status;
+        let id = self.replies[k].id();
+        let status = self.replies[k].status();
         self.senders.reply(id, status);
     }
 

@@ -1,5 +1,5 @@
 use Rattle.std.proofs.Common.{◌∙◌}
-use Rattle.rw_world.proofs.PendingLemmas.{searched_is}
+use Rattle.rw_world.proofs.ReportLemmas.{searched_is}
 use Rattle.rw_world.proofs.report.stands.Goals as goal
 
 pub returns : goal.returns

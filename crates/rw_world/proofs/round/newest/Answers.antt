@@ -12,7 +12,7 @@ returns-then-is_same c =
     let found = c.index-requests-k.result in
     let n : i ≡ (i - 1) + 1 = omega arith in
     let lt : i - 1 < length sent = omega (arith, c.loop-k.invariant.0) in
-    let same : same_id id (get_or sent (i - 1) found).id ≡ true = ap (λ (x : Request). same_id id x.id) (sym c.index-requests-k.is) ∙ ap (λ (x : Request). same_id id x.id) (sym c.sent.view_is) ∙ sym c.is_same.ensures ∙ c.if-is_same.true in
+    let same : same_id id (get_or sent (i - 1) found).id ≡ true = ap (λ (x : Request). same_id id x.id) (sym c.index-requests-k.is) ∙ ap (same_id id) (sym c.id.ensures) ∙ sym c.is_same.ensures ∙ c.if-is_same.true in
     newest_found id sent i (i - 1) found n lt c.loop-k.invariant.1 same
 
 pub loop-k-preserved : goal.loop-k-preserved
@@ -23,5 +23,5 @@ loop-k-preserved c =
     let found = c.index-requests-k.result in
     let n : i ≡ (i - 1) + 1 = omega arith in
     let lt : i - 1 < length sent = omega (arith, c.loop-k.invariant.0) in
-    let other : same_id id (get_or sent (i - 1) found).id ≡ false = ap (λ (x : Request). same_id id x.id) (sym c.index-requests-k.is) ∙ ap (λ (x : Request). same_id id x.id) (sym c.sent.view_is) ∙ sym c.is_same.ensures ∙ c.if-is_same.false in
+    let other : same_id id (get_or sent (i - 1) found).id ≡ false = ap (λ (x : Request). same_id id x.id) (sym c.index-requests-k.is) ∙ ap (same_id id) (sym c.id.ensures) ∙ sym c.is_same.ensures ∙ c.if-is_same.false in
     (omega arith, newest_passed id sent i (i - 1) found n lt c.loop-k.invariant.1 other)

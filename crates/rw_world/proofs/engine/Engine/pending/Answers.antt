@@ -3,7 +3,7 @@ use Rattle.std.specs.Prelude.{◌==◌}
 use Rattle.std.specs.List.{list_any}
 use Rattle.rw_machine.specs.Worlds.{World, is_pending}
 use Rattle.rw_world.specs.Machine.{Machine}
-use Rattle.rw_world.proofs.PendingLemmas.{up_to_taken, up_to_left}
+use Rattle.rw_world.proofs.ReportLemmas.{up_to_taken, up_to_left}
 use Rattle.rw_world.proofs.engine.Engine.pending.Goals as goal
 use Rattle.rw_world.proofs.engine.Engine.pending.Goals.{then-stands+in_ok-push, else-stands}
 
