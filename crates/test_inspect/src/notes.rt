@@ -1,0 +1,58 @@
+//! What is said of lines that are of no form.
+
+use rw_line_notes::{log_line_note, numbered_line, script_line_note, shown_line};
+use std::alloc::{AllocError, Global};
+use std::test::Fail;
+
+/// A line, and what is said of it begins so; nothing where it is of its form.
+type Row = (&'static [u8], Option<&'static str>);
+
+static LOG_LINES: [Row; 8] = [
+    (b"sample 1 1000 1", None),
+    (b"sample x 1000 1", Some("REF is no")),
+    (b"sample 1 1s 1", Some("T is no")),
+    (b"sample 1 1000 1.5", Some("VALUE is")),
+    (b"series 1 {a=1}", Some("LABELS are")),
+    (b"raw 0", Some("HEX is")),
+    (b"hello", Some("a line is")),
+    (b"raw \xff", Some("the line is not UTF-8")),
+];
+
+static SCRIPT_LINES: [Row; 4] = [
+    (b"settle", None),
+    (b"flush x", Some("behind the word")),
+    (b"log sample 1 1s 1", Some("T is no")),
+    (b"wait", Some("no event begins")),
+];
+
+/// Whether this is said where it is wanted.
+fn is_said(note: Option<&str>, wanted: Option<&str>) -> bool {
+    match (note, wanted) {
+        (None, None) => true,
+        (Some(note), Some(wanted)) => note.starts_with(wanted),
+        _ => false,
+    }
+}
+
+/// The first row of which something else is said, counted over both tables.
+fn wrong_note(alloc: Global) -> Result<Option<usize>, AllocError> {
+    for (i, (line, wanted)) in LOG_LINES.iter().enumerate() {
+        if !is_said(log_line_note(alloc, line)?, *wanted) {
+            return Ok(Some(i));
+        }
+    }
+    for (i, (line, wanted)) in SCRIPT_LINES.iter().enumerate() {
+        if !is_said(script_line_note(alloc, line)?, *wanted) {
+            return Ok(Some(LOG_LINES.len() + i));
+        }
+    }
+    Ok(None)
+}
+
+#[test]
+fn notes_on_lines(rt: HostRuntime) -> Result<(), Fail> {
+    assert_eq!(rt; wrong_note(rt.alloc())?, None);
+    let second = numbered_line(b"a\n\tb\nc", 2).unwrap_or(b"");
+    assert!(rt; shown_line(rt.alloc(), second)?.as_str() == "?b");
+    Ok(())
+}
