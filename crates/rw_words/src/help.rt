@@ -28,8 +28,11 @@ pub(crate) const PLAN: &str = "\
 Example:
   rwship plan --settings rwship.toml < data/wal/00000000
 
+  rwship plan --settings rwship.toml --dir data/wal
+
 It prints 'REFERENCE kept NUMBER LABELS' or 'REFERENCE filtered LABELS' for each series, and how many
-samples are kept and filtered. docs/SETTINGS.md tells the rules.
+samples are kept and filtered. With --dir it reads the segments of a folder as 'send' does.
+docs/SETTINGS.md tells the rules.
 
 Exit status: 0; 1 for a fault of the log; 2 for bad words or settings; 3 out of memory; 4 where a
 file, standard input or output failed.";
@@ -38,11 +41,14 @@ pub(crate) const INSPECT: &str = "\
 Example:
   rwship inspect --dir data/wal
 
-It prints a row for each segment, one for all, and how many samples 'send' would drop where no rules
-are set. docs/OPERATING.md shows a table, and what is said of a fault.
+  rwship inspect --dir data/wal --at 6 4711
 
-Exit status: 0; 1 for a fault of the log, behind its report; 2 for bad words; 3 out of memory; 4 where
-a file, standard input or output failed.";
+It prints a row for each segment, one for all, and how many samples 'send' would drop where no rules
+are set. docs/OPERATING.md shows a table, and what is said of a fault. With --at it prints the entry at
+each position in place of that, and the label set that the reference of a sample stands for there.
+
+Exit status: 0; 1 for a fault of the log, behind its report, or where a position is not there; 2 for
+bad words; 3 out of memory; 4 where a file, standard input or output failed.";
 
 pub(crate) const REPLAY: &str = "\
 Example:

@@ -92,22 +92,31 @@ pub enum Task<'a> {
     /// One log segment in; its body out.
     Body {
         hex: bool,
+        /// Whether it is told where the segment is damaged.
+        is_explained: bool,
     },
     /// Log text in; one segment out, or numbered segments into `dir`.
     Log {
         hex: bool,
         pages: Bounded<1, 4096>,
         dir: Option<&'a str>,
+        /// Whether it is told what is wrong with a line.
+        is_explained: bool,
     },
-    /// One log segment in; its series plan out.
+    /// One log segment in, or all segments of `dir`; the series plan out.
     Plan {
         settings: SettingsFile<'a>,
         hex: bool,
+        dir: Option<&'a str>,
     },
     /// One log segment in, or all segments of `dir`; what they hold out.
     Inspect {
         dir: Option<&'a str>,
         json: bool,
+    },
+    /// All segments of `dir` in; the entries at the positions that `positions_of` gives out.
+    Find {
+        dir: &'a str,
     },
     /// An event script in; the state at its end out.
     Replay {
@@ -148,14 +157,32 @@ fn explain<'a>(alloc: Global) -> Arg<'a> {
     Arg::new(alloc, "explain")
         .long("explain")
         .action(ArgAction::SetTrue)
-        .help("Tell each fault of the settings, and what cannot be read, found or listened at")
+        .help(
+            "Tell each fault of the settings and of the input, and what cannot be read, found or listened at",
+        )
+}
+
+fn explain_input<'a>(alloc: Global) -> Arg<'a> {
+    Arg::new(alloc, "explain")
+        .long("explain")
+        .action(ArgAction::SetTrue)
+        .help("Tell where the input has its fault, and what is wrong there")
+}
+
+fn segments_dir<'a>(alloc: Global) -> Arg<'a> {
+    Arg::new(alloc, "dir")
+        .long("dir")
+        .value_name("DIR")
+        .value_parser(ValueParser::NonEmptyString)
+        .help("Read the segments of this folder in place of one on standard input")
 }
 
 fn body_command<'a>(alloc: Global) -> Result<Command<'a>, AllocError> {
     Command::new(alloc, "body")
         .about("Reads one log segment and writes the remote-write body of its samples")
         .after_help(help::BODY)
-        .arg(hex(alloc))
+        .arg(hex(alloc))?
+        .arg(explain_input(alloc))
 }
 
 fn log_command<'a>(alloc: Global) -> Result<Command<'a>, AllocError> {
@@ -175,33 +202,42 @@ fn log_command<'a>(alloc: Global) -> Result<Command<'a>, AllocError> {
         .after_help(help::LOG)
         .arg(hex(alloc))?
         .arg(pages)?
-        .arg(dir)
+        .arg(dir)?
+        .arg(explain_input(alloc))
 }
 
 fn plan_command<'a>(alloc: Global) -> Result<Command<'a>, AllocError> {
     Command::new(alloc, "plan")
-        .about("Reads one log segment and prints which of its series the rules keep")
+        .about("Reads a log and prints which of its series the rules keep")
         .after_help(help::PLAN)
         .arg(settings(alloc))?
         .arg(explain(alloc))?
-        .arg(hex(alloc))
+        .arg(segments_dir(alloc))?
+        .arg(hex(alloc).conflicts_with("dir")?)
 }
 
 fn inspect_command<'a>(alloc: Global) -> Result<Command<'a>, AllocError> {
-    let dir = Arg::new(alloc, "dir")
-        .long("dir")
-        .value_name("DIR")
-        .value_parser(ValueParser::NonEmptyString)
-        .help("Read the segments of this folder in place of one on standard input");
     let json = Arg::new(alloc, "json")
         .long("json")
         .action(ArgAction::SetTrue)
         .help("Write JSON, one object a line");
+    let at = Arg::new(alloc, "at")
+        .long("at")
+        .value_name("POS")
+        .num_args(1..)
+        .action(ArgAction::Append)
+        .value_parser(value_parser!(u64))
+        .help(
+            "With --dir: print the entries at these positions of a report of 'send', and nothing else",
+        )
+        .conflicts_with("json")?
+        .requires_arg("dir")?;
     Command::new(alloc, "inspect")
         .about("Reads a log and prints what its segments hold, and where it is damaged")
         .after_help(help::INSPECT)
-        .arg(dir)?
-        .arg(json)
+        .arg(segments_dir(alloc))?
+        .arg(json)?
+        .arg(at)
 }
 
 fn replay_command<'a>(alloc: Global) -> Result<Command<'a>, AllocError> {
@@ -337,6 +373,33 @@ fn receive_task<'a>(settings: SettingsFile<'a>, options: &ArgMatches<'a>) -> Opt
     })
 }
 
+/// What the options of `inspect` ask for.
+fn inspect_task<'a>(options: &ArgMatches<'a>) -> Task<'a> {
+    let dir = options.get_str("dir");
+    match dir {
+        Some(dir) if options.get_str("at").is_some() => Task::Find { dir },
+        _ => Task::Inspect {
+            dir,
+            json: options.get_flag("json"),
+        },
+    }
+}
+
+/// The positions that the words ask for, in their order.
+pub fn positions_of(alloc: Global, words: &ArgMatches<'_>) -> Result<Vec<u64>, AllocError> {
+    let mut positions = Vec::new(alloc);
+    if let Some((_, options)) = words.subcommand() {
+        if let Some(texts) = options.get_raw("at") {
+            for text in texts {
+                if let Ok(position) = text.parse::<u64>() {
+                    positions.push(position)?;
+                }
+            }
+        }
+    }
+    Ok(positions)
+}
+
 /// What a command's options ask for.
 fn task_named<'a>(name: &str, options: &ArgMatches<'a>) -> Option<Task<'a>> {
     let hex = options.get_flag("hex");
@@ -344,18 +407,21 @@ fn task_named<'a>(name: &str, options: &ArgMatches<'a>) -> Option<Task<'a>> {
         path: options.get_str("settings"),
         is_explained: options.get_flag("explain"),
     };
+    let is_explained = settings.is_explained;
     match name.as_bytes() {
-        b"body" => Some(Task::Body { hex }),
+        b"body" => Some(Task::Body { hex, is_explained }),
         b"log" => Some(Task::Log {
             hex,
             pages: Bounded::try_new(options.get_one::<u16>("pages")? as u64)?,
             dir: options.get_str("dir"),
+            is_explained,
         }),
-        b"plan" => Some(Task::Plan { settings, hex }),
-        b"inspect" => Some(Task::Inspect {
+        b"plan" => Some(Task::Plan {
+            settings,
+            hex,
             dir: options.get_str("dir"),
-            json: options.get_flag("json"),
         }),
+        b"inspect" => Some(inspect_task(options)),
         b"replay" => Some(Task::Replay { settings }),
         b"settings" => Some(Task::Settings { settings }),
         b"send" => send_task(settings, options),

@@ -21,6 +21,9 @@ const BAD_WORDS: u8 = 2;
 /// The exit status for dropped samples, where they are a fault.
 const DROPPED: u8 = 1;
 
+/// The exit status for positions that have no entry.
+const NOT_THERE: u8 = 1;
+
 /// The exit status for work that something outside has ended.
 const CUT_OFF: u8 = 4;
 
@@ -61,6 +64,14 @@ pub fn dropped(rt: &HostRuntime, count: u64) -> ExitCode
 {
     let _ = eprintln!(rt; "rwship: {count} samples were dropped");
     ExitCode::from(DROPPED)
+}
+
+/// Says how many positions have no entry.
+pub fn missing(rt: &HostRuntime, count: u64) -> ExitCode
+    ensures { process.exit_status result ≡ 1 }
+{
+    let _ = eprintln!(rt; "rwship: {count} positions are not there");
+    ExitCode::from(NOT_THERE)
 }
 
 /// Tells what could not be done with what, and what the system said.

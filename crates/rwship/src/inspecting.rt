@@ -2,9 +2,10 @@
 
 use crate::ending::tell_device;
 use rw_fault::ToolFault;
-use rw_inspect::{Named, Report, inspect, json_of, table_of};
+use rw_inspect::{Named, Report, find_entries, inspect, json_of, plan_segments, table_of};
 use rw_send::{Opened, SegmentFile, segment_files};
-use rw_types::{Std, write_all};
+use rw_settings::Settings;
+use rw_types::{Source, Std, write_all};
 use std::alloc::AllocError;
 use std::fs;
 use std::path::Path;
@@ -55,6 +56,27 @@ pub fn print_inspected(rt: &HostRuntime, dir: Option<&str>, json: bool) -> Resul
     }
 }
 
+/// Prints the plan of the segments of a folder.
+pub fn print_plan(rt: &HostRuntime, dir: &str, settings: Settings) -> Result<(), ToolFault> {
+    let choice = settings.config.into_fields().into_choice();
+    let mut output = Std::new(rt.stdout());
+    match plan_segments(rt.alloc(), choice, named_files(rt, dir)?, &mut output)? {
+        Some(damage) => Err(ToolFault::Log(damage.fault)),
+        None => Ok(()),
+    }
+}
+
+/// Prints the entries at positions of the log in a folder, and answers how many are not there. A fault of the log stands at the end.
+pub fn print_found(rt: &HostRuntime, dir: &str, positions: Vec<u64>) -> Result<u64, ToolFault> {
+    let found = find_entries(rt.alloc(), named_files(rt, dir)?, positions)?;
+    let mut output = Std::new(rt.stdout());
+    write_all(&mut output, &found.text)?;
+    match found.damage {
+        Some(damage) => Err(ToolFault::Log(damage.fault)),
+        None => Ok(found.missing),
+    }
+}
+
 /// Tells what a table says of a fault, at its end.
 fn tell_table_end(rt: &HostRuntime, table: &str) {
     let mut has_begun = false;
@@ -66,14 +88,22 @@ fn tell_table_end(rt: &HostRuntime, table: &str) {
     }
 }
 
-/// Tells the fault of the log in a folder, which is read once more for that.
-fn tell_damage(rt: &HostRuntime, dir: &str) -> Result<(), ToolFault> {
-    let report = inspected(rt, Some(dir))?;
+/// Tells the fault of the log in these segments.
+pub fn tell_damage_of<S: Source + Drop>(
+    rt: &HostRuntime,
+    segments: Vec<Named<S>>,
+) -> Result<(), ToolFault> {
+    let report = inspect(rt.alloc(), segments)?;
     let table = table_of(rt.alloc(), &report)?;
     if let Ok(table) = str::from_utf8(&table) {
         tell_table_end(rt, table);
     }
     Ok(())
+}
+
+/// Tells the fault of the log in a folder, which is read once more for that.
+fn tell_damage(rt: &HostRuntime, dir: &str) -> Result<(), ToolFault> {
+    tell_damage_of(rt, named_files(rt, dir)?)
 }
 
 /// Tells which segment cannot be opened, the first one.

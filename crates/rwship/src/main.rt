@@ -2,6 +2,8 @@
 #![tactic(auto)]
 
 mod ending;
+mod engines;
+mod explaining;
 mod inspecting;
 mod receiving;
 mod reporting;
@@ -9,61 +11,22 @@ mod sending;
 mod settings;
 mod sign;
 
-use ending::{bad_words, ended, no_address, unparsed, unset};
-use inspecting::print_inspected;
+use clap::ArgMatches;
+use ending::{bad_words, ended, missing, no_address, unparsed, unset};
+use engines::{body, log, plan, replay};
+use inspecting::{print_found, print_inspected};
 use receiving::receive;
 use rw_fault::ToolFault;
-use rw_log_commands::{run_body, run_log, run_log_dir, run_plan};
-use rw_replay::run_replay;
-use rw_types::{Bounded, Std, write_all};
-use rw_words::{SettingsFile, Task, command_line, task_of};
+use rw_types::{Std, write_all};
+use rw_words::{SettingsFile, Task, command_line, positions_of, task_of};
 use sending::send;
-use settings::{printed_settings, settings_in};
+use settings::printed_settings;
 use std::env;
 use std::io::ErrorKind;
 use std::process::ExitCode;
 use std::sync::Wait;
 use std::thread::Threads;
 use std::time::Clock;
-
-/// Writes a segment of log text, or the segments into a folder.
-fn log(rt: &HostRuntime, hex: bool, pages: Bounded<1, 4096>, dir: Option<&str>) -> ExitCode {
-    let mut input = Std::new(rt.stdin());
-    let pages = pages.get() as usize;
-    match dir {
-        Some(dir) => ended(rt, run_log_dir(rt, rt.alloc(), &mut input, dir, pages)),
-        None => {
-            let mut output = Std::new(rt.stdout());
-            ended(rt, run_log(rt.alloc(), &mut input, &mut output, hex, pages))
-        }
-    }
-}
-
-/// Prints the plan of a segment.
-fn plan(rt: &HostRuntime, settings: SettingsFile<'_>, hex: bool) -> ExitCode {
-    let mut input = Std::new(rt.stdin());
-    let mut output = Std::new(rt.stdout());
-    match settings_in(rt, settings) {
-        Ok(settings) => {
-            let outcome = run_plan(rt.alloc(), &mut input, &mut output, settings, hex);
-            ended(rt, outcome)
-        }
-        Err(fault) => unset(rt, fault),
-    }
-}
-
-/// Plays a script and prints the state at its end.
-fn replay(rt: &HostRuntime, settings: SettingsFile<'_>) -> ExitCode {
-    let mut input = Std::new(rt.stdin());
-    let mut output = Std::new(rt.stdout());
-    match settings_in(rt, settings) {
-        Ok(settings) => {
-            let outcome = run_replay(rt.alloc(), &mut input, &mut output, settings);
-            ended(rt, outcome)
-        }
-        Err(fault) => unset(rt, fault),
-    }
-}
 
 /// Prints settings, each key with its value.
 fn print_settings(rt: &HostRuntime, settings: SettingsFile<'_>) -> ExitCode {
@@ -77,11 +40,13 @@ fn print_settings(rt: &HostRuntime, settings: SettingsFile<'_>) -> ExitCode {
     }
 }
 
-/// Writes the body of a segment.
-fn body(rt: &HostRuntime, hex: bool) -> ExitCode {
-    let mut input = Std::new(rt.stdin());
-    let mut output = Std::new(rt.stdout());
-    ended(rt, run_body(rt.alloc(), &mut input, &mut output, hex))
+/// Prints the entries at positions of the log in a folder.
+fn find(rt: &HostRuntime, dir: &str, words: &ArgMatches<'_>) -> Result<ExitCode, ToolFault> {
+    let positions = positions_of(rt.alloc(), words)?;
+    match print_found(rt, dir, positions)? {
+        0 => Ok(ExitCode::SUCCESS),
+        count => Ok(missing(rt, count)),
+    }
 }
 
 /// Does what the words ask for.
@@ -89,12 +54,22 @@ fn perform<R: Threads + Wait + Clock + Copy + Send + Sync + 'static>(
     rt: &HostRuntime,
     threads: &R,
     task: &Task<'_>,
+    words: &ArgMatches<'_>,
 ) -> ExitCode {
     match task {
-        Task::Body { hex } => body(rt, *hex),
-        Task::Log { hex, pages, dir } => log(rt, *hex, *pages, *dir),
-        Task::Plan { settings, hex } => plan(rt, *settings, *hex),
+        Task::Body { hex, is_explained } => body(rt, *hex, *is_explained),
+        Task::Log {
+            hex,
+            pages,
+            dir,
+            is_explained,
+        } => log(rt, *hex, *pages, *dir, *is_explained),
+        Task::Plan { settings, hex, dir } => plan(rt, *settings, *hex, *dir),
         Task::Inspect { dir, json } => ended(rt, print_inspected(rt, *dir, *json)),
+        Task::Find { dir } => match find(rt, dir, words) {
+            Ok(status) => status,
+            Err(fault) => ended(rt, Err(fault)),
+        },
         Task::Replay { settings } => replay(rt, *settings),
         Task::Settings { settings } => print_settings(rt, *settings),
         Task::Send { settings, sending } => send(rt, threads, *settings, sending),
@@ -122,7 +97,7 @@ fn run<R: Threads + Wait + Clock + Copy + Send + Sync + 'static>(
     match command_line(alloc)?.try_get_matches_from(words.as_slice()) {
         Err(error) => Ok(unparsed(rt, error)),
         Ok(matches) => match task_of(&matches) {
-            Some(task) => Ok(perform(rt, threads, &task)),
+            Some(task) => Ok(perform(rt, threads, &task, &matches)),
             None => Ok(no_address(rt, &matches)),
         },
     }

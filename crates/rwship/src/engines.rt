@@ -1,0 +1,142 @@
+//! The commands that read standard input, or a folder, and write what they make of it.
+
+use crate::ending::{ended, unset};
+use crate::explaining::{Input, explained, whole_input};
+use crate::inspecting::{print_plan, tell_log};
+use crate::settings::settings_in;
+use rw_fault::ToolFault;
+use rw_log_commands::{run_body, run_log, run_log_dir, run_plan};
+use rw_replay::run_replay;
+use rw_settings::Settings;
+use rw_types::{Bounded, Source, Std};
+use rw_words::SettingsFile;
+use std::process::ExitCode;
+
+/// Writes the body of a segment.
+pub fn body(rt: &HostRuntime, hex: bool, is_explained: bool) -> ExitCode {
+    let mut output = Std::new(rt.stdout());
+    if !is_explained {
+        let mut input = Std::new(rt.stdin());
+        return ended(rt, run_body(rt.alloc(), &mut input, &mut output, hex));
+    }
+    match whole_input(rt) {
+        Ok(text) => {
+            let input = Input::segment(text, hex);
+            let outcome = run_body(rt.alloc(), &mut input.as_slice(), &mut output, hex);
+            explained(rt, &input, outcome)
+        }
+        Err(fault) => ended(rt, Err(fault)),
+    }
+}
+
+/// Writes a segment of log text, or the segments into a folder.
+fn log_from<S: Source>(
+    rt: &HostRuntime,
+    input: &mut S,
+    hex: bool,
+    pages: Bounded<1, 4096>,
+    dir: Option<&str>,
+) -> Result<(), ToolFault> {
+    let pages = pages.get() as usize;
+    match dir {
+        Some(dir) => run_log_dir(rt, rt.alloc(), input, dir, pages),
+        None => {
+            let mut output = Std::new(rt.stdout());
+            run_log(rt.alloc(), input, &mut output, hex, pages)
+        }
+    }
+}
+
+/// The same of standard input.
+pub fn log(
+    rt: &HostRuntime,
+    hex: bool,
+    pages: Bounded<1, 4096>,
+    dir: Option<&str>,
+    is_explained: bool,
+) -> ExitCode {
+    if !is_explained {
+        return ended(rt, log_from(rt, &mut Std::new(rt.stdin()), hex, pages, dir));
+    }
+    match whole_input(rt) {
+        Ok(text) => {
+            let input = Input::LogText(text);
+            let outcome = log_from(rt, &mut input.as_slice(), hex, pages, dir);
+            explained(rt, &input, outcome)
+        }
+        Err(fault) => ended(rt, Err(fault)),
+    }
+}
+
+/// Prints the plan of the segments of a folder.
+fn plan_folder(rt: &HostRuntime, dir: &str, settings: Settings, is_explained: bool) -> ExitCode {
+    match print_plan(rt, dir, settings) {
+        Ok(()) => ExitCode::SUCCESS,
+        Err(fault) => {
+            let status = ended(rt, Err(fault));
+            if is_explained {
+                tell_log(rt, dir, fault);
+            }
+            status
+        }
+    }
+}
+
+/// Prints the plan of a segment.
+fn plan_segment(rt: &HostRuntime, settings: Settings, hex: bool, is_explained: bool) -> ExitCode {
+    let mut output = Std::new(rt.stdout());
+    if !is_explained {
+        let mut input = Std::new(rt.stdin());
+        let outcome = run_plan(rt.alloc(), &mut input, &mut output, settings, hex);
+        return ended(rt, outcome);
+    }
+    match whole_input(rt) {
+        Ok(text) => {
+            let input = Input::segment(text, hex);
+            let mut reader = input.as_slice();
+            let outcome = run_plan(rt.alloc(), &mut reader, &mut output, settings, hex);
+            explained(rt, &input, outcome)
+        }
+        Err(fault) => ended(rt, Err(fault)),
+    }
+}
+
+/// Prints the plan of a segment, or of the segments of a folder.
+pub fn plan(rt: &HostRuntime, file: SettingsFile<'_>, hex: bool, dir: Option<&str>) -> ExitCode {
+    match settings_in(rt, file) {
+        Ok(settings) => match dir {
+            Some(dir) => plan_folder(rt, dir, settings, file.is_explained),
+            None => plan_segment(rt, settings, hex, file.is_explained),
+        },
+        Err(fault) => unset(rt, fault),
+    }
+}
+
+/// Plays a script under settings.
+fn play(rt: &HostRuntime, settings: Settings, is_explained: bool) -> ExitCode {
+    let mut output = Std::new(rt.stdout());
+    if !is_explained {
+        let mut input = Std::new(rt.stdin());
+        return ended(
+            rt,
+            run_replay(rt.alloc(), &mut input, &mut output, settings),
+        );
+    }
+    match whole_input(rt) {
+        Ok(text) => {
+            let input = Input::Script(text);
+            let mut reader = input.as_slice();
+            let outcome = run_replay(rt.alloc(), &mut reader, &mut output, settings);
+            explained(rt, &input, outcome)
+        }
+        Err(fault) => ended(rt, Err(fault)),
+    }
+}
+
+/// Plays a script and prints the state at its end.
+pub fn replay(rt: &HostRuntime, file: SettingsFile<'_>) -> ExitCode {
+    match settings_in(rt, file) {
+        Ok(settings) => play(rt, settings, file.is_explained),
+        Err(fault) => unset(rt, fault),
+    }
+}
