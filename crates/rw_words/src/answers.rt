@@ -1,0 +1,39 @@
+//! What an option gives, and what options ask for that several commands have.
+
+use crate::{Reporting, SettingsFile};
+use clap::ArgMatches;
+use rw_address::{Address, read_address};
+use rw_types::Bounded;
+
+/// The number that an option gives, or that stands where none is given.
+pub(crate) fn number_of<const LOW: u64, const HIGH: u64>(
+    options: &ArgMatches<'_>,
+    name: &str,
+) -> Option<Bounded<LOW, HIGH>> {
+    Bounded::try_new(options.get_one::<u64>(name)?)
+}
+
+/// The address that an option gives; none where the HOST:PORT is none.
+pub(crate) fn address_of<'a>(options: &ArgMatches<'a>, name: &str) -> Option<Address<'a>> {
+    read_address(options.get_str(name)?)
+}
+
+/// Which settings are asked for.
+pub(crate) fn settings_of<'a>(options: &ArgMatches<'a>) -> SettingsFile<'a> {
+    SettingsFile {
+        path: options.get_str("settings"),
+        is_explained: options.get_flag("explain"),
+    }
+}
+
+/// What is to be told of the work; none where the HOST:PORT is none.
+pub(crate) fn reporting_of<'a>(options: &ArgMatches<'a>) -> Option<Reporting<'a>> {
+    let metrics = match options.get_str("metrics") {
+        Some(value) => Some(read_address(value)?),
+        None => None,
+    };
+    Some(Reporting {
+        has_progress: options.get_flag("progress"),
+        metrics,
+    })
+}

@@ -1,0 +1,100 @@
+//! Rows of the table, as commands of `clap`.
+
+use crate::help;
+use crate::table::{Bond, Opt, Takes, Words, commands};
+use clap::builder::ValueParser;
+use clap::{Arg, ArgAction, Command};
+use std::alloc::{AllocError, Global};
+
+/// An argument that takes a number in a range.
+fn number(arg: Arg<'_>, least: i64, most: i64) -> Arg<'_> {
+    arg.value_name("N")
+        .value_parser(ValueParser::signed(least, most))
+}
+
+/// An argument that takes a path.
+fn path<'a>(arg: Arg<'a>, value: &'a str) -> Arg<'a> {
+    arg.value_name(value)
+        .value_parser(ValueParser::NonEmptyString)
+}
+
+/// An argument that takes one number or more.
+fn numbers<'a>(arg: Arg<'a>, value: &'a str) -> Arg<'a> {
+    arg.value_name(value)
+        .num_args(1..)
+        .action(ArgAction::Append)
+        .value_parser(ValueParser::unsigned(0, u64::MAX))
+}
+
+/// An argument of this name that takes this.
+fn taking<'a>(alloc: Global, name: &'a str, takes: Takes) -> Arg<'a> {
+    let plain = Arg::new(alloc, name);
+    match takes {
+        Takes::Nothing => plain.long(name).action(ArgAction::SetTrue),
+        Takes::Text(value) => plain.long(name).value_name(value),
+        Takes::Path(value) => path(plain.long(name), value),
+        Takes::Place(value) => path(plain, value),
+        Takes::Number(least, most) => number(plain.long(name), least, most),
+        Takes::NumberOr(least, most, default) => {
+            number(plain.long(name), least, most).default_value(default)
+        }
+        Takes::Numbers(value) => numbers(plain.long(name), value),
+    }
+}
+
+/// An argument that has this to do with others.
+fn bound<'a>(arg: Arg<'a>, bond: Bond) -> Result<Arg<'a>, AllocError> {
+    match bond {
+        Bond::Required => Ok(arg.required(true)),
+        Bond::RequiredWithout(name) => arg.required_unless_present(name),
+        Bond::Needs(name) => arg.requires_arg(name),
+        Bond::Excludes(name) => arg.conflicts_with(name),
+    }
+}
+
+/// The argument of a row.
+fn arg_of<'a>(alloc: Global, option: &Opt) -> Result<Arg<'a>, AllocError> {
+    let mut arg = taking(alloc, option.name, option.takes).help(option.help);
+    for bond in option.bonds {
+        arg = bound(arg, *bond)?;
+    }
+    Ok(arg)
+}
+
+/// The arguments of rows.
+fn args_of<'a>(alloc: Global, options: &[Opt]) -> Result<Vec<Arg<'a>>, AllocError> {
+    let mut args = Vec::with_capacity(alloc, options.len())?;
+    for option in options {
+        args.push(arg_of(alloc, option)?)?;
+    }
+    Ok(args)
+}
+
+/// The command of a row.
+fn command_of<'a>(alloc: Global, words: &Words) -> Result<Command<'a>, AllocError> {
+    let args = args_of(alloc, words.options)?;
+    Command::new(alloc, words.name)
+        .about(words.about)
+        .after_help(words.after)
+        .args(args)
+}
+
+/// The commands of rows.
+fn commands_of<'a>(alloc: Global, rows: &[Words]) -> Result<Vec<Command<'a>>, AllocError> {
+    let mut commands = Vec::with_capacity(alloc, rows.len())?;
+    for words in rows {
+        commands.push(command_of(alloc, words)?)?;
+    }
+    Ok(commands)
+}
+
+/// All commands.
+pub fn command_line<'a>(alloc: Global) -> Result<Command<'a>, AllocError> {
+    let commands = commands_of(alloc, commands())?;
+    Command::new(alloc, "rwship")
+        .version("0.1.0")
+        .about("Remote-write shipper and receiving head of Prometheus")
+        .after_help(help::ALL)
+        .subcommand_required(true)
+        .subcommands(commands)
+}

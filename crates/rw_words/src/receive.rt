@@ -1,0 +1,40 @@
+//! What the words of the command `receive` ask for.
+
+use crate::answers::{address_of, number_of, reporting_of};
+use crate::{Receiving, SettingsFile, Task, Until};
+use clap::ArgMatches;
+
+/// How long connections are to be served.
+fn until_of<'a>(options: &ArgMatches<'a>) -> Option<Until<'a>> {
+    if !options.get_flag("until-eof") {
+        return Some(Until::Connections(number_of(options, "connections")?));
+    }
+    match options.get_str("stop-file") {
+        Some(file) => Some(Until::FileIs(file)),
+        None => Some(Until::InputEnds),
+    }
+}
+
+/// What the options of `receive` ask for.
+pub(crate) fn receive_task<'a>(
+    settings: SettingsFile<'a>,
+    options: &ArgMatches<'a>,
+) -> Option<Task<'a>> {
+    let listen = address_of(options, "listen")?;
+    let idle_ms = number_of(options, "idle-ms")?;
+    let Some(until) = until_of(options) else {
+        return None;
+    };
+    let Some(reporting) = reporting_of(options) else {
+        return None;
+    };
+    Some(Task::Receive {
+        settings,
+        receiving: Receiving {
+            listen,
+            until,
+            idle_ms,
+            reporting,
+        },
+    })
+}
