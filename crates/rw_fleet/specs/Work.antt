@@ -2,6 +2,7 @@
 use Rattle.std.specs.Prelude.{◌≡◌, ◌⊎◌, ℕ, ◌+◌, ◌≤◌, ◌==◌, ◌&&◌, Bool, true, false, List, [], ◌∷◌, ◌++◌, length, map, drop, Some, None, IsSome, slice_get, ⊤}
 use Rattle.rw_types.specs.declared.place.Place.{Place}
 use Rattle.rw_plain_queue.specs.Items.{places_in}
+use Rattle.rw_plain_queue.specs.History.{IsHistory, IsEnded}
 use Rattle.rw_plain_queue.specs.declared.item.Item.{Item}
 use Rattle.rw_plain_queue.specs.declared.item.Item.TheVariants as item
 use Rattle.rw_plain_queue.specs.declared.item.Kind.{Kind}
@@ -93,7 +94,7 @@ abbrev pub IsEndTaken : TakingEnd → Type 0
 IsEndTaken (taking.Ended kind d) = ⊤
 IsEndTaken (taking.Killed d) = ⊥
 
--- A shard's ends and counts are what a worker of this queue reported, over a transport that was made for it and had told nothing. The samples behind those resolved are abandoned: no more than the queue holds, and a batch.
+-- A shard's ends and counts are what a worker of this queue reported, over a transport that was made for it and had told nothing. The samples behind those resolved are abandoned: no more than the queue holds, and a batch. What was put went through the queue in order, and what was left in it fits it; where the ends were compared an End came last.
 pub record IsWorked {T : Type 0} (tells : T → Type 0) (seen : T → List Exchange) (is_for : ℕ → ℕ → T → Type 0) (j : StoppedShard T) : Type 0 where
   pub begun : T
   pub end : TakingEnd
@@ -106,6 +107,9 @@ pub record IsWorked {T : Type 0} (tells : T → Type 0) (seen : T → List Excha
   pub abandoned : j.abandoned.items ≡ drop j.finished.resolved (positions_in (put_of j.finished.ends))
   pub few : length j.abandoned.items ≤ j.worker.value.queue.capacity + j.worker.value.batch
   pub apart : is_compared j.finished.ends ≡ false → IsApart j.finished.ends
+  pub within : length (put_of j.finished.ends) ≤ length (taken_of j.finished.ends) + j.worker.value.queue.capacity
+  pub history : IsHistory j.worker.value.queue.epoch j.worker.value.queue.shard (put_of j.finished.ends)
+  pub last : is_compared j.finished.ends ≡ true → IsEnded (taken_of j.finished.ends)
   pub done : is_compared j.finished.ends ≡ true → j.finished.stopped ≡ None → IsSoft (put_of j.finished.ends) → is_resolved j ≡ true
 
 abbrev pub AreWorked : {T : Type 0} → (T → Type 0) → (T → List Exchange) → (ℕ → ℕ → T → Type 0) → List (StoppedShard T) → Type 0

@@ -2,6 +2,7 @@
 
 ghost use Rattle.std.specs.Prelude.{◌≡◌, ◌+◌, ◌≤◌, length, true, false};
 ghost use Rattle.rw_plain_queue.specs.Items.{samples_in, places_in};
+ghost use Rattle.rw_plain_queue.specs.History.{IsHistory, IsEnded};
 ghost use Rattle.rw_worker.specs.Report.{drain_of};
 ghost use Rattle.rw_fleet.specs.Work.{feeding, queue_of, put_of, taken_of, is_compared, IsApart, IsTakenOf, IsUnended, IsEndedBy, IsEndTaken};
 
@@ -49,6 +50,9 @@ pub(crate) fn meet<R>(rt: &R, fed: Fed, end: TakingEnd) -> Ends
     ensures begins { IsTakenOf result }
     ensures ended { is_compared result ≡ true → IsEndTaken end }
     ensures apart { is_compared result ≡ false → IsApart result }
+    ensures fits { length (put_of result) ≤ length (taken_of result) + (feeding fed).queue.capacity }
+    ensures history { IsHistory (feeding fed).queue.epoch (feeding fed).queue.shard (put_of result) }
+    ensures last { is_compared result ≡ true → IsEnded (taken_of result) }
     ensures within { length (places_in (put_of result)) ≤ length (places_in (taken_of result)) + (feeding fed).queue.capacity }
 {
     match (fed, end) {

@@ -228,7 +228,7 @@ classes_reply c w (Some a) at = by_shard (slice_get w.shards a.id.shard) refl
     by_shard None e = at
     by_shard (Some s) e = either (Classes c) _ _ w (λ _. answered s e) (λ _. at)
 
-classes_act : (c : Setup) (w : World) (e : Event) → Classes c w → Classes c (act c w e)
+pub classes_act : (c : Setup) (w : World) (e : Event) → Classes c w → Classes c (act c w e)
 classes_act c w (event.Feed piece) at = either (Classes c) (is_some w.closed) w _ (λ _. at) (λ _. classes_grow c w (piece_of piece ∷ []) at)
 classes_act c w event.Place at = classes_place c w at
 classes_act c w (event.Flush i) at = classes_same c w i (flush_shard c w) (others_flush c w) at
@@ -260,10 +260,10 @@ classes_act c w event.Kill at = record { placed_in = at.placed_in; below = at.be
 pub classes_at : (c : Setup) (events : List Event) → Classes c (run c events (start c))
 classes_at c events = always (Classes c) c (classes_act c) events (start c) (record { placed_in = omega arith; below = λ p lt. absurd (omega arith); above = λ p le. get-empty nat_cmp p; kept = each_new (λ i s. AllOf (KeptAt c 0 (log (start c))) (pending s)) c 0 0 (λ _. tt) c.shards })
 
-not_below : (p n : ℕ) → (p < n → ⊥) → n ≤ p
+pub not_below : (p n : ℕ) → (p < n → ⊥) → n ≤ p
 not_below p n h = omega arith
 
-accounted : (c : Setup) (w : World) (p : ℕ) (o : Option Entry) → Says c (log w) p (get w.names p) o → AccountedEntry c w p o
+pub accounted : (c : Setup) (w : World) (p : ℕ) (o : Option Entry) → Says c (log w) p (get w.names p) o → AccountedEntry c w p o
 accounted c w p None h = h
 accounted c w p (Some (Def r l)) h = h
 accounted c w p (Some (Sample r t word)) h = h

@@ -24,9 +24,9 @@ use Rattle.rw_types.specs.Labels.{Labels}
 use Rattle.rw_types.specs.declared.entry.Entry.{Entry}
 use Rattle.rw_types.specs.declared.entry.Entry.TheVariants.{Def, Sample}
 
-record Count (c : Setup) (w : World) : Type 0 where
-  placed_in : w.placed ≤ length (log w)
-  is : w.filtered ≡ length (filter (is_filtered_at c (log w)) (up_to w.placed))
+pub record Count (c : Setup) (w : World) : Type 0 where
+  pub placed_in : w.placed ≤ length (log w)
+  pub is : w.filtered ≡ length (filter (is_filtered_at c (log w)) (up_to w.placed))
 
 same_filter : (f g : ℕ → Bool) (n : ℕ) → ((p : ℕ) → p < n → f p ≡ g p) → filter f (up_to n) ≡ filter g (up_to n)
 same_filter f g zero h = refl
@@ -96,7 +96,7 @@ count_place c w at = either (Count c) (is_some w.draining) w (place_entry c w (s
     by_entry (Some (Def r m)) e = let h = next c w (Def r m) false w.filtered e refl plus_none at in record { placed_in = h.0; is = h.1 }
     by_entry (Some (Sample r t word)) e = by_known r t word (known c.choice (take w.placed (log w)) r) e refl
 
-count_act : (c : Setup) (w : World) (e : Event) → Count c w → Count c (act c w e)
+pub count_act : (c : Setup) (w : World) (e : Event) → Count c w → Count c (act c w e)
 count_act c w (event.Feed piece) at = either (Count c) (is_some w.closed) w _ (λ _. at) (λ _. count_grow c w (piece_of piece ∷ []) at)
 count_act c w event.Place at = count_place c w at
 count_act c w (event.Flush i) at = record { placed_in = at.placed_in; is = at.is }
@@ -121,5 +121,8 @@ count_act c w event.Restart at = restart_frame (Count c) c w w.draining (λ _ _ 
 count_act c w event.Close at = either (Count c) (is_some w.closed) w _ (λ _. at) (λ _. record { placed_in = at.placed_in; is = at.is })
 count_act c w event.Kill at = record { placed_in = at.placed_in; is = at.is }
 
+pub count_start : (c : Setup) → Count c (start c)
+count_start c = record { placed_in = omega arith; is = refl }
+
 pub counts_filtered : (c : Setup) (events : List Event) → CountsFiltered c (run c events (start c))
-counts_filtered c events = (always (Count c) c (count_act c) events (start c) (record { placed_in = omega arith; is = refl })).is
+counts_filtered c events = (always (Count c) c (count_act c) events (start c) (count_start c)).is

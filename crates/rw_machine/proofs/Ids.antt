@@ -40,27 +40,27 @@ get_kept (z ∷ xs) y zero x e = e
 get_kept (z ∷ xs) y (suc i) x e = get_kept xs y i x e
 
 -- a sample with its epoch, shard and number
-abbrev IsAt : ℕ → ℕ → ℕ → Placed → Type 0
+abbrev pub IsAt : ℕ → ℕ → ℕ → Placed → Type 0
 IsAt epoch i n x = (x.place.epoch ≡ epoch) × (x.place.shard ≡ i) × (x.place.seq ≡ n)
 
-record InRow (epoch i : ℕ) (s : Shard) : Type 0 where
-  counted : length s.put ≡ length s.core.resolved + length (pending s)
-  numbered : Numbered (IsAt epoch i) (length s.core.resolved) (pending s)
+pub record InRow (epoch i : ℕ) (s : Shard) : Type 0 where
+  pub counted : length s.put ≡ length s.core.resolved + length (pending s)
+  pub numbered : Numbered (IsAt epoch i) (length s.core.resolved) (pending s)
 
 -- a request is of a resolved batch, or of the open one
-record Fate (epoch : ℕ) (shards : List Shard) (r : Request) : Type 0 where
-  id_is : r.id ≡ batch_id r.batch
-  fate : Past epoch shards r.id ⊎ ((r.id.epoch ≡ epoch) × IsOpen (slice_get shards r.id.shard) r.batch)
+pub record Fate (epoch : ℕ) (shards : List Shard) (r : Request) : Type 0 where
+  pub id_is : r.id ≡ batch_id r.batch
+  pub fate : Past epoch shards r.id ⊎ ((r.id.epoch ≡ epoch) × IsOpen (slice_get shards r.id.shard) r.batch)
 
-abbrev OneBatch : List Request → Type 0
+abbrev pub OneBatch : List Request → Type 0
 OneBatch requests = (i j : ℕ) (r q : Request) → slice_get requests i ≡ Some r → slice_get requests j ≡ Some q → r.id ≡ q.id → r.batch ≡ q.batch
 
-record Sound (epoch : ℕ) (shards : List Shard) (requests : List Request) : Type 0 where
-  rows : Each (InRow epoch) shards
-  fates : AllOf (Fate epoch shards) requests
-  one : OneBatch requests
+pub record Sound (epoch : ℕ) (shards : List Shard) (requests : List Request) : Type 0 where
+  pub rows : Each (InRow epoch) shards
+  pub fates : AllOf (Fate epoch shards) requests
+  pub one : OneBatch requests
 
-abbrev Ids : World → Type 0
+abbrev pub Ids : World → Type 0
 Ids w = Sound w.epoch w.shards w.requests
 
 -- ---- a shard's step that resolves nothing
@@ -257,7 +257,7 @@ arrive_ids c w Plain (Some r) at = at
 arrive_ids c w Busy (Some r) at = at
 arrive_ids c w OutOfMemory (Some r) at = at
 
-act_ids : (c : Setup) (w : World) (e : Event) → Ids w → Ids (act c w e)
+pub act_ids : (c : Setup) (w : World) (e : Event) → Ids w → Ids (act c w e)
 act_ids c w (event.Feed piece) at = either Ids (is_some w.closed) w _ (λ _. at) (λ _. at)
 act_ids c w event.Place at = place_ids c w at
 act_ids c w (event.Flush i) at = quiet_ids w i (flush_shard c w) (quiet_flush c w) at
@@ -272,12 +272,12 @@ act_ids c w event.Restart at = restart_ids c w w.draining at
 act_ids c w event.Close at = either Ids (is_some w.closed) w _ (λ _. at) (λ _. at)
 act_ids c w event.Kill at = at
 
+pub ids_start : (c : Setup) → Ids (start c)
+ids_start c = record {
+  rows = each_new (InRow 0) c 0 0 (λ i. record { counted = refl; numbered = tt }) c.shards;
+  fates = tt;
+  one = λ i j r q e _ _. let never : None ≡ Some r → ⊥ = λ h. cc in absurd (never e);
+}
+
 pub one_batch : (c : Setup) (events : List Event) → HasOneBatchEachId (run c events (start c))
-one_batch c events = (always Ids c (act_ids c) events (start c) first).one
-  where
-    first : Ids (start c)
-    first = record {
-      rows = each_new (InRow 0) c 0 0 (λ i. record { counted = refl; numbered = tt }) c.shards;
-      fates = tt;
-      one = λ i j r q e _ _. let never : None ≡ Some r → ⊥ = λ h. cc in absurd (never e);
-    }
+one_batch c events = (always Ids c (act_ids c) events (start c) (ids_start c)).one

@@ -27,10 +27,10 @@ use Rattle.rw_types.specs.declared.entry.Entry.TheVariants.{Def, Sample}
 some_is : {X : Type 0} {s t : X} → Some s ≡ Some t → s ≡ t
 some_is e = cc
 
-record Lists (c : Setup) (s : Shard) : Type 0 where
-  queued : s.put ≡ s.core.taken ++ samples_in s.queue
-  held : s.core.taken ≡ s.core.resolved ++ (s.core.batch ++ s.core.builder)
-  within : length s.queue ≤ c.capacity
+pub record Lists (c : Setup) (s : Shard) : Type 0 where
+  pub queued : s.put ≡ s.core.taken ++ samples_in s.queue
+  pub held : s.core.taken ≡ s.core.resolved ++ (s.core.batch ++ s.core.builder)
+  pub within : length s.queue ≤ c.capacity
 
 room_is : (c : Setup) (s : Shard) → has_room c.capacity s ≡ true → length s.queue < c.capacity
 room_is c s h = ltb-true (length s.queue) c.capacity h
@@ -96,7 +96,7 @@ lists_send c s h = either (λ (k : Core). Lists c (record s { core = k })) (can_
 lists_resolve : (c : Setup) (s : Shard) → Lists c s → Lists c (shard_resolve s)
 lists_resolve c s h = record { queued = h.queued; held = h.held ∙ sym (append_assoc s.core.resolved s.core.batch s.core.builder); within = h.within }
 
-abbrev All : Setup → World → Type 0
+abbrev pub All : Setup → World → Type 0
 All c w = Each (λ i s. Lists c s) w.shards
 
 all_place : (c : Setup) (w : World) → All c w → All c (place c w)
@@ -137,7 +137,7 @@ all_reply c w (Some a) at = by_shard (slice_get w.shards a.id.shard)
     by_shard None = at
     by_shard (Some s) = either (All c) _ _ w (λ _. all_change c w a.id.shard (with_core (settle (judgement_of a.status))) (by_judgement (judgement_of a.status)) at) (λ _. at)
 
-all_act : (c : Setup) (w : World) (e : Event) → All c w → All c (act c w e)
+pub all_act : (c : Setup) (w : World) (e : Event) → All c w → All c (act c w e)
 all_act c w (event.Feed piece) at = either (All c) (is_some w.closed) w _ (λ _. at) (λ _. at)
 all_act c w event.Place at = all_place c w at
 all_act c w (event.Flush i) at = all_change c w i (flush_shard c w) (lists_flush c w) at
@@ -166,5 +166,8 @@ all_act c w event.Restart at = by_draining w.draining
 all_act c w event.Close at = either (All c) (is_some w.closed) w _ (λ _. at) (λ _. at)
 all_act c w event.Kill at = at
 
+pub all_start : (c : Setup) → All c (start c)
+all_start c = each_new (λ i s. Lists c s) c 0 0 (λ i. record { queued = refl; held = refl; within = omega arith }) c.shards
+
 pub shard_lists : (c : Setup) (events : List Event) → HasShardLists c (run c events (start c))
-shard_lists c events i s e = let h = always (All c) c (all_act c) events (start c) (each_new (λ i s. Lists c s) c 0 0 (λ i. record { queued = refl; held = refl; within = omega arith }) c.shards) i s e in (h.queued, h.held, h.within)
+shard_lists c events i s e = let h = always (All c) c (all_act c) events (start c) (all_start c) i s e in (h.queued, h.held, h.within)

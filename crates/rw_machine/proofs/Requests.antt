@@ -9,7 +9,7 @@ use Rattle.rw_machine.specs.declared.event.Event.{Event}
 use Rattle.rw_machine.specs.declared.event.Event.TheVariants as event
 use Rattle.rw_machine.specs.declared.event.How.{How}
 use Rattle.rw_machine.specs.declared.event.How.TheVariants.{Busy, Plain, OutOfMemory}
-use Rattle.rw_machine.specs.Promises.{CarriesItsBatch, CarriesEachBatch, SendsSameBytes}
+use Rattle.rw_machine.specs.Promises.{CarriesItsBatch, CarriesEachBatch, HasOneBatchEachId, SendsSameBytes}
 use Rattle.rw_machine.specs.Shards.{EndMark, FlushMark, One, Queued, Shard, has_room, shard_end, shard_flush, shard_freeze, shard_lost, shard_put, shard_send, shard_take, take_front, with_core}
 use Rattle.rw_machine.specs.Steps.{act, arrive, changed, flush_shard, mark, next_sample, place, place_entry, place_kept, place_sample, put_if_room, reply_to, request_by, restart_as, run, send_batch, shard_of, take_reply}
 use Rattle.rw_machine.specs.Worlds.{Reply, Request, Setup, World, is_finished, log, start}
@@ -59,11 +59,11 @@ settle_stays Refused s = refl
 settle_stays Again s = refl
 
 -- each shard sends to the target that was set, and so did those before it
-record Sound (c : Setup) (shards : List Shard) (requests : List Request) : Type 0 where
-  targets : Each (λ i s. s.core.target ≡ c.target) shards
-  bytes : AllOf (CarriesItsBatch c) requests
+pub record Sound (c : Setup) (shards : List Shard) (requests : List Request) : Type 0 where
+  pub targets : Each (λ i s. s.core.target ≡ c.target) shards
+  pub bytes : AllOf (CarriesItsBatch c) requests
 
-abbrev Carries : Setup → World → Type 0
+abbrev pub Carries : Setup → World → Type 0
 Carries c w = Sound c w.shards w.requests
 
 change_carries : (c : Setup) (w : World) (i : ℕ) (f : Shard → Shard) → Stays f → Carries c w → Carries c (changed w i f)
@@ -109,7 +109,7 @@ reply_carries c w (Some a) at = by_shard (slice_get w.shards a.id.shard)
     by_shard None = at
     by_shard (Some s) = either (Carries c) _ _ w (λ _. change_carries c w a.id.shard (with_core (settle (judgement_of a.status))) (settle_stays (judgement_of a.status)) at) (λ _. at)
 
-act_carries : (c : Setup) (w : World) (e : Event) → Carries c w → Carries c (act c w e)
+pub act_carries : (c : Setup) (w : World) (e : Event) → Carries c w → Carries c (act c w e)
 act_carries c w (event.Feed piece) at = either (Carries c) (is_some w.closed) w _ (λ _. at) (λ _. at)
 act_carries c w event.Place at = place_carries c w at
 act_carries c w (event.Flush i) at = change_carries c w i (flush_shard c w) (flush_stays c w) at
@@ -134,10 +134,21 @@ act_carries c w event.Restart at = by_draining w.draining
 act_carries c w event.Close at = either (Carries c) (is_some w.closed) w _ (λ _. at) (λ _. at)
 act_carries c w event.Kill at = at
 
+pub carries_start : (c : Setup) → Carries c (start c)
+carries_start c = record { targets = each_new (λ i s. s.core.target ≡ c.target) c 0 0 (λ i. refl) c.shards; bytes = tt }
+
+pub carries_is : (c : Setup) (w : World) → Carries c w → CarriesEachBatch c w
+carries_is c w at k r e = all_get (CarriesItsBatch c) w.requests k r at.bytes e
+
+pub same_bytes : (c : Setup) (w : World) → Carries c w → HasOneBatchEachId w → SendsSameBytes w
+same_bytes c w at one i j r q r_at q_at ids =
+    carries_is c w at i r r_at ∙ ap (λ b. request_of c.target.host c.target.path (body_of b)) (one i j r q r_at q_at ids) ∙ sym (carries_is c w at j q q_at)
+
+carries_at : (c : Setup) (events : List Event) → Carries c (run c events (start c))
+carries_at c events = always (Carries c) c (act_carries c) events (start c) (carries_start c)
+
 pub carries_each : (c : Setup) (events : List Event) → CarriesEachBatch c (run c events (start c))
-carries_each c events k r e = all_get (CarriesItsBatch c) (run c events (start c)).requests k r
-    (always (Carries c) c (act_carries c) events (start c) (record { targets = each_new (λ i s. s.core.target ≡ c.target) c 0 0 (λ i. refl) c.shards; bytes = tt })).bytes e
+carries_each c events = carries_is c (run c events (start c)) (carries_at c events)
 
 pub sends_same : (c : Setup) (events : List Event) → SendsSameBytes (run c events (start c))
-sends_same c events i j r q r_at q_at ids =
-    carries_each c events i r r_at ∙ ap (λ b. request_of c.target.host c.target.path (body_of b)) (one_batch c events i j r q r_at q_at ids) ∙ sym (carries_each c events j q q_at)
+sends_same c events = same_bytes c (run c events (start c)) (carries_at c events) (one_batch c events)

@@ -1,4 +1,5 @@
-use Rattle.std.proofs.Common.{drop, sym, ap, ◌∙◌}
+use Rattle.std.proofs.Common.{drop, sym, ap, ◌∙◌, subst, length, ◌≤◌, ◌+◌}
+use Rattle.rw_plain_queue.specs.History.{IsHistory}
 use Rattle.rw_shard_channel.specs.Ends.{QueueId}
 use Rattle.rw_worker.specs.Setups.{Setup}
 use Rattle.rw_fleet.specs.Work.{positions_in, put_of, taken_of}
@@ -35,5 +36,8 @@ returns-clause-worked g c =
       abandoned = left;
       few = few_left c.self.inside.window.most setup.queue.capacity setup.batch c.join-end.result.resolved all _ i.4 within c.behind-abandoned.ensures;
       apart = m.apart;
+      within = subst (λ (q : QueueId). length (put_of c.meet-ends.result) ≤ length (taken_of c.meet-ends.result) + q.capacity) (sym i.1) m.fits;
+      history = subst (λ (q : QueueId). IsHistory q.epoch q.shard (put_of c.meet-ends.result)) (sym i.1) m.history;
+      last = m.last;
       done = report_done g.T.Transport.tells g.T.Transport.seen g.T.Transport.is_for setup c.self.inside.handle.promise.transport.value c.join-end.result c.meet-ends.result c.behind-abandoned.result.items (rw (sym i.2) c.join-end.ensures.0) m.taken m.ended left;
     }

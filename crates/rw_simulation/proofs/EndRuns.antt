@@ -1,0 +1,252 @@
+-- At the end of an epoch each shard is put its End, and its worker makes all the steps that are left.
+use Rattle.std.proofs.Common.{◌≡◌, ℕ, zero, suc, ◌+◌, ◌<◌, ◌≤◌, ◌==◌, ◌&&◌, Bool, true, false, not, cond, List, [], ◌∷◌, ◌++◌, map, length, Option, None, Some, slice_get, refl, sym, ap, ◌∙◌, subst, append-nil, length-append, arith, ◌⊎◌, inl, inr}
+use Rattle.std.specs.List.{list_all}
+use Rattle.std.proofs.lemmas.Bool.{lt-ltb, eq-eqb}
+use Rattle.rw_plain_queue.specs.Items.{Placed}
+use Rattle.rw_plain_queue.specs.Items as items
+use Rattle.rw_plain_queue.specs.History.{EndIsLast}
+use Rattle.rw_plain_queue.specs.declared.item.Item.{Item}
+use Rattle.rw_plain_queue.specs.declared.item.Item.TheVariants as item
+use Rattle.rw_plain_queue.specs.declared.item.Kind.{Kind}
+use Rattle.rw_shard_core.specs.Shard.{Core}
+use Rattle.rw_worker.specs.Steps.{Working, Step, working, after, items_of}
+use Rattle.rw_machine.specs.Shards.{Shard, Queued, EndMark, has_room, is_drained, samples_in, shard_end}
+use Rattle.rw_machine.specs.Worlds.{Setup, World}
+use Rattle.rw_machine.specs.Steps.{change, flush_shard, happens, mark, unless_over}
+use Rattle.rw_machine.specs.declared.event.Event.TheVariants as event
+use Rattle.rw_machine.proofs.Lists.{Lists}
+use Rattle.rw_machine.proofs.Lists as lists
+use Rattle.rw_machine.proofs.Others.{samples_append}
+use Rattle.rw_machine.proofs.Places.{length_change}
+use Rattle.rw_machine.proofs.Steps.{and_both}
+use Rattle.rw_simulation.specs.Freely.{Happening, Of, run_freely}
+use Rattle.rw_simulation.specs.WorkerRuns.{queued, happenings, steps_names, IsAfter, CanEnd}
+use Rattle.rw_simulation.specs.EpochRuns.{ShardFate, end_in, Reaches, IsAtEnd, IsPut}
+use Rattle.rw_simulation.proofs.Changes.{change-is, change-get, change-twice, not-over}
+use Rattle.rw_simulation.proofs.WorkerSteps.{moved}
+use Rattle.rw_simulation.proofs.WorkerRuns.{worker-run}
+use Rattle.rw_simulation.proofs.FreeLaws.{keeps-lists}
+use Rattle.rw_simulation.proofs.Eager.{has-room}
+use Rattle.rw_simulation.proofs.EpochRuns.{stay, go-on, each-update, get_within}
+
+some_is : {X : Type 0} {x y : X} → Some x ≡ Some y → x ≡ y
+some_is e = cc
+
+none_is_some : {X : Type 0} (x : X) → None ≡ Some x → ⊥
+none_is_some x e = cc
+
+both_ways : (b : Bool) → b ≡ true → b ≡ false → ⊥
+both_ways b h k = let never : true ≡ false = sym h ∙ k in cc
+
+-- the shard has come to its fate
+pub record HasCome (s : Shard) (f : ShardFate) : Type 0 where
+  pub put : s.put ≡ f.put
+  pub core : s.core ≡ f.worker.core
+  pub queue : s.queue ≡ f.left
+
+-- its End was taken, and no fewer samples are resolved than it was put
+abbrev pub IsResolvedFate : ShardFate → Type 0
+IsResolvedFate f = (f.worker.core.ended ≡ true) × (length f.put ≤ length f.worker.core.resolved)
+
+no_more_resolved : (c : Setup) (s : Shard) → Lists c s → length s.core.resolved ≤ length s.put
+no_more_resolved c s h =
+    let a : length s.put ≡ length s.core.taken + length (samples_in s.queue) = ap length h.queued ∙ length-append s.core.taken (samples_in s.queue) in
+    let b : length s.core.taken ≡ length s.core.resolved + length (s.core.batch ++ s.core.builder) = ap length h.held ∙ length-append s.core.resolved (s.core.batch ++ s.core.builder) in
+    omega arith
+
+both_at_most : (a b : ℕ) → a ≤ b → b ≤ a → a ≡ b
+both_at_most a b h k = omega arith
+
+drained : (c : Setup) (s : Shard) (f : ShardFate) → Lists c s → HasCome s f → IsResolvedFate f → is_drained s ≡ true
+drained c s f l h r = and_both s.core.ended (length s.core.resolved == length s.put) (ap (λ (k : Core). k.ended) h.core ∙ r.0)
+    (eq-eqb (length s.core.resolved) (length s.put) (both_at_most (length s.core.resolved) (length s.put) (no_more_resolved c s l) all_resolved))
+  where
+    all_resolved : length s.put ≤ length s.core.resolved
+    all_resolved = subst (λ (xs : List Placed). length xs ≤ length s.core.resolved) (sym h.put) (subst (λ (k : Core). length f.put ≤ length k.resolved) (sym h.core) r.1)
+
+pub all-drained : (ss : List Shard) → ((k : ℕ) (s : Shard) → slice_get ss k ≡ Some s → is_drained s ≡ true) → list_all is_drained ss ≡ true
+all-drained [] each = refl
+all-drained (s ∷ ss) each = and_both (is_drained s) (list_all is_drained ss) (each 0 s refl) (all-drained ss (λ k t e. each (suc k) t e))
+
+-- where one item at most stands, an End is the last
+no_items : (xs : List Item) → length xs ≡ 0 → xs ≡ []
+no_items [] e = refl
+no_items (x ∷ xs) e = absurd (omega arith)
+
+short_last : (xs : List Item) → length xs ≤ 1 → EndIsLast xs
+short_last xs le before rest kind e =
+    let long : length xs ≡ length before + suc (length rest) = ap length e ∙ length-append before (item.End kind ∷ rest) in
+    no_items rest (omega arith)
+
+one_queued : (xs : List Item) (q : Queued) (left : List Queued) → q ∷ [] ≡ map queued xs ++ left → length xs ≤ 1
+one_queued [] q left e = omega arith
+one_queued (x ∷ []) q left e = omega arith
+one_queued (x ∷ y ∷ ys) q left e = let long : 1 ≡ suc (suc (length (map queued ys ++ left))) = ap length e in absurd (omega arith)
+
+none_stand : (steps : List Step) → steps ≡ [] → length (items_of steps) ≤ 1
+none_stand steps none = subst (λ (ss : List Step). length (items_of ss) ≤ 1) (sym none) (omega arith)
+
+-- the counts that a shard's lists give
+counted : (put taken waiting resolved held batch builder after : ℕ) → put ≡ taken + waiting → taken ≡ resolved + held → held ≡ batch + builder → after ≡ waiting → put ≡ resolved + (batch + (builder + after))
+counted put taken waiting resolved held batch builder after a b c d = omega arith
+
+kept_count : (c : Setup) (s : Shard) (kind : Kind) → Lists c s → length s.put ≡ length s.core.resolved + (length s.core.batch + (length s.core.builder + length (samples_in (s.queue ++ EndMark kind ∷ []))))
+kept_count c s kind h =
+    counted (length s.put) (length s.core.taken) (length (samples_in s.queue)) (length s.core.resolved) (length (s.core.batch ++ s.core.builder)) (length s.core.batch) (length s.core.builder) (length (samples_in (s.queue ++ EndMark kind ∷ [])))
+    (ap length h.queued ∙ length-append s.core.taken (samples_in s.queue))
+    (ap length h.held ∙ length-append s.core.resolved (s.core.batch ++ s.core.builder))
+    (length-append s.core.batch s.core.builder)
+    (ap length (samples_append s.queue (EndMark kind) ∙ append-nil (samples_in s.queue)))
+
+below_it : (k m : ℕ) → k < suc m → (k ≡ m → ⊥) → k < m
+below_it k m lt differ = omega arith
+
+weaker : (k m : ℕ) → suc m ≤ k → m ≤ k
+weaker k m le = omega arith
+
+not_above : (m : ℕ) → suc m ≤ m → ⊥
+not_above m le = omega arith
+
+module _ (c : Setup) (epoch n : ℕ) (fates : ℕ → ShardFate) (kind : Kind) (ends : (k : ℕ) → k < n → (fates k).end ≡ Some kind) (u : World) (alive : u.killed ≡ false) (asks : (s : Shard) → mark u s ≡ shard_end kind s) (some : 1 ≤ c.capacity) where
+  -- The first m shards have come to their fates, and the others have been put all but their Ends. Else nothing has changed since u.
+  pub record ClosedBelow (m : ℕ) (w : World) : Type 0 where
+    pub same : w ≡ record u { shards = w.shards; names = w.names; requests = w.requests; replies = w.replies }
+    pub count : length w.shards ≡ n
+    pub lists_are : lists.All c w
+    pub done : (k : ℕ) (s : Shard) → slice_get w.shards k ≡ Some s → k < m → HasCome s (fates k)
+    pub still : (k : ℕ) (s : Shard) → slice_get w.shards k ≡ Some s → m ≤ k → IsPut c epoch k s (fates k)
+
+  -- the End of shard m, and then all its steps
+  end-it : (m : ℕ) (w : World) (s : Shard) → ClosedBelow m w → slice_get w.shards m ≡ Some s → (p : IsPut c epoch m s (fates m)) → p.way.coming.puts ≡ item.End kind ∷ [] → Reaches c w (ClosedBelow (suc m))
+  end-it m w s h at p is = record {
+    events = Of (event.Flush m) ∷ happenings c marked m p.way.coming.steps;
+    world = later;
+    is = reached;
+    holds = record {
+      same = ap (λ (x : World). record x { shards = later.shards; names = later.names; requests = later.requests; replies = later.replies }) h.same;
+      count = length_change m (λ _. final) w.shards ∙ h.count;
+      lists_are = subst (lists.All c) reached (keeps-lists c (Of (event.Flush m) ∷ happenings c marked m p.way.coming.steps) w h.lists_are);
+      done = each-update (λ j t. j < suc m → HasCome t (fates j)) final m w.shards (λ j t e differ lt. h.done j t e (below_it j m lt differ)) (λ _. own);
+      still = each-update (λ j t. suc m ≤ j → IsPut c epoch j t (fates j)) final m w.shards (λ j t e _ le. h.still j t e (weaker j m le)) (λ le. absurd (not_above m le));
+    };
+  }
+    where
+      steps : List Step
+      steps = p.way.coming.steps
+
+      marked : World
+      marked = record w { shards = change m (λ _. shard_end kind s) w.shards }
+
+      room : has_room c.capacity s ≡ true
+      room = lt-ltb (length s.queue) c.capacity (has-room c m s (item.End kind) [] p.way.coming some is p.way.ready)
+
+      undrained : is_drained s ≡ false
+      undrained = rw p.way.ready.running refl
+
+      asks_now : (t : Shard) → mark w t ≡ shard_end kind t
+      asks_now t = subst (λ (x : World). mark x t ≡ shard_end kind t) (sym h.same) (asks t)
+
+      alive_now : w.killed ≡ false
+      alive_now = ap (λ (x : World). x.killed) h.same ∙ alive
+
+      may_mark : (not s.end_put && has_room c.capacity s) ≡ true
+      may_mark = and_both (not s.end_put) (has_room c.capacity s) (rw p.way.ready.unended refl) room
+
+      is_marked : flush_shard c w s ≡ shard_end kind s
+      is_marked = ap (λ (b : Bool). cond b (mark w s) s) may_mark ∙ asks_now s
+
+      flushed : happens c w (event.Flush m) ≡ marked
+      flushed =
+          ap (unless_over c w (event.Flush m)) (not-over w m s at (alive_now, inr undrained))
+          ∙ ap (λ ss. record w { shards = ss }) (change-is (flush_shard c w) m w.shards s at ∙ ap (λ t. change m (λ _. t) w.shards) is_marked)
+
+      queue_is : s.queue ++ EndMark kind ∷ [] ≡ map queued (items_of steps) ++ p.way.coming.left
+      queue_is = ap (λ (xs : List Item). s.queue ++ map queued xs) (sym is) ∙ p.way.ready.split
+
+      few : (s.queue ≡ []) ⊎ (steps ≡ []) → length (items_of steps) ≤ 1
+      few (inl empty) = one_queued (items_of steps) (EndMark kind) p.way.coming.left (ap (λ (q : List Queued). q ++ EndMark kind ∷ []) (sym empty) ∙ queue_is)
+      few (inr none) = none_stand steps none
+
+      can_end : CanEnd (shard_end kind s) steps
+      can_end = record {
+        kept = kept_count c s kind (h.lists_are m s at);
+        ended = λ e. absurd (both_ways s.core.ended e p.way.ready.running);
+        last = short_last (items_of steps) (few p.way.ready.eager);
+      }
+
+      ran : IsAfter marked m (shard_end kind s) p.way.coming.ledger steps p.way.coming.left (run_freely c (happenings c marked m steps) marked)
+      ran = worker-run c marked m (shard_end kind s) p.way.coming.ledger steps p.way.coming.left alive_now (inr can_end) (change-get (shard_end kind s) m w.shards s at) p.way.ready.numbered queue_is p.way.ready.allowed
+
+      final : Shard
+      final = record (shard_end kind s) { queue = p.way.coming.left; core = (after (working s.core p.way.coming.ledger) steps).core }
+
+      later : World
+      later = moved w m final (steps_names steps (working s.core p.way.coming.ledger) w.names) (w.requests ++ ran.requests) (w.replies ++ ran.replies)
+
+      reached : run_freely c (Of (event.Flush m) ∷ happenings c marked m steps) w ≡ later
+      reached = ap (run_freely c (happenings c marked m steps)) flushed ∙ ran.is ∙ ap (λ ss. record later { shards = ss }) (change-twice (shard_end kind s) final m w.shards)
+
+      own : HasCome final (fates m)
+      own = record {
+        put = sym (append-nil s.put) ∙ ap (λ (xs : List Item). s.put ++ items.samples_in xs) (sym is) ∙ p.way.put;
+        core = ap (λ (x : Working). x.core) p.way.worker;
+        queue = p.way.left;
+      }
+
+  end-one : (m : ℕ) (w : World) (s : Shard) → m < n → ClosedBelow m w → slice_get w.shards m ≡ Some s → (p : IsPut c epoch m s (fates m)) → (ps : List Item) → p.way.coming.puts ≡ ps → Reaches c w (ClosedBelow (suc m))
+  end-one m w s lt h at p [] is = absurd (none_is_some kind (sym (ap end_in is) ∙ p.way.end ∙ ends m lt))
+  end-one m w s lt h at p (item.Sample place t word labels ∷ ps) is = absurd (subst IsAtEnd is p.at_end)
+  end-one m w s lt h at p (item.Flush ∷ ps) is = absurd (subst IsAtEnd is p.at_end)
+  end-one m w s lt h at p (item.End other ∷ ps) is = end-it m w s h at p (is ∙ alone)
+    where
+      kind_is : other ≡ kind
+      kind_is = some_is (sym (ap end_in is) ∙ p.way.end ∙ ends m lt)
+
+      last : ps ≡ []
+      last = subst IsAtEnd is p.at_end
+
+      alone : item.End other ∷ ps ≡ item.End kind ∷ []
+      alone = λ i. item.End (kind_is i) ∷ last i
+
+  end-from : (more m : ℕ) (w : World) → m + more ≡ n → ClosedBelow m w → Reaches c w (ClosedBelow n)
+  end-from zero m w sum h = stay c w (ClosedBelow n) (subst (λ (k : ℕ). ClosedBelow k w) (no_more m sum) h)
+    where
+      no_more : (m : ℕ) → m + 0 ≡ n → m ≡ n
+      no_more m e = omega arith
+  end-from (suc more) m w sum h = go-on c w (ClosedBelow (suc m)) (ClosedBelow n)
+      (end-one m w found.0 lt h found.1 put put.way.coming.puts refl)
+      (λ v next. end-from more (suc m) v (shift m more sum) next)
+    where
+      shift : (m more : ℕ) → m + suc more ≡ n → suc m + more ≡ n
+      shift m more e = omega arith
+
+      within : (m more : ℕ) → m + suc more ≡ n → m < n
+      within m more e = omega arith
+
+      lt : m < n
+      lt = within m more sum
+
+      found : (s : Shard) × (slice_get w.shards m ≡ Some s)
+      found = get_within m w.shards (subst (λ (k : ℕ). m < k) (sym h.count) lt)
+
+      itself : (k : ℕ) → k ≤ k
+      itself k = omega arith
+
+      put : IsPut c epoch m found.0 (fates m)
+      put = h.still m found.0 found.1 (itself m)
+
+  -- all of them
+  pub end-all : (w : World) → ClosedBelow 0 w → Reaches c w (ClosedBelow n)
+  end-all w h = end-from n 0 w (zero_plus n) h
+    where
+      zero_plus : (n : ℕ) → 0 + n ≡ n
+      zero_plus n = omega arith
+
+pub below : (ss : List Shard) (k : ℕ) (s : Shard) → slice_get ss k ≡ Some s → k < length ss
+below [] k s e = absurd (none_is_some s e)
+below (x ∷ xs) zero s e = omega arith
+below (x ∷ xs) (suc k) s e = let lt = below xs k s e in omega arith
+
+-- where each has come to its fate, and all is resolved, they are drained
+pub drained-all : (c : Setup) (n : ℕ) (fates : ℕ → ShardFate) (ss : List Shard) → length ss ≡ n → ((k : ℕ) (s : Shard) → slice_get ss k ≡ Some s → Lists c s) → ((k : ℕ) (s : Shard) → slice_get ss k ≡ Some s → k < n → HasCome s (fates k)) → ((k : ℕ) → k < n → IsResolvedFate (fates k)) → list_all is_drained ss ≡ true
+drained-all c n fates ss count kept come resolved = all-drained ss (λ k s e. let lt = subst (λ (m : ℕ). k < m) count (below ss k s e) in drained c s (fates k) (kept k s e) (come k s e lt) (resolved k lt))

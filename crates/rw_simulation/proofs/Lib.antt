@@ -1,0 +1,15 @@
+pub mod Changes
+pub mod Eager
+pub mod EndRuns
+pub mod Entries
+pub mod EntryRuns
+pub mod EpochRuns
+pub mod FleetRuns
+pub mod FreeLaws
+pub mod MarkRuns
+pub mod ReshardRuns
+pub mod StoppedRuns
+pub mod StoppedShards
+pub mod WorkerLists
+pub mod WorkerRuns
+pub mod WorkerSteps

@@ -1,0 +1,118 @@
+-- The number of shards changes: those at hand are ended once all is resolved, and the next ones begin.
+use Rattle.std.proofs.Common.{◌≡◌, ℕ, suc, ◌<◌, ◌≤◌, ◌==◌, ◌&&◌, Bool, true, false, not, cond, nat_le, List, [], ◌∷◌, ◌++◌, length, None, Some, is_some, slice_get, refl, sym, ap, ◌∙◌, subst, arith}
+use Rattle.std.specs.List.{list_all}
+use Rattle.std.proofs.lemmas.Bool.{le-leb}
+use Rattle.rw_types.specs.declared.entry.Entry.{Entry}
+use Rattle.rw_wal_format.specs.Pieces.{Piece}
+use Rattle.rw_series_cache.specs.Numbers.{series_of}
+use Rattle.rw_plain_queue.specs.declared.item.Kind.TheVariants as kind
+use Rattle.rw_feeder.specs.Logs.{filtered}
+use Rattle.rw_machine.specs.Shards.{Shard, is_drained, shard_end}
+use Rattle.rw_machine.specs.Worlds.{Setup, World, new_shards, is_finished, all_drained, is_over}
+use Rattle.rw_machine.specs.Steps.{happens, mark, restart_as, unless_over}
+use Rattle.rw_machine.specs.declared.event.Event.TheVariants as event
+use Rattle.rw_machine.proofs.Lists as lists
+use Rattle.rw_machine.proofs.Steps.{and_both, each_new}
+use Rattle.rw_simulation.specs.Freely.{Happening, Of, run_freely}
+use Rattle.rw_simulation.specs.EpochRuns.{ShardFate, IsAllPut, Reaches}
+use Rattle.rw_simulation.proofs.Changes.{run-append}
+use Rattle.rw_simulation.proofs.EntryRuns.{over_not}
+use Rattle.rw_simulation.proofs.FreeLaws.{keeps-lists}
+use Rattle.rw_simulation.proofs.EndRuns.{IsResolvedFate, ClosedBelow, end-all, drained-all}
+
+-- the machine at the beginning of an epoch of so many shards, with these entries placed
+pub record Begins (c : Setup) (pieces : List Piece) (epoch m : ℕ) (placed : List Entry) (w : World) : Type 0 where
+  pub going : (w.killed ≡ false) × (w.closed ≡ None) × (w.draining ≡ None)
+  pub pieces_are : w.pieces ≡ pieces
+  pub epoch_is : w.epoch ≡ epoch
+  pub shards : w.shards ≡ new_shards c epoch 0 m
+  pub placed_are : w.placed ≡ length placed
+  pub series : w.series ≡ series_of c.choice placed
+  pub counted : w.filtered ≡ length (filtered c.choice placed)
+  pub lists_are : lists.All c w
+
+module _ (c : Setup) (pieces : List Piece) (epoch n m : ℕ) (fates : ℕ → ShardFate) (placed : List Entry) (some : 1 ≤ c.capacity) (least : 1 ≤ m) (most : m ≤ 1000)
+    (ends : (k : ℕ) → k < n → (fates k).end ≡ Some kind.Reshard) (resolved : (k : ℕ) → k < n → IsResolvedFate (fates k)) (w : World) (put : IsAllPut c pieces epoch n fates placed w) (kept : lists.All c w) where
+  alive : w.killed ≡ false
+  alive = put.under.going.0
+
+  unclosed : w.closed ≡ None
+  unclosed = put.under.going.1
+
+  -- ---- it is asked for
+  abbrev draining : World
+  draining = record w { draining = Some m }
+
+  may_ask : (not (is_some w.draining) && (not (is_finished w) && (nat_le 1 m && nat_le m 1000))) ≡ true
+  may_ask = and_both (not (is_some w.draining)) (not (is_finished w) && (nat_le 1 m && nat_le m 1000)) (rw put.under.going.2 refl)
+      (and_both (not (is_finished w)) (nat_le 1 m && nat_le m 1000) (rw put.under.going.1 refl) (and_both (nat_le 1 m) (nat_le m 1000) (le-leb 1 m least) (le-leb m 1000 most)))
+
+  asked : happens c w (event.Reshard m) ≡ draining
+  asked = ap (unless_over c w (event.Reshard m)) (over_not w alive unclosed) ∙ ap (λ (b : Bool). cond b draining w) may_ask
+
+  asks : (t : Shard) → mark draining t ≡ shard_end kind.Reshard t
+  asks t = rw unclosed refl
+
+  -- ---- each shard is ended
+  abbrev Closed : World → Type 0
+  Closed = ClosedBelow c epoch n fates kind.Reshard ends draining alive asks some n
+
+  none_below : (k : ℕ) → k < 0 → ⊥
+  none_below k lt = omega arith
+
+  closing : Reaches c draining Closed
+  closing = end-all c epoch n fates kind.Reshard ends draining alive asks some draining (record {
+    same = refl;
+    count = put.under.count;
+    lists_are = kept;
+    done = λ k t e lt. absurd (none_below k lt);
+    still = λ k t e le. put.each k t e;
+  })
+
+  abbrev over : World
+  over = closing.world
+
+  over-is : Closed over
+  over-is = closing.holds
+
+  -- ---- and the next ones take over
+  abbrev next : World
+  next = record over { epoch = suc over.epoch; shards = new_shards c (suc over.epoch) 0 m; draining = None }
+
+  alive-still : over.killed ≡ false
+  alive-still = ap (λ (x : World). x.killed) over-is.same ∙ alive
+
+  unclosed-still : over.closed ≡ None
+  unclosed-still = ap (λ (x : World). x.closed) over-is.same ∙ unclosed
+
+  may_restart : (not (is_finished over) && all_drained over) ≡ true
+  may_restart = and_both (not (is_finished over)) (all_drained over) (rw unclosed-still refl) (drained-all c n fates over.shards over-is.count over-is.lists_are over-is.done resolved)
+
+  restarts : happens c over event.Restart ≡ next
+  restarts =
+      ap (unless_over c over event.Restart) (over_not over alive-still unclosed-still)
+      ∙ ap (restart_as c over) (ap (λ (x : World). x.draining) over-is.same)
+      ∙ ap (λ (b : Bool). cond b next over) may_restart
+
+  epoch-is : over.epoch ≡ epoch
+  epoch-is = ap (λ (x : World). x.epoch) over-is.same ∙ put.under.epoch_is
+
+  pub reshard-run : Reaches c w (Begins c pieces (suc epoch) m placed)
+  reshard-run = record {
+    events = Of (event.Reshard m) ∷ (closing.events ++ Of event.Restart ∷ []);
+    world = next;
+    is = ap (run_freely c (closing.events ++ Of event.Restart ∷ [])) asked
+        ∙ run-append c closing.events (Of event.Restart ∷ []) draining
+        ∙ ap (run_freely c (Of event.Restart ∷ [])) closing.is
+        ∙ restarts;
+    holds = record {
+      going = (alive-still, unclosed-still, refl);
+      pieces_are = ap (λ (x : World). x.pieces) over-is.same ∙ put.under.pieces_are;
+      epoch_is = ap suc epoch-is;
+      shards = ap (λ (e : ℕ). new_shards c (suc e) 0 m) epoch-is;
+      placed_are = ap (λ (x : World). x.placed) over-is.same ∙ put.under.placed;
+      series = ap (λ (x : World). x.series) over-is.same ∙ put.under.series;
+      counted = ap (λ (x : World). x.filtered) over-is.same ∙ put.under.counted;
+      lists_are = each_new (λ i s. lists.Lists c s) c (suc over.epoch) 0 (λ i. record { queued = refl; held = refl; within = omega arith }) m;
+    };
+  }

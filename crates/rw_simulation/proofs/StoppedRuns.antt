@@ -1,0 +1,629 @@
+-- A shipper that was stopped in order, and left nothing, is a run of the machine.
+use Rattle.std.proofs.Common.{◌≡◌, ℕ, zero, suc, ◌+◌, ◌-◌, ◌<◌, ◌≤◌, ◌==◌, ◌&&◌, Bool, true, false, cond, List, [], ◌∷◌, ◌++◌, map, length, drop, Option, None, Some, is_some, slice_get, refl, sym, ap, ◌∙◌, subst, append-nil, append_assoc, length-append, arith, ◌⊎◌, inl, inr}
+use Rattle.std.specs.List.{list_all}
+use Rattle.std.proofs.lemmas.List.{length-drop}
+use Rattle.std.proofs.lemmas.Bool.{eq-eqb, eqb-true}
+use Rattle.rw_types.specs.declared.entry.Entry.{Entry}
+use Rattle.rw_types.specs.declared.place.Place.{Place}
+use Rattle.rw_wal_format.specs.Pieces.{Piece, entries, fault}
+use Rattle.rw_wal_format.specs.declared.tail_fault.TailFault.{TailFault}
+use Rattle.rw_wal_tail.specs.Fed.{piece_of}
+use Rattle.rw_wal_tail.specs.declared.piece.Piece as piece
+use Rattle.rw_relabel.specs.declared.choice.Choice.{Choice}
+use Rattle.rw_series_cache.specs.Numbers.{series_of}
+use Rattle.rw_series_cache.proofs.KnownLemmas.{series_of-none}
+use Rattle.rw_plain_queue.specs.Items.{samples_in, places_in}
+use Rattle.rw_plain_queue.specs.History.{EndIsLast, IsEnded}
+use Rattle.rw_plain_queue.specs.declared.item.Item.{Item}
+use Rattle.rw_plain_queue.specs.declared.item.Item.TheVariants.{Sample, Flush, End}
+use Rattle.rw_plain_queue.specs.declared.item.Kind.{Kind}
+use Rattle.rw_plain_queue.specs.declared.item.Kind.TheVariants as kind
+use Rattle.rw_shard_core.specs.Shard.{Core}
+use Rattle.rw_shard_core.specs.declared.config.ConfigFields.{ConfigFields}
+use Rattle.rw_shard_core.specs.declared.outcome.Outcome.{Outcome}
+use Rattle.rw_shard_core.specs.declared.outcome.Outcome.TheVariants as outcome
+use Rattle.rw_worker.specs.Transcript.{Exchange}
+use Rattle.rw_worker.specs.Setups.{start_of}
+use Rattle.rw_worker.specs.Setups as setups
+use Rattle.rw_worker.specs.Steps.{Working, working, Step, Takes, Freezes, Sends, Waits, AreSteps, after, after_step, items_of}
+use Rattle.rw_fleet.specs.ShardHistories.{ShardHistory, IsSetUp, AreSetUp, AreSame, put_into}
+use Rattle.rw_fleet.specs.Work.{IsWorked, AreWorked, AreResolved, AreEndedBy, IsEndedBy, lane_of, finished_of, put_of, put_by, taken_of, is_compared, is_resolved, positions_in}
+use Rattle.rw_fleet.specs.declared.joined.StoppedShard.{StoppedShard}
+use Rattle.rw_fleet.specs.declared.joined.Finished.{Finished}
+use Rattle.rw_feeder.specs.Feeders.{HasRead}
+use Rattle.rw_feeder.specs.Logs.{Sent, sent, sent_of, gather_from, filtered}
+use Rattle.rw_shipper.specs.Placement.{IsDealt, Places, joined}
+use Rattle.rw_shipper.specs.Reports.{IsAbandoned}
+use Rattle.rw_shipper.specs.Shipping.{Shipping, HasStopped, Ends}
+use Rattle.rw_shipper.specs.declared.report.Report.{Report}
+use Rattle.rw_machine.specs.Shards.{Shard, is_drained, shard_end, shard_flush}
+use Rattle.rw_machine.specs.Worlds.{Setup, World, Complete, start, log, new_shards, ended_as, report}
+use Rattle.rw_machine.specs.Steps.{happens, mark, unless_over}
+use Rattle.rw_machine.specs.declared.event.Event.TheVariants as event
+use Rattle.rw_machine.specs.Promises.{CanWork}
+use Rattle.rw_machine.proofs.Lists as lists
+use Rattle.rw_machine.proofs.Steps.{AllOf, all_left, all_right, and_left, and_right}
+use Rattle.rw_simulation.specs.Freely.{Happening, Of, run_freely}
+use Rattle.rw_simulation.specs.FreeLaws.{world_of}
+use Rattle.rw_simulation.specs.EpochRuns.{ShardFate, end_in, IsAllPut, Reaches}
+use Rattle.rw_simulation.specs.FleetRuns.{IsShardRun, fate_of, fate_by, fate_at, IsBeginning}
+use Rattle.rw_simulation.specs.StoppedShards.{IsShardOf}
+use Rattle.rw_simulation.specs.StoppedRuns.{IsSetAs, HasNumbers, AreNumbers, EndInTurn, ending_of, IsAlike, IsRun, StopsAsRun, StopsInFirstEpoch}
+use Rattle.rw_simulation.proofs.Changes.{run-append}
+use Rattle.rw_simulation.proofs.ReshardRuns.{Begins, reshard-run}
+use Rattle.rw_simulation.proofs.WorkerLists.{core_after, after-is, ended-after, last_tail}
+use Rattle.rw_simulation.proofs.EntryRuns.{over_not}
+use Rattle.rw_simulation.proofs.FreeLaws.{keeps-lists}
+use Rattle.rw_simulation.proofs.FleetRuns.{fleet-run, get_lane}
+use Rattle.rw_simulation.proofs.StoppedShards.{compared-is-run, same_items}
+use Rattle.rw_simulation.proofs.EpochRuns.{one_at_most}
+use Rattle.rw_simulation.proofs.EndRuns.{HasCome, IsResolvedFate, ClosedBelow, end-all, drained-all, below}
+
+some_is : {X : Type 0} {x y : X} → Some x ≡ Some y → x ≡ y
+some_is e = cc
+
+none_is_some : {X : Type 0} (x : X) → None ≡ Some x → ⊥
+none_is_some x e = cc
+
+-- ---- an End that was taken
+stays_ended : (st : Step) (c : Core) → c.ended ≡ true → (core_after st c).ended ≡ true
+stays_ended (Takes (Sample place t word labels)) c h = h
+stays_ended (Takes Flush) c h = h
+stays_ended (Takes (End k)) c h = refl
+stays_ended Freezes c h = h
+stays_ended Waits c h = h
+stays_ended (Sends e) c h = ended-after (Sends e) c refl ∙ h
+
+all_ended : (w : Working) (ss : List Step) → AreSteps w ss → w.core.ended ≡ true → (after w ss).core.ended ≡ true
+all_ended w [] h e = e
+all_ended w (s ∷ ss) h e = all_ended (after_step s w) ss h.1 (ap (λ (k : Core). k.ended) (after-is s w.core w.ledger h.0) ∙ stays_ended s w.core e)
+
+ended_in : (w : Working) (ss : List Step) (k : Kind) → AreSteps w ss → end_in (items_of ss) ≡ Some k → (after w ss).core.ended ≡ true
+ended_in w [] k h e = absurd (none_is_some k e)
+ended_in w (Takes (Sample place t word labels) ∷ ss) k h e = ended_in (after_step (Takes (Sample place t word labels)) w) ss k h.1 e
+ended_in w (Takes Flush ∷ ss) k h e = ended_in (after_step (Takes Flush) w) ss k h.1 e
+ended_in w (Takes (End other) ∷ ss) k h e = all_ended (after_step (Takes (End other)) w) ss h.1 refl
+ended_in w (Freezes ∷ ss) k h e = ended_in (after_step Freezes w) ss k h.1 e
+ended_in w (Sends x ∷ ss) k h e = ended_in (after_step (Sends x) w) ss k h.1 e
+ended_in w (Waits ∷ ss) k h e = ended_in w ss k h.1 e
+
+no_end : (front : List Item) (k : Kind) → front ++ End k ∷ [] ≡ [] → ⊥
+no_end [] k e = cc
+no_end (x ∷ xs) k e = cc
+
+-- where it is the last item, it is the one that stands there
+end_in_last : (front : List Item) (k : Kind) → EndIsLast (front ++ End k ∷ []) → end_in (front ++ End k ∷ []) ≡ Some k
+end_in_last [] k last = refl
+end_in_last (Sample place t word labels ∷ xs) k last = end_in_last xs k (last_tail (Sample place t word labels) (xs ++ End k ∷ []) last)
+end_in_last (Flush ∷ xs) k last = end_in_last xs k (last_tail Flush (xs ++ End k ∷ []) last)
+end_in_last (End other ∷ xs) k last = absurd (no_end xs k (last [] (xs ++ End k ∷ []) other refl))
+
+end_is : (put : List Item) (k : Kind) → EndIsLast put → IsEnded put → IsEndedBy k put → end_in put ≡ Some k
+end_is put k last ended by =
+    ap end_in ended.2 ∙ end_in_last ended.0 ended.1 (subst EndIsLast ended.2 last) ∙ ap Some (by ended.1 ended.0 ended.2)
+
+-- ---- all pieces are fed
+abbrev Fed : Type 0
+Fed = piece.Piece
+
+abbrev feeds : List Fed → List Happening
+feeds [] = []
+feeds (p ∷ ps) = Of (event.Feed p) ∷ feeds ps
+
+feed-all : (c : Setup) (fed : List Fed) (w : World) → w.killed ≡ false → w.closed ≡ None → run_freely c (feeds fed) w ≡ record w { pieces = w.pieces ++ map piece_of fed }
+feed-all c [] w k n = ap (λ ps. record w { pieces = ps }) (sym (append-nil w.pieces))
+feed-all c (p ∷ ps) w k n =
+    ap (run_freely c (feeds ps)) fed_one
+    ∙ feed-all c ps (record w { pieces = w.pieces ++ piece_of p ∷ [] }) k n
+    ∙ ap (λ qs. record w { pieces = qs }) (append_assoc w.pieces (piece_of p ∷ []) (map piece_of ps))
+  where
+    fed_one : happens c w (event.Feed p) ≡ record w { pieces = w.pieces ++ piece_of p ∷ [] }
+    fed_one = ap (unless_over c w (event.Feed p)) (over_not w k n) ∙ rw n refl
+
+ended_by_at : (kd : Kind) (puts : List (List Item)) (k : ℕ) (put : List Item) → AreEndedBy kd puts → slice_get puts k ≡ Some put → IsEndedBy kd put
+ended_by_at kd [] k put h e = absurd (none_is_some put e)
+ended_by_at kd (x ∷ xs) zero put h e = let is : x ≡ put = some_is e in subst (IsEndedBy kd) is h.0
+ended_by_at kd (x ∷ xs) (suc k) put h e = ended_by_at kd xs k put h.1 e
+
+get_map : {X Y : Type 0} (f : X → Y) (xs : List X) (k : ℕ) (x : X) → slice_get xs k ≡ Some x → slice_get (map f xs) k ≡ Some (f x)
+get_map f [] k x e = absurd (none_is_some x e)
+get_map f (y ∷ ys) zero x e = ap Some (ap f (some_is e))
+get_map f (y ∷ ys) (suc k) x e = get_map f ys k x e
+
+map_both : {X Y : Type 0} (f : X → Y) (xs ys : List X) → map f (xs ++ ys) ≡ map f xs ++ map f ys
+map_both f [] ys = refl
+map_both f (x ∷ xs) ys = ap (λ zs. f x ∷ zs) (map_both f xs ys)
+
+map_get : {X Y : Type 0} (f : X → Y) (xs : List X) (k : ℕ) (y : Y) → slice_get (map f xs) k ≡ Some y → (x : X) × (slice_get xs k ≡ Some x) × (f x ≡ y)
+map_get f [] k y e = absurd (none_is_some y e)
+map_get f (x ∷ xs) zero y e = (x, refl, some_is e)
+map_get f (x ∷ xs) (suc k) y e = map_get f xs k y e
+
+map_length : {X Y : Type 0} (f : X → Y) (xs : List X) → length (map f xs) ≡ length xs
+map_length f [] = refl
+map_length f (x ∷ xs) = ap suc (map_length f xs)
+
+-- ---- what was put is resolved
+place_count : (xs : List Item) → length (places_in xs) ≡ length (samples_in xs)
+place_count [] = refl
+place_count (Sample place t word labels ∷ xs) = ap suc (place_count xs)
+place_count (Flush ∷ xs) = place_count xs
+place_count (End k ∷ xs) = place_count xs
+
+none_behind : (all resolved left : ℕ) → left ≡ all - resolved → left ≡ 0 → all ≤ resolved
+none_behind all resolved left e h = omega arith
+
+-- the list behind a map is two lists, where its image is
+record Split {X Y : Type 0} (f : X → Y) (all : List X) (xs ys : List Y) : Type 0 where
+  first : List X
+  later : List X
+  are : all ≡ first ++ later
+  first_is : map f first ≡ xs
+  later_is : map f later ≡ ys
+
+no_cons : {Y : Type 0} (y : Y) (ys : List Y) → [] ≡ y ∷ ys → ⊥
+no_cons y ys e = cc
+
+head_of : {Y : Type 0} (x y : Y) (xs ys : List Y) → x ∷ xs ≡ y ∷ ys → x ≡ y
+head_of x y xs ys e = cc
+
+tail_of : {Y : Type 0} (x y : Y) (xs ys : List Y) → x ∷ xs ≡ y ∷ ys → xs ≡ ys
+tail_of x y xs ys e = cc
+
+split_map : {X Y : Type 0} (f : X → Y) (all : List X) (xs ys : List Y) → map f all ≡ xs ++ ys → Split f all xs ys
+split_map f all [] ys e = record { first = []; later = all; are = refl; first_is = refl; later_is = e }
+split_map f [] (x ∷ xs) ys e = absurd (no_cons x (xs ++ ys) e)
+split_map f (a ∷ all) (x ∷ xs) ys e =
+    let h = split_map f all xs ys (tail_of (f a) x (map f all) (xs ++ ys) e) in
+    record { first = a ∷ h.first; later = h.later; are = ap (λ zs. a ∷ zs) h.are; first_is = λ j. head_of (f a) x (map f all) (xs ++ ys) e j ∷ h.first_is j; later_is = h.later_is }
+
+-- the entries are in two parts, where the samples that they give are
+record Parted (choice : Choice) (before es : List Entry) (first rest : List Sent) : Type 0 where
+  now : List Entry
+  later : List Entry
+  are : es ≡ now ++ later
+  first_is : gather_from (sent_of choice) before now ≡ first
+  rest_is : gather_from (sent_of choice) (before ++ now) later ≡ rest
+
+none_first : (first rest : List Sent) → [] ≡ first ++ rest → (first ≡ []) × (rest ≡ [])
+none_first [] rest e = (refl, sym e)
+none_first (x ∷ xs) rest e = absurd (no_cons x (xs ++ rest) e)
+
+part : (choice : Choice) (before es : List Entry) (first rest : List Sent) → gather_from (sent_of choice) before es ≡ first ++ rest → Parted choice before es first rest
+part choice before es [] rest e = record { now = []; later = es; are = refl; first_is = refl; rest_is = subst (λ (b : List Entry). gather_from (sent_of choice) b es ≡ rest) (sym (append-nil before)) e }
+part choice before [] (x ∷ xs) rest e = absurd (no_cons x (xs ++ rest) e)
+part choice before (y ∷ ys) (x ∷ xs) rest e = by_entry (λ zs given. part choice (before ++ y ∷ []) ys zs rest given) (one_at_most choice before y)
+  where
+    with-one : (zs : List Sent) → (h : Parted choice (before ++ y ∷ []) ys zs rest) → sent_of choice before y ++ zs ≡ x ∷ xs → Parted choice before (y ∷ ys) (x ∷ xs) rest
+    with-one zs h same = record {
+      now = y ∷ h.now;
+      later = h.later;
+      are = ap (λ es. y ∷ es) h.are;
+      first_is = ap (λ ss. sent_of choice before y ++ ss) h.first_is ∙ same;
+      rest_is = subst (λ (b : List Entry). gather_from (sent_of choice) b h.later ≡ rest) (append_assoc before (y ∷ []) h.now) h.rest_is;
+    }
+
+    by_entry : ((zs : List Sent) → gather_from (sent_of choice) (before ++ y ∷ []) ys ≡ zs ++ rest → Parted choice (before ++ y ∷ []) ys zs rest) → (sent_of choice before y ≡ []) ⊎ ((z : Sent) × (sent_of choice before y ≡ z ∷ [])) → Parted choice before (y ∷ ys) (x ∷ xs) rest
+    by_entry go (inl none) = with-one (x ∷ xs) (go (x ∷ xs) (ap (λ ss. ss ++ gather_from (sent_of choice) (before ++ y ∷ []) ys) (sym none) ∙ e)) (ap (λ ss. ss ++ (x ∷ xs)) none)
+    by_entry go (inr (z, one)) = with-one xs (go xs (tail_of z x (gather_from (sent_of choice) (before ++ y ∷ []) ys) (xs ++ rest) given)) (ap (λ ss. ss ++ xs) one ∙ ap (λ w. w ∷ xs) (head_of z x (gather_from (sent_of choice) (before ++ y ∷ []) ys) (xs ++ rest) given))
+      where
+        given : z ∷ gather_from (sent_of choice) (before ++ y ∷ []) ys ≡ x ∷ (xs ++ rest)
+        given = ap (λ ss. ss ++ gather_from (sent_of choice) (before ++ y ∷ []) ys) (sym one) ∙ e
+
+none_below : (k : ℕ) → k < 0 → ⊥
+none_below k lt = omega arith
+
+module _ {T : Type 0} (tells : T → Type 0) (seen : T → List Exchange) (is_for : ℕ → ℕ → T → Type 0) (c : Setup) (config : ConfigFields) (set : IsSetAs c config) (work : CanWork c) where
+  -- what is known of each shard: it is set up so, it did what its worker reports, and nothing is left
+  record Sound (j : StoppedShard T) : Type 0 where
+    worked : IsWorked tells seen is_for j
+    up : IsSetUp config j.worker.value
+    resolved : is_resolved j ≡ true
+
+  sound-all : (js : List (StoppedShard T)) → AreWorked tells seen is_for js → AreSetUp config (map lane_of js) → AreResolved js → AllOf Sound js
+  sound-all [] h up r = tt
+  sound-all (j ∷ js) h up r = (record { worked = h.0; up = up.0; resolved = r 0 j refl }, sound-all js h.1 up.1 (λ k i e. r (suc k) i e))
+
+  all_put_resolved : (j : StoppedShard T) → (h : Sound j) → length (samples_in (put_of j.finished.ends)) ≤ length (after (start_of j.worker.value) h.worked.report.steps).core.resolved
+  all_put_resolved j h = subst (λ (n : ℕ). length (samples_in (put_of j.finished.ends)) ≤ n) h.worked.report.counted
+      (subst (λ (n : ℕ). n ≤ j.finished.resolved) (map_length (λ (p : Place). p.pos) (places_in (put_of j.finished.ends)) ∙ place_count (put_of j.finished.ends))
+      (none_behind (length (positions_in (put_of j.finished.ends))) j.finished.resolved (length j.abandoned.items)
+      (ap length h.worked.abandoned ∙ length-drop j.finished.resolved (positions_in (put_of j.finished.ends)))
+      (eqb-true (length j.abandoned.items) 0 (and_right (is_compared j.finished.ends) (length j.abandoned.items == 0) h.resolved))))
+
+  -- the steps that the workers report
+  abbrev steps_in : (js : List (StoppedShard T)) → AllOf Sound js → ℕ → List Step
+  steps_in [] h k = []
+  steps_in (j ∷ js) h zero = h.0.worked.report.steps
+  steps_in (j ∷ js) h (suc k) = steps_in js h.1 k
+
+  record Found (js : List (StoppedShard T)) (all : AllOf Sound js) (k : ℕ) (l : ShardHistory) : Type 0 where
+    j : StoppedShard T
+    at : slice_get js k ≡ Some j
+    lane : lane_of j ≡ l
+    sound : Sound j
+    steps : sound.worked.report.steps ≡ steps_in js all k
+
+  find : (js : List (StoppedShard T)) (all : AllOf Sound js) (k : ℕ) (l : ShardHistory) → slice_get (map lane_of js) k ≡ Some l → Found js all k l
+  find [] all k l e = absurd (none_is_some l e)
+  find (j ∷ js) all zero l e = record { j = j; at = refl; lane = some_is e; sound = all.0; steps = refl }
+  find (j ∷ js) all (suc k) l e = let h = find js all.1 k l e in record { j = h.j; at = h.at; lane = h.lane; sound = h.sound; steps = h.steps }
+
+  -- the machine has come to its report, with these shards at the end
+  record Final (pieces : List Piece) (all : List Entry) (last : List (StoppedShard T)) (v : World) : Type 0 where
+    pieces_are : v.pieces ≡ pieces
+    placed_are : v.placed ≡ length all
+    counted : v.filtered ≡ length (filtered c.choice all)
+    shards : length v.shards ≡ length last
+    each : (k : ℕ) (m : Shard) (j : StoppedShard T) → slice_get v.shards k ≡ Some m → slice_get last k ≡ Some j → IsAlike j.finished m
+    reported : report v ≡ Some (ended_as (fault pieces) (length all))
+
+  -- ---- one epoch
+  module _ (epoch : ℕ) (kd : Kind) (js : List (StoppedShard T)) (sound : AllOf Sound js) (some_lanes : 1 ≤ length (map lane_of js)) (by : AreEndedBy kd (map put_into (map lane_of js))) (before es : List Entry) (dealt : IsDealt epoch (map lane_of js) (gather_from (sent_of c.choice) before es)) where
+    abbrev n : ℕ
+    n = length (map lane_of js)
+
+    abbrev steps : ℕ → List Step
+    steps k = steps_in js sound k
+
+    abbrev fates : ℕ → ShardFate
+    fates = fate_at (map lane_of js) (λ k. steps_in js sound k) (λ k. [])
+
+    is-compared : (j : StoppedShard T) → Sound j → is_compared j.finished.ends ≡ true
+    is-compared j h = and_left (is_compared j.finished.ends) (length j.abandoned.items == 0) h.resolved
+
+    lane-at : (k : ℕ) (l : ShardHistory) → slice_get (map lane_of js) k ≡ Some l → IsShardRun c epoch k l (steps k) []
+    lane-at k l e = subst (λ ss. IsShardRun c epoch k l ss []) f.steps (subst (λ (x : ShardHistory). IsShardRun c epoch k x f.sound.worked.report.steps []) f.lane (compared-is-run tells seen is_for f.j c epoch k f.sound.worked own (is-compared f.j f.sound)))
+      where
+        f : Found js sound k l
+        f = find js sound k l e
+
+        own : IsShardOf c epoch k f.j
+        own = record {
+          target = f.sound.up.0 ∙ sym set.target;
+          batch = f.sound.up.1 ∙ sym set.batch;
+          capacity = f.sound.up.2 ∙ sym set.capacity;
+          epoch_is = ap (λ (x : ShardHistory). x.setup.queue.epoch) f.lane ∙ (dealt.each k l e).0;
+          shard_is = ap (λ (x : ShardHistory). x.setup.queue.shard) f.lane ∙ (dealt.each k l e).1;
+        }
+
+    lane-end : (k : ℕ) (l : ShardHistory) → slice_get (map lane_of js) k ≡ Some l → end_in l.put ≡ Some kd
+    lane-end k l e = end_is l.put kd (lane-at k l e).history.ending
+        (subst (λ (x : ShardHistory). IsEnded x.put) f.lane (subst IsEnded (sym (same_items f.j.finished.ends (is-compared f.j f.sound))) (f.sound.worked.last (is-compared f.j f.sound))))
+        (ended_by_at kd (map put_into (map lane_of js)) k l.put by (get_map put_into (map lane_of js) k l e))
+      where
+        f : Found js sound k l
+        f = find js sound k l e
+
+    fate-end : (k : ℕ) → k < n → (fates k).end ≡ Some kd
+    fate-end k lt = let l = get_lane k (map lane_of js) lt in subst (λ (o : Option ShardHistory). (fate_by o (steps k) []).end ≡ Some kd) (sym l.1) (lane-end k l.0 l.1)
+
+    fate-resolved : (k : ℕ) → k < n → IsResolvedFate (fates k)
+    fate-resolved k lt = subst (λ (o : Option ShardHistory). IsResolvedFate (fate_by o (steps k) [])) (sym l.1) (
+      ended_in (start_of l.0.setup) (steps k) kd own.allowed (sym (ap end_in (own.split ∙ append-nil (items_of (steps k)))) ∙ lane-end k l.0 l.1),
+      subst (λ (ss : List Step). length (samples_in l.0.put) ≤ length (after (start_of l.0.setup) ss).core.resolved) f.steps
+          (subst (λ (x : ShardHistory). length (samples_in x.put) ≤ length (after (start_of x.setup) f.sound.worked.report.steps).core.resolved) f.lane (all_put_resolved f.j f.sound)),
+    )
+      where
+        l : (l : ShardHistory) × (slice_get (map lane_of js) k ≡ Some l)
+        l = get_lane k (map lane_of js) lt
+
+        own : IsShardRun c epoch k l.0 (steps k) []
+        own = lane-at k l.0 l.1
+
+        f : Found js sound k l.0
+        f = find js sound k l.0 l.1
+
+    put-all : (pieces : List Piece) (rest : List Entry) (w : World) → Begins c pieces epoch n before w → entries pieces ≡ before ++ (es ++ rest) → Reaches c w (IsAllPut c pieces epoch n fates (before ++ es))
+    put-all pieces rest w b begins = fleet-run c pieces epoch (map lane_of js) (λ k. steps_in js sound k) (λ k. []) before es w work.capacity work.batch some_lanes (record {
+      going = b.going;
+      pieces_are = b.pieces_are;
+      epoch_is = b.epoch_is;
+      shards = b.shards;
+      placed = b.placed_are;
+      rest = rest;
+      begins = begins;
+      series = b.series;
+      counted = b.counted;
+      dealt = dealt;
+      runs = lane-at;
+    })
+
+    alike : (k : ℕ) (m : Shard) (j : StoppedShard T) → k < n → HasCome m (fates k) → slice_get js k ≡ Some j → IsAlike j.finished m
+    alike k m j lt come at = record {
+      put = come.put ∙ ap (λ (o : Option ShardHistory). (fate_by o (steps k) []).put) l.1 ∙ ap (λ (x : ShardHistory). samples_in x.put) (sym g.lane) ∙ ap (λ (y : StoppedShard T). samples_in (put_of y.finished.ends)) same;
+      resolved = ap (λ (y : Core). length y.resolved) come.core
+          ∙ ap (λ (o : Option ShardHistory). length (fate_by o (steps k) []).worker.core.resolved) l.1
+          ∙ ap (λ (ss : List Step). length (after (start_of l.0.setup) ss).core.resolved) (sym g.steps)
+          ∙ ap (λ (x : ShardHistory). length (after (start_of x.setup) g.sound.worked.report.steps).core.resolved) (sym g.lane)
+          ∙ sym g.sound.worked.report.counted
+          ∙ ap (λ (y : StoppedShard T). y.finished.resolved) same;
+    }
+      where
+        l : (l : ShardHistory) × (slice_get (map lane_of js) k ≡ Some l)
+        l = get_lane k (map lane_of js) lt
+
+        g : Found js sound k l.0
+        g = find js sound k l.0 l.1
+
+        same : g.j ≡ j
+        same = some_is (sym g.at ∙ at)
+
+  -- ---- the last epoch
+  module _ (epoch : ℕ) (js : List (StoppedShard T)) (sound : AllOf Sound js) (some_lanes : 1 ≤ length (map lane_of js)) (by : AreEndedBy kind.Orderly (map put_into (map lane_of js))) (before es : List Entry) (dealt : IsDealt epoch (map lane_of js) (gather_from (sent_of c.choice) before es)) (pieces : List Piece) (w : World) (b : Begins c pieces epoch (length (map lane_of js)) before w) (all : entries pieces ≡ before ++ es) where
+    abbrev m : ℕ
+    m = length (map lane_of js)
+
+    abbrev ends_so : ℕ → ShardFate
+    ends_so = fates epoch kind.Orderly js sound some_lanes by before es dealt
+
+    reach : Reaches c w (IsAllPut c pieces epoch m ends_so (before ++ es))
+    reach = put-all epoch kind.Orderly js sound some_lanes by before es dealt pieces [] w b (all ∙ ap (λ (xs : List Entry). before ++ xs) (sym (append-nil es)))
+
+    abbrev put : World
+    put = reach.world
+
+    put-is : IsAllPut c pieces epoch m ends_so (before ++ es) put
+    put-is = reach.holds
+
+    lists-put : lists.All c put
+    lists-put = subst (lists.All c) reach.is (keeps-lists c reach.events w b.lists_are)
+
+    abbrev closed : World
+    closed = record put { closed = Some (length (log put)) }
+
+    closes : happens c put event.Close ≡ closed
+    closes = ap (unless_over c put event.Close) (over_not put put-is.under.going.0 put-is.under.going.1) ∙ rw put-is.under.going.1 refl
+
+    all-placed : (put.placed == length (log put)) ≡ true
+    all-placed = eq-eqb put.placed (length (log put)) (put-is.under.placed ∙ ap length (sym all) ∙ ap (λ ps. length (entries ps)) (sym put-is.under.pieces_are))
+
+    asks : (t : Shard) → mark closed t ≡ shard_end kind.Orderly t
+    asks t = ap (λ (x : Bool). cond x (shard_end kind.Orderly t) (cond (is_some put.draining) (shard_end kind.Reshard t) (shard_flush t))) all-placed
+
+    fate-end-so : (k : ℕ) → k < m → (ends_so k).end ≡ Some kind.Orderly
+    fate-end-so = fate-end epoch kind.Orderly js sound some_lanes by before es dealt
+
+    abbrev Closed : World → Type 0
+    Closed = ClosedBelow c epoch m ends_so kind.Orderly fate-end-so closed put-is.under.going.0 asks work.capacity m
+
+    closing : Reaches c closed Closed
+    closing = end-all c epoch m ends_so kind.Orderly fate-end-so closed put-is.under.going.0 asks work.capacity closed (record {
+      same = refl;
+      count = put-is.under.count;
+      lists_are = lists-put;
+      done = λ k t e lt. absurd (none_below k lt);
+      still = λ k t e le. put-is.each k t e;
+    })
+
+    abbrev over : World
+    over = closing.world
+
+    over-is : Closed over
+    over-is = closing.holds
+
+    all-drained-now : list_all is_drained over.shards ≡ true
+    all-drained-now = drained-all c m ends_so over.shards over-is.count over-is.lists_are over-is.done (fate-resolved epoch kind.Orderly js sound some_lanes by before es dealt)
+
+    last-run : Reaches c w (Final pieces (before ++ es) js)
+    last-run = record {
+      events = reach.events ++ (Of event.Close ∷ closing.events);
+      world = over;
+      is = run-append c reach.events (Of event.Close ∷ closing.events) w ∙ ap (run_freely c (Of event.Close ∷ closing.events)) reach.is ∙ ap (run_freely c closing.events) closes ∙ closing.is;
+      holds = record {
+        pieces_are = ap (λ (x : World). x.pieces) over-is.same ∙ put-is.under.pieces_are;
+        placed_are = ap (λ (x : World). x.placed) over-is.same ∙ put-is.under.placed;
+        counted = ap (λ (x : World). x.filtered) over-is.same ∙ put-is.under.counted;
+        shards = over-is.count ∙ map_length lane_of js;
+        each = λ k s j e at. let lt = subst (λ (i : ℕ). k < i) over-is.count (below over.shards k s e) in alike epoch kind.Orderly js sound some_lanes by before es dealt k s j lt (over-is.done k s e lt) at;
+        reported = ap report over-is.same ∙ rw (put-is.under.going.0, all-placed, all-drained-now) refl
+            ∙ ap Some (ap (λ ps. ended_as (fault ps) put.placed) put-is.under.pieces_are ∙ ap (λ (i : ℕ). ended_as (fault pieces) i) put-is.under.placed);
+      };
+    }
+
+  -- ---- all epochs
+  record AllRun (pieces : List Piece) (all : List Entry) (js : List (StoppedShard T)) (w : World) : Type 0 where
+    earlier : List (StoppedShard T)
+    last : List (StoppedShard T)
+    are : js ≡ earlier ++ last
+    reach : Reaches c w (Final pieces all last)
+
+  epochs-run : (lanes : List ShardHistory) (later : List (List ShardHistory)) (epoch : ℕ) (js : List (StoppedShard T)) (before es : List Entry) (pieces : List Piece) (w : World) → AllOf Sound js → map lane_of js ≡ joined (lanes ∷ later) → Places epoch (lanes ∷ later) (gather_from (sent_of c.choice) before es)
+      → 1 ≤ length lanes → AreNumbers later → EndInTurn (lanes ∷ later) → Begins c pieces epoch (length lanes) before w → entries pieces ≡ before ++ es → AllRun pieces (before ++ es) js w
+  epochs-run lanes [] epoch js before es pieces w sound e p some numbers turn b all = record {
+    earlier = [];
+    last = js;
+    are = refl;
+    reach = last-run epoch js sound (subst (λ (ls : List ShardHistory). 1 ≤ length ls) same some) (subst (λ (ls : List ShardHistory). AreEndedBy kind.Orderly (map put_into ls)) same turn) before es
+        (subst (λ (ls : List ShardHistory). IsDealt epoch ls (gather_from (sent_of c.choice) before es)) same (subst (IsDealt epoch lanes) (sym (p.2 ∙ ap (λ (xs : List Sent). p.0 ++ xs) p.4 ∙ append-nil p.0)) p.3))
+        pieces w (subst (λ (ls : List ShardHistory). Begins c pieces epoch (length ls) before w) same b) all;
+  }
+    where
+      same : lanes ≡ map lane_of js
+      same = sym (e ∙ append-nil lanes)
+  epochs-run lanes (next ∷ later) epoch js before es pieces w sound e p some numbers turn b all =
+      with-rest (epochs-run next later (suc epoch) sp.later (before ++ pt.now) pt.later pieces r2.world (all_right Sound sp.first sp.later both) sp.later_is (subst (Places (suc epoch) (next ∷ later)) (sym pt.rest_is) p.4) numbers.0 numbers.2 turn.1 r2.holds
+      (begins ∙ sym (append_assoc before pt.now pt.later)))
+    where
+      sp : Split lane_of js lanes (joined (next ∷ later))
+      sp = split_map lane_of js lanes (joined (next ∷ later)) e
+
+      pt : Parted c.choice before es p.0 p.1
+      pt = part c.choice before es p.0 p.1 p.2
+
+      both : AllOf Sound (sp.first ++ sp.later)
+      both = subst (AllOf Sound) sp.are sound
+
+      now : AllOf Sound sp.first
+      now = all_left Sound sp.first sp.later both
+
+      same : lanes ≡ map lane_of sp.first
+      same = sym sp.first_is
+
+      some_now : 1 ≤ length (map lane_of sp.first)
+      some_now = subst (λ (ls : List ShardHistory). 1 ≤ length ls) same some
+
+      by : AreEndedBy kind.Reshard (map put_into (map lane_of sp.first))
+      by = subst (λ (ls : List ShardHistory). AreEndedBy kind.Reshard (map put_into ls)) same turn.0
+
+      dealt : IsDealt epoch (map lane_of sp.first) (gather_from (sent_of c.choice) before pt.now)
+      dealt = subst (λ (ls : List ShardHistory). IsDealt epoch ls (gather_from (sent_of c.choice) before pt.now)) same (subst (IsDealt epoch lanes) (sym pt.first_is) p.3)
+
+      begins : entries pieces ≡ before ++ (pt.now ++ pt.later)
+      begins = all ∙ ap (λ (xs : List Entry). before ++ xs) pt.are
+
+      r1 : Reaches c w (IsAllPut c pieces epoch (length (map lane_of sp.first)) (fates epoch kind.Reshard sp.first now some_now by before pt.now dealt) (before ++ pt.now))
+      r1 = put-all epoch kind.Reshard sp.first now some_now by before pt.now dealt pieces pt.later w (subst (λ (ls : List ShardHistory). Begins c pieces epoch (length ls) before w) same b) begins
+
+      r2 : Reaches c r1.world (Begins c pieces (suc epoch) (length next) (before ++ pt.now))
+      r2 = reshard-run c pieces epoch (length (map lane_of sp.first)) (length next) (fates epoch kind.Reshard sp.first now some_now by before pt.now dealt) (before ++ pt.now) work.capacity numbers.0 numbers.1
+          (fate-end epoch kind.Reshard sp.first now some_now by before pt.now dealt) (fate-resolved epoch kind.Reshard sp.first now some_now by before pt.now dealt) r1.world r1.holds
+          (subst (lists.All c) r1.is (keeps-lists c r1.events w b.lists_are))
+
+      with-rest : AllRun pieces ((before ++ pt.now) ++ pt.later) sp.later r2.world → AllRun pieces (before ++ es) js w
+      with-rest rest = record {
+        earlier = sp.first ++ rest.earlier;
+        last = rest.last;
+        are = sp.are ∙ ap (λ (xs : List (StoppedShard T)). sp.first ++ xs) rest.are ∙ sym (append_assoc sp.first rest.earlier rest.last);
+        reach = record {
+          events = r1.events ++ (r2.events ++ rest.reach.events);
+          world = rest.reach.world;
+          is = run-append c r1.events (r2.events ++ rest.reach.events) w ∙ ap (run_freely c (r2.events ++ rest.reach.events)) r1.is ∙ run-append c r2.events rest.reach.events r1.world ∙ ap (run_freely c rest.reach.events) r2.is ∙ rest.reach.is;
+          holds = subst (λ (xs : List Entry). Final pieces xs rest.last rest.reach.world) (append_assoc before pt.now pt.later ∙ ap (λ (xs : List Entry). before ++ xs) (sym pt.are)) rest.reach.holds;
+        };
+      }
+
+-- ---- from the start
+module _ {T : Type 0} (tells : T → Type 0) (seen : T → List Exchange) (is_for : ℕ → ℕ → T → Type 0) (c : Setup) (s : Shipping T) (r : Report T) (fed : List Fed) (h : HasStopped tells seen is_for s r) (set : IsSetAs c s.fleet.config) (choice : c.choice ≡ s.log.choice) (work : CanWork c) (fed_are : s.log.pieces ≡ map piece_of fed) where
+  abbrev begun : World
+  begun = record (start c) { pieces = s.log.pieces }
+
+  fed-all : run_freely c (feeds fed) (start c) ≡ begun
+  fed-all = feed-all c fed (start c) refl refl ∙ ap (λ ps. record (start c) { pieces = ps }) (sym fed_are)
+
+  begins : Begins c s.log.pieces 0 c.shards [] begun
+  begins = record {
+    going = (refl, refl, refl);
+    pieces_are = refl;
+    epoch_is = refl;
+    shards = refl;
+    placed_are = refl;
+    series = sym (series_of-none c.choice);
+    counted = refl;
+    lists_are = subst (lists.All c) fed-all (keeps-lists c (feeds fed) (start c) (lists.all_start c));
+  }
+
+  finish : (epochs : List (List ShardHistory)) → map lane_of h.joined ≡ joined epochs → Places 0 epochs (sent c.choice s.log.placed) → HasNumbers c epochs → EndInTurn epochs → AreResolved h.joined → (found : Option TailFault) → HasRead s.log.pieces s.log.placed found → ending_of r.outcome ≡ ended_as found (length s.log.placed) → IsRun c s r
+  finish [] e p numbers turn resolved found read out = absurd numbers
+  finish (lanes ∷ later) e p numbers turn resolved found read out = (
+    feeds fed ++ run.reach.events,
+    record {
+      log = ap (λ (x : World). x.pieces) leads ∙ last.pieces_are;
+      placed = ap (λ (x : World). x.placed) leads ∙ last.placed_are;
+      filtered = ap (λ (x : World). x.filtered) leads ∙ last.counted ∙ ap (λ (ch : Choice). length (filtered ch s.log.placed)) choice ∙ sym h.filter_count;
+      earlier = map finished_of run.earlier;
+      last = map finished_of run.last;
+      workers = h.workers ∙ ap (map finished_of) run.are ∙ map_both finished_of run.earlier run.last;
+      shards = ap (λ (x : World). length x.shards) leads ∙ last.shards ∙ sym (map_length finished_of run.last);
+      each = λ k m f e at. let g = map_get finished_of run.last k f at in subst (λ (y : Finished T). IsAlike y m) g.2 (last.each k m g.0 (ap (λ (x : World). slice_get x.shards k) (sym leads) ∙ e) g.1);
+      outcome_is = ap report leads ∙ last.reported ∙ ap Some (ap (λ (o : Option TailFault). ended_as o (length s.log.placed)) read.fault_is ∙ sym out);
+    },
+  )
+    where
+      run : AllRun tells seen is_for c s.fleet.config set work s.log.pieces s.log.placed h.joined begun
+      run = epochs-run tells seen is_for c s.fleet.config set work lanes later 0 h.joined [] s.log.placed s.log.pieces begun (sound-all tells seen is_for c s.fleet.config set work h.joined h.worked h.setup resolved) e p
+          (subst (λ (i : ℕ). 1 ≤ i) (sym numbers.0) work.shards) numbers.1 turn (subst (λ (i : ℕ). Begins c s.log.pieces 0 i [] begun) (sym numbers.0) begins) (sym read.all)
+
+      leads : world_of c (feeds fed ++ run.reach.events) ≡ run.reach.world
+      leads = run-append c (feeds fed) run.reach.events (start c) ∙ ap (run_freely c run.reach.events) fed-all ∙ run.reach.is
+
+      last : Final tells seen is_for c s.fleet.config set work s.log.pieces s.log.placed run.last run.reach.world
+      last = run.reach.holds
+
+pub stops-as-run : {T : Type 0} (tells : T → Type 0) (seen : T → List Exchange) (is_for : ℕ → ℕ → T → Type 0) (s : Shipping T) (r : Report T) → StopsAsRun tells seen is_for s r
+stops-as-run {T} tells seen is_for s r c fed h epochs machine work fed_are e p numbers turn left = by_outcome r.outcome refl h.ends left
+  where
+    placed : Places 0 epochs (sent c.choice s.log.placed)
+    placed = subst (λ (ch : Choice). Places 0 epochs (sent ch s.log.placed)) (sym machine.1) p
+
+    by_outcome : (o : Outcome) → r.outcome ≡ o → Ends s h.joined o → (IsAbandoned o → ⊥) → IsRun c s r
+    by_outcome (outcome.Complete end) is ended left = finish tells seen is_for c s r fed h machine.0 machine.1 work fed_are epochs e placed numbers turn ended.2 None ended.1 (ap ending_of is ∙ ap Complete ended.0)
+    by_outcome (outcome.Damaged f) is ended left = finish tells seen is_for c s r fed h machine.0 machine.1 work fed_are epochs e placed numbers turn ended.1 (Some f) ended.0 (ap ending_of is)
+    by_outcome (outcome.Abandoned count samples) is ended left = absurd (left tt)
+
+-- ---- there was one epoch
+abbrev InEpoch0 : List ShardHistory → Type 0
+InEpoch0 ls = (k : ℕ) (l : ShardHistory) → slice_get ls k ≡ Some l → l.setup.queue.epoch ≡ 0
+
+none_later : (e : ℕ) (later : List (List ShardHistory)) (samples : List Sent) → 1 ≤ e → Places e later samples → InEpoch0 (joined later) → (joined later ≡ []) × (samples ≡ [])
+none_later e [] samples some p h = (refl, p)
+none_later e ((l ∷ ls) ∷ later) samples some p h =
+    let own : l.setup.queue.epoch ≡ e = (p.3.each 0 l refl).0 in
+    let first : l.setup.queue.epoch ≡ 0 = h 0 l refl in
+    absurd (omega arith)
+none_later e ([] ∷ later) samples some p h =
+    let rest = none_later (suc e) later p.1 (more e some) p.4 h in
+    (rest.0, p.2 ∙ ap (λ xs. xs ++ p.1) (p.3.none refl) ∙ rest.1)
+  where
+    more : (e : ℕ) → 1 ≤ e → 1 ≤ suc e
+    more e h = omega arith
+
+get_behind : {X : Type 0} (xs ys : List X) (k : ℕ) → slice_get (xs ++ ys) (length xs + k) ≡ slice_get ys k
+get_behind [] ys k = ap (slice_get ys) (zero_plus k)
+  where
+    zero_plus : (k : ℕ) → 0 + k ≡ k
+    zero_plus k = omega arith
+get_behind (x ∷ xs) ys k = ap (slice_get (x ∷ (xs ++ ys))) (next (length xs) k) ∙ get_behind xs ys k
+  where
+    next : (n k : ℕ) → suc n + k ≡ suc (n + k)
+    next n k = omega arith
+
+dealt-once : (epochs : List (List ShardHistory)) (lanes : List ShardHistory) (samples : List Sent) → 1 ≤ length lanes → lanes ≡ joined epochs → Places 0 epochs samples → InEpoch0 lanes → IsDealt 0 lanes samples
+dealt-once [] lanes samples some e p h = let none : length lanes ≡ 0 = ap length e in absurd (omega arith)
+dealt-once (ls ∷ later) lanes samples some e p h = subst (λ xs. IsDealt 0 xs samples) (sym runs) (subst (IsDealt 0 ls) (sym samples_are) p.3)
+  where
+    rest : (joined later ≡ []) × (p.1 ≡ [])
+    rest = none_later 1 later p.1 (omega arith) p.4 (λ k l at. h (length ls + k) l (ap (λ xs. slice_get xs (length ls + k)) e ∙ get_behind ls (joined later) k ∙ at))
+
+    runs : lanes ≡ ls
+    runs = e ∙ ap (λ xs. ls ++ xs) rest.0 ∙ append-nil ls
+
+    samples_are : samples ≡ p.0
+    samples_are = p.2 ∙ ap (λ xs. p.0 ++ xs) rest.1 ∙ append-nil p.0
+
+-- the same shards
+same_epoch : (ps qs : List ShardHistory) → AreSame ps qs → InEpoch0 ps → InEpoch0 qs
+same_epoch [] [] same h k l e = absurd (none_is_some l e)
+same_epoch [] (q ∷ qs) same h k l e = absurd same
+same_epoch (p ∷ ps) [] same h k l e = absurd same
+same_epoch (p ∷ ps) (q ∷ qs) same h zero l e = let is : q ≡ l = some_is e in ap (λ (x : ShardHistory). x.setup.queue.epoch) (sym is) ∙ ap (λ (u : setups.Setup). u.queue.epoch) same.0 ∙ h 0 p refl
+same_epoch (p ∷ ps) (q ∷ qs) same h (suc k) l e = same_epoch ps qs same.2 (λ j x at. h (suc j) x at) k l e
+
+same_count : (ps qs : List ShardHistory) → AreSame ps qs → length qs ≡ length ps
+same_count [] [] same = refl
+same_count [] (q ∷ qs) same = absurd same
+same_count (p ∷ ps) [] same = absurd same
+same_count (p ∷ ps) (q ∷ qs) same = ap suc (same_count ps qs same.2)
+
+same_ends : {T : Type 0} (kd : Kind) (js : List (StoppedShard T)) → AreEndedBy kd (map put_by (map finished_of js)) → AreEndedBy kd (map put_into (map lane_of js))
+same_ends kd [] h = h
+same_ends kd (j ∷ js) h = (h.0, same_ends kd js h.1)
+
+pub stops-in-first-epoch : {T : Type 0} (tells : T → Type 0) (seen : T → List Exchange) (is_for : ℕ → ℕ → T → Type 0) (s : Shipping T) (r : Report T) → StopsInFirstEpoch tells seen is_for s r
+stops-in-first-epoch {T} tells seen is_for s r c fed h machine work fed_are first ends left =
+    stops-as-run tells seen is_for s r c fed h (map lane_of h.joined ∷ []) machine work fed_are (sym (append-nil (map lane_of h.joined))) placed (count, tt) (same_ends kind.Orderly h.joined ended) left
+  where
+    same : AreSame s.fleet.current (map lane_of h.joined)
+    same = subst (λ (js : List (StoppedShard T)). AreSame s.fleet.current (map lane_of js)) (sym (h.all.1 ∙ ap (λ (xs : List (StoppedShard T)). xs ++ h.all.0) first.ended)) h.all.2
+
+    count : length (map lane_of h.joined) ≡ c.shards
+    count = same_count s.fleet.current (map lane_of h.joined) same ∙ first.count
+
+    dealt : IsDealt 0 (map lane_of h.joined) (sent s.log.choice s.log.placed)
+    dealt = dealt-once h.samples.0 (map lane_of h.joined) (sent s.log.choice s.log.placed) (subst (λ (m : ℕ). 1 ≤ m) (sym count) work.shards) h.samples.1 h.samples.2 (same_epoch s.fleet.current (map lane_of h.joined) same first.epoch)
+
+    placed : Places 0 (map lane_of h.joined ∷ []) (sent s.log.choice s.log.placed)
+    placed = (sent s.log.choice s.log.placed, [], sym (append-nil (sent s.log.choice s.log.placed)), dealt, refl)
+
+    ended : AreEndedBy kind.Orderly (map put_by (map finished_of h.joined))
+    ended = subst (λ (fs : List (Finished T)). AreEndedBy kind.Orderly (map put_by fs)) h.workers (subst (λ (js : List (StoppedShard T)). AreEndedBy kind.Orderly (drop (length js) (map put_by r.workers.items))) first.ended ends)

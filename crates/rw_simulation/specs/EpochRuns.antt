@@ -1,0 +1,111 @@
+-- What is still to come of a shard while an epoch runs.
+use Rattle.std.specs.Prelude.{◌≡◌, ◌⊎◌, ℕ, suc, ◌≤◌, false, List, [], ◌∷◌, ◌++◌, length, map, Option, None, Some, slice_get, ⊤}
+use Rattle.rw_types.specs.declared.entry.Entry.{Entry}
+use Rattle.rw_wal_format.specs.Pieces.{Piece, entries}
+use Rattle.rw_series_cache.specs.Numbers.{series_of}
+use Rattle.rw_ledger.specs.Names.{Named}
+use Rattle.rw_plain_queue.specs.Items.{Placed, samples_in}
+use Rattle.rw_plain_queue.specs.declared.item.Item.{Item}
+use Rattle.rw_plain_queue.specs.declared.item.Item.TheVariants.{Sample, Flush, End}
+use Rattle.rw_plain_queue.specs.declared.item.Kind.{Kind}
+use Rattle.rw_worker.specs.Steps.{Working, working, Step, Takes, Freezes, Sends, Waits, AreSteps, after, items_of}
+use Rattle.rw_feeder.specs.Logs.{Sent, sent_of, gather_from, filtered}
+use Rattle.rw_shipper.specs.Placement.{as_sent, of_shard}
+use Rattle.rw_machine.specs.Shards.{Shard, Queued}
+use Rattle.rw_machine.specs.Worlds.{Setup, World}
+use Rattle.rw_simulation.specs.Freely.{Happening, run_freely}
+use Rattle.rw_simulation.specs.WorkerRuns.{queued, IsShardNumbered}
+
+-- its part of the ledger so far, the items that it will yet be put, the steps that its worker will yet make, and what it never takes
+pub record Coming : Type 0 where
+  pub ledger : Named
+  pub puts : List Item
+  pub steps : List Step
+  pub left : List Queued
+
+abbrev pub StartsByTaking : List Step → Type 0
+StartsByTaking [] = ⊤
+StartsByTaking (Takes x ∷ ss) = ⊤
+StartsByTaking (Freezes ∷ ss) = ⊥
+StartsByTaking (Sends e ∷ ss) = ⊥
+StartsByTaking (Waits ∷ ss) = ⊥
+
+-- the samples among these items have this epoch and shard, and the next numbers; an End is the last item
+abbrev pub AreNext : ℕ → ℕ → ℕ → List Item → Type 0
+AreNext epoch k n [] = ⊤
+AreNext epoch k n (Sample place t word labels ∷ xs) = (place.epoch ≡ epoch) × (place.shard ≡ k) × (place.seq ≡ n) × AreNext epoch k (suc n) xs
+AreNext epoch k n (Flush ∷ xs) = AreNext epoch k n xs
+AreNext epoch k n (End kind ∷ xs) = xs ≡ []
+
+-- the kind of the End that is to come
+abbrev pub end_in : List Item → Option Kind
+end_in [] = None
+end_in (Sample place t word labels ∷ xs) = end_in xs
+end_in (Flush ∷ xs) = end_in xs
+end_in (End kind ∷ xs) = Some kind
+
+-- The shard's worker has taken all that it will take of what was put: its queue is empty, or it makes no step more.
+pub record IsReady (c : Setup) (k : ℕ) (s : Shard) (d : Coming) : Type 0 where
+  pub numbered : IsShardNumbered k s.core
+  pub allowed : AreSteps (working s.core d.ledger) d.steps
+  pub split : s.queue ++ map queued d.puts ≡ map queued (items_of d.steps) ++ d.left
+  pub eager : (s.queue ≡ []) ⊎ (d.steps ≡ [])
+  pub starts : StartsByTaking d.steps
+  pub within : length d.left ≤ c.capacity
+  pub unended : s.end_put ≡ false
+  pub running : s.core.ended ≡ false
+
+-- what a shard comes to in its epoch: what it was put, by which End it was ended, the state of its worker, and what it did not take
+pub record ShardFate : Type 0 where
+  pub put : List Placed
+  pub end : Option Kind
+  pub worker : Working
+  pub left : List Queued
+
+-- on the way there, with these samples to come
+pub record IsOnTheWay (c : Setup) (epoch k : ℕ) (s : Shard) (todo : List Sent) (f : ShardFate) : Type 0 where
+  pub coming : Coming
+  pub ready : IsReady c k s coming
+  pub next : AreNext epoch k (length s.put) coming.puts
+  pub sent : map as_sent (samples_in coming.puts) ≡ todo
+  pub put : s.put ++ samples_in coming.puts ≡ f.put
+  pub end : end_in coming.puts ≡ f.end
+  pub worker : after (working s.core coming.ledger) coming.steps ≡ f.worker
+  pub left : coming.left ≡ f.left
+
+-- The machine is in this epoch, of n shards: it has placed the entries `before`, those in `es` come next, and each shard is on its way to its fate.
+pub record IsUnderWay (c : Setup) (pieces : List Piece) (epoch n : ℕ) (fates : ℕ → ShardFate) (before es : List Entry) (w : World) : Type 0 where
+  pub going : (w.killed ≡ false) × (w.closed ≡ None) × (w.draining ≡ None)
+  pub pieces_are : w.pieces ≡ pieces
+  pub epoch_is : w.epoch ≡ epoch
+  pub count : length w.shards ≡ n
+  pub placed : w.placed ≡ length before
+  pub rest : List Entry
+  pub begins : entries pieces ≡ before ++ (es ++ rest)
+  pub series : w.series ≡ series_of c.choice before
+  pub counted : w.filtered ≡ length (filtered c.choice before)
+  pub shards : (k : ℕ) (s : Shard) → slice_get w.shards k ≡ Some s → IsOnTheWay c epoch k s (of_shard n k (gather_from (sent_of c.choice) before es)) (fates k)
+
+-- a free schedule leads from this world to one of which this holds
+pub record Reaches (c : Setup) (w : World) (P : World → Type 0) : Type 0 where
+  pub events : List Happening
+  pub world : World
+  pub is : run_freely c events w ≡ world
+  pub holds : P world
+
+-- no mark is left to be put, but for the End
+abbrev pub IsAtEnd : List Item → Type 0
+IsAtEnd [] = ⊤
+IsAtEnd (Sample place t word labels ∷ xs) = ⊥
+IsAtEnd (Flush ∷ xs) = ⊥
+IsAtEnd (End kind ∷ xs) = xs ≡ []
+
+-- a shard that has been put all but its End
+pub record IsPut (c : Setup) (epoch k : ℕ) (s : Shard) (f : ShardFate) : Type 0 where
+  pub way : IsOnTheWay c epoch k s [] f
+  pub at_end : IsAtEnd way.coming.puts
+
+-- and each shard of the epoch
+pub record IsAllPut (c : Setup) (pieces : List Piece) (epoch n : ℕ) (fates : ℕ → ShardFate) (placed : List Entry) (w : World) : Type 0 where
+  pub under : IsUnderWay c pieces epoch n fates placed [] w
+  pub each : (k : ℕ) (s : Shard) → slice_get w.shards k ≡ Some s → IsPut c epoch k s (fates k)

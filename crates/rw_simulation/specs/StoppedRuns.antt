@@ -1,0 +1,95 @@
+-- A shipper that was stopped in order, and left nothing, is a run of the machine of events.
+use Rattle.std.specs.Prelude.{◌≡◌, ◌≤◌, ℕ, List, [], ◌∷◌, ◌++◌, length, map, Some, slice_get, ⊤}
+use Rattle.rw_wal_tail.specs.Fed.{piece_of}
+use Rattle.rw_wal_tail.specs.declared.piece.Piece.{Piece}
+use Rattle.rw_shard_core.specs.declared.config.ConfigFields.{ConfigFields}
+use Rattle.rw_shard_core.specs.declared.outcome.Outcome.{Outcome}
+use Rattle.rw_shard_core.specs.declared.outcome.Outcome.TheVariants as outcome
+use Rattle.rw_plain_queue.specs.Items.{samples_in}
+use Rattle.rw_plain_queue.specs.declared.item.Kind.TheVariants.{Orderly, Reshard}
+use Rattle.rw_worker.specs.Transcript.{Exchange}
+use Rattle.rw_fleet.specs.ShardHistories.{ShardHistory, put_into}
+use Rattle.rw_fleet.specs.Work.{AreEndedBy, lane_of, put_of}
+use Rattle.rw_fleet.specs.Fleets.{EndBy}
+use Rattle.rw_fleet.specs.declared.joined.Finished.{Finished}
+use Rattle.rw_feeder.specs.Logs.{sent}
+use Rattle.rw_shipper.specs.Placement.{Places, joined}
+use Rattle.rw_shipper.specs.Reports.{IsAbandoned}
+use Rattle.rw_shipper.specs.Shipping.{Shipping, HasStopped}
+use Rattle.rw_shipper.specs.declared.report.Report.{Report}
+use Rattle.rw_machine.specs.Shards.{Shard}
+use Rattle.rw_machine.specs.Worlds.{Setup, World, Ending, Complete, Abandoned, Damaged, report}
+use Rattle.rw_machine.specs.Promises.{CanWork}
+use Rattle.rw_simulation.specs.Freely.{Happening}
+use Rattle.rw_simulation.specs.FreeLaws.{world_of}
+
+-- the machine's target, queues and batches are those of the workers
+pub record IsSetAs (c : Setup) (config : ConfigFields) : Type 0 where
+  pub target : c.target ≡ config.target
+  pub capacity : c.capacity ≡ config.capacity
+  pub batch : c.batch ≡ config.batch
+
+-- it is the machine of this shipper, which sends the same series
+abbrev pub IsMachineOf : {T : Type 0} → Setup → Shipping T → Type 0
+IsMachineOf c s = IsSetAs c s.fleet.config × (c.choice ≡ s.log.choice)
+
+-- the later epochs have 1 to 1000 shards each
+abbrev pub AreNumbers : List (List ShardHistory) → Type 0
+AreNumbers [] = ⊤
+AreNumbers (lanes ∷ later) = (1 ≤ length lanes) × (length lanes ≤ 1000) × AreNumbers later
+
+-- the first epoch has as many as the machine begins with
+abbrev pub HasNumbers : Setup → List (List ShardHistory) → Type 0
+HasNumbers c [] = ⊥
+HasNumbers c (lanes ∷ later) = (length lanes ≡ c.shards) × AreNumbers later
+
+-- the shards of each epoch were ended because their number changed, and those of the last one in order
+abbrev pub EndInTurn : List (List ShardHistory) → Type 0
+EndInTurn [] = ⊤
+EndInTurn (lanes ∷ []) = AreEndedBy Orderly (map put_into lanes)
+EndInTurn (lanes ∷ next ∷ later) = AreEndedBy Reshard (map put_into lanes) × EndInTurn (next ∷ later)
+
+-- an outcome, as the machine reports it
+abbrev pub ending_of : Outcome → Ending
+ending_of (outcome.Complete end) = Complete end
+ending_of (outcome.Damaged fault) = Damaged fault
+ending_of (outcome.Abandoned placed samples) = Abandoned placed samples.items
+
+-- the machine's shard was put what the worker's queue was put, and has resolved as many samples
+pub record IsAlike {T : Type 0} (f : Finished T) (m : Shard) : Type 0 where
+  pub put : m.put ≡ samples_in (put_of f.ends)
+  pub resolved : length m.core.resolved ≡ f.resolved
+
+-- The machine comes to what the shipper reports: its shards are those of the last epoch.
+pub record ComesTo {T : Type 0} (c : Setup) (s : Shipping T) (r : Report T) (w : World) : Type 0 where
+  pub log : w.pieces ≡ s.log.pieces
+  pub placed : w.placed ≡ length s.log.placed
+  pub filtered : w.filtered ≡ r.filtered
+  pub earlier : List (Finished T)
+  pub last : List (Finished T)
+  pub workers : r.workers.items ≡ earlier ++ last
+  pub shards : length w.shards ≡ length last
+  pub each : (k : ℕ) (m : Shard) (f : Finished T) → slice_get w.shards k ≡ Some m → slice_get last k ≡ Some f → IsAlike f m
+  pub outcome_is : report w ≡ Some (ending_of r.outcome)
+
+-- some free schedule of the machine leads there
+abbrev pub IsRun : {T : Type 0} → Setup → Shipping T → Report T → Type 0
+IsRun c s r = (hs : List Happening) × ComesTo c s r (world_of c hs)
+
+-- So it is of every shipper that left nothing, over whichever epochs its samples were placed, where these had such numbers of shards and ended in turn.
+abbrev pub StopsAsRun : {T : Type 0} → (T → Type 0) → (T → List Exchange) → (ℕ → ℕ → T → Type 0) → Shipping T → Report T → Type 0
+StopsAsRun tells seen is_for s r =
+    (c : Setup) (fed : List Piece) (h : HasStopped tells seen is_for s r) (epochs : List (List ShardHistory)) → IsMachineOf c s → CanWork c → s.log.pieces ≡ map piece_of fed
+    → map lane_of h.joined ≡ joined epochs → Places 0 epochs (sent s.log.choice s.log.placed) → HasNumbers c epochs → EndInTurn epochs → (IsAbandoned r.outcome → ⊥) → IsRun c s r
+
+-- the shipper has the shards that it began with: their number never changed
+pub record IsFirstEpoch {T : Type 0} (c : Setup) (s : Shipping T) : Type 0 where
+  pub ended : s.fleet.ended ≡ []
+  pub count : length s.fleet.current ≡ c.shards
+  pub epoch : (k : ℕ) (l : ShardHistory) → slice_get s.fleet.current k ≡ Some l → l.setup.queue.epoch ≡ 0
+
+-- and of one that kept its shards to the end
+abbrev pub StopsInFirstEpoch : {T : Type 0} → (T → Type 0) → (T → List Exchange) → (ℕ → ℕ → T → Type 0) → Shipping T → Report T → Type 0
+StopsInFirstEpoch tells seen is_for s r =
+    (c : Setup) (fed : List Piece) (h : HasStopped tells seen is_for s r) → IsMachineOf c s → CanWork c → s.log.pieces ≡ map piece_of fed
+    → IsFirstEpoch c s → EndBy Orderly s.fleet r.workers.items → (IsAbandoned r.outcome → ⊥) → IsRun c s r

@@ -1,0 +1,43 @@
+//! What the running threads do is a run of the machine of events.
+
+ghost use Rattle.std.specs.Prelude.{ℕ, List};
+ghost use Rattle.rw_fleet.specs.declared.joined.StoppedShard.{StoppedShard};
+ghost use Rattle.rw_shipper.specs.Shipping.{Shipping};
+ghost use Rattle.rw_shipper.specs.declared.report.Report.{Report};
+ghost use Rattle.rw_machine.specs.Worlds.{Setup, World};
+ghost use Rattle.rw_simulation.specs.Freely.{Happening};
+ghost use Rattle.rw_simulation.specs.FreeLaws.{KeepsLaws, world_of};
+ghost use Rattle.rw_simulation.specs.WorkerRuns.{IsWorkerRun};
+ghost use Rattle.rw_simulation.specs.FleetRuns.{IsFleetRun};
+ghost use Rattle.rw_simulation.specs.StoppedShards.{StopsAsShard};
+ghost use Rattle.rw_simulation.specs.StoppedRuns.{StopsAsRun, StopsInFirstEpoch};
+
+use rw_worker::Transport;
+
+/// The laws of the sender's part of the machine hold whoever answers its requests, and with whatever status.
+pub fn free_runs_keep_the_laws()
+    ensures { (c : Setup) (hs : List Happening) → KeepsLaws c (world_of c hs) }
+{}
+
+/// The steps of a worker are events of its shard of the machine. The machine's shard comes to the worker's state, with the same bytes sent and
+/// the same samples named, and nothing else changes.
+pub fn a_worker_is_a_run()
+    ensures { (c : Setup) (w : World) (i : ℕ) → IsWorkerRun c w i }
+{}
+
+/// What the shards of an epoch were put, and did, is a run of the machine, from their beginning to where each has been put all but its End.
+pub fn an_epoch_is_a_run()
+    ensures { (c : Setup) → IsFleetRun c }
+{}
+
+/// A shard that has stopped is a shard of such an epoch, whether its queue was cut or not.
+pub fn a_stopped_shard_is_a_run<T: Transport>()
+    ensures { (j : StoppedShard T) → StopsAsShard T.tells T.seen T.is_for j }
+{}
+
+/// A shipper that was stopped in order with nothing left is a run of the machine, which reports the same: by `epochs` where each earlier epoch was
+/// ended because the number of shards changed, by `first` where it never did.
+pub fn a_stopped_shipper_is_a_run<T: Transport>()
+    ensures epochs { (s : Shipping T) (r : Report T) → StopsAsRun T.tells T.seen T.is_for s r }
+    ensures first { (s : Shipping T) (r : Report T) → StopsInFirstEpoch T.tells T.seen T.is_for s r }
+{}

@@ -1,0 +1,9 @@
+//! The running shipper is a run of the machine of events.
+#![tactic(auto)]
+
+mod laws;
+
+pub use laws::{
+    a_stopped_shard_is_a_run, a_stopped_shipper_is_a_run, a_worker_is_a_run, an_epoch_is_a_run,
+    free_runs_keep_the_laws,
+};
