@@ -3,7 +3,7 @@ use Rattle.std.specs.Prelude.{◌≡◌, ℕ, ◌-◌, zero, suc, ℤ, List, [],
 use Rattle.std.specs.Global.{Global}
 use Rattle.std.specs.Fmt.{signed_decimal}
 use Rattle.std.specs.List.{list_any}
-use Rattle.rw_types.specs.Labels.{Labels, label_fault}
+use Rattle.rw_types.specs.Labels.{Labels, label_fault, label_fault_number}
 use Rattle.rw_types.specs.declared.entry.Entry.{Entry}
 use Rattle.rw_types.specs.declared.entry.Entry.TheVariants.{Def, Sample}
 use Rattle.rw_types.specs.declared.label_fault.LabelFault.{LabelFault}
@@ -11,7 +11,7 @@ use Rattle.rw_types.specs.declared.names.Names.TheVariants.{Utf8}
 use Rattle.rw_wal_format.specs.Pieces.{entries, fault}
 use Rattle.rw_relabel.specs.declared.choice.Choice.{Choice}
 use Rattle.rw_series_cache.specs.Cached.{Taken}
-use Rattle.rw_series_cache.specs.Known.{Standing, Unknown, Bad, Filtered, Kept, known, label_fault_number, definitions_of}
+use Rattle.rw_series_cache.specs.Known.{Standing, Unknown, Bad, Filtered, Kept, known, definitions_of}
 use Rattle.rw_text.specs.LabelText.{labels_text}
 use Rattle.rw_text.specs.ValueText.{value_text}
 use Rattle.rw_feeder.specs.Logs.{gather}

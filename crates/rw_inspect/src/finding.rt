@@ -15,7 +15,7 @@ use crate::sums::{Sums, one_more};
 use crate::taker::Taker;
 use rw_history::History;
 use rw_relabel::{Choice, Rules};
-use rw_series_cache::{Cache, Known, label_fault_number};
+use rw_series_cache::{Cache, Known};
 use rw_text::{push_integer, push_labels, push_number, push_value};
 use rw_types::{Entry, LabelFault, LabelSet, Names, RawLabels, ReadFault, Source, Word};
 use std::alloc::{AllocError, Global};
@@ -48,7 +48,7 @@ fn push_fault(out: &mut Vec<u8>, fault: LabelFault) -> Result<(), AllocError>
     ensures { OnOk result (out.new.items ≡ out.old.items ++ fault_text fault) }
 {
     out.extend_from_slice(b"bad ")?;
-    push_number(out, u64::from(label_fault_number(fault)))
+    push_number(out, u64::from(fault.number()))
 }
 
 /// Adds labels, or their fault.

@@ -1,10 +1,11 @@
 //! What is wrong with a line of log text.
 
 ghost use Rattle.std.specs.Prelude.{◌≡◌, ℕ, List, MatchOption, Ok, IfOk, true, false};
-ghost use Rattle.rw_log_text.specs.RecordLines.{IsRecordOf};
+ghost use Rattle.rw_text.specs.RecordLines.{IsRecordOf};
 
-use rw_log_text::read_record;
-use rw_text::{TextFault, read_integer, read_labels, read_number, read_value, split_at_byte};
+use rw_text::{
+    TextFault, read_integer, read_labels, read_number, read_record, read_value, split_at_byte,
+};
 use std::alloc::{AllocError, Global};
 
 const FORMS: &str =

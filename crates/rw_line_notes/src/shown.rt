@@ -1,9 +1,9 @@
 //! Lines of a text, shown.
 
 ghost use Rattle.std.specs.Prelude.{◌≡◌, ◌-◌, option_map, slice_get};
-ghost use Rattle.rw_log_text.specs.RecordLines.{lines};
+ghost use Rattle.rw_text.specs.RecordLines.{lines};
 
-use rw_log_text::first_line;
+use rw_text::first_line;
 use std::alloc::{AllocError, Global};
 
 /// So many bytes of a line are shown.

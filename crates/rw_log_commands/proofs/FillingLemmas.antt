@@ -13,7 +13,7 @@ use Rattle.rw_wal_write.specs.declared.log_fault.LogFault.{LogFault}
 use Rattle.rw_wal_write.specs.declared.log_fault.LogFault.TheVariants.{SegmentFull, Device}
 use Rattle.rw_text.specs.LineText.{Line, series, sample, raw, IsLine}
 use Rattle.rw_log_commands.specs.Filling.{HasMemory, TakesRecords}
-use Rattle.rw_log_text.specs.RecordLines.{lines, record_of, IsRecordOf}
+use Rattle.rw_text.specs.RecordLines.{lines, record_of, IsRecordOf}
 use Rattle.rw_log_commands.specs.LogText.{have_room, segment_of, AreRecords, Fills}
 use Rattle.rw_log_commands.proofs.LogTextLemmas.{records_join, next_parts, one_record, empty_from_length}
 

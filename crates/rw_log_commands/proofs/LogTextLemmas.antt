@@ -1,7 +1,7 @@
 -- Log text line by line.
 use Rattle.std.proofs.Common.{◌≡◌, ◌<◌, ◌≤◌, ◌+◌, ℕ, max, List, [], ◌∷◌, ◌++◌, length, refl, sym, ap, ◌∙◌, subst, arith, append_assoc}
 use Rattle.std.proofs.lemmas.List.{length-append, append-nil}
-use Rattle.rw_log_text.specs.RecordLines.{lines, IsRecordOf}
+use Rattle.rw_text.specs.RecordLines.{lines, IsRecordOf}
 use Rattle.rw_log_commands.specs.LogText.{longest_of, AreRecords, IsBadLine}
 
 pub empty_from_length : {A : Type 0} (xs : List A) → length xs ≡ 0 → xs ≡ []

@@ -3,7 +3,7 @@ use Rattle.std.specs.Prelude.{◌≡◌, ℕ, ◌+◌, ◌<◌, List, [], ◌∷
 use Rattle.rw_wal_format.specs.Laws.{log_all}
 use Rattle.rw_wal_format.specs.Pieces.{page_size}
 use Rattle.rw_wal_format.specs.Writing.{log_bytes, room}
-use Rattle.rw_log_text.specs.RecordLines.{lines, IsRecordOf}
+use Rattle.rw_text.specs.RecordLines.{lines, IsRecordOf}
 use Rattle.rw_fault.specs.declared.tool_fault.ToolFault.{ToolFault}
 use Rattle.rw_fault.specs.declared.tool_fault.ToolFault.TheVariants as fault
 

@@ -2,7 +2,7 @@
 use Rattle.std.specs.Prelude.{◌≡◌, ◌<◌, ℕ, ◌≤◌, ◌*◌, ◌-◌, List, length, take, Bool, true, false, Option}
 use Rattle.std.specs.Io.KnownBytes.{Appends, Consumes, IsAtEnd}
 use Rattle.rw_wal_format.specs.Pieces.{page_size}
-use Rattle.rw_log_text.specs.RecordLines.{lines}
+use Rattle.rw_text.specs.RecordLines.{lines}
 use Rattle.rw_log_commands.specs.LogText.{longest_of, have_room, segment_of, AreRecords, IsBadLine}
 use Rattle.rw_log_commands.specs.Running.{output_of}
 use Rattle.rw_fault.specs.declared.tool_fault.ToolFault.{ToolFault}

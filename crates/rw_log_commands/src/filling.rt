@@ -2,17 +2,14 @@
 
 ghost use Rattle.std.specs.Prelude.{◌≡◌, ◌<◌, ◌≤◌, ℕ, List, [], ◌∷◌, length, true, false, IfOk, MatchBool};
 ghost use Rattle.rw_log_commands.specs.Filling.{HasMemory, TakesRecords};
-ghost use Rattle.rw_log_text.specs.RecordLines.{lines};
+ghost use Rattle.rw_text.specs.RecordLines.{lines};
 ghost use Rattle.rw_log_commands.specs.LogText.{have_room, AreRecords, Fills};
 
-use rw_log_text::{first_line, read_record};
-use rw_text::TextFault;
+use rw_text::{TextFault, first_line, read_record};
 use rw_types::Room;
+use rw_wal_format::PAGE_BYTES;
 use rw_wal_write::{LogFault, SegmentWriter};
 use std::alloc::{AllocError, Global};
-
-/// A page of a segment has 32 KiB.
-const PAGE_BYTES: usize = 32 * 1024;
 
 /// Writes the record of a line, if it has one, and answers whether there was room for it.
 fn log_line(

@@ -2,7 +2,7 @@
 
 ghost use Rattle.std.specs.Prelude.{◌≡◌, ◌≢◌, ◌⊎◌, ◌≤◌, ℕ, List, true, false, Err, IfOk, OnOk, IfErr};
 ghost use Rattle.std.specs.Io.KnownBytes.{Consumes, IsAtEnd};
-ghost use Rattle.rw_log_text.specs.RecordLines.{lines};
+ghost use Rattle.rw_text.specs.RecordLines.{lines};
 ghost use Rattle.rw_log_commands.specs.LogText.{have_room, segment_of, AreRecords};
 ghost use Rattle.rw_log_commands.specs.Logging.{IsFaultOfAny, IsFaultOfLog, ReadsAnyFault, ReadsRecords, ReadsFaulty, StopsLog, WritesLog, WritesLogPart};
 ghost use Rattle.rw_wal_format.specs.declared.tail_fault.TailFault.{TailFault};

@@ -26,12 +26,12 @@ use Rattle.rw_machine.specs.Promises.{Point, pair_of}
 use Rattle.rw_machine.specs.Shards.{Shard, has_room, pending, samples_in, shard_put}
 use Rattle.rw_machine.specs.Steps.{change, feed, next_sample, place, place_entry, place_kept, place_sample, put_if_room, shard_of}
 use Rattle.rw_machine.specs.Worlds.{Reply, Request, Setup, World, log}
-use Rattle.rw_series_cache.specs.Known.{Bad, Filtered, Kept, Standing, Unknown, known, label_fault_number, standing_of}
+use Rattle.rw_series_cache.specs.Known.{Bad, Filtered, Kept, Standing, Unknown, known, standing_of}
 use Rattle.rw_series_cache.specs.Rising.{rises}
 use Rattle.rw_series_cache.specs.Numbers.{number_of, with_series}
 use Rattle.rw_plain_queue.specs.Items.{Placed}
 use Rattle.rw_types.specs.LabelOrder.{labels_eq}
-use Rattle.rw_types.specs.Labels.{Labels}
+use Rattle.rw_types.specs.Labels.{Labels, label_fault_number}
 use Rattle.rw_types.specs.declared.entry.Entry.{Entry}
 use Rattle.rw_types.specs.declared.entry.Entry.TheVariants.{Def, Sample}
 

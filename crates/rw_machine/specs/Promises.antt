@@ -2,12 +2,12 @@
 use Rattle.std.specs.Prelude.{◌≡◌, ◌⊎◌, ◌&&◌, if◌then◌else◌, ℕ, ◌<◌, ◌≤◌, ℤ, Bool, true, false, List, [], ◌∷◌, ◌++◌, length, take, map, filter, Option, Some, None, is_none, slice_get}
 use Rattle.std.specs.Ordering.{nat_cmp}
 use Rattle.std.specs.FinMap.{FinMap, get}
-use Rattle.rw_types.specs.Labels.{Labels}
+use Rattle.rw_types.specs.Labels.{Labels, label_fault_number}
 use Rattle.rw_types.specs.declared.entry.Entry.{Entry}
 use Rattle.rw_types.specs.declared.entry.Entry.TheVariants.{Def, Sample}
 use Rattle.rw_wal_format.specs.Pieces.{fault}
 use Rattle.rw_wal_format.specs.declared.tail_fault.TailFault.{TailFault}
-use Rattle.rw_series_cache.specs.Known.{Standing, Unknown, Bad, Filtered, Kept, known, label_fault_number}
+use Rattle.rw_series_cache.specs.Known.{Standing, Unknown, Bad, Filtered, Kept, known}
 use Rattle.rw_series_cache.specs.Points.{kept_points, kept_points_below}
 use Rattle.rw_series_cache.specs.Rising.{rises}
 use Rattle.rw_ledger.specs.declared.ledger.Reason.{Reason}

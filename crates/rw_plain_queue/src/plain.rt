@@ -9,6 +9,8 @@ use rw_history::History;
 use std::alloc::{AllocError, Global};
 use std::collections::VecDeque;
 use std::collections::vec_deque::Iter;
+use std::error::Error;
+use std::fmt;
 use std::marker::Model;
 
 /// Why an item was not put.
@@ -19,6 +21,17 @@ pub enum PutFault {
     /// The queue was closed or killed.
     Closed = 2,
 }
+
+impl fmt::Display for PutFault {
+    fn fmt<W: fmt::Write>(&self, f: &mut fmt::Formatter<W>) -> fmt::Result {
+        f.write_str(match self {
+            PutFault::Full => "the queue is full",
+            PutFault::Closed => "the queue is closed",
+        })
+    }
+}
+
+impl Error for PutFault {}
 
 /// The queue of a shard within one thread. It takes no memory after it was made. Contracts see the items that were taken, those that it holds,
 /// and so those that were put.

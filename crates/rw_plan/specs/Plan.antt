@@ -1,12 +1,12 @@
 -- The series plan of a log: what becomes of each definition, and of how many samples.
 use Rattle.std.specs.Prelude.{ℕ, List, [], ◌∷◌, ◌++◌, Bool, true, false, count_by, codes, decimal, Some}
-use Rattle.rw_types.specs.Labels.{Labels}
+use Rattle.rw_types.specs.Labels.{Labels, label_fault_number}
 use Rattle.rw_types.specs.declared.entry.Entry.{Entry}
 use Rattle.rw_types.specs.declared.entry.Entry.TheVariants.{Def, Sample}
 use Rattle.rw_types.specs.declared.label_fault.LabelFault.{LabelFault}
 use Rattle.rw_wal_format.specs.Pieces.{bytes, entries}
 use Rattle.rw_relabel.specs.declared.choice.Choice.{Choice}
-use Rattle.rw_series_cache.specs.Known.{Standing, Unknown, Bad, Filtered, Kept, standing_of, known, label_fault_number}
+use Rattle.rw_series_cache.specs.Known.{Standing, Unknown, Bad, Filtered, Kept, standing_of, known}
 use Rattle.rw_series_cache.specs.Numbers.{series_of, number_of}
 use Rattle.rw_text.specs.LabelText.{labels_text}
 use Rattle.rw_plan.specs.declared.counts.SampleCounts.{SampleCounts}

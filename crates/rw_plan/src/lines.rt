@@ -4,7 +4,7 @@ ghost use Rattle.std.specs.Prelude.{◌≡◌, ◌++◌, OnOk};
 ghost use Rattle.rw_plan.specs.Plan.{bad_text, filtered_text, kept_text};
 ghost use Rattle.rw_plan.specs.Planned.{found_text};
 
-use rw_series_cache::{Known, label_fault_number};
+use rw_series_cache::Known;
 use rw_text::{push_labels, push_number};
 use rw_types::{LabelFault, LabelSet};
 use std::alloc::AllocError;
@@ -19,7 +19,7 @@ pub(crate) fn push_bad(
 {
     push_number(out, reference)?;
     out.extend_from_slice(b" bad ")?;
-    push_number(out, u64::from(label_fault_number(fault)))?;
+    push_number(out, u64::from(fault.number()))?;
     out.extend_from_slice(b"\n")
 }
 

@@ -1,6 +1,8 @@
 //! Why a rule is refused.
 
 use std::alloc::AllocError;
+use std::error::Error;
+use std::fmt;
 
 /// Why a rule was not made. Cast to a number, `OutOfMemory` is 0, `BadPattern` 1 and `NoSource` 2.
 #[derive(Clone, Copy, Debug, PartialEq, Eq)]
@@ -12,6 +14,18 @@ pub enum RuleFault {
     /// The list of source labels is empty.
     NoSource,
 }
+
+impl fmt::Display for RuleFault {
+    fn fmt<W: fmt::Write>(&self, f: &mut fmt::Formatter<W>) -> fmt::Result {
+        f.write_str(match self {
+            RuleFault::OutOfMemory => "out of memory",
+            RuleFault::BadPattern => "the pattern is not taken",
+            RuleFault::NoSource => "there is no source label",
+        })
+    }
+}
+
+impl Error for RuleFault {}
 
 impl From<AllocError> for RuleFault {
     ghost use Rattle.std.specs.Prelude.{◌≡◌};

@@ -2,7 +2,7 @@
 use Rattle.std.proofs.Common.{◌<◌, ℕ, List, [], ◌∷◌, length, sym, subst, arith, inl, inr}
 use Rattle.std.specs.List.{AllByRecursion}
 use Rattle.rw_text.specs.LineText.{Line, series, sample, raw, IsLine}
-use Rattle.rw_log_text.specs.RecordLines.{lines, record_of, IsRecordOf}
+use Rattle.rw_text.specs.RecordLines.{lines, record_of, IsRecordOf}
 use Rattle.rw_script.specs.ScriptText.{Order, logged, fed, arrives, bare, numbered, IsOrder}
 use Rattle.rw_script.specs.Scripts.{AreOrders, IsScript}
 use Rattle.rw_replay.specs.Played.{IsWritable}

@@ -10,6 +10,8 @@ ghost use Rattle.rw_reshard.specs.declared.fleet.NextFault.TheVariants.{NotDrain
 use crate::shard::{Make, Shard};
 use crate::stage::{Draining, Running, Stage};
 use std::alloc::{AllocError, Global};
+use std::error::Error;
+use std::fmt;
 use std::marker::{Model, PhantomData};
 
 /// Why the next epoch has not begun.
@@ -20,6 +22,17 @@ pub enum NextFault {
     /// A shard has not ended, or has a sample that is not resolved.
     NotDrained,
 }
+
+impl fmt::Display for NextFault {
+    fn fmt<W: fmt::Write>(&self, f: &mut fmt::Formatter<W>) -> fmt::Result {
+        f.write_str(match self {
+            NextFault::OutOfMemory => "out of memory",
+            NextFault::NotDrained => "a shard is not drained",
+        })
+    }
+}
+
+impl Error for NextFault {}
 
 /// The shards of one epoch. The type `G` says what they do: `Running` or `Draining`.
 #[derive(Drop)]

@@ -1,11 +1,11 @@
 -- What becomes of a sample of a log: it is dropped, or its series is one that the rules drop, or it is sent in its series.
 use Rattle.std.specs.Prelude.{ℕ, ℤ, Bool, true, false, List}
-use Rattle.rw_types.specs.Labels.{Labels}
+use Rattle.rw_types.specs.Labels.{Labels, label_fault_number}
 use Rattle.rw_types.specs.declared.entry.Entry.{Entry}
 use Rattle.rw_ledger.specs.declared.ledger.Reason.{Reason}
 use Rattle.rw_ledger.specs.declared.ledger.Reason.TheVariants.{BadLabels, NoSeries, NotRising}
 use Rattle.rw_relabel.specs.declared.choice.Choice.{Choice}
-use Rattle.rw_series_cache.specs.Known.{Standing, Unknown, Bad, Filtered, Kept, known, label_fault_number}
+use Rattle.rw_series_cache.specs.Known.{Standing, Unknown, Bad, Filtered, Kept, known}
 use Rattle.rw_series_cache.specs.Rising.{rises}
 
 pub data Fate : Type 0 where

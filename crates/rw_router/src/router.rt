@@ -8,7 +8,7 @@ ghost use Rattle.rw_router.specs.Routing.{Knows, Routes, KnowsMore, IsRising, Is
 use crate::sample::RoutedSample;
 use rw_ledger::Reason;
 use rw_relabel::Choice;
-use rw_series_cache::{Cache, Known, label_fault_number};
+use rw_series_cache::{Cache, Known};
 use rw_types::{Entry, Word};
 use std::alloc::{AllocError, Global};
 use std::marker::Model;
@@ -96,7 +96,7 @@ impl Router {
         match self.cache.look(reference) {
             Known::Unknown => Ok(Routed::Dropped(Reason::NoSeries)),
             Known::Bad(fault) => {
-                let number = label_fault_number(fault);
+                let number = fault.number();
                 Ok(Routed::Dropped(Reason::BadLabels(number)))
             }
             Known::Filtered => {

@@ -12,8 +12,8 @@ use Rattle.rw_text.specs.Numbers.{IsNumber}
 use Rattle.rw_text.proofs.LineLemmas.{number_without_space}
 use Rattle.rw_text.proofs.OneLemmas.{number_one}
 use Rattle.rw_text.proofs.SplitLemmas.{split_unique, not_without}
-use Rattle.rw_log_text.specs.RecordLines.{IsRecordOf}
-use Rattle.rw_log_text.proofs.RecordLemmas.{record_one}
+use Rattle.rw_text.specs.RecordLines.{IsRecordOf}
+use Rattle.rw_text.proofs.RecordLemmas.{record_one}
 use Rattle.rw_machine.specs.declared.event.How.{How}
 use Rattle.rw_machine.specs.declared.event.How.TheVariants.{Plain, Busy, OutOfMemory}
 use Rattle.rw_script.specs.declared.words.BareWord.{BareWord}

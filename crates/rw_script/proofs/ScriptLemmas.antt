@@ -2,7 +2,7 @@
 use Rattle.std.proofs.Common.{◌≡◌, ◌<◌, ◌≤◌, ◌+◌, ◌&&◌, ◌||◌, ℕ, List, [], ◌∷◌, ◌++◌, length, map, Bool, true, false, refl, sym, ap, ap₂, ◌∙◌, subst, arith, append_assoc}
 use Rattle.std.specs.List.{list_any}
 use Rattle.std.proofs.lemmas.List.{length-append, append-nil}
-use Rattle.rw_log_text.specs.RecordLines.{lines}
+use Rattle.rw_text.specs.RecordLines.{lines}
 use Rattle.rw_script.specs.declared.ways.Ways.{Ways}
 use Rattle.rw_script.specs.declared.command.Command.{Command}
 use Rattle.rw_script.specs.ScriptText.{Order, IsOrder, order_of}

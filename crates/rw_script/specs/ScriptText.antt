@@ -2,7 +2,7 @@
 use Rattle.std.specs.Prelude.{◌≡◌, ◌⊎◌, ◌^◌, ◌<◌, ℕ, List, ◌∷◌, ◌++◌, Some, codes}
 use Rattle.rw_hex.specs.HexText.{read_digits}
 use Rattle.rw_text.specs.Numbers.{IsNumber}
-use Rattle.rw_log_text.specs.RecordLines.{IsRecordOf}
+use Rattle.rw_text.specs.RecordLines.{IsRecordOf}
 use Rattle.rw_wal_tail.specs.declared.piece.Piece.TheVariants as piece
 use Rattle.rw_machine.specs.declared.event.How.{How}
 use Rattle.rw_machine.specs.declared.event.How.TheVariants.{Plain, Busy, OutOfMemory}

@@ -1,7 +1,7 @@
 -- Event scripts: the orders of their lines.
 use Rattle.std.specs.Prelude.{◌≡◌, ℕ, ◌+◌, ◌<◌, List, [], ◌∷◌, ◌++◌, length, Bool, true, false, ◌&&◌}
 use Rattle.std.specs.List.{list_any}
-use Rattle.rw_log_text.specs.RecordLines.{lines}
+use Rattle.rw_text.specs.RecordLines.{lines}
 use Rattle.rw_script.specs.declared.words.BareWord.{BareWord}
 use Rattle.rw_script.specs.declared.words.BareWord.TheVariants.{Segment}
 use Rattle.rw_script.specs.declared.fault.ScriptFault.{ScriptFault}

@@ -3,16 +3,15 @@
 ghost use Rattle.std.specs.Prelude.{◌≡◌, ℕ, List, codes, Some, Err, IfOk, MatchOption};
 ghost use Rattle.rw_hex.specs.HexText.{read_digits};
 ghost use Rattle.rw_machine.specs.declared.event.How.{How};
-ghost use Rattle.rw_log_text.specs.RecordLines.{IsRecordOf};
+ghost use Rattle.rw_text.specs.RecordLines.{IsRecordOf};
 ghost use Rattle.rw_script.specs.declared.words.NumberedWord.{NumberedWord};
 ghost use Rattle.rw_script.specs.ScriptText.{Order, IsOrder, IsWordAnd, IsArrival, IsCount, numbered_text, order_of, order_of_event};
 
 use crate::command::Command;
 use crate::words::{BareWord, NumberedWord, read_how};
 use rw_hex::read_digits;
-use rw_log_text::read_record;
 use rw_machine::Event;
-use rw_text::{TextFault, read_number, split_at_byte};
+use rw_text::{TextFault, read_number, read_record, split_at_byte};
 use rw_wal_tail::Piece;
 use std::alloc::Global;
 

@@ -9,8 +9,7 @@ use crate::command::Command;
 use crate::fault::ScriptFault;
 use crate::lines::read_command;
 use crate::ways::Ways;
-use rw_log_text::first_line;
-use rw_text::TextFault;
+use rw_text::{TextFault, first_line};
 use std::alloc::{AllocError, Global};
 
 /// The command of a line; an empty line has none. It does not go with others that let the log grow in the other way.

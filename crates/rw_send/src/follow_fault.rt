@@ -2,6 +2,8 @@
 
 use rw_fault::ToolFault;
 use std::alloc::AllocError;
+use std::error::Error;
+use std::fmt;
 
 /// Why a following ends other than well.
 #[derive(Clone, Copy, Debug, PartialEq, Eq)]
@@ -13,6 +15,18 @@ pub enum FollowFault {
     /// It was told to end at once.
     Stopped,
 }
+
+impl fmt::Display for FollowFault {
+    fn fmt<W: fmt::Write>(&self, f: &mut fmt::Formatter<W>) -> fmt::Result {
+        match *self {
+            FollowFault::Tool(fault) => fault.fmt(f),
+            FollowFault::Missing(segment) => write!(f, "segment {segment} is missing"),
+            FollowFault::Stopped => f.write_str("stopped at once"),
+        }
+    }
+}
+
+impl Error for FollowFault {}
 
 impl From<ToolFault> for FollowFault {
     ghost use Rattle.std.specs.Prelude.{◌≡◌};

@@ -4,7 +4,6 @@ use Rattle.rw_types.specs.Labels.{Labels, label_fault}
 use Rattle.rw_types.specs.declared.entry.Entry.{Entry}
 use Rattle.rw_types.specs.declared.entry.Entry.TheVariants.{Def, Sample}
 use Rattle.rw_types.specs.declared.label_fault.LabelFault.{LabelFault}
-use Rattle.rw_types.specs.declared.label_fault.LabelFault.TheVariants as fault
 use Rattle.rw_wal_format.specs.Series.{labels_of}
 use Rattle.rw_relabel.specs.Rules.{keeps}
 use Rattle.rw_relabel.specs.declared.choice.Choice.{Choice}
@@ -40,14 +39,3 @@ is_definition (Sample reference t word) = false
 -- the definitions among entries
 abbrev pub definitions_of : List Entry → List Entry
 definitions_of entries = filter is_definition entries
-
--- the number of a fault of labels
-abbrev pub label_fault_number : LabelFault → ℕ
-label_fault_number fault.OutOfMemory = 0
-label_fault_number fault.NotUtf8 = 1
-label_fault_number fault.EmptyName = 2
-label_fault_number fault.BadName = 3
-label_fault_number fault.EmptyValue = 4
-label_fault_number fault.NotSorted = 5
-label_fault_number fault.TooMany = 6
-label_fault_number fault.TooLong = 7

@@ -13,7 +13,7 @@ mod verdict;
 mod verdicts;
 
 pub use cache::Cache;
-pub use known::{Known, label_fault_number};
+pub use known::Known;
 pub use laws::{
     known_at_a_position, notes_entry_by_entry, numbers_stay, points_below_a_position,
     points_entry_by_entry, samples_define_nothing,

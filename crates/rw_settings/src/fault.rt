@@ -4,6 +4,8 @@ ghost use Rattle.std.specs.Prelude.{◌≡◌};
 ghost use Rattle.rw_settings.specs.Faults.{fault_number, lesser, least};
 
 use std::alloc::AllocError;
+use std::error::Error;
+use std::fmt;
 
 /// Why settings are refused: the least of these that holds anywhere in the text. Cast to a number, `OutOfMemory` is 0 and the faults of the text are 1 to 5.
 #[derive(Clone, Copy, Debug, PartialEq, Eq)]
@@ -21,6 +23,21 @@ pub enum SettingsFault {
     /// A rule has no action, an unknown one or no source labels, or its regular expression is refused.
     BadRule,
 }
+
+impl fmt::Display for SettingsFault {
+    fn fmt<W: fmt::Write>(&self, f: &mut fmt::Formatter<W>) -> fmt::Result {
+        f.write_str(match self {
+            SettingsFault::OutOfMemory => "out of memory",
+            SettingsFault::NotToml => "settings fault 1: not TOML",
+            SettingsFault::UnknownKey => "settings fault 2: an unknown key",
+            SettingsFault::WrongType => "settings fault 3: a value of the wrong type",
+            SettingsFault::OutOfRange => "settings fault 4: a value out of range",
+            SettingsFault::BadRule => "settings fault 5: a bad rule",
+        })
+    }
+}
+
+impl Error for SettingsFault {}
 
 impl From<AllocError> for SettingsFault {
     ghost use Rattle.std.specs.Prelude.{◌≡◌};

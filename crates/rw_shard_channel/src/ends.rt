@@ -15,13 +15,22 @@ use crossbeam_channel::{Pass, RuledReceiver, RuledSender, bounded_with};
 use rw_history::History;
 use rw_plain_queue::{Item, Kind};
 use std::alloc::{AllocError, Global};
+use std::error::Error;
 use std::marker::{Brand, Model, PhantomData};
-use std::mem;
 use std::sync::Wait;
+use std::{fmt, mem};
 
 /// The error of a call that found nobody at the other end of the queue. Nothing is claimed of the cause.
 #[derive(Clone, Copy, Debug, PartialEq, Eq)]
 pub struct Gone;
+
+impl fmt::Display for Gone {
+    fn fmt<W: fmt::Write>(&self, f: &mut fmt::Formatter<W>) -> fmt::Result {
+        f.write_str("the other end has gone")
+    }
+}
+
+impl Error for Gone {}
 
 /// The end of a queue that puts. Contracts see its queue, how many items that holds at most, and what was put.
 #[derive(Drop)]

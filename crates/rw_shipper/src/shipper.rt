@@ -26,6 +26,8 @@ use rw_shard_channel::Kind;
 use rw_shard_core::{Config, ConfigFields, Outcome};
 use rw_wal_tail::{Piece, TailFault};
 use std::alloc::{AllocError, Global};
+use std::error::Error;
+use std::fmt;
 use std::marker::Model;
 use std::sync::Wait;
 use std::thread::Threads;
@@ -40,6 +42,18 @@ pub enum FeedFault {
     /// A worker has gone. The shipper has failed: it answers this from then on.
     Gone,
 }
+
+impl fmt::Display for FeedFault {
+    fn fmt<W: fmt::Write>(&self, f: &mut fmt::Formatter<W>) -> fmt::Result {
+        match self {
+            FeedFault::OutOfMemory => f.write_str("out of memory"),
+            FeedFault::Damaged(fault) => fault.fmt(f),
+            FeedFault::Gone => f.write_str("a worker has gone"),
+        }
+    }
+}
+
+impl Error for FeedFault {}
 
 fn answer_to(fault: Fault) -> FeedFault
     ensures { result ≡ answer_to fault }

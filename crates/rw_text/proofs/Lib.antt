@@ -1,3 +1,4 @@
+mod AddressLemmas
 mod EscapeLemmas
 mod GrowingLemmas
 mod LabelLemmas
@@ -5,5 +6,6 @@ pub mod LineLemmas
 mod NumberLemmas
 pub mod OneLemmas
 mod PrintLemmas
+pub mod RecordLemmas
 pub mod SplitLemmas
 mod ValueLemmas

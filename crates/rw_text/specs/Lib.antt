@@ -1,5 +1,7 @@
+pub mod Addresses
 pub mod Growing
 pub mod LabelText
 pub mod LineText
 pub mod Numbers
+pub mod RecordLines
 pub mod ValueText

@@ -1,6 +1,8 @@
 //! Why a text was not read.
 
 use std::alloc::AllocError;
+use std::error::Error;
+use std::fmt;
 
 /// Why a text was not read.
 #[derive(Clone, Copy, Debug, PartialEq, Eq)]
@@ -10,6 +12,17 @@ pub enum TextFault {
     /// The text does not have the form that the call reads.
     NotOfForm,
 }
+
+impl fmt::Display for TextFault {
+    fn fmt<W: fmt::Write>(&self, f: &mut fmt::Formatter<W>) -> fmt::Result {
+        f.write_str(match self {
+            TextFault::OutOfMemory => "out of memory",
+            TextFault::NotOfForm => "the text does not have the form that is read",
+        })
+    }
+}
+
+impl Error for TextFault {}
 
 impl From<AllocError> for TextFault {
     ghost use Rattle.std.specs.Prelude.{◌≡◌};

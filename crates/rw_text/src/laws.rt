@@ -7,6 +7,7 @@ ghost use Rattle.rw_types.specs.Labels.{Labels};
 ghost use Rattle.rw_text.specs.LabelText.{labels_text};
 ghost use Rattle.rw_text.specs.LineText.{Line, IsLine};
 ghost use Rattle.rw_text.specs.Numbers.{IsNumber, IsInteger};
+ghost use Rattle.rw_text.specs.RecordLines.{IsRecordOf};
 ghost use Rattle.rw_text.specs.ValueText.{IsValue, value_text};
 
 /// Law: the decimal digits of a number below 2^64 are read back as that number.
@@ -43,4 +44,9 @@ pub fn labels_are_one()
 /// Law: a line of log text stands for at most one record.
 pub fn line_is_one()
     ensures { (text : List ℕ) (l m : Line) → IsLine text l → IsLine text m → l ≡ m }
+{}
+
+/// Law: a line of log text stands for at most one record.
+pub fn record_is_one()
+    ensures { (line rec other : List ℕ) → IsRecordOf line rec → IsRecordOf line other → rec ≡ other }
 {}

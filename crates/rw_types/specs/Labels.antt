@@ -9,7 +9,7 @@ use Rattle.std.specs.declared.alloc.Global.{Global}
 use Rattle.rw_types.specs.declared.names.Names.{Names}
 use Rattle.rw_types.specs.declared.names.Names.TheVariants.{Legacy, Utf8}
 use Rattle.rw_types.specs.declared.label_fault.LabelFault.{LabelFault}
-use Rattle.rw_types.specs.declared.label_fault.LabelFault.TheVariants.{NotUtf8, EmptyName, BadName, EmptyValue, NotSorted, TooMany, TooLong}
+use Rattle.rw_types.specs.declared.label_fault.LabelFault.TheVariants.{OutOfMemory, NotUtf8, EmptyName, BadName, EmptyValue, NotSorted, TooMany, TooLong}
 
 -- a label's name and value
 abbrev pub Label : Type 0
@@ -100,3 +100,14 @@ label_fault names ls =
 
 abbrev pub IsLabelSet : Names → Labels → Type 0
 IsLabelSet names ls = label_fault names ls ≡ None
+
+-- the number of a fault of labels; want of memory is none
+abbrev pub label_fault_number : LabelFault → ℕ
+label_fault_number OutOfMemory = 0
+label_fault_number NotUtf8 = 1
+label_fault_number EmptyName = 2
+label_fault_number BadName = 3
+label_fault_number EmptyValue = 4
+label_fault_number NotSorted = 5
+label_fault_number TooMany = 6
+label_fault_number TooLong = 7

@@ -3,8 +3,11 @@
 ghost use Rattle.std.specs.Prelude.{◌≡◌, ◌+◌, ◌<◌, length, map, codes, not, ◌||◌, nat_lt};
 ghost use Rattle.std.specs.List.{list_all};
 ghost use Rattle.std.specs.Str.{is_utf8};
+ghost use Rattle.rw_types.specs.Labels.{label_fault_number};
 
 use std::alloc::AllocError;
+use std::error::Error;
+use std::fmt;
 
 /// The most labels that a label set may have.
 pub const MAX_LABELS: usize = 64;
@@ -34,6 +37,23 @@ pub enum LabelFault {
     TooLong,
 }
 
+impl fmt::Display for LabelFault {
+    fn fmt<W: fmt::Write>(&self, f: &mut fmt::Formatter<W>) -> fmt::Result {
+        f.write_str(match self {
+            LabelFault::OutOfMemory => "out of memory",
+            LabelFault::NotUtf8 => "label fault 1: a name or a value is not UTF-8",
+            LabelFault::EmptyName => "label fault 2: a name is empty",
+            LabelFault::BadName => "label fault 3: a name is not allowed",
+            LabelFault::EmptyValue => "label fault 4: a value is empty",
+            LabelFault::NotSorted => "label fault 5: the names do not rise",
+            LabelFault::TooMany => "label fault 6: more than 64 labels",
+            LabelFault::TooLong => "label fault 7: names and values have more than 16384 bytes",
+        })
+    }
+}
+
+impl Error for LabelFault {}
+
 impl From<AllocError> for LabelFault {
     ghost use Rattle.std.specs.Prelude.{◌≡◌};
     ghost use Rattle.rw_types.specs.declared.label_fault.LabelFault.TheVariants.{OutOfMemory};
@@ -42,5 +62,23 @@ impl From<AllocError> for LabelFault {
 
     fn from(_e: AllocError) -> LabelFault {
         LabelFault::OutOfMemory
+    }
+}
+
+impl LabelFault {
+    /// The number that stands for the fault in plans and reports: 1 to 7, and 0 for `OutOfMemory`, which is no fault of the labels.
+    pub fn number(self) -> u8
+        ensures { result ≡ label_fault_number self }
+    {
+        match self {
+            LabelFault::OutOfMemory => 0,
+            LabelFault::NotUtf8 => 1,
+            LabelFault::EmptyName => 2,
+            LabelFault::BadName => 3,
+            LabelFault::EmptyValue => 4,
+            LabelFault::NotSorted => 5,
+            LabelFault::TooMany => 6,
+            LabelFault::TooLong => 7,
+        }
     }
 }

@@ -6,6 +6,8 @@ ghost use Rattle.rw_types.specs.Memory.{ReadsOnto};
 
 use crate::device::{Failed, Sink, Source};
 use std::alloc::{AllocError, Global};
+use std::error::Error;
+use std::fmt;
 
 /// Why an input was not read to its end.
 #[derive(Clone, Copy, Debug, PartialEq, Eq)]
@@ -15,6 +17,17 @@ pub enum ReadFault {
     /// The reader failed.
     Failed,
 }
+
+impl fmt::Display for ReadFault {
+    fn fmt<W: fmt::Write>(&self, f: &mut fmt::Formatter<W>) -> fmt::Result {
+        f.write_str(match self {
+            ReadFault::OutOfMemory => "out of memory",
+            ReadFault::Failed => "the reader failed",
+        })
+    }
+}
+
+impl Error for ReadFault {}
 
 impl From<AllocError> for ReadFault {
     ghost use Rattle.std.specs.Prelude.{◌≡◌};

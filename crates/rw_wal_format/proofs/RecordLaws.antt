@@ -1,5 +1,5 @@
 -- The entries of the records that a writer spells are read again.
-use Rattle.std.proofs.Common.{◌≡◌, ℕ, zero, suc, ◌+◌, ◌-◌, ◌%◌, ◌^◌, ◌<◌, ◌≤◌, ℤ, pos, negsuc, List, [], ◌∷◌, ◌++◌, length, take, drop, map, flat_map, Option, Some, Ok, false, ltb, refl, sym, ap, ◌∙◌, arith, le-ltb, append_assoc, append-nil, le_refl, length-append, w64, of_z, to_z-of_z, Fits, SFits}
+use Rattle.std.proofs.Common.{◌≡◌, ℕ, zero, suc, ◌+◌, ◌-◌, ◌%◌, ◌^◌, ◌<◌, ◌≤◌, ℤ, List, [], ◌∷◌, ◌++◌, length, take, drop, map, flat_map, Option, Some, Ok, false, ltb, refl, sym, ap, ◌∙◌, arith, le-ltb, append_assoc, append-nil, le_refl, length-append, w64, of_z, to_z-of_z, Fits, SFits}
 use Rattle.std.proofs.Math.Facts.{of_z-to_z, sfits_to_z, Fits-of_z}
 use Rattle.std.proofs.Math.Seq.{take-append_seam, drop-append_seam}
 use Rattle.std.specs.Int.{cast_unsigned, cast_signed, int_wrapping_add, int_wrapping_sub}

@@ -5,3 +5,4 @@ pub mod Writing
 pub mod Series
 pub mod Laws
 pub mod Faults
+pub mod Types

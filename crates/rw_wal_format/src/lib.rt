@@ -1,7 +1,11 @@
-//! The grammar of Prometheus' write-ahead log, as definitions that contracts cite, its laws, and its faults.
+//! The grammar of Prometheus' write-ahead log, as definitions that contracts cite, its laws, its sizes and types, and its faults.
 #![tactic(auto)]
 
+mod fragment_type;
 pub mod laws;
+mod record_type;
 mod tail_fault;
 
+pub use fragment_type::{FragmentType, HEADER_BYTES, PAGE_BYTES};
+pub use record_type::RecordType;
 pub use tail_fault::TailFault;

@@ -3,6 +3,9 @@
 ghost use Rattle.std.specs.Prelude.{◌≡◌};
 ghost use Rattle.rw_wal_format.specs.Faults.{log_fault_number};
 
+use std::error::Error;
+use std::fmt;
+
 /// Why the next entry of a log cannot be given. Each fault but `OutOfMemory` is one of the log, and stays.
 #[derive(Clone, Copy, Debug, PartialEq, Eq)]
 pub enum TailFault {
@@ -25,6 +28,24 @@ pub enum TailFault {
     /// A segment ends inside a record, and the next one begins.
     TornSegment,
 }
+
+impl fmt::Display for TailFault {
+    fn fmt<W: fmt::Write>(&self, f: &mut fmt::Formatter<W>) -> fmt::Result {
+        f.write_str(match self {
+            TailFault::OutOfMemory => "out of memory",
+            TailFault::BadType => "log fault 1: a bad type",
+            TailFault::BadLength => "log fault 2: a bad length",
+            TailFault::BadCrc => "log fault 3: a bad CRC",
+            TailFault::Compressed => "log fault 4: a compressed record",
+            TailFault::NonzeroPadding => "log fault 5: padding that is not zero",
+            TailFault::Sequence => "log fault 6: a fragment out of sequence",
+            TailFault::BadRecord => "log fault 7: a bad record",
+            TailFault::TornSegment => "log fault 8: a torn segment",
+        })
+    }
+}
+
+impl Error for TailFault {}
 
 impl TailFault {
     /// The number that stands for the fault in text: 1 to 8, and 0 for `OutOfMemory`, which is no fault of the log.

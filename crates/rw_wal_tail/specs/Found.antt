@@ -3,18 +3,10 @@ use Rattle.std.specs.List.{list_all}
 use Rattle.std.specs.Prelude.{◌≡◌, ◌==◌, true, ℕ, ◌+◌, ◌≤◌, List, length, take, nat_le, nat_lt, if◌then◌else◌}
 use Rattle.rw_wal_format.specs.declared.tail_fault.TailFault.{TailFault}
 use Rattle.rw_wal_format.specs.declared.tail_fault.TailFault.TheVariants.{BadType, Compressed}
-use Rattle.rw_wal_format.specs.Segments as grammar
-use Rattle.rw_wal_format.specs.Segments.{full, first, middle, last, Item, nothing, begun, zeros, fragment, wrong}
-use Rattle.rw_wal_tail.specs.declared.item.Kind.{Kind}
-use Rattle.rw_wal_tail.specs.declared.item.Kind.TheVariants.{Full, First, Middle, Last}
+use Rattle.rw_wal_format.specs.Segments.{Item, nothing, begun, zeros, fragment, wrong}
+use Rattle.rw_wal_format.specs.Types.{kind_of}
 use Rattle.rw_wal_tail.specs.declared.item.Found.{Found}
 use Rattle.rw_wal_tail.specs.declared.item.Found.TheVariants.{Nothing, Begun, Zeros, Fragment, Wrong}
-
-abbrev pub kind_of : Kind → grammar.Kind
-kind_of Full = full
-kind_of First = first
-kind_of Middle = middle
-kind_of Last = last
 
 -- the item, with the bytes after a header
 abbrev pub item_of : List ℕ → Found → Item

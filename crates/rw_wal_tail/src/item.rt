@@ -3,20 +3,12 @@
 ghost use Rattle.std.specs.Prelude.{◌≡◌, ◌==◌, drop};
 ghost use Rattle.std.specs.List.{list_all};
 ghost use Rattle.rw_wal_format.specs.Segments.{zeros_at, data_at, fragment_at, item_at};
-ghost use Rattle.rw_wal_tail.specs.Found.{kind_of, item_of, wrong_type_of, KnownZeros, Fits, FragmentFits, DataFits};
+ghost use Rattle.rw_wal_format.specs.Types.{kind_of};
+ghost use Rattle.rw_wal_tail.specs.Found.{item_of, wrong_type_of, KnownZeros, Fits, FragmentFits, DataFits};
 
 use byteorder::{BigEndian, ByteOrder};
 use rw_codes::crc32c;
-use rw_wal_format::TailFault;
-
-/// The type of a fragment.
-#[derive(Clone, Copy, Debug, PartialEq, Eq, Drop)]
-pub(crate) enum Kind {
-    Full,
-    First,
-    Middle,
-    Last,
-}
+use rw_wal_format::{FragmentType, HEADER_BYTES, TailFault};
 
 /// What stands at the front. A `Fragment` has its type, and how many bytes of data follow its header.
 #[derive(Clone, Copy, Debug, PartialEq, Eq, Drop)]
@@ -24,7 +16,7 @@ pub(crate) enum Found {
     Nothing,
     Begun,
     Zeros,
-    Fragment(Kind, usize),
+    Fragment(FragmentType, usize),
     Wrong(TailFault),
 }
 
@@ -62,12 +54,12 @@ fn wrong_type(b: u8) -> TailFault
 }
 
 /// The fragment after its header, with `len` bytes of data and the CRC-32C `crc`.
-fn data(kind: Kind, left: usize, len: u16, crc: u32, rest: &[u8]) -> Found
+fn data(kind: FragmentType, left: usize, len: u16, crc: u32, rest: &[u8]) -> Found
     ensures item { data_at (kind_of kind) left len crc rest.now ≡ item_of rest.now result }
     ensures fits { DataFits left rest.now result }
 {
     let len = len as usize;
-    if left < 7 + len {
+    if left < HEADER_BYTES + len {
         return Found::Wrong(TailFault::BadLength);
     }
     if rest.len() < len {
@@ -80,7 +72,7 @@ fn data(kind: Kind, left: usize, len: u16, crc: u32, rest: &[u8]) -> Found
 }
 
 /// The fragment after its type byte.
-fn fragment(kind: Kind, left: usize, bytes: &[u8]) -> Found
+fn fragment(kind: FragmentType, left: usize, bytes: &[u8]) -> Found
     ensures item { fragment_at (kind_of kind) left bytes.now ≡ item_of (drop 6 bytes.now) result }
     ensures fits { FragmentFits left bytes.now result }
 {
@@ -102,15 +94,12 @@ pub(crate) fn item(left: usize, known: usize, bytes: &[u8]) -> Found
         return Found::Nothing;
     }
     let kind = bytes[0];
-    if left < 7 || kind == 0 {
+    if left < HEADER_BYTES || kind == 0 {
         return zeros(left, known, bytes);
     }
     let rest = &bytes[1..];
-    match kind {
-        1 => fragment(Kind::Full, left, rest),
-        2 => fragment(Kind::First, left, rest),
-        3 => fragment(Kind::Middle, left, rest),
-        4 => fragment(Kind::Last, left, rest),
-        _ => Found::Wrong(wrong_type(kind)),
+    match FragmentType::from_byte(kind) {
+        Some(part) => fragment(part, left, rest),
+        None => Found::Wrong(wrong_type(kind)),
     }
 }

@@ -5,22 +5,19 @@ ghost use Rattle.rw_wal_format.specs.Records as grammar;
 ghost use Rattle.rw_wal_format.specs.Segments.{left_after, full, first, middle, last};
 ghost use Rattle.rw_wal_format.specs.Pieces.{page_size, bytes, next_segment};
 ghost use Rattle.rw_wal_tail.specs.declared.reader.Step.TheVariants.{Failed};
-ghost use Rattle.rw_wal_tail.specs.Found.{kind_of};
+ghost use Rattle.rw_wal_format.specs.Types.{kind_of};
 ghost use Rattle.rw_wal_tail.specs.Held.{passed, can_count};
 ghost use Rattle.rw_wal_tail.specs.Placed.{front_of};
 ghost use Rattle.rw_wal_tail.specs.Steps.{Same, Takes, Stepped, PausesAt, FoundAt, FoundFragment, IsReader, IsUnfed, IsRead, Ran, is_failed_by};
 
 use crate::input::{COUNT_END, Input, copy_of};
-use crate::item::{Found, Kind, item};
+use crate::item::{Found, item};
 use crate::place::FaultPlace;
 use crate::record::{Unread, read_record};
 use rw_types::Entry;
-use rw_wal_format::TailFault;
+use rw_wal_format::{FragmentType, HEADER_BYTES, PAGE_BYTES, TailFault};
 use std::alloc::{AllocError, Global};
 use std::collections::VecDeque;
-
-/// The bytes of a page (wal.md).
-const PAGE: usize = 32768;
 
 /// Bytes that are not read yet, the record that is open, and entries that are not given yet.
 #[derive(Drop)]
@@ -61,7 +58,7 @@ fn fragment_data(bytes: &[u8], len: usize) -> &[u8]
     requires { 7 + len ≤ length bytes.now }
     ensures { result.now ≡ take len (drop 7 bytes.now) }
 {
-    let data = &bytes[7..];
+    let data = &bytes[HEADER_BYTES..];
     &data[..len]
 }
 
@@ -117,7 +114,7 @@ impl Reader {
         Reader {
             alloc,
             input: Input::new(alloc),
-            left: PAGE,
+            left: PAGE_BYTES,
             zeros: 0,
             begun: Vec::new(alloc),
             is_open: false,
@@ -162,9 +159,9 @@ impl Reader {
         ensures { self.new ≡ record self.old { input = passed (7 + len) self.old.input; left = left_after page_size self.old.left (7 + len); zeros = 0 } }
     {
         let left = self.left;
-        let size = 7 + len;
+        let size = HEADER_BYTES + len;
         self.input.pass(size);
-        self.left = if size < left { left - size } else { PAGE };
+        self.left = if size < left { left - size } else { PAGE_BYTES };
         self.zeros = 0;
     }
 
@@ -244,24 +241,24 @@ impl Reader {
     }
 
     /// The fragment at the front.
-    fn fragment(&mut self, kind: Kind, len: usize) -> Result<Step, AllocError>
+    fn fragment(&mut self, kind: FragmentType, len: usize) -> Result<Step, AllocError>
         requires { FoundFragment (kind_of kind) len self.old }
         ensures same { Same self.old self.new }
         ensures stepped { MatchResult result (λ s. Stepped s self.old self.new) (λ _. self.new.ready.items ≡ []) }
     {
         if self.is_open {
             match kind {
-                Kind::Full => Ok(self.fail(TailFault::Sequence)),
-                Kind::First => Ok(self.fail(TailFault::Sequence)),
-                Kind::Middle => self.middle(len),
-                Kind::Last => self.last(len),
+                FragmentType::Full => Ok(self.fail(TailFault::Sequence)),
+                FragmentType::First => Ok(self.fail(TailFault::Sequence)),
+                FragmentType::Middle => self.middle(len),
+                FragmentType::Last => self.last(len),
             }
         } else {
             match kind {
-                Kind::Full => self.full(len),
-                Kind::First => self.first(len),
-                Kind::Middle => Ok(self.fail(TailFault::Sequence)),
-                Kind::Last => Ok(self.fail(TailFault::Sequence)),
+                FragmentType::Full => self.full(len),
+                FragmentType::First => self.first(len),
+                FragmentType::Middle => Ok(self.fail(TailFault::Sequence)),
+                FragmentType::Last => Ok(self.fail(TailFault::Sequence)),
             }
         }
     }
@@ -279,7 +276,7 @@ impl Reader {
             return self.fail(TailFault::TornSegment);
         }
         self.input.begin_segment();
-        self.left = PAGE;
+        self.left = PAGE_BYTES;
         self.zeros = 0;
         Step::More
     }
@@ -305,7 +302,7 @@ impl Reader {
             Found::Begun => Ok(self.pause(true)),
             Found::Zeros => {
                 self.input.pass(self.left);
-                self.left = PAGE;
+                self.left = PAGE_BYTES;
                 self.zeros = 0;
                 Ok(Step::More)
             }

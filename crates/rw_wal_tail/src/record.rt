@@ -8,6 +8,7 @@ ghost use Rattle.rw_wal_tail.specs.Unread.{BadFormOnly};
 
 use crate::read::{eight, label, sample, unsigned};
 use rw_types::{Entry, RawLabels};
+use rw_wal_format::RecordType;
 use std::alloc::{AllocError, AllocFailed, Global};
 use std::collections::VecDeque;
 
@@ -134,12 +135,9 @@ pub(crate) fn read_record(
     if bytes.is_empty() {
         return Ok(());
     }
-    let kind = bytes[0];
-    if kind == 1 {
-        series(alloc, &bytes[1..], out)
-    } else if kind == 2 {
-        based_samples(&bytes[1..], out)
-    } else {
-        Ok(())
+    match RecordType::from_byte(bytes[0]) {
+        Some(RecordType::Series) => series(alloc, &bytes[1..], out),
+        Some(RecordType::Samples) => based_samples(&bytes[1..], out),
+        None => Ok(()),
     }
 }

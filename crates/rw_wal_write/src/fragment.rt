@@ -1,54 +1,18 @@
 //! The fragments of records (wal.md, "Segment encoding").
 
-ghost use Rattle.std.specs.Prelude.{◌≡◌, ◌++◌, ◌+◌, ◌-◌, ◌%◌, ◌^◌, ◌<◌, ◌≤◌, length, IfOk, if◌then◌else◌};
-ghost use Rattle.rw_wal_format.specs.Segments.{full, first, middle, last};
+ghost use Rattle.std.specs.Prelude.{◌≡◌, ◌++◌, ◌+◌, ◌-◌, ◌%◌, ◌^◌, ◌<◌, ◌≤◌, length, IfOk};
 ghost use Rattle.rw_wal_format.specs.Pieces.{page_size};
-ghost use Rattle.rw_wal_format.specs.Writing.{type_byte, frame, padding, log_bytes};
-ghost use Rattle.rw_wal_write.specs.Fragments.{kind_of};
+ghost use Rattle.rw_wal_format.specs.Types.{kind_of};
+ghost use Rattle.rw_wal_format.specs.Writing.{frame, padding, log_bytes};
 ghost use Rattle.rw_wal_write.specs.Sinks.{Takes};
 
 use byteorder::{BigEndian, ByteOrder};
 use rw_codes::crc32c;
 use rw_types::{Failed, Sink, write_all};
-
-/// The bytes of a page: 32 KiB. No fragment crosses the end of a page.
-pub const PAGE_BYTES: usize = 32 * 1024;
-
-/// The bytes of a fragment before its data: type, length, CRC.
-pub const HEADER_BYTES: usize = 7;
+use rw_wal_format::{FragmentType, HEADER_BYTES, PAGE_BYTES};
 
 /// Where fewer bytes than a header's are left in a page, they are zeros.
 static ZEROS: [u8; 6] = [0; 6];
-
-/// Which part of a record a fragment is.
-#[derive(Clone, Copy)]
-enum FragmentType {
-    Full = 1,
-    First = 2,
-    Middle = 3,
-    Last = 4,
-}
-
-impl FragmentType {
-    /// The type of a fragment, by whether it goes on with a record and whether it ends one.
-    fn of(goes_on: bool, ends: bool) -> FragmentType
-        ensures { kind_of result ≡ (if goes_on then (if ends then last else middle)
-            else (if ends then full else first)) }
-    {
-        match (goes_on, ends) {
-            (false, true) => FragmentType::Full,
-            (false, false) => FragmentType::First,
-            (true, false) => FragmentType::Middle,
-            (true, true) => FragmentType::Last,
-        }
-    }
-
-    fn to_byte(self) -> u8
-        ensures { result ≡ type_byte (kind_of self) }
-    {
-        self as u8
-    }
-}
 
 /// What stands before the data of a fragment.
 #[tactic(auto, unfolding(rw_wal_format::specs::Writing::frame))]

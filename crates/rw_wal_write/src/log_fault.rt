@@ -1,5 +1,8 @@
 //! Why a record was not written.
 
+use std::error::Error;
+use std::fmt;
+
 /// Why a record was not written.
 #[derive(Clone, Copy, Debug, PartialEq, Eq)]
 pub enum LogFault {
@@ -10,3 +13,15 @@ pub enum LogFault {
     /// The record has more than 16 MiB. Nothing was written.
     RecordTooLong = 3,
 }
+
+impl fmt::Display for LogFault {
+    fn fmt<W: fmt::Write>(&self, f: &mut fmt::Formatter<W>) -> fmt::Result {
+        f.write_str(match self {
+            LogFault::SegmentFull => "segment full",
+            LogFault::Device => "device",
+            LogFault::RecordTooLong => "a record has more than 16 MiB",
+        })
+    }
+}
+
+impl Error for LogFault {}

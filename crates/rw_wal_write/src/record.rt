@@ -8,6 +8,7 @@ ghost use Rattle.rw_wal_format.specs.Records.{text_bytes, label_bytes, sample_by
 use byteorder::{BigEndian, ByteOrder};
 use rw_codes::{put_uvarint, put_varint};
 use rw_types::{RawLabels, Word};
+use rw_wal_format::RecordType;
 use std::alloc::{AllocError, Global};
 
 /// Room for the labels of a usual series; a longer record grows.
@@ -62,7 +63,7 @@ pub fn series_record(
     ensures { IfOk result (λ record_bytes. record_bytes.items ≡ bytes_of_series reference labels.now) }
 {
     let mut out = Vec::with_capacity(alloc, SERIES_BYTES)?;
-    out.push(1)?;
+    out.push(RecordType::Series.to_byte())?;
     put_u64(&mut out, reference)?;
     put_uvarint(&mut out, labels.len() as u64)?;
     put_labels(&mut out, labels.as_slice())?;
@@ -103,7 +104,7 @@ pub fn sample_record(alloc: Global, samples: &[(u64, i64, Word)]) -> Result<Vec<
     ensures { IfOk result (λ record_bytes. record_bytes.items ≡ bytes_of_samples samples.now) }
 {
     let mut out = Vec::with_capacity(alloc, BASE_BYTES + SAMPLE_BYTES * samples.len())?;
-    out.push(2)?;
+    out.push(RecordType::Samples.to_byte())?;
     let Some(base) = samples.first() else {
         return Ok(out);
     };

@@ -6,9 +6,10 @@ ghost use Rattle.rw_wal_format.specs.Writing.{log_bytes, room};
 ghost use Rattle.rw_wal_write.specs.Segment.{IsPlace, IsLogged, refusal};
 ghost use Rattle.rw_wal_write.specs.Sinks.{TakesPart};
 
-use crate::fragment::{HEADER_BYTES, PAGE_BYTES, put_record};
+use crate::fragment::put_record;
 use crate::log_fault::LogFault;
 use rw_types::Sink;
+use rw_wal_format::{HEADER_BYTES, PAGE_BYTES};
 use std::marker::Model;
 
 /// The most bytes of a record.

@@ -2,7 +2,7 @@
 
 use crate::{Reporting, SettingsFile};
 use clap::ArgMatches;
-use rw_address::{Address, read_address};
+use rw_text::{Address, read_address};
 use rw_types::Bounded;
 
 /// The number that an option gives, or that stands where none is given.

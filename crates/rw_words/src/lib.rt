@@ -12,7 +12,7 @@ use answers::{number_of, settings_of};
 use clap::ArgMatches;
 pub use commands::command_line;
 use receive::receive_task;
-use rw_address::{Address, read_address};
+use rw_text::{Address, read_address};
 use rw_types::Bounded;
 use send::send_task;
 use std::alloc::{AllocError, Global};

@@ -4,6 +4,8 @@ ghost use Rattle.std.specs.Prelude.{◌≡◌, List, [], ◌∷◌, ◌++◌};
 ghost use Rattle.rw_worker.specs.Transcript.{Exchange, exchange_of};
 
 use http::StatusCode;
+use std::error::Error;
+use std::fmt;
 
 /// The answer to a request.
 #[derive(Clone, Copy, PartialEq, Eq)]
@@ -14,6 +16,14 @@ pub struct Reply {
 /// No answer came. The receiver may have the request or not.
 #[derive(Clone, Copy, Debug, PartialEq, Eq)]
 pub struct Lost;
+
+impl fmt::Display for Lost {
+    fn fmt<W: fmt::Write>(&self, f: &mut fmt::Formatter<W>) -> fmt::Result {
+        f.write_str("no reply came")
+    }
+}
+
+impl Error for Lost {}
 
 /// Sends a request and waits for the answer.
 pub trait Transport {

@@ -6,6 +6,8 @@ ghost use Rattle.rw_write_request.specs.declared.fault.WireFault.TheVariants.{Ou
 
 use rw_codes::CodeFault;
 use std::alloc::{AllocError, AllocFailed};
+use std::error::Error;
+use std::fmt;
 
 /// Why bytes are not a message: the first fault in reading order.
 #[derive(Clone, Copy, Debug, PartialEq, Eq)]
@@ -25,6 +27,22 @@ pub enum WireFault {
     /// A string is not UTF-8.
     NotUtf8 = 6,
 }
+
+impl fmt::Display for WireFault {
+    fn fmt<W: fmt::Write>(&self, f: &mut fmt::Formatter<W>) -> fmt::Result {
+        f.write_str(match self {
+            WireFault::OutOfMemory => "out of memory",
+            WireFault::Truncated => "message fault 1: a field passes the end of its message",
+            WireFault::VarintTooBig => "message fault 2: a varint has more than 64 bits",
+            WireFault::WrongWire => "message fault 3: a field has another wire type than its own",
+            WireFault::BadWire => "message fault 4: a wire type that is none",
+            WireFault::FieldZero => "message fault 5: a field has the number 0",
+            WireFault::NotUtf8 => "message fault 6: a string is not UTF-8",
+        })
+    }
+}
+
+impl Error for WireFault {}
 
 impl From<AllocError> for WireFault {
     ghost from_gives = { λ _ e. e ≡ OutOfMemory };

@@ -1,5 +1,5 @@
 use Rattle.std.proofs.Common.{◌≡◌, ◌-◌, length, slice_get}
-use Rattle.rw_log_text.specs.RecordLines.{lines}
+use Rattle.rw_text.specs.RecordLines.{lines}
 use Rattle.rw_line_notes.proofs.shown.numbered_line.Given as goal
 
 abbrev pub invariant-loop-rest : goal.invariant-loop-rest

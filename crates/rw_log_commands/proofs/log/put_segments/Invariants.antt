@@ -1,5 +1,5 @@
 use Rattle.std.proofs.Common.{List, ℕ}
-use Rattle.rw_log_text.specs.RecordLines.{lines}
+use Rattle.rw_text.specs.RecordLines.{lines}
 use Rattle.rw_log_commands.specs.LogText.{AreRecords}
 use Rattle.rw_log_commands.proofs.log.put_segments.Given as goal
 

@@ -1,6 +1,6 @@
 use Rattle.std.proofs.Common.{◌-◌, length, arith, length-append}
 use Rattle.rw_wal_format.specs.Writing.{frame, padding}
-use Rattle.rw_wal_write.specs.Fragments.{kind_of}
+use Rattle.rw_wal_format.specs.Types.{kind_of}
 use Rattle.rw_wal_write.proofs.Taking.{takes_part_after, takes_failure}
 use Rattle.rw_wal_write.proofs.Underway.{length-frame}
 use Rattle.rw_wal_write.proofs.fragment.put_last.Goals as goal

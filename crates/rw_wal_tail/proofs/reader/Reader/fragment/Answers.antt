@@ -1,7 +1,7 @@
 use Rattle.std.proofs.Common.{◌∙◌, ap}
 use Rattle.rw_wal_format.specs.declared.tail_fault.TailFault.TheVariants.{Sequence}
 use Rattle.rw_wal_tail.specs.declared.reader.Reader.{Reader}
-use Rattle.rw_wal_tail.specs.Found.{kind_of}
+use Rattle.rw_wal_format.specs.Types.{kind_of}
 use Rattle.rw_wal_tail.proofs.StillLaws.{IsInner, IsBegin}
 use Rattle.rw_wal_tail.proofs.StepLaws.{Failing, bad_open, bad_closed}
 use Rattle.rw_wal_tail.proofs.reader.Reader.fragment.Goals as goal

@@ -1,5 +1,0 @@
-use Rattle.rw_log_text.proofs.RecordLemmas.{record_one}
-use Rattle.rw_log_text.proofs.laws.record_is_one.Goals as goal
-
-pub returns : goal.returns
-returns c = record_one
