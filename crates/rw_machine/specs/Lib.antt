@@ -3,3 +3,4 @@ pub mod Worlds
 pub mod Steps
 pub mod Settling
 pub mod Promises
+pub mod Endings

@@ -17,6 +17,7 @@ use Rattle.rw_retry.specs.declared.judgement.Judgement.{Judgement}
 use Rattle.rw_retry.specs.declared.judgement.Judgement.TheVariants.{Done, Again, Refused}
 use Rattle.rw_shard_core.specs.Shard.{is_answer, positions, body_of}
 use Rattle.rw_shard_core.specs.SentRequest.{request_of}
+use Rattle.rw_head.specs.Blocks.{Begins}
 use Rattle.rw_head.specs.Order.{holds}
 use Rattle.rw_head.specs.Store.{list_of}
 use Rattle.rw_machine.specs.Shards.{Shard, samples_in}
@@ -38,13 +39,10 @@ pair_of p = (p.1, p.2)
 abbrev pub owed : FinMap nat_cmp Reason → List Point → List Point
 owed names ps = filter (λ (p : Point). is_none (get names p.0)) ps
 
-abbrev pub IsBeginningOf : {X : Type 0} → List X → List X → Type 0
-IsBeginningOf {X} xs ys = (rest : List X) × (xs ++ rest ≡ ys)
-
 -- the head holds a beginning of the label set's logged samples, less the named ones. Of a label set that the rules do not keep none are
 -- logged samples: there it holds nothing
 abbrev pub HoldsBeginning : Setup → World → Labels → Type 0
-HoldsBeginning c w l = IsBeginningOf (list_of w.head.store l) (map pair_of (owed w.names (kept_points c.choice (log w) l)))
+HoldsBeginning c w l = Begins (list_of w.head.store l) (map pair_of (owed w.names (kept_points c.choice (log w) l)))
 
 -- it holds all of them below a position
 abbrev pub HoldsAll : Setup → World → ℕ → Labels → Type 0

@@ -20,7 +20,7 @@ pub enum Screen {
 }
 
 /// What stands behind a line: on a terminal the rest of the one before is cleared, and the next one is written over it, unless it is the last one.
-fn ending_of(screen: Screen, is_last: bool) -> &'static [u8] {
+fn line_end(screen: Screen, is_last: bool) -> &'static [u8] {
     match screen {
         Screen::Terminal if is_last => b"\x1b[K\n",
         Screen::Terminal => b"\x1b[K\r",
@@ -44,7 +44,7 @@ fn show<W: Write>(
     counters: &Counters,
 ) -> Result<(), AllocError> {
     let line = counters.line(alloc)?;
-    write_line(writer, line, ending_of(screen, false))
+    write_line(writer, line, line_end(screen, false))
 }
 
 /// Writes where the counters stand, once a second.
@@ -93,7 +93,7 @@ fn write_last<W: Write>(
     alloc: Global,
     counters: &Counters,
 ) -> Result<(), AllocError> {
-    let ending = ending_of(screen, true);
+    let ending = line_end(screen, true);
     write_line(writer, counters.line(alloc)?, ending)?;
     match counters.drops(alloc)? {
         Some(line) => write_line(writer, line, ending),

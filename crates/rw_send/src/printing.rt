@@ -2,7 +2,8 @@
 
 ghost use Rattle.std.specs.Prelude.{◌≡◌, ◌++◌, ◌⊎◌, ℕ, List, flat_map, true, false, Err, IfOk, IfErr, OnOk};
 ghost use Rattle.std.specs.Io.KnownBytes.{Appends};
-ghost use Rattle.rw_state_text.specs.StateText.{dropped_text, ending_of};
+ghost use Rattle.rw_machine.specs.Endings.{ending_of};
+ghost use Rattle.rw_state_text.specs.StateText.{dropped_text};
 ghost use Rattle.rw_send.specs.ReportText.{AreByPosition, IsEnding, IsTextOf, WritesPart, names_in};
 ghost use Rattle.rw_fault.specs.declared.tool_fault.ToolFault.TheVariants.{OutOfMemory, Device};
 

@@ -48,7 +48,8 @@ use Rattle.rw_simulation.specs.FreeLaws.{world_of}
 use Rattle.rw_simulation.specs.EpochRuns.{ShardFate, end_in, IsAllPut, Reaches}
 use Rattle.rw_simulation.specs.FleetRuns.{IsShardRun, fate_of, fate_by, fate_at, IsBeginning}
 use Rattle.rw_simulation.specs.StoppedShards.{IsShardOf}
-use Rattle.rw_simulation.specs.StoppedRuns.{IsSetAs, HasNumbers, AreNumbers, EndInTurn, ending_of, IsAlike, IsRun, StopsAsRun, StopsInFirstEpoch}
+use Rattle.rw_machine.specs.Endings.{ending_of}
+use Rattle.rw_simulation.specs.StoppedRuns.{IsSetAs, HasNumbers, AreNumbers, EndInTurn, IsAlike, IsRun, StopsAsRun, StopsInFirstEpoch}
 use Rattle.rw_simulation.proofs.Changes.{run-append}
 use Rattle.rw_simulation.proofs.ReshardRuns.{Begins, reshard-run}
 use Rattle.rw_simulation.proofs.WorkerLists.{core_after, after-is, ended-after, last_tail}

@@ -3,8 +3,6 @@ use Rattle.std.specs.Prelude.{◌≡◌, ◌≤◌, ℕ, List, [], ◌∷◌, �
 use Rattle.rw_wal_tail.specs.Fed.{piece_of}
 use Rattle.rw_wal_tail.specs.declared.piece.Piece.{Piece}
 use Rattle.rw_shard_core.specs.declared.config.ConfigFields.{ConfigFields}
-use Rattle.rw_shard_core.specs.declared.outcome.Outcome.{Outcome}
-use Rattle.rw_shard_core.specs.declared.outcome.Outcome.TheVariants as outcome
 use Rattle.rw_plain_queue.specs.Items.{samples_in}
 use Rattle.rw_plain_queue.specs.declared.item.Kind.TheVariants.{Orderly, Reshard}
 use Rattle.rw_worker.specs.Transcript.{Exchange}
@@ -18,7 +16,8 @@ use Rattle.rw_shipper.specs.Reports.{IsAbandoned}
 use Rattle.rw_shipper.specs.Shipping.{Shipping, HasStopped}
 use Rattle.rw_shipper.specs.declared.report.Report.{Report}
 use Rattle.rw_machine.specs.Shards.{Shard}
-use Rattle.rw_machine.specs.Worlds.{Setup, World, Ending, Complete, Abandoned, Damaged, report}
+use Rattle.rw_machine.specs.Endings.{ending_of}
+use Rattle.rw_machine.specs.Worlds.{Setup, World, report}
 use Rattle.rw_machine.specs.Promises.{CanWork}
 use Rattle.rw_simulation.specs.Freely.{Happening}
 use Rattle.rw_simulation.specs.FreeLaws.{world_of}
@@ -48,12 +47,6 @@ abbrev pub EndInTurn : List (List ShardHistory) → Type 0
 EndInTurn [] = ⊤
 EndInTurn (lanes ∷ []) = AreEndedBy Orderly (map put_into lanes)
 EndInTurn (lanes ∷ next ∷ later) = AreEndedBy Reshard (map put_into lanes) × EndInTurn (next ∷ later)
-
--- an outcome, as the machine reports it
-abbrev pub ending_of : Outcome → Ending
-ending_of (outcome.Complete end) = Complete end
-ending_of (outcome.Damaged fault) = Damaged fault
-ending_of (outcome.Abandoned placed samples) = Abandoned placed samples.items
 
 -- the machine's shard was put what the worker's queue was put, and has resolved as many samples
 pub record IsAlike {T : Type 0} (f : Finished T) (m : Shard) : Type 0 where

@@ -10,8 +10,6 @@ use Rattle.rw_ledger.specs.declared.ledger.Reason.{Reason}
 use Rattle.rw_ledger.specs.declared.ledger.Reason.TheVariants.{Status, BadLabels, NoSeries, NotRising}
 use Rattle.rw_head.specs.Order.{Point}
 use Rattle.rw_head.specs.Store.{Store, list_of, label_sets}
-use Rattle.rw_shard_core.specs.declared.outcome.Outcome.{Outcome}
-use Rattle.rw_shard_core.specs.declared.outcome.Outcome.TheVariants as outcome
 use Rattle.rw_machine.specs.Worlds.{World, Ending, Complete, Abandoned, Damaged, report}
 
 -- ` T=VALUE`
@@ -57,9 +55,3 @@ work_text names filtered ending = flat_map dropped_text names ++ filtered_text f
 -- the whole state
 abbrev pub state_text : World → List ℕ
 state_text w = store_text w.head.store ++ work_text (entries w.names) w.filtered (report w)
-
--- the end that an outcome tells
-abbrev pub ending_of : Outcome → Ending
-ending_of (outcome.Complete end) = Complete end
-ending_of (outcome.Abandoned placed samples) = Abandoned placed samples.items
-ending_of (outcome.Damaged fault) = Damaged fault

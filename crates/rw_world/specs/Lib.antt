@@ -1,5 +1,4 @@
 pub mod Machine
 pub mod Arriving
 pub mod Reached
-pub mod Endings
 pub mod Rounds
