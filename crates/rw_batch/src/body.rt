@@ -49,8 +49,10 @@ fn put_bytes(out: &mut Vec<u8>, bytes: &[u8])
 /// Appends the fields of the samples of these numbers.
 fn put_numbered(out: &mut Vec<u8>, fields: &Fields, numbers: &[usize])
     requires within { AllByRecursion (λ j. j < length fields.now.samples) numbers.now }
-    requires room { vec_len out.old + length (flat_map (field_at fields.now.samples) numbers.now) ≤ vec_capacity out.old }
-    ensures items { out.new.items ≡ out.old.items ++ flat_map (field_at fields.now.samples) numbers.now }
+    requires room { vec_len out.old + length (flat_map (field_at fields.now.samples) numbers.now)
+        ≤ vec_capacity out.old }
+    ensures items { out.new.items
+        ≡ out.old.items ++ flat_map (field_at fields.now.samples) numbers.now }
     ensures capacity { vec_capacity out.old ≤ vec_capacity out.new }
 {
     for number in numbers {
@@ -63,9 +65,11 @@ fn put_series(out: &mut Vec<u8>, rows: &Rows, fields: &Fields, place: usize, row
     requires same { fields.now.samples ≡ samples_alone rows.now.samples }
     requires place { place < length (message rows.now.samples) }
     requires fits { length (series_field (series_at rows.now.samples place)) < 2 ^ 64 }
-    requires room { vec_len out.old + length (series_field (series_at rows.now.samples place)) ≤ vec_capacity out.old }
+    requires room { vec_len out.old + length (series_field (series_at rows.now.samples place))
+        ≤ vec_capacity out.old }
     requires row { length rows.now.samples ≤ vec_capacity row.old }
-    ensures items { out.new.items ≡ out.old.items ++ series_field (series_at rows.now.samples place) }
+    ensures items { out.new.items
+        ≡ out.old.items ++ series_field (series_at rows.now.samples place) }
     ensures labels { AllByRecursion IsLabel (series_at rows.now.samples place).labels }
     ensures capacity { vec_capacity out.old ≤ vec_capacity out.new }
     ensures row { vec_capacity row.new ≡ vec_capacity row.old }
@@ -79,7 +83,8 @@ fn put_series(out: &mut Vec<u8>, rows: &Rows, fields: &Fields, place: usize, row
 fn put_all_series(out: &mut Vec<u8>, rows: &Rows, fields: &Fields, row: &mut Vec<usize>)
     requires same { fields.now.samples ≡ samples_alone rows.now.samples }
     requires fits { length (canon (message rows.now.samples)) < 2 ^ 64 }
-    requires room { vec_len out.old + length (canon (message rows.now.samples)) ≤ vec_capacity out.old }
+    requires room { vec_len out.old + length (canon (message rows.now.samples))
+        ≤ vec_capacity out.old }
     requires row { length rows.now.samples ≤ vec_capacity row.old }
     ensures items { out.new.items ≡ out.old.items ++ canon (message rows.now.samples) }
     ensures labels { AllByRecursion HasLabels (message rows.now.samples) }
@@ -92,10 +97,12 @@ fn put_all_series(out: &mut Vec<u8>, rows: &Rows, fields: &Fields, row: &mut Vec
 /// Appends the canonical spelling of the message that groups the samples by label set.
 pub(crate) fn put_body(out: &mut Vec<u8>, rows: &Rows, fields: &Fields) -> Result<(), AllocError>
     requires same { fields.now.samples ≡ samples_alone rows.now.samples }
-    requires room { vec_len out.old + length (canon (message rows.now.samples)) ≤ vec_capacity out.old }
+    requires room { vec_len out.old + length (canon (message rows.now.samples))
+        ≤ vec_capacity out.old }
     ensures ok { OnOk result (out.new.items ≡ out.old.items ++ canon (message rows.now.samples)) }
     ensures err { OnErr result (out.new ≡ out.old) }
-    ensures spells { OnOk result (Spells (canon (message rows.now.samples)) (message rows.now.samples)) }
+    ensures spells { OnOk result
+        (Spells (canon (message rows.now.samples)) (message rows.now.samples)) }
 {
     let mut row = Vec::with_capacity(*out.allocator(), fields.len())?;
     put_all_series(out, rows, fields, &mut row);

@@ -35,7 +35,11 @@ impl Model for Builder {
 
     ghost Value = { Building };
 
-    ghost view = { λ b. record { batch = b.batch; places = b.places.items; samples = b.rows.samples } };
+    ghost view = { λ b. record {
+      batch = b.batch;
+      places = b.places.items;
+      samples = b.rows.samples;
+    } };
 
     ghost invariant = { λ b. IsBuilding b.batch b.places b.fields b.rows };
 }
@@ -99,7 +103,8 @@ impl Builder {
 
     /// Whether the item is a sample that fits: there is room, and it is the next one of the shard of those before it.
     pub fn can_take(&self, item: &Item) -> bool
-        ensures { IsTrue result ↔ ((length self.now.samples < self.now.batch) × MayBeTaken self.now.places item.now) }
+        ensures { IsTrue result
+            ↔ ((length self.now.samples < self.now.batch) × MayBeTaken self.now.places item.now) }
     {
         match item {
             Item::Sample(place, _, _, _) => {
@@ -130,7 +135,8 @@ impl Builder {
     /// The field of sample number `k`, counted from 0, in the canonical spelling of the message. This takes no memory.
     pub fn field(&self, k: usize) -> &[u8]
         requires { k < length self.now.samples }
-        ensures { (x : LabelledSample) → slice_get self.now.samples k ≡ Some x → result.now ≡ sample_field x.sample }
+        ensures { (x : LabelledSample) → slice_get self.now.samples k ≡ Some x
+            → result.now ≡ sample_field x.sample }
     {
         self.fields.get(k)
     }

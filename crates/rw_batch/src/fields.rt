@@ -64,7 +64,8 @@ impl Fields {
     /// Writes the field of one more sample, and returns how many bytes it takes.
     pub(crate) fn push(&mut self, word: Word, t: i64) -> usize
         requires { length self.old.samples < self.old.room }
-        ensures fields { self.new ≡ record self.old { samples = self.old.samples ++ (word, t) ∷ [] } }
+        ensures fields { self.new
+            ≡ record self.old { samples = self.old.samples ++ (word, t) ∷ [] } }
         ensures bytes { result ≡ length (sample_fields ((word, t) ∷ [])) }
     {
         let start = self.bytes.len();
@@ -86,7 +87,8 @@ impl Fields {
     pub(crate) fn get(&self, k: usize) -> &[u8]
         requires { k < length self.now.samples }
         ensures field { result.now ≡ field_at self.now.samples k }
-        ensures sample { (s : Sample) → slice_get self.now.samples k ≡ Some s → result.now ≡ sample_field s }
+        ensures sample { (s : Sample) → slice_get self.now.samples k ≡ Some s
+            → result.now ≡ sample_field s }
     {
         part(&self.bytes, self.marks[k], self.marks[k + 1])
     }

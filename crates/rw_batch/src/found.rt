@@ -34,8 +34,10 @@ pub(crate) fn place_of(
     labels: Arc<LabelSet>,
 ) -> (usize, bool)
     requires room { 0 < spare sets.old }
-    ensures added { result.1 ≡ not (list_any (λ k. labels_eq labels.value (arc_value k)) sets.old.keys) }
-    ensures keys { sets.new.keys ≡ (if list_any (λ k. labels_eq labels.value (arc_value k)) sets.old.keys
+    ensures added { result.1
+        ≡ not (list_any (λ k. labels_eq labels.value (arc_value k)) sets.old.keys) }
+    ensures keys { sets.new.keys
+        ≡ (if list_any (λ k. labels_eq labels.value (arc_value k)) sets.old.keys
         then sets.old.keys else sets.old.keys ++ labels ∷ []) }
     ensures stored { (k : Shared) × (slice_get sets.new.keys result.0 ≡ Some k)
         × (labels_eq labels.value (arc_value k) ≡ true) }

@@ -33,7 +33,8 @@ impl Model for Grouping {
 
     ghost view = { λ g. record { numbers = g.numbers.keys; series = g.series.items } };
 
-    ghost invariant = { λ g. (length g.numbers.keys ≡ length g.series.items) × IsDistinct labels_eq (labels_of g.series.items) };
+    ghost invariant = { λ g. (length g.numbers.keys ≡ length g.series.items)
+        × IsDistinct labels_eq (labels_of g.series.items) };
 }
 
 /// A copy of labels.
@@ -105,7 +106,8 @@ impl Grouping {
         word: Word,
     ) -> Result<(), AllocError>
         requires { StandsFor number labels.now self.old }
-        ensures series { OnOk result (self.new.series ≡ with_sample labels.now (word, t) self.old.series) }
+        ensures series { OnOk result
+            (self.new.series ≡ with_sample labels.now (word, t) self.old.series) }
         ensures numbers { OnOk result (self.new.numbers ≡ with_number number self.old.numbers) }
         ensures err { OnErr result (self.new ≡ self.old) }
     {
@@ -124,7 +126,8 @@ impl Grouping {
     ) -> Result<(), AllocError>
         requires unknown { list_any (λ m. number == m) self.old.numbers ≡ false }
         requires fits { StandsFor number labels.now self.old }
-        ensures series { OnOk result (self.new.series ≡ with_sample labels.now sample self.old.series) }
+        ensures series { OnOk result
+            (self.new.series ≡ with_sample labels.now sample self.old.series) }
         ensures numbers { OnOk result (self.new.numbers ≡ with_number number self.old.numbers) }
         ensures err { OnErr result (self.new ≡ self.old) }
     {

@@ -26,6 +26,8 @@ pub fn message_keeps_all()
 pub fn numbers_stand_for_labels()
     ensures stands { (f : ℕ → Labels) (n : ℕ) (g : Groups) → labels_of g.series ≡ map f g.numbers
         → IsAlone f n g.numbers → StandsFor n (f n) g }
-    ensures stays { (f : ℕ → Labels) (n : ℕ) (s : Sample) (g : Groups) → labels_of g.series ≡ map f g.numbers
-        → IsAlone f n g.numbers → labels_of (with_sample (f n) s g.series) ≡ map f (with_number n g.numbers) }
+    ensures stays { (f : ℕ → Labels) (n : ℕ) (s : Sample) (g : Groups)
+        → labels_of g.series ≡ map f g.numbers
+        → IsAlone f n g.numbers
+        → labels_of (with_sample (f n) s g.series) ≡ map f (with_number n g.numbers) }
 {}

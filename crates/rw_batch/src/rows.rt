@@ -64,12 +64,14 @@ impl Model for Rows {
 
     ghost view = { λ r. record { room = r.room; samples = r.samples } };
 
-    ghost invariant = { λ r. AreRows r.room r.series.keys (spare r.series) r.lines r.before r.samples };
+    ghost invariant = { λ r. AreRows r.room r.series.keys
+        (spare r.series) r.lines r.before r.samples };
 }
 
 /// Puts the numbers of the samples of a line into an empty row, the last one first.
 fn walk_back(before: &[usize], line: Line, row: &mut Vec<usize>)
-    requires trail { (back : List ℕ) × IsTrail before.now line.last back × (line.count ≡ length back) }
+    requires trail { (back : List ℕ) × IsTrail before.now line.last back
+        × (line.count ≡ length back) }
     requires short { length before.now ≤ 10000 }
     requires empty { row.old.items ≡ [] }
     requires room { line.count ≤ vec_capacity row.old }

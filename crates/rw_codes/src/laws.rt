@@ -6,7 +6,8 @@ ghost use Rattle.rw_codes.specs.Varint.{AreBytes, uvarint, read_uvarint, varint,
 
 /// Law: a number below 2^64 is read back from its varint, whatever bytes follow.
 pub fn uvarint_is_read()
-    ensures { (n : ℕ) (rest : List ℕ) → n < 2 ^ 64 → read_uvarint (uvarint n ++ rest) ≡ Ok (n, rest) }
+    ensures { (n : ℕ) (rest : List ℕ) → n < 2 ^ 64
+        → read_uvarint (uvarint n ++ rest) ≡ Ok (n, rest) }
 {}
 
 /// Law: the varint of a number is its shortest form. No bytes that are read as that number are fewer.
@@ -17,7 +18,8 @@ pub fn uvarint_is_shortest()
 
 /// Law: a signed number of 64 bits is read back from its ZigZag varint, whatever bytes follow.
 pub fn varint_is_read()
-    ensures { (z : ℤ) (rest : List ℕ) → FitsSigned w64 z → read_varint (varint z ++ rest) ≡ Ok (z, rest) }
+    ensures { (z : ℤ) (rest : List ℕ) → FitsSigned w64 z
+        → read_varint (varint z ++ rest) ≡ Ok (z, rest) }
 {}
 
 /// Law: the ZigZag map is one to one, between all signed numbers and all natural ones.

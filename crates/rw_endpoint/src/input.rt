@@ -46,13 +46,16 @@ fn read_more<R: Source>(
 ) -> Result<usize, Stop>
     requires some { 0 < most }
     requires room { 0 < length chunk.old }
-    ensures kept { OnOk result (Keeps (prepend_known pending.old.items (R.remaining reader.old)) (prepend_known pending.new.items (R.remaining reader.new))) }
+    ensures kept { OnOk result
+        (Keeps (prepend_known pending.old.items (R.remaining reader.old))
+        (prepend_known pending.new.items (R.remaining reader.new))) }
     ensures end { IfOk result (λ n. n ≡ 0 → IsAtEnd (R.remaining reader.new)
         × (pending.new.items ≡ pending.old.items)) }
     ensures len { IfOk result (λ n. vec_len pending.new ≡ vec_len pending.old + n) }
     ensures bound { IfOk result (λ n. n ≤ most) }
     ensures failed { result ≡ Err Stop.Device → R.has_failed reader.new ≡ true }
-    ensures sure { R.is_sure reader.old ≡ true → (R.is_sure reader.new ≡ true) × (result ≢ Err Stop.Device) }
+    ensures sure { R.is_sure reader.old ≡ true
+        → (R.is_sure reader.new ≡ true) × (result ≢ Err Stop.Device) }
 {
     let size = most.min(chunk.len());
     let n = match reader.read(&mut chunk[..size]) {
@@ -75,11 +78,15 @@ pub(crate) fn read_front<R: Source>(
 ) -> Result<Front, Stop>
     requires few { vec_len pending.old ≤ 8192 }
     requires room { 0 < length chunk.old }
-    ensures kept { OnOk result (Keeps (prepend_known pending.old.items (R.remaining reader.old)) (prepend_known pending.new.items (R.remaining reader.new))) }
-    ensures front { IfOk result (HasRead path.now limit pending.new.items (R.remaining reader.new)) }
+    ensures kept { OnOk result
+        (Keeps (prepend_known pending.old.items (R.remaining reader.old))
+        (prepend_known pending.new.items (R.remaining reader.new))) }
+    ensures front { IfOk result
+        (HasRead path.now limit pending.new.items (R.remaining reader.new)) }
     ensures len { OnOk result (vec_len pending.new ≤ 8192) }
     ensures failed { result ≡ Err Stop.Device → R.has_failed reader.new ≡ true }
-    ensures sure { R.is_sure reader.old ≡ true → (R.is_sure reader.new ≡ true) × (result ≢ Err Stop.Device) }
+    ensures sure { R.is_sure reader.old ≡ true
+        → (R.is_sure reader.new ≡ true) × (result ≢ Err Stop.Device) }
 {
     loop {
         match read_head(pending.as_slice(), path, limit) {
@@ -116,7 +123,8 @@ fn make_room(body: &mut Vec<u8>, n: usize) -> Result<usize, Stop>
     ensures some { IfOk result (λ room. 0 < room) }
     ensures within { IfOk result (λ room. vec_len body.new + room ≤ n) }
     ensures there { IfOk result (λ room. vec_len body.new + room ≤ vec_capacity body.new) }
-    ensures slow { vec_capacity body.new ≤ max (vec_capacity body.old) (2 * vec_len body.old + 65536) }
+    ensures slow { vec_capacity body.new
+        ≤ max (vec_capacity body.old) (2 * vec_len body.old + 65536) }
     ensures failed { result ≢ Err Stop.Device }
 {
     let left = n - body.len();
@@ -141,10 +149,14 @@ pub(crate) fn read_body<R: Source>(
 ) -> Result<Option<Vec<u8>>, Stop>
     requires few { vec_len pending.old ≤ 8192 }
     requires room { 0 < length chunk.old }
-    ensures body { IfOk result (λ body. HasBody (prepend_known pending.old.items (R.remaining reader.old)) (prepend_known pending.new.items (R.remaining reader.new)) n (option_map (λ v. v.items) body)) }
+    ensures body { IfOk result
+        (λ body. HasBody (prepend_known pending.old.items (R.remaining reader.old))
+        (prepend_known pending.new.items (R.remaining reader.new)) n
+        (option_map (λ v. v.items) body)) }
     ensures len { vec_len pending.new ≤ 8192 }
     ensures failed { result ≡ Err Stop.Device → R.has_failed reader.new ≡ true }
-    ensures sure { R.is_sure reader.old ≡ true → (R.is_sure reader.new ≡ true) × (result ≢ Err Stop.Device) }
+    ensures sure { R.is_sure reader.old ≡ true
+        → (R.is_sure reader.new ≡ true) × (result ≢ Err Stop.Device) }
 {
     let mut body = Vec::new(alloc);
     let front = n.min(pending.len());

@@ -28,18 +28,26 @@ fn serve_body<R: Source, W: Sink, A: Answer>(
 ) -> Result<(), ServeEnd>
     requires few { vec_len pending.old ≤ 8192 }
     requires reads { 0 < length chunk.old }
-    ensures served { (input before : List ℕ) → prepend_known pending.old.items (R.remaining reader.old) ≡ Some input
+    ensures served { (input before : List ℕ)
+        → prepend_known pending.old.items (R.remaining reader.old) ≡ Some input
         → W.contents writer.old ≡ Some before
         → (text : List ℕ) × (W.contents writer.new ≡ Some (before ++ text))
-        × HasBodyServed A.answers n closes input answer.old text (prepend_known pending.new.items (R.remaining reader.new)) answer.new result
-        × OnOk result (W.has_failed writer.old ≡ false → (W.has_failed writer.new ≡ false) × (W.room writer.old ≤ W.room writer.new + length text)) }
+        × HasBodyServed A.answers n closes input answer.old text
+        (prepend_known pending.new.items (R.remaining reader.new)) answer.new result
+        × OnOk result
+        (W.has_failed writer.old ≡ false
+        → (W.has_failed writer.new ≡ false)
+        × (W.room writer.old ≤ W.room writer.new + length text)) }
     ensures room { vec_len pending.new ≤ 8192 }
     ensures device { result ≡ Err ServeEnd.Device → (R.has_failed reader.new ≡ true)
         ⊎ (W.has_failed writer.new ≡ true) }
     ensures sure { R.is_sure reader.old ≡ true → R.is_sure reader.new ≡ true }
-    ensures fits { (input : List ℕ) → prepend_known pending.old.items (R.remaining reader.old) ≡ Some input
-        → R.is_sure reader.old ≡ true → W.has_failed writer.old ≡ false → result ≡ Err ServeEnd.Device
-        → (whole : List ℕ) × (rest : List ℕ) × IsBodyAnswered A.answers n input answer.old whole rest closes answer.new
+    ensures fits { (input : List ℕ)
+        → prepend_known pending.old.items (R.remaining reader.old) ≡ Some input
+        → R.is_sure reader.old ≡ true → W.has_failed writer.old ≡ false
+        → result ≡ Err ServeEnd.Device
+        → (whole : List ℕ) × (rest : List ℕ)
+        × IsBodyAnswered A.answers n input answer.old whole rest closes answer.new
         × (W.room writer.old < length whole) }
 {
     let body = match read_body(alloc, reader, chunk, pending, n) {
@@ -74,18 +82,26 @@ fn serve_one<R: Source, W: Sink, A: Answer>(
 ) -> Result<(), ServeEnd>
     requires few { vec_len pending.old ≤ 8192 }
     requires reads { 0 < length chunk.old }
-    ensures served { (input before : List ℕ) → prepend_known pending.old.items (R.remaining reader.old) ≡ Some input
+    ensures served { (input before : List ℕ)
+        → prepend_known pending.old.items (R.remaining reader.old) ≡ Some input
         → W.contents writer.old ≡ Some before
         → (text : List ℕ) × (W.contents writer.new ≡ Some (before ++ text))
-        × HasServed path.now limit A.answers input answer.old text (prepend_known pending.new.items (R.remaining reader.new)) answer.new result
-        × OnOk result (W.has_failed writer.old ≡ false → (W.has_failed writer.new ≡ false) × (W.room writer.old ≤ W.room writer.new + length text)) }
+        × HasServed path.now limit A.answers input answer.old text
+        (prepend_known pending.new.items (R.remaining reader.new)) answer.new result
+        × OnOk result
+        (W.has_failed writer.old ≡ false
+        → (W.has_failed writer.new ≡ false)
+        × (W.room writer.old ≤ W.room writer.new + length text)) }
     ensures room { OnOk result (vec_len pending.new ≤ 8192) }
     ensures device { result ≡ Err ServeEnd.Device → (R.has_failed reader.new ≡ true)
         ⊎ (W.has_failed writer.new ≡ true) }
     ensures sure { R.is_sure reader.old ≡ true → R.is_sure reader.new ≡ true }
-    ensures fits { (input : List ℕ) → prepend_known pending.old.items (R.remaining reader.old) ≡ Some input
-        → R.is_sure reader.old ≡ true → W.has_failed writer.old ≡ false → result ≡ Err ServeEnd.Device
-        → (whole : List ℕ) × (rest : List ℕ) × (closes : Bool) × Replies path.now limit A.answers input answer.old whole rest closes answer.new
+    ensures fits { (input : List ℕ)
+        → prepend_known pending.old.items (R.remaining reader.old) ≡ Some input
+        → R.is_sure reader.old ≡ true → W.has_failed writer.old ≡ false
+        → result ≡ Err ServeEnd.Device
+        → (whole : List ℕ) × (rest : List ℕ) × (closes : Bool)
+        × Replies path.now limit A.answers input answer.old whole rest closes answer.new
         × (W.room writer.old < length whole) }
 {
     let front = match read_front(reader, chunk, pending, path, limit) {
@@ -131,12 +147,16 @@ fn serve_all<R: Source, W: Sink, A: Answer>(
     limit: u64,
 ) -> ServeEnd
     requires { 0 < length chunk.old }
-    ensures served { (input before : List ℕ) → R.remaining reader.old ≡ Some input → W.contents writer.old ≡ Some before
-        → HasWritten path.now limit A.answers input answer.old before (W.contents writer.new) answer.new result }
-    ensures device { (input before : List ℕ) → R.remaining reader.old ≡ Some input → W.contents writer.old ≡ Some before
+    ensures served { (input before : List ℕ) → R.remaining reader.old ≡ Some input
+        → W.contents writer.old ≡ Some before
+        → HasWritten path.now limit A.answers input answer.old before
+        (W.contents writer.new) answer.new result }
+    ensures device { (input before : List ℕ) → R.remaining reader.old ≡ Some input
+        → W.contents writer.old ≡ Some before
         → length input < 2 ^ 64 - 1 → result ≡ ServeEnd.Device
         → (R.has_failed reader.new ≡ true) ⊎ (W.has_failed writer.new ≡ true) }
-    ensures fits { (input before : List ℕ) → R.remaining reader.old ≡ Some input → W.contents writer.old ≡ Some before
+    ensures fits { (input before : List ℕ) → R.remaining reader.old ≡ Some input
+        → W.contents writer.old ≡ Some before
         → R.is_sure reader.old ≡ true → W.has_failed writer.old ≡ false
         → length input < 2 ^ 64 - 1 → result ≡ ServeEnd.Device
         → IsTooSmall path.now limit A.answers input answer.old (W.room writer.old) }
@@ -171,19 +191,24 @@ pub fn serve<R: Source, W: Sink, A: Answer>(
     answer: &mut A,
     limits: &Limits,
 ) -> ServeEnd
-    ensures served { (input before : List ℕ) → R.remaining reader.old ≡ Some input → W.contents writer.old ≡ Some before
-        → HasWritten limits.now.path limits.now.max_body_bytes A.answers input answer.old before (W.contents writer.new) answer.new result }
+    ensures served { (input before : List ℕ) → R.remaining reader.old ≡ Some input
+        → W.contents writer.old ≡ Some before
+        → HasWritten limits.now.path limits.now.max_body_bytes A.answers input answer.old before
+        (W.contents writer.new) answer.new result }
 
     // Device: the reader or the writer has failed. (The input is shorter than 2^64 - 1 bytes.)
-    ensures device { (input before : List ℕ) → R.remaining reader.old ≡ Some input → W.contents writer.old ≡ Some before
+    ensures device { (input before : List ℕ) → R.remaining reader.old ≡ Some input
+        → W.contents writer.old ≡ Some before
         → length input < 2 ^ 64 - 1 → result ≡ ServeEnd.Device
         → (R.has_failed reader.new ≡ true) ⊎ (W.has_failed writer.new ≡ true) }
 
     // Over a sure reader it is answered only where the writer's room did not hold the replies.
-    ensures fits { (input before : List ℕ) → R.remaining reader.old ≡ Some input → W.contents writer.old ≡ Some before
+    ensures fits { (input before : List ℕ) → R.remaining reader.old ≡ Some input
+        → W.contents writer.old ≡ Some before
         → R.is_sure reader.old ≡ true → W.has_failed writer.old ≡ false
         → length input < 2 ^ 64 - 1 → result ≡ ServeEnd.Device
-        → IsTooSmall limits.now.path limits.now.max_body_bytes A.answers input answer.old (W.room writer.old) }
+        → IsTooSmall limits.now.path limits.now.max_body_bytes A.answers input answer.old
+        (W.room writer.old) }
 
     // One request alone, which asks to close, has its reply, where there is room for one.
     ensures alone { (input before body : List ℕ) → R.remaining reader.old ≡ Some input
@@ -196,7 +221,8 @@ pub fn serve<R: Source, W: Sink, A: Answer>(
     ensures refused { (input before : List ℕ) (status : ℕ) → R.remaining reader.old ≡ Some input
         → W.contents writer.old ≡ Some before
         → R.is_sure reader.old ≡ true → W.has_failed writer.old ≡ false → 86 ≤ W.room writer.old
-        → length input < 2 ^ 64 - 1 → IsOneRefusal limits.now.path limits.now.max_body_bytes input status
+        → length input < 2 ^ 64 - 1
+        → IsOneRefusal limits.now.path limits.now.max_body_bytes input status
         → IsTurnedAway status answer.old before (W.contents writer.new) answer.new result }
 {
     let mut chunk = match new_chunk(alloc) {

@@ -46,9 +46,15 @@ impl Model for Feeder {
 
     ghost Value = { Sorting };
 
-    ghost view = { λ f. record { choice = f.router.cache.choice; pieces = f.tail.pieces; placed = take f.count f.read; hand = drop f.count f.read } };
+    ghost view = { λ f. record {
+      choice = f.router.cache.choice;
+      pieces = f.tail.pieces;
+      placed = take f.count f.read;
+      hand = drop f.count f.read;
+    } };
 
-    ghost invariant = { λ f. IsFeeder f.tail f.router f.part.names f.count (take f.count f.read) (drop f.count f.read) };
+    ghost invariant = { λ f. IsFeeder f.tail f.router f.part.names f.count (take f.count f.read)
+        (drop f.count f.read) };
 }
 
 impl Feeder {
@@ -67,7 +73,8 @@ impl Feeder {
 
     /// The next piece of the log.
     pub fn feed(&mut self, piece: &Piece) -> Result<(), AllocError>
-        ensures ok { OnOk result (self.new ≡ record self.old { pieces = self.old.pieces ++ piece_of piece.now ∷ [] }) }
+        ensures ok { OnOk result
+            (self.new ≡ record self.old { pieces = self.old.pieces ++ piece_of piece.now ∷ [] }) }
         ensures err { OnErr result (self.new ≡ self.old) }
     {
         self.tail.feed_piece(piece)

@@ -96,13 +96,18 @@ impl Follower {
     ) -> Result<Turn, Broken>
         requires buffer { 0 < length buf.old }
         requires followed { self.old ≡ true → Known (S.now segments.old) IsFollowed }
-        ensures given { IfOk result (λ turn. Moves (S.now segments.old) (S.now segments.new) (given_by turn buf.new)) }
-        ensures stays { IfErr result (λ _. Moves (S.now segments.old) (S.now segments.new) (λ meal. meal)) }
+        ensures given { IfOk result
+            (λ turn. Moves (S.now segments.old) (S.now segments.new) (given_by turn buf.new)) }
+        ensures stays { IfErr result
+            (λ _. Moves (S.now segments.old) (S.now segments.new) (λ meal. meal)) }
         ensures piece { IfOk result (λ turn. IsWithin turn (length buf.new)) }
         ensures orderly { result ≡ Ok (Turn.Stopped Stop.Orderly) → (meal : Meal)
-            → Known (S.now segments.old) (λ m. IsGivenAt meal m) → Known (S.now segments.new) (HadAll meal) }
-        ensures signed { (stop : Stop) → result ≡ Ok (Turn.Stopped stop) → W.said watch.new ≡ wish_of stop }
-        ensures missing { (n : ℕ) → result ≡ Err (Broken.Missing n) → Known (S.now segments.new) (HasGap n) }
+            → Known (S.now segments.old) (λ m. IsGivenAt meal m)
+            → Known (S.now segments.new) (HadAll meal) }
+        ensures signed { (stop : Stop) → result ≡ Ok (Turn.Stopped stop)
+            → W.said watch.new ≡ wish_of stop }
+        ensures missing { (n : ℕ) → result ≡ Err (Broken.Missing n)
+            → Known (S.now segments.new) (HasGap n) }
         ensures followed { self.new ≡ true → Known (S.now segments.new) IsFollowed }
         ensures room { length buf.new ≡ length buf.old }
     {

@@ -44,7 +44,13 @@ impl Model for Listed {
 
     ghost Value = { Moment };
 
-    ghost view = { λ l. record { done = map (λ v. v.items) l.done.items; given = l.given.items; rest = l.rest.items; after = map (λ v. v.items) l.after.items; gap = l.gap } };
+    ghost view = { λ l. record {
+      done = map (λ v. v.items) l.done.items;
+      given = l.given.items;
+      rest = l.rest.items;
+      after = map (λ v. v.items) l.after.items;
+      gap = l.gap;
+    } };
 }
 
 impl Listed {

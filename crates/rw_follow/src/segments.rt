@@ -34,7 +34,8 @@ pub trait Segments {
         ensures passes { Passes (now self.old) [] (now self.new) }
         ensures nothing { result ≡ Ok Ahead.Nothing → Known (now self.new) IsLast }
         ensures followed { result ≡ Ok Ahead.Segment → Known (now self.new) IsFollowed }
-        ensures missing { (n : ℕ) → result ≡ Ok (Ahead.Missing n) → Known (now self.new) (HasGap n) };
+        ensures missing { (n : ℕ) → result ≡ Ok (Ahead.Missing n)
+            → Known (now self.new) (HasGap n) };
 
     /// Goes to the next segment. An `Err` stays at the current one.
     fn advance(&mut self) -> Result<(), ReadFault>

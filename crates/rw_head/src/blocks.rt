@@ -29,7 +29,8 @@ impl Model for Blocks {
 
     ghost view = { λ s. joined (map (λ b. b.value) s.sealed.items) ++ s.rest.items };
 
-    ghost invariant = { λ s. AreBlocks (map (λ b. b.value) s.sealed.items) s.rest.items (vec_capacity s.rest) };
+    ghost invariant = { λ s. AreBlocks (map (λ b. b.value) s.sealed.items) s.rest.items
+        (vec_capacity s.rest) };
 }
 
 /// Whether `t` is later than the last of the samples, or there is none.

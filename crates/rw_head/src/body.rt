@@ -21,7 +21,8 @@ fn stage_series(
 ) -> Result<(), Verdict>
     requires { HoldsNoneRefused bounds.now table.old.staged }
     ensures kept { table.new.kept ≡ table.old.kept }
-    ensures staged { SeriesGives result bounds.now table.old.staged (read_series bytes.now) table.new.staged }
+    ensures staged { SeriesGives result bounds.now table.old.staged
+        (read_series bytes.now) table.new.staged }
 {
     if table.stage_known(bytes)? {
         return Ok(());

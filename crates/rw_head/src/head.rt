@@ -32,7 +32,8 @@ fn stage_all(
 ) -> Result<(), Verdict>
     requires { HoldsNoneRefused bounds.now table.old.staged }
     ensures kept { table.new.kept ≡ table.old.kept }
-    ensures staged { StoreGives result (taken_all bounds.now (Ok table.old.staged) message.now) table.new.staged }
+    ensures staged { StoreGives result
+        (taken_all bounds.now (Ok table.old.staged) message.now) table.new.staged }
     ensures within { OnOk result (HoldsNoneRefused bounds.now table.new.staged) }
 {
     for series in message {
@@ -105,8 +106,10 @@ impl Head {
     /// Takes a message whole or not at all. Its series are judged in order, each by its labels, then by the limits of the head, and then by its
     /// samples. `NoMemory` means that memory ran out, and nothing is stored; when that is, its contract leaves open.
     pub fn apply(&mut self, message: &Message) -> Verdict
-        ensures verdict { result ≢ NoMemory → result ≡ (apply self.old.limits self.old.store message.now).verdict }
-        ensures store { result ≢ NoMemory → self.new.store ≡ (apply self.old.limits self.old.store message.now).store }
+        ensures verdict { result ≢ NoMemory
+            → result ≡ (apply self.old.limits self.old.store message.now).verdict }
+        ensures store { result ≢ NoMemory
+            → self.new.store ≡ (apply self.old.limits self.old.store message.now).store }
         ensures no_memory { result ≡ NoMemory → self.new.store ≡ self.old.store }
         ensures limits { self.new.limits ≡ self.old.limits }
         ensures busy { self.new.busy ≡ self.old.busy }
@@ -135,7 +138,8 @@ impl Head {
     fn apply_body(&mut self, body: &[u8]) -> Verdict
         ensures verdict { result ≢ NoMemory
             → status_of result ≡ status_of (judged_body self.old (read body.now)).verdict }
-        ensures store { result ≢ NoMemory → self.new.store ≡ (judged_body self.old (read body.now)).store }
+        ensures store { result ≢ NoMemory
+            → self.new.store ≡ (judged_body self.old (read body.now)).store }
         ensures limits { self.new.limits ≡ self.old.limits }
         ensures busy { self.new.busy ≡ self.old.busy }
         ensures refused { status_of result ≢ 204 → self.new.store ≡ self.old.store }
@@ -201,7 +205,8 @@ impl Head {
     /// the head takes later. There are none where the label set has no samples. This takes no memory, and time that grows with the number of
     /// label sets.
     pub fn sealed(&self, labels: &LabelSet) -> &[Box<Block>]
-        ensures blocks { map (λ b. b.value) result.now ≡ sealed_of (list_of self.now.store labels.now) }
+        ensures blocks { map (λ b. b.value) result.now
+            ≡ sealed_of (list_of self.now.store labels.now) }
         ensures full { AreFull (map (λ b. b.value) result.now) }
     {
         self.table.sealed(labels)

@@ -19,5 +19,6 @@ pub fn stores_are_lists()
 /// Law: no store that is made from the empty one, list by list, holds an empty list.
 pub fn stores_hold_no_empty_list()
     ensures none { HasNoEmptyList empty }
-    ensures one { (l : Labels) (xs : List Point) (s : Store) → HasNoEmptyList s → HasNoEmptyList (with_list l xs s) }
+    ensures one { (l : Labels) (xs : List Point) (s : Store) → HasNoEmptyList s
+        → HasNoEmptyList (with_list l xs s) }
 {}

@@ -109,9 +109,12 @@ impl Places {
         requires { HasNoneRefused bounds.now self.old.tree }
         ensures tree { self.new.tree ≡ self.old.tree }
         ensures names { self.new.names.items ≡ self.old.names.items }
-        ensures found { IfOk result (λ f. Finds f (map text_label texts.now) (get labels_cmp self.old.tree (map text_label texts.now))) }
+        ensures found { IfOk result
+            (λ f. Finds f (map text_label texts.now)
+            (get labels_cmp self.old.tree (map text_label texts.now))) }
         ensures taken { OnOk result (refusal bounds.now (map text_label texts.now) ≡ None) }
-        ensures err { IfErr result (λ v. v ≢ NoMemory → refusal bounds.now (map text_label texts.now) ≡ Some v) }
+        ensures err { IfErr result
+            (λ v. v ≢ NoMemory → refusal bounds.now (map text_label texts.now) ≡ Some v) }
     {
         if let Some(place) = self.expected(texts) {
             self.last = place;
@@ -177,7 +180,9 @@ impl Places {
     /// Adds the next place, for a label set that has none.
     pub(crate) fn push(&mut self, name: Name) -> Result<(), AllocError>
         requires { get labels_cmp self.old.tree name ≡ None }
-        ensures ok { OnOk result (Updates labels_cmp self.old.tree self.new.tree name (Some (length self.old.names.items))) }
+        ensures ok { OnOk result
+            (Updates labels_cmp self.old.tree self.new.tree name
+            (Some (length self.old.names.items))) }
         ensures names { OnOk result (self.new.names.items ≡ self.old.names.items ++ name ∷ []) }
         ensures err { OnErr result (self.new.tree.entries ≡ self.old.tree.entries) }
         ensures err_names { OnErr result (self.new.names.items ≡ self.old.names.items) }
@@ -195,7 +200,8 @@ impl Places {
 
     /// Removes the places from number `len` on.
     pub(crate) fn truncate(&mut self, len: usize)
-        ensures below { (l : Labels) → get labels_cmp self.new.tree l ≡ below len (get labels_cmp self.old.tree l) }
+        ensures below { (l : Labels)
+            → get labels_cmp self.new.tree l ≡ below len (get labels_cmp self.old.tree l) }
         ensures names { length self.new.names.items ≡ min len (length self.old.names.items) }
     {
         self.after.truncate(len);
@@ -211,7 +217,8 @@ impl Places {
         ensures rest { result ≡ self.now.tree.entries }
         ensures ordered { IsOrdered labels_cmp self.now.tree }
         ensures fits { length self.now.tree.entries < 2 ^ 63 }
-        ensures found { All (λ e. get labels_cmp self.now.tree e.0 ≡ Some e.1) self.now.tree.entries }
+        ensures found { All
+            (λ e. get labels_cmp self.now.tree e.0 ≡ Some e.1) self.now.tree.entries }
     {
         self.tree.iter()
     }

@@ -66,7 +66,8 @@ impl SampleList {
     pub(crate) fn stage_all(&mut self, samples: &[(Word, i64)]) -> Result<(), Verdict>
         requires { length self.old.staged + length samples.now ≤ 2 ^ 60 }
         ensures kept { self.new.kept ≡ self.old.kept }
-        ensures staged { ListGives result (accept (Some self.old.staged) (points samples.now)) self.new.staged }
+        ensures staged { ListGives result
+            (accept (Some self.old.staged) (points samples.now)) self.new.staged }
         ensures grown { length self.old.staged ≤ length self.new.staged }
         ensures few { length self.new.staged ≤ length self.old.staged + length samples.now }
     {

@@ -53,9 +53,14 @@ impl Model for Table {
 
     ghost coded = { Prim.hlevel (codes, map.code) };
 
-    ghost view = { λ t. record { kept = kept_store t.places.tree.entries t.lists.items; staged = staged_store t.places.tree.entries t.lists.items; noted = length t.touched.items + length t.fresh.items } };
+    ghost view = { λ t. record {
+      kept = kept_store t.places.tree.entries t.lists.items;
+      staged = staged_store t.places.tree.entries t.lists.items;
+      noted = length t.touched.items + length t.fresh.items;
+    } };
 
-    ghost invariant = { λ t. IsSound t.places.tree t.lists.items t.touched.items t.fresh.items t.count t.staged_count × (length t.places.names.items ≡ length t.lists.items) };
+    ghost invariant = { λ t. IsSound t.places.tree t.lists.items t.touched.items t.fresh.items
+        t.count t.staged_count × (length t.places.names.items ≡ length t.lists.items) };
 }
 
 /// Whether there is room for `more` samples beside `count`.
@@ -72,7 +77,8 @@ fn new_list(alloc: Global, samples: &[(Word, i64)]) -> Result<SampleList, Verdic
     ensures kept { IfOk result (λ x. x.kept ≡ []) }
     ensures staged { IfOk result (λ x. accept (Some []) (points samples.now) ≡ Some x.staged) }
     ensures few { IfOk result (λ x. length x.staged ≤ length samples.now) }
-    ensures err { IfErr result (λ v. v ≢ NoMemory → (v ≡ OutOfOrder) × (accept (Some []) (points samples.now) ≡ None)) }
+    ensures err { IfErr result
+        (λ v. v ≢ NoMemory → (v ≡ OutOfOrder) × (accept (Some []) (points samples.now) ≡ None)) }
 {
     let mut list = SampleList::new(alloc);
     list.stage_all(samples)?;
@@ -90,7 +96,9 @@ fn add_list(
 ) -> Result<(), AllocError>
     requires absent { get labels_cmp places.old.tree name ≡ None }
     requires next { length places.old.names.items ≡ length lists.old.items }
-    ensures ok { OnOk result (IsAdded places.old.tree places.new.tree lists.old.items lists.new.items touched.old.items touched.new.items fresh.old.items fresh.new.items name list) }
+    ensures ok { OnOk result
+        (IsAdded places.old.tree places.new.tree lists.old.items lists.new.items touched.old.items
+        touched.new.items fresh.old.items fresh.new.items name list) }
     ensures names { length places.new.names.items ≡ length lists.new.items }
     ensures places { OnErr result (places.new.tree.entries ≡ places.old.tree.entries) }
     ensures lists { OnErr result (lists.new.items ≡ lists.old.items) }
@@ -115,13 +123,19 @@ fn stage_at(
     samples: &[(Word, i64)],
 ) -> Result<(), Verdict>
     requires place { place < length lists.old.items }
-    requires room { length (slice_index_or lists.old.items place no_lists).staged + length samples.now ≤ 2 ^ 60 }
-    ensures list { lists.new.items ≡ slice_set lists.old.items place (slice_index_or lists.new.items place no_lists) }
+    requires room { length (slice_index_or lists.old.items place no_lists).staged
+        + length samples.now ≤ 2 ^ 60 }
+    ensures list { lists.new.items
+        ≡ slice_set lists.old.items place (slice_index_or lists.new.items place no_lists) }
     ensures kept { (slice_index_or lists.new.items place no_lists).kept
         ≡ (slice_index_or lists.old.items place no_lists).kept }
-    ensures staged { ListGives result (accept (Some (slice_index_or lists.old.items place no_lists).staged) (points samples.now)) (slice_index_or lists.new.items place no_lists).staged }
-    ensures grown { length (slice_index_or lists.old.items place no_lists).staged ≤ length (slice_index_or lists.new.items place no_lists).staged }
-    ensures few { length (slice_index_or lists.new.items place no_lists).staged ≤ length (slice_index_or lists.old.items place no_lists).staged + length samples.now }
+    ensures staged { ListGives result
+        (accept (Some (slice_index_or lists.old.items place no_lists).staged)
+        (points samples.now)) (slice_index_or lists.new.items place no_lists).staged }
+    ensures grown { length (slice_index_or lists.old.items place no_lists).staged
+        ≤ length (slice_index_or lists.new.items place no_lists).staged }
+    ensures few { length (slice_index_or lists.new.items place no_lists).staged
+        ≤ length (slice_index_or lists.old.items place no_lists).staged + length samples.now }
 {
     lists[place].stage_all(samples)
 }
@@ -212,7 +226,8 @@ impl Table {
     ) -> Result<(), Verdict>
         requires { HoldsNoneRefused bounds.now self.old.staged }
         ensures kept { self.new.kept ≡ self.old.kept }
-        ensures staged { StoreGives result (taken bounds.now self.old.staged series.now) self.new.staged }
+        ensures staged { StoreGives result
+            (taken bounds.now self.old.staged series.now) self.new.staged }
     {
         let alloc = *self.lists.allocator();
         let samples = series.samples.as_slice();

@@ -22,7 +22,8 @@ fn line_after(front: &[u8]) -> u64
 fn first_foreign(text: &[u8]) -> Option<usize>
     ensures { MatchOption result
         (EachIndex text.now (λ k. is_foreign (slice_index text.now k) ≡ false))
-        (λ i. (i < length text.now) × (is_foreign (slice_index text.now i) ≡ true) × ((k : ℕ) → k < i → is_foreign (slice_index text.now k) ≡ false)) }
+        (λ i. (i < length text.now) × (is_foreign (slice_index text.now i) ≡ true)
+        × ((k : ℕ) → k < i → is_foreign (slice_index text.now k) ≡ false)) }
 {
     text.iter().position(|c| is_foreign(*c))
 }
@@ -31,7 +32,8 @@ fn first_foreign(text: &[u8]) -> Option<usize>
 fn last_digit(text: &[u8]) -> Option<usize>
     ensures { MatchOption result
         (EachIndex text.now (λ k. is_digit (slice_index text.now k) ≡ false))
-        (λ i. (i < length text.now) × (is_digit (slice_index text.now i) ≡ true) × ((k : ℕ) → i < k → k < length text.now → is_digit (slice_index text.now k) ≡ false)) }
+        (λ i. (i < length text.now) × (is_digit (slice_index text.now i) ≡ true)
+        × ((k : ℕ) → i < k → k < length text.now → is_digit (slice_index text.now k) ≡ false)) }
 {
     text.iter().rposition(|c| is_digit(*c))
 }

@@ -45,7 +45,8 @@ impl Model for Ledger {
 
     ghost view = { λ l. record { names = map.from_sorted l.names.items; room = l.room } };
 
-    ghost invariant = { λ l. IsTrue (map.is_sorted nat_cmp l.names.items) × (vec_len l.names + l.room ≤ vec_capacity l.names) };
+    ghost invariant = { λ l. IsTrue (map.is_sorted nat_cmp l.names.items)
+        × (vec_len l.names + l.room ≤ vec_capacity l.names) };
 }
 
 /// The place where a position stands, or would stand.

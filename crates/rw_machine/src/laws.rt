@@ -13,8 +13,10 @@ ghost use Rattle.rw_machine.specs.declared.event.Event.{Event};
 pub fn logged_samples_arrive_in_order()
     ensures in_order { (c : Setup) (events : List Event) → IsInOrder c (run c events (start c)) }
     ensures whole { (c : Setup) (events : List Event) → IsWhole c (run c events (start c)) }
-    ensures damaged { (c : Setup) (events : List Event) → IsWholeBeforeDamage c (run c events (start c)) }
-    ensures nothing_else { (c : Setup) (events : List Event) → HoldsNothingElse c (run c events (start c)) }
+    ensures damaged { (c : Setup) (events : List Event)
+        → IsWholeBeforeDamage c (run c events (start c)) }
+    ensures nothing_else { (c : Setup) (events : List Event)
+        → HoldsNothingElse c (run c events (start c)) }
 {}
 
 /// A queue whose End was taken hands out nothing more, nor does any queue once everything was stopped.
@@ -25,22 +27,28 @@ pub fn closed_queues_hand_out_nothing()
 /// Each placed sample is in exactly one class: filtered, named with its reason, or owed to the receiver. One of a kept series that does not
 /// rise is named so, and only such a one.
 pub fn each_sample_has_one_class()
-    ensures classes { (c : Setup) (events : List Event) → HasOneClassEach c (run c events (start c)) }
-    ensures filtered { (c : Setup) (events : List Event) → CountsFiltered c (run c events (start c)) }
+    ensures classes { (c : Setup) (events : List Event)
+        → HasOneClassEach c (run c events (start c)) }
+    ensures filtered { (c : Setup) (events : List Event)
+        → CountsFiltered c (run c events (start c)) }
     ensures refusals { (c : Setup) (events : List Event) → NamesRefusals c events }
 {}
 
 /// What was sent under one id is one batch, whose fate does not change: a batch that the head has taken is never refused later, and one
 /// that was refused for good is never taken later. A resolved sample that is not named is in the store.
 pub fn each_batch_has_one_fate()
-    ensures one_batch { (c : Setup) (events : List Event) → HasOneBatchEachId (run c events (start c)) }
-    ensures one_fate { (c : Setup) (events : List Event) → NeverTakesAndRefuses c (run c events (start c)) }
-    ensures resolved { (c : Setup) (events : List Event) → StoresResolved c (run c events (start c)) }
+    ensures one_batch { (c : Setup) (events : List Event)
+        → HasOneBatchEachId (run c events (start c)) }
+    ensures one_fate { (c : Setup) (events : List Event)
+        → NeverTakesAndRefuses c (run c events (start c)) }
+    ensures resolved { (c : Setup) (events : List Event)
+        → StoresResolved c (run c events (start c)) }
 {}
 
 /// What is sent is the request that carries a batch to the target, as bytes: the same bytes each time.
 pub fn requests_carry_their_batches()
-    ensures bytes { (c : Setup) (events : List Event) → CarriesEachBatch c (run c events (start c)) }
+    ensures bytes { (c : Setup) (events : List Event)
+        → CarriesEachBatch c (run c events (start c)) }
     ensures again { (c : Setup) (events : List Event) → SendsSameBytes (run c events (start c)) }
 {}
 
@@ -53,5 +61,6 @@ pub fn shards_keep_their_lists()
 /// An orderly shutdown is a schedule, which comes to its report after enough rounds, from wherever it begins.
 pub fn shutdown_comes_to_its_report()
     ensures runs { (c : Setup) (n : ℕ) (w : World) → settle c n w ≡ run c (settle_events c n w) w }
-    ensures ends { (c : Setup) (events : List Event) → CanWork c → SettleEnds c (run c events (start c)) }
+    ensures ends { (c : Setup) (events : List Event) → CanWork c
+        → SettleEnds c (run c events (start c)) }
 {}

@@ -84,7 +84,8 @@ pub(crate) fn push_labelled(
     value: &str,
     n: u64,
 ) -> Result<(), AllocError>
-    ensures { OnOk result (out.new.items ≡ out.old.items ++ labelled name.now label.now value.now n) }
+    ensures { OnOk result
+        (out.new.items ≡ out.old.items ++ labelled name.now label.now value.now n) }
 {
     push_text(out, name)?;
     push_text(out, "{")?;
@@ -105,7 +106,8 @@ fn push_status(
     prefix: &str,
     count: &(u16, u64),
 ) -> Result<(), AllocError>
-    ensures { OnOk result (out.new.items ≡ out.old.items ++ status_sample name.now label.now prefix.now count.now) }
+    ensures { OnOk result
+        (out.new.items ≡ out.old.items ++ status_sample name.now label.now prefix.now count.now) }
 {
     push_text(out, name)?;
     push_text(out, "{")?;
@@ -126,7 +128,8 @@ pub(crate) fn push_statuses(
     prefix: &str,
     counts: &[(u16, u64)],
 ) -> Result<(), AllocError>
-    ensures { OnOk result (out.new.items ≡ out.old.items ++ by_status name.now label.now prefix.now counts.now) }
+    ensures { OnOk result
+        (out.new.items ≡ out.old.items ++ by_status name.now label.now prefix.now counts.now) }
 {
     for count in counts {
         push_status(out, name, label, prefix, count)?;

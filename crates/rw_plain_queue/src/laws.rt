@@ -9,11 +9,16 @@ ghost use Rattle.rw_plain_queue.specs.History.{IsHistory, IsOpen, IsEnded, MayFo
 /// its End was taken, all of it was.
 pub fn histories_go_on()
     ensures empty { (epoch shard : ℕ) → IsHistory epoch shard [] × IsOpen [] }
-    ensures put { (epoch shard : ℕ) (put : List Item) (x : Item) → IsHistory epoch shard put → IsOpen put
-        → MayFollow epoch shard put x → IsHistory epoch shard (put ++ x ∷ []) × IsOpen (put ++ x ∷ []) }
-    ensures end { (epoch shard : ℕ) (put : List Item) (kind : Kind) → IsHistory epoch shard put → IsOpen put
+    ensures put { (epoch shard : ℕ) (put : List Item) (x : Item) → IsHistory epoch shard put
+        → IsOpen put
+        → MayFollow epoch shard put x
+        → IsHistory epoch shard (put ++ x ∷ []) × IsOpen (put ++ x ∷ []) }
+    ensures end { (epoch shard : ℕ) (put : List Item) (kind : Kind) → IsHistory epoch shard put
+        → IsOpen put
         → IsHistory epoch shard (put ++ Item.End kind ∷ []) }
-    ensures front { (epoch shard : ℕ) (taken rest : List Item) → IsHistory epoch shard (taken ++ rest)
+    ensures front { (epoch shard : ℕ) (taken rest : List Item)
+        → IsHistory epoch shard (taken ++ rest)
         → IsHistory epoch shard taken }
-    ensures whole { (put taken items : List Item) → put ≡ taken ++ items → EndIsLast put → IsEnded taken → put ≡ taken }
+    ensures whole { (put taken items : List Item) → put ≡ taken ++ items → EndIsLast put
+        → IsEnded taken → put ≡ taken }
 {}

@@ -51,15 +51,29 @@ impl Model for PlainQueue {
 
     ghost Value = { Queue };
 
-    ghost view = { λ q. record { taken = q.taken; items = q.items.items; capacity = q.capacity; closed = q.closed; killed = q.killed } };
+    ghost view = { λ q. record {
+      taken = q.taken;
+      items = q.items.items;
+      capacity = q.capacity;
+      closed = q.closed;
+      killed = q.killed;
+    } };
 
-    ghost invariant = { λ q. (deque_len q.items ≤ q.capacity) × (q.capacity ≤ deque_capacity q.items) };
+    ghost invariant = { λ q. (deque_len q.items ≤ q.capacity)
+        × (q.capacity ≤ deque_capacity q.items) };
 }
 
 impl PlainQueue {
     /// An empty queue that holds at most `capacity` items, marks included.
     pub fn new(alloc: Global, capacity: usize) -> Result<PlainQueue, AllocError>
-        ensures { IfOk result (λ q. q ≡ record { taken = []; items = []; capacity = capacity; closed = false; killed = false }) }
+        ensures { IfOk result
+            (λ q. q ≡ record {
+              taken = [];
+              items = [];
+              capacity = capacity;
+              closed = false;
+              killed = false;
+            }) }
     {
         Ok(PlainQueue {
             items: VecDeque::with_capacity(alloc, capacity)?,
@@ -86,7 +100,8 @@ impl PlainQueue {
     /// Puts an item at the back. A refused item comes back with the reason, and nothing changes.
     pub fn put(&mut self, item: Item) -> Result<(), (Item, PutFault)>
         ensures fine { IsOk result ↔ (refusal self.old ≡ None) }
-        ensures ok { OnOk result (self.new ≡ record self.old { items = self.old.items ++ item ∷ [] }) }
+        ensures ok { OnOk result
+            (self.new ≡ record self.old { items = self.old.items ++ item ∷ [] }) }
         ensures put { OnOk result (put_in self.new ≡ put_in self.old ++ item ∷ []) }
         ensures fault { IfErr result (λ e. refusal self.old ≡ Some e.1) }
         ensures back { IfErr result (λ e. e.0 ≡ item) }

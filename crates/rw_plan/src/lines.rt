@@ -57,7 +57,8 @@ pub(crate) fn push_found(
     labels: &LabelSet,
     found: &Known<'_>,
 ) -> Result<(), AllocError>
-    ensures { OnOk result (out.new.items ≡ out.old.items ++ found_text reference labels.now found.now) }
+    ensures { OnOk result
+        (out.new.items ≡ out.old.items ++ found_text reference labels.now found.now) }
 {
     match found {
         Known::Kept(number, _) => push_kept(out, reference, *number, labels),

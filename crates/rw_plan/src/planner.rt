@@ -32,9 +32,14 @@ impl Model for Planner {
 
     ghost Value = { Planned };
 
-    ghost view = { λ p. record { choice = p.cache.choice; entries = p.taken; has_failed = p.has_failed } };
+    ghost view = { λ p. record {
+      choice = p.cache.choice;
+      entries = p.taken;
+      has_failed = p.has_failed;
+    } };
 
-    ghost invariant = { λ p. p.has_failed ≡ false → IsPlanned p.cache.choice p.taken p.cache p.lines.items p.counts };
+    ghost invariant = { λ p. p.has_failed ≡ false
+        → IsPlanned p.cache.choice p.taken p.cache p.lines.items p.counts };
 }
 
 /// Takes a definition, and adds its line.
@@ -46,9 +51,14 @@ fn define(
     labels: RawLabels,
 ) -> Result<(), AllocError>
     ensures cache { OnOk result (cache.new
-        ≡ record cache.old { definitions = cache.old.definitions ++ Entry.Def reference labels ∷ [] }) }
+        ≡ record cache.old {
+          definitions = cache.old.definitions ++ Entry.Def reference labels
+              ∷ [];
+        }) }
     ensures lines { (entries : List Entry) → definitions_of entries ≡ cache.old.definitions
-        → OnOk result (lines.new.items ≡ lines.old.items ++ line_of cache.old.choice entries (Entry.Def reference labels)) }
+        → OnOk result
+        (lines.new.items
+        ≡ lines.old.items ++ line_of cache.old.choice entries (Entry.Def reference labels)) }
 {
     match LabelSet::check_as(alloc, cache.names(), &labels) {
         Ok(set) => {
@@ -66,7 +76,8 @@ fn define(
 /// Counts a sample.
 fn count(cache: &Cache, counts: &mut SampleCounts, reference: u64) -> Result<(), AllocError>
     ensures { (entries : List Entry) → definitions_of entries ≡ cache.now.definitions
-        → OnOk result (counts.new ≡ with_sample counts.old (known cache.now.choice entries reference)) }
+        → OnOk result
+        (counts.new ≡ with_sample counts.old (known cache.now.choice entries reference)) }
 {
     counts.count(&cache.look(reference))
 }
@@ -93,7 +104,8 @@ impl Planner {
 
     /// Takes the next entry.
     pub fn take(&mut self, entry: Entry) -> Result<(), AllocError>
-        ensures ok { OnOk result (self.new ≡ record self.old { entries = self.old.entries ++ entry ∷ [] }) }
+        ensures ok { OnOk result
+            (self.new ≡ record self.old { entries = self.old.entries ++ entry ∷ [] }) }
         ensures sound { OnOk result (self.old.has_failed ≡ false) }
         ensures err { OnErr result (self.new.has_failed ≡ true) }
     {

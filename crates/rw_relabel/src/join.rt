@@ -27,7 +27,8 @@ pub(crate) fn join_values(
     separator: &str,
 ) -> Result<String, AllocError>
     ensures { IfOk result (λ t. string_bytes t
-        ≡ join_by (value_of (map text_label labels.now)) separator.now (map string_bytes names.now)) }
+        ≡ join_by (value_of (map text_label labels.now)) separator.now
+        (map string_bytes names.now)) }
 {
     let mut text = String::new(alloc);
     for (i, name) in names.iter().enumerate() {

@@ -80,7 +80,8 @@ impl Rule {
         }) }
         ensures readable { IfOk result (λ _. HasReadablePattern (string_bytes pattern)) }
         ensures source { IfOk result (λ _. source_labels.items ≢ []) }
-        ensures bad_pattern { IfErr result (λ f. f ≡ RuleFault.BadPattern → IsRefusedPattern (string_bytes pattern)) }
+        ensures bad_pattern { IfErr result
+            (λ f. f ≡ RuleFault.BadPattern → IsRefusedPattern (string_bytes pattern)) }
         ensures no_source { IfErr result (λ f. f ≡ RuleFault.NoSource
             → (source_labels.items ≡ []) × HasReadablePattern (string_bytes pattern)) }
     {

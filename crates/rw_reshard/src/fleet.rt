@@ -51,7 +51,12 @@ impl<S, G: Stage> Model for Fleet<S, G> {
 
     ghost Value = { Shards S };
 
-    ghost view = { λ f. record { epoch = f.epoch; running = f.running.items; wanted = f.wanted; made = f.made.items } };
+    ghost view = { λ f. record {
+      epoch = f.epoch;
+      running = f.running.items;
+      wanted = f.wanted;
+      made = f.made.items;
+    } };
 
     ghost invariant = { λ f. G.allows (length f.made.items) f.wanted };
 }
@@ -187,10 +192,12 @@ impl<S: Shard> Fleet<S, Draining> {
         requires { AreNew M.is_new (1 + self.epoch) self.made }
         ensures drained { IfOk result (λ r. list_all S.is_drained self.running ≡ true) }
         ensures old { IfOk result (λ r. r.1.items ≡ self.running) }
-        ensures begun { IfOk result (λ r. (r.0.epoch ≡ 1 + self.epoch) × (r.0.wanted ≡ self.wanted) × (r.0.made ≡ [])) }
+        ensures begun { IfOk result
+            (λ r. (r.0.epoch ≡ 1 + self.epoch) × (r.0.wanted ≡ self.wanted) × (r.0.made ≡ [])) }
         ensures all { IfOk result (λ r. AreAllNew M.is_new (1 + self.epoch) self.wanted r.0.running
             × GoOn self.made r.0.running) }
-        ensures not_drained { IfErr result (λ e. (e.1 ≡ NotDrained) ↔ (list_all S.is_drained self.running ≡ false)) }
+        ensures not_drained { IfErr result
+            (λ e. (e.1 ≡ NotDrained) ↔ (list_all S.is_drained self.running ≡ false)) }
         ensures kept { IfErr result (λ e. e.1 ≡ NotDrained → e.0 ≡ self) }
         ensures goes_on { IfErr result (λ e. GoesOn M.is_new self e.0) }
     {

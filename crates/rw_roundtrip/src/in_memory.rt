@@ -23,9 +23,11 @@ pub fn exchange<A: Answer>(
     limits: &Limits,
 ) -> Result<u16, AllocError>
     requires { IsRequest limits.now.path limits.now.max_body_bytes request.now }
-    ensures answered { (body : List ℕ) → IsOneRequest limits.now.path limits.now.max_body_bytes request.now body
+    ensures answered { (body : List ℕ)
+        → IsOneRequest limits.now.path limits.now.max_body_bytes request.now body
         → IsAnswered A.answers body answer.old result answer.new }
-    ensures refused { (status : ℕ) → IsOneRefusal limits.now.path limits.now.max_body_bytes request.now status
+    ensures refused { (status : ℕ)
+        → IsOneRefusal limits.now.path limits.now.max_body_bytes request.now status
         → IsRefused status answer.old result answer.new }
 {
     let mut reader = request;

@@ -13,11 +13,16 @@ ghost use Rattle.rw_roundtrip.specs.Exchanges.{IsRequest};
 
 /// Law: the endpoint reads a request as the sender makes it, as one request with the body that it carries; where that is over the limit, it answers 413.
 pub fn requests_are_read()
-    ensures read { (host path body : List ℕ) (limit : ℕ) → is_host_name host ≡ true → is_request_path path ≡ true
-        → length body < 2 ^ 63 → length body ≤ limit → IsOneRequest path limit (request_of host path body) body }
-    ensures refused { (host path body : List ℕ) (limit : ℕ) → is_host_name host ≡ true → is_request_path path ≡ true
-        → length body < 2 ^ 63 → limit < length body → IsOneRefusal path limit (request_of host path body) 413 }
-    ensures either { (host path body : List ℕ) (limit : ℕ) → is_host_name host ≡ true → is_request_path path ≡ true
+    ensures read { (host path body : List ℕ) (limit : ℕ) → is_host_name host ≡ true
+        → is_request_path path ≡ true
+        → length body < 2 ^ 63 → length body ≤ limit
+        → IsOneRequest path limit (request_of host path body) body }
+    ensures refused { (host path body : List ℕ) (limit : ℕ) → is_host_name host ≡ true
+        → is_request_path path ≡ true
+        → length body < 2 ^ 63 → limit < length body
+        → IsOneRefusal path limit (request_of host path body) 413 }
+    ensures either { (host path body : List ℕ) (limit : ℕ) → is_host_name host ≡ true
+        → is_request_path path ≡ true
         → length body < 2 ^ 63 → IsRequest path limit (request_of host path body) }
 {}
 

@@ -50,7 +50,8 @@ impl Model for Router {
 impl Router {
     /// A router before the first entry of a log. `choice` says which series are sent. This takes no memory.
     pub fn new(alloc: Global, choice: Choice) -> Router
-        ensures cache { result.cache ≡ record { choice = choice; definitions = []; noted = map.empty } }
+        ensures cache { result.cache
+            ≡ record { choice = choice; definitions = []; noted = map.empty } }
         ensures filtered { result.filtered ≡ 0 }
         ensures knows { Knows [] result.cache }
     {
@@ -88,7 +89,8 @@ impl Router {
     ) -> Result<Routed, AllocError>
         requires few { self.old.filtered < 2 ^ 60 }
         ensures ok { (before : List Entry) → Knows before self.old.cache
-            → IfOk result (λ r. Routes self.old before pos (Entry.Sample reference t word) self.new r) }
+            → IfOk result
+            (λ r. Routes self.old before pos (Entry.Sample reference t word) self.new r) }
         ensures knows { (before : List Entry) → Knows before self.old.cache
             → IfOk result (λ r. KnowsMore before (Entry.Sample reference t word) self.new.cache r) }
         ensures err { OnErr result (self.new ≡ self.old) }
@@ -122,9 +124,16 @@ impl Router {
     /// This takes no memory.
     pub fn sent(&mut self, series: u64, t: i64)
         requires { IsRising self.old.cache series t }
-        ensures noted { self.new ≡ record self.old { cache = record self.old.cache { noted = map.insert self.old.cache.noted series t } } }
+        ensures noted { self.new
+            ≡ record self.old {
+              cache = record self.old.cache {
+                noted = map.insert
+                    self.old.cache.noted series t;
+              };
+            } }
         ensures knows { (before : List Entry) (entry : Entry) → Knows before self.old.cache
-            → IsSentNext self.old.cache.choice before entry series t → Knows (before ++ entry ∷ []) self.new.cache }
+            → IsSentNext self.old.cache.choice before entry series t
+            → Knows (before ++ entry ∷ []) self.new.cache }
     {
         self.cache.note(series, t);
     }

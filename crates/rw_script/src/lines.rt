@@ -27,7 +27,8 @@ fn read_log(alloc: Global, line: &[u8]) -> Result<Command, TextFault>
 /// What stands behind `feed `.
 fn read_feed(alloc: Global, digits: &[u8]) -> Result<Command, TextFault>
     ensures ok { IfOk result (λ c. IsWordAnd (codes "feed") digits.now (order_of c)) }
-    ensures err { result ≡ Err TextFault.NotOfForm → (bytes : List ℕ) → read_digits digits.now ≡ Some bytes → ⊥ }
+    ensures err { result ≡ Err TextFault.NotOfForm → (bytes : List ℕ)
+        → read_digits digits.now ≡ Some bytes → ⊥ }
 {
     match read_digits(alloc, digits)? {
         Some(bytes) => Ok(Command::Event(Event::Feed(Piece::Bytes(bytes)))),
@@ -71,7 +72,8 @@ fn read_numbered(word: &[u8], number: &[u8]) -> Option<Event>
 /// A word and what stands behind it.
 fn read_word_and(alloc: Global, word: &[u8], rest: &[u8]) -> Result<Command, TextFault>
     ensures ok { IfOk result (λ c. IsWordAnd word.now rest.now (order_of c)) }
-    ensures err { result ≡ Err TextFault.NotOfForm → (o : Order) → IsWordAnd word.now rest.now o → ⊥ }
+    ensures err { result ≡ Err TextFault.NotOfForm → (o : Order) → IsWordAnd word.now rest.now o
+        → ⊥ }
 {
     if word == b"log".as_slice() {
         return read_log(alloc, rest);

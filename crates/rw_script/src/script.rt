@@ -15,7 +15,8 @@ use std::alloc::{AllocError, Global};
 /// The command of a line; an empty line has none. It does not go with others that let the log grow in the other way.
 fn next_command(alloc: Global, line: &[u8], ways: Ways) -> Result<Option<Command>, TextFault>
     ensures ok { IfOk result (λ found. MatchOption found (length line.now ≡ 0)
-        (λ c. (0 < length line.now) × IsOrder line.now (order_of c) × (are_both (with_order ways (order_of c)) ≡ false))) }
+        (λ c. (0 < length line.now) × IsOrder line.now (order_of c)
+        × (are_both (with_order ways (order_of c)) ≡ false))) }
     ensures err { result ≡ Err TextFault.NotOfForm → (0 < length line.now)
         × ((o : Order) → IsOrder line.now o → are_both (with_order ways o) ≡ true) }
 {

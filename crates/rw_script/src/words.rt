@@ -107,7 +107,8 @@ impl NumberedWord {
 
 /// The way of answering that is this text.
 pub(crate) fn read_how(text: &[u8]) -> Option<How>
-    ensures { MatchOption result ((how : How) → text.now ≡ how_text how → ⊥) (λ how. text.now ≡ how_text how) }
+    ensures { MatchOption result ((how : How) → text.now ≡ how_text how → ⊥)
+        (λ how. text.now ≡ how_text how) }
 {
     let Ok(word) = str::from_utf8(text) else {
         return None;

@@ -40,7 +40,11 @@ impl Model for Cache {
 
     ghost coded = { Prim.hlevel (codes, map.code) };
 
-    ghost view = { λ c. record { choice = c.sets.choice; definitions = c.taken; noted = c.latest.times } };
+    ghost view = { λ c. record {
+      choice = c.sets.choice;
+      definitions = c.taken;
+      noted = c.latest.times;
+    } };
 
     ghost invariant = { λ c. IsCache c.sets.choice c.taken (verdict_in c.verdicts) c.sets.series
         × (length c.sets.series ≤ c.latest.places) };
@@ -70,7 +74,10 @@ impl Cache {
     /// the rules are not asked of it again. An `Err` changes nothing.
     pub fn define(&mut self, reference: u64, labels: RawLabels) -> Result<(), AllocError>
         ensures ok { OnOk result (self.new
-            ≡ record self.old { definitions = self.old.definitions ++ Entry.Def reference labels ∷ [] }) }
+            ≡ record self.old {
+              definitions = self.old.definitions ++ Entry.Def reference labels
+                  ∷ [];
+            }) }
         ensures err { OnErr result (self.new ≡ self.old) }
     {
         // This room is all that the reference and its series take: once a label set has its number, nothing is refused any more.

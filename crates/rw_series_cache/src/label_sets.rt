@@ -33,7 +33,8 @@ impl Model for LabelSets {
 
     ghost view = { λ s. record { choice = s.choice; series = map arc_value s.kept.keys } };
 
-    ghost invariant = { λ s. AllJudged s.choice true s.kept.keys × AllJudged s.choice false s.dropped.keys };
+    ghost invariant = { λ s. AllJudged s.choice true s.kept.keys
+        × AllJudged s.choice false s.dropped.keys };
 }
 
 impl LabelSets {

@@ -21,7 +21,8 @@ pub fn samples_define_nothing()
     ensures series { (choice : Choice) (entries : List Entry)
         → series_of choice (definitions_of entries) ≡ series_of choice entries }
     ensures definition { (entries : List Entry) (reference : ℕ) (labels : Labels)
-        → definitions_of (entries ++ Def reference labels ∷ []) ≡ definitions_of entries ++ Def reference labels ∷ [] }
+        → definitions_of (entries ++ Def reference labels ∷ [])
+        ≡ definitions_of entries ++ Def reference labels ∷ [] }
     ensures sample { (entries : List Entry) (reference : ℕ) (t : ℤ) (word : ℕ)
         → definitions_of (entries ++ Sample reference t word ∷ []) ≡ definitions_of entries }
 {}
@@ -29,33 +30,43 @@ pub fn samples_define_nothing()
 /// Law: what is known of a reference after the first `position` entries of a log is what its labels there say.
 pub fn known_at_a_position()
     ensures { (choice : Choice) (entries : List Entry) (reference position : ℕ)
-        → known choice (take position entries) reference ≡ standing_of choice (labels_of entries reference position) }
+        → known choice (take position entries) reference
+        ≡ standing_of choice (labels_of entries reference position) }
 {}
 
 /// Law: a reference whose label set is kept stands for a numbered series, and a series keeps its number as more entries come.
 pub fn numbers_stay()
     ensures numbered { (choice : Choice) (entries : List Entry) (reference : ℕ) (labels : Labels)
-        → known choice entries reference ≡ Kept labels → (number : ℕ) × HasNumber (series_of choice entries) labels number }
+        → known choice entries reference ≡ Kept labels
+        → (number : ℕ) × HasNumber (series_of choice entries) labels number }
     ensures stay { (choice : Choice) (entries more : List Entry) (labels : Labels) (number : ℕ)
-        → HasNumber (series_of choice entries) labels number → HasNumber (series_of choice (entries ++ more)) labels number }
+        → HasNumber (series_of choice entries) labels number
+        → HasNumber (series_of choice (entries ++ more)) labels number }
 {}
 
 /// Law: a sample belongs to the series that its reference stands for, where the rules keep it, and to no other.
 pub fn points_entry_by_entry()
-    ensures definition { (choice : Choice) (entries : List Entry) (labels other : Labels) (reference : ℕ)
-        → kept_points choice (entries ++ Def reference other ∷ []) labels ≡ kept_points choice entries labels }
-    ensures kept { (choice : Choice) (entries : List Entry) (labels : Labels) (reference : ℕ) (t : ℤ) (word : ℕ)
+    ensures definition { (choice : Choice) (entries : List Entry) (labels other : Labels)
+        (reference : ℕ)
+        → kept_points choice (entries ++ Def reference other ∷ []) labels
+        ≡ kept_points choice entries labels }
+    ensures kept { (choice : Choice) (entries : List Entry) (labels : Labels) (reference : ℕ)
+        (t : ℤ) (word : ℕ)
         → known choice entries reference ≡ Kept labels
-        → kept_points choice (entries ++ Sample reference t word ∷ []) labels ≡ kept_points choice entries labels ++ (length entries, t, word) ∷ [] }
-    ensures other { (choice : Choice) (entries : List Entry) (labels : Labels) (reference : ℕ) (t : ℤ) (word : ℕ)
+        → kept_points choice (entries ++ Sample reference t word ∷ []) labels
+        ≡ kept_points choice entries labels ++ (length entries, t, word) ∷ [] }
+    ensures other { (choice : Choice) (entries : List Entry) (labels : Labels) (reference : ℕ)
+        (t : ℤ) (word : ℕ)
         → known choice entries reference ≢ Kept labels
-        → kept_points choice (entries ++ Sample reference t word ∷ []) labels ≡ kept_points choice entries labels }
+        → kept_points choice (entries ++ Sample reference t word ∷ []) labels
+        ≡ kept_points choice entries labels }
 {}
 
 /// Law: the samples of a series below a position are those among the entries below it.
 pub fn points_below_a_position()
     ensures { (choice : Choice) (entries : List Entry) (labels : Labels) (end : ℕ)
-        → kept_points_below choice entries labels end ≡ kept_points choice (take end entries) labels }
+        → kept_points_below choice entries labels end
+        ≡ kept_points choice (take end entries) labels }
 {}
 
 /// Law: the timestamps that are noted decide which samples rise, entry by entry: a sample that rises is noted, and nothing else.
@@ -63,10 +74,12 @@ pub fn notes_entry_by_entry()
     ensures first { (choice : Choice) → IsNoted choice [] empty }
     ensures definition { (choice : Choice) (entries : List Entry) (reference : ℕ) (labels : Labels)
         (noted : FinMap nat_cmp ℤ)
-        → IsNoted choice entries noted → IsNoted choice (entries ++ Def reference labels ∷ []) noted }
+        → IsNoted choice entries noted
+        → IsNoted choice (entries ++ Def reference labels ∷ []) noted }
     ensures other { (choice : Choice) (entries : List Entry) (reference : ℕ) (t : ℤ) (word : ℕ)
         (noted : FinMap nat_cmp ℤ)
-        → ((labels : Labels) → known choice entries reference ≢ Kept labels) → IsNoted choice entries noted
+        → ((labels : Labels) → known choice entries reference ≢ Kept labels)
+        → IsNoted choice entries noted
         → IsNoted choice (entries ++ Sample reference t word ∷ []) noted }
     ensures falling { (choice : Choice) (entries : List Entry) (reference : ℕ) (t : ℤ) (word : ℕ)
         (labels : Labels) (noted : FinMap nat_cmp ℤ)
@@ -75,7 +88,8 @@ pub fn notes_entry_by_entry()
         → IsNoted choice (entries ++ Sample reference t word ∷ []) noted }
     ensures rising { (choice : Choice) (entries : List Entry) (reference : ℕ) (t : ℤ) (word : ℕ)
         (labels : Labels) (number : ℕ) (noted : FinMap nat_cmp ℤ)
-        → known choice entries reference ≡ Kept labels → HasNumber (series_of choice entries) labels number
+        → known choice entries reference ≡ Kept labels
+        → HasNumber (series_of choice entries) labels number
         → rises choice entries labels t ≡ true → IsNoted choice entries noted
         → IsNoted choice (entries ++ Sample reference t word ∷ []) (insert noted number t) }
 {}

@@ -23,7 +23,10 @@ impl Model for Timestamps {
 
     ghost coded = { Prim.hlevel (codes, map.code) };
 
-    ghost view = { λ s. record { places = length s.latest.items; times = times_from 0 s.latest.items } };
+    ghost view = { λ s. record {
+      places = length s.latest.items;
+      times = times_from 0 s.latest.items;
+    } };
 }
 
 impl Timestamps {

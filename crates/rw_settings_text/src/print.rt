@@ -25,7 +25,8 @@ fn text_of(alloc: Global, settings: &Settings, rules: &[RuleFields]) -> Result<S
 /// Prints the settings that a TOML text sets: each key with its value, also where the text leaves it out. Read again, the result gives the same
 /// settings. The errors are those of reading `text`.
 pub fn print_settings(alloc: Global, text: &[u8]) -> Result<String, SettingsFault>
-    ensures text { IfOk result (λ t. IsOkAnd (settings_in text.now) (λ s. string_bytes t ≡ settings_text s)) }
+    ensures text { IfOk result
+        (λ t. IsOkAnd (settings_in text.now) (λ s. string_bytes t ≡ settings_text s)) }
     ensures reads_back { IfOk result (λ t. settings_in (string_bytes t) ≡ settings_in text.now) }
     ensures err { IfErr result (IsFaultOf (settings_in text.now)) }
 {

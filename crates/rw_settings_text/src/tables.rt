@@ -87,7 +87,8 @@ fn action_text(action: Action) -> &'static str
 /// Adds the table of a rule.
 #[tactic(auto, unfolding(crate::specs::SettingsText::rule_text))]
 fn push_rule(alloc: Global, out: &mut String, rule: &RuleFields) -> Result<(), AllocError>
-    ensures { OnOk result (string_bytes out.new ≡ string_bytes out.old ++ rule_text (written_rule rule.now)) }
+    ensures { OnOk result
+        (string_bytes out.new ≡ string_bytes out.old ++ rule_text (written_rule rule.now)) }
 {
     out.push_str("\n[[rule]]\n")?;
     push_text(alloc, out, "action", action_text(rule.action))?;

@@ -25,7 +25,8 @@ fn quoted(alloc: Global, text: &str) -> Result<String, AllocError>
 /// Adds a key with this value.
 #[tactic(auto, unfolding(crate::specs::SettingsText::pair_line))]
 fn push_pair(out: &mut String, key: &str, value: &str) -> Result<(), AllocError>
-    ensures { OnOk result (string_bytes out.new ≡ string_bytes out.old ++ pair_line key.now value.now) }
+    ensures { OnOk result
+        (string_bytes out.new ≡ string_bytes out.old ++ pair_line key.now value.now) }
 {
     out.push_str(key)?;
     out.push_str(" = ")?;
@@ -36,7 +37,8 @@ fn push_pair(out: &mut String, key: &str, value: &str) -> Result<(), AllocError>
 
 /// Adds a key with a whole number.
 pub(crate) fn push_number(out: &mut String, key: &str, number: u64) -> Result<(), AllocError>
-    ensures { OnOk result (string_bytes out.new ≡ string_bytes out.old ++ number_line key.now number) }
+    ensures { OnOk result
+        (string_bytes out.new ≡ string_bytes out.old ++ number_line key.now number) }
 {
     let mut buffer = Buffer::new();
     push_pair(out, key, buffer.format(number))
@@ -49,7 +51,8 @@ pub(crate) fn push_text(
     key: &str,
     text: &str,
 ) -> Result<(), AllocError>
-    ensures { OnOk result (string_bytes out.new ≡ string_bytes out.old ++ text_line key.now text.now) }
+    ensures { OnOk result
+        (string_bytes out.new ≡ string_bytes out.old ++ text_line key.now text.now) }
 {
     let value = quoted(alloc, text)?;
     push_pair(out, key, value.as_str())

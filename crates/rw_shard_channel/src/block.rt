@@ -64,7 +64,8 @@ impl Block {
 
     /// Takes the item at the back.
     pub(crate) fn undo(&mut self) -> Option<Item>
-        ensures item { MatchOption result (self.old.items ≡ []) (λ x. self.old.items ≡ self.new.items ++ x ∷ []) }
+        ensures item { MatchOption result (self.old.items ≡ [])
+            (λ x. self.old.items ≡ self.new.items ++ x ∷ []) }
         ensures none { IfNone result (self.new.items ≡ self.old.items) }
         ensures most { self.new.most ≡ self.old.most }
     {
@@ -73,7 +74,8 @@ impl Block {
 
     /// Takes the item at the front.
     pub(crate) fn pop(&mut self) -> Option<Item>
-        ensures item { MatchOption result (self.old.items ≡ []) (λ x. self.old.items ≡ x ∷ self.new.items) }
+        ensures item { MatchOption result (self.old.items ≡ [])
+            (λ x. self.old.items ≡ x ∷ self.new.items) }
         ensures none { IfNone result (self.new.items ≡ self.old.items) }
         ensures most { self.new.most ≡ self.old.most }
     {

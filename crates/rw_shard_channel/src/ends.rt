@@ -137,7 +137,8 @@ fn send<R: Wait>(
     requires most { length block.old.items ≤ (log_of pass.old).name.most }
     ensures seat { IsSeatAt (sends_on sender.now) pass.new × (pass.new.id ≡ pass.old.id) }
     ensures room { block.new.most ≡ block.old.most }
-    ensures ok { OnOk result (HandsOver (log_of pass.old) (log_of pass.new) block.old.items block.new.items) }
+    ensures ok { OnOk result
+        (HandsOver (log_of pass.old) (log_of pass.new) block.old.items block.new.items) }
     ensures err { OnErr result ((log_of pass.new ≡ log_of pass.old) × (block.new ≡ block.old)) }
 {
     let fresh = fresh_block(rt, block);
@@ -153,8 +154,10 @@ impl Feed<Open> {
     /// Puts a sample or a Flush at the back. It may wait for room. Where nobody is at the other end the item comes back, and what was put stays as it was.
     pub fn put<R: Wait>(&mut self, rt: &R, item: Item) -> Result<(), (Item, Gone)>
         requires { MayFollow self.old.queue.epoch self.old.queue.shard self.old.put item }
-        ensures queue { (self.new.queue ≡ self.old.queue) × (self.new.capacity ≡ self.old.capacity) }
-        ensures put { MatchResult result (λ _. self.new.put ≡ self.old.put ++ item ∷ []) (λ e. (e.0 ≡ item)
+        ensures queue { (self.new.queue ≡ self.old.queue)
+            × (self.new.capacity ≡ self.old.capacity) }
+        ensures put { MatchResult result (λ _. self.new.put ≡ self.old.put ++ item ∷ [])
+            (λ e. (e.0 ≡ item)
             × (self.new.put ≡ self.old.put)) }
         ensures history { IsHistory self.new.queue.epoch self.new.queue.shard self.new.put }
     {
@@ -324,7 +327,8 @@ fn open_named<Q: Naming>(
     requires name { Q.name ≡ name_of epoch shard capacity slots most }
     requires roomy { IsRoomy Q.name }
     ensures same { IfOk result (λ r. r.0.queue ≡ r.1.queue) }
-    ensures queue { IfOk result (λ r. (r.0.queue.epoch ≡ Q.name.epoch) × (r.0.queue.shard ≡ Q.name.shard)) }
+    ensures queue { IfOk result
+        (λ r. (r.0.queue.epoch ≡ Q.name.epoch) × (r.0.queue.shard ≡ Q.name.shard)) }
     ensures capacity { IfOk result (λ r. r.0.capacity ≡ Q.name.capacity) }
     ensures most { IfOk result (λ r. r.0.queue.capacity ≡ Q.name.capacity) }
     ensures empty { IfOk result (λ r. (r.0.put ≡ []) × (r.1.taken ≡ [])) }

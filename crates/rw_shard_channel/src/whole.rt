@@ -28,7 +28,8 @@ impl Model for Whole {
 
     ghost view = { λ w. record { queue = queue_of w.pass; items = (log_of w.pass).put } };
 
-    ghost invariant = { λ w. log_of w.pass ≡ both (log_of w.pass).name (log_of w.pass).put (log_of w.pass).put };
+    ghost invariant = { λ w. log_of w.pass
+        ≡ both (log_of w.pass).name (log_of w.pass).put (log_of w.pass).put };
 }
 
 /// Keeps the two ends of an ended queue together: by its contract, what was put is what was taken. It waits for nobody.

@@ -31,7 +31,8 @@ fn append(bytes: &mut Vec<u8>, part: &[u8]) -> Result<(), AllocError>
 
 /// Appends the head of a request. `digits` is the length of its body in decimal.
 fn put_head(bytes: &mut Vec<u8>, host: &[u8], path: &[u8], digits: &[u8]) -> Result<(), AllocError>
-    ensures { OnOk result (bytes.new.items ≡ bytes.old.items ++ request_head host.now path.now digits.now) }
+    ensures { OnOk result
+        (bytes.new.items ≡ bytes.old.items ++ request_head host.now path.now digits.now) }
 {
     append(bytes, METHOD)?;
     append(bytes, path)?;
@@ -45,7 +46,8 @@ fn put_head(bytes: &mut Vec<u8>, host: &[u8], path: &[u8], digits: &[u8]) -> Res
 
 /// The head of a request to the target whose body has `len` bytes, and room for that body behind it.
 fn head_for(alloc: Global, target: &Target, len: usize) -> Result<Vec<u8>, AllocError>
-    ensures head { IfOk result (λ v. v.items ≡ request_head target.now.host target.now.path (decimal len)) }
+    ensures head { IfOk result
+        (λ v. v.items ≡ request_head target.now.host target.now.path (decimal len)) }
     ensures room { IfOk result (λ v. vec_len v + len ≤ vec_capacity v) }
 {
     let mut buffer = Buffer::new();

@@ -112,7 +112,8 @@ impl Model for ShardCore {
       killed = s.killed;
     } };
 
-    ghost invariant = { λ s. IsKept s.target s.epoch s.shard s.full s.builder s.current s.last (samples_in s.taken) (samples_in s.resolved) (samples_in s.pending) };
+    ghost invariant = { λ s. IsKept s.target s.epoch s.shard s.full s.builder s.current s.last
+        (samples_in s.taken) (samples_in s.resolved) (samples_in s.pending) };
 }
 
 /// Whether a place has the next number and a later position than the one before it, if there is one.
@@ -199,7 +200,8 @@ impl ShardCore {
 
     /// The id of the open batch; `None` where no batch is open.
     pub fn batch_id(&self) -> Option<BatchId>
-        ensures { result ≡ (if is_empty self.now.batch then None else Some (batch_id self.now.batch)) }
+        ensures { result
+            ≡ (if is_empty self.now.batch then None else Some (batch_id self.now.batch)) }
     {
         match &self.current {
             Some(current) => Some(current.batch.id()),
@@ -325,7 +327,8 @@ impl ShardCore {
     /// Begins an attempt to send the open batch, with the request that was made when it was frozen. `None` where no batch is open, an attempt is
     /// under way, or the shard was killed. An `Err` changes nothing.
     pub fn attempt(&mut self) -> Result<Option<Attempt>, AllocError>
-        ensures attempt { IfOk result (λ a. a ≡ (if can_send self.old then Some (attempt_for self.old) else None)) }
+        ensures attempt { IfOk result
+            (λ a. a ≡ (if can_send self.old then Some (attempt_for self.old) else None)) }
         // A receiver reads the message of the batch's samples.
         ensures read { IsReadAgain self.old.batch }
         ensures core { OnOk result (self.new ≡ send self.old) }
@@ -421,7 +424,8 @@ impl ShardCore {
         ledger: &mut Ledger,
     ) -> Option<Judgement>
         requires { HasRoomFor self.old ledger.old }
-        ensures answer { result ≡ (if is_answer id self.old then Some (judgement_of status) else None) }
+        ensures answer { result
+            ≡ (if is_answer id self.old then Some (judgement_of status) else None) }
         ensures core { self.new ≡ reply id status self.old }
         ensures names { ledger.new.names ≡ (reply_names id status self.old ledger.old).names }
         ensures room { ledger.new.room ≡ (reply_names id status self.old ledger.old).room }

@@ -43,7 +43,8 @@ pub fn push_received(
     labels: &LabelSet,
     samples: &[(i64, Word)],
 ) -> Result<(), AllocError>
-    ensures ok { OnOk result (out.new.items ≡ out.old.items ++ received_text labels.now samples.now) }
+    ensures ok { OnOk result
+        (out.new.items ≡ out.old.items ++ received_text labels.now samples.now) }
     ensures err { OnErr result (Grown out.old.items out.new.items) }
 {
     if samples.is_empty() {
@@ -134,7 +135,8 @@ fn push_abandoned(out: &mut Vec<u8>, pos: u64) -> Result<(), AllocError>
 
 /// Adds the lines of these samples.
 fn push_all_abandoned(out: &mut Vec<u8>, samples: &[u64]) -> Result<(), AllocError>
-    ensures ok { OnOk result (out.new.items ≡ out.old.items ++ flat_map abandoned_text samples.now) }
+    ensures ok { OnOk result
+        (out.new.items ≡ out.old.items ++ flat_map abandoned_text samples.now) }
     ensures err { OnErr result (Grown out.old.items out.new.items) }
 {
     for pos in samples {
@@ -145,7 +147,8 @@ fn push_all_abandoned(out: &mut Vec<u8>, samples: &[u64]) -> Result<(), AllocErr
 
 /// Adds a report with its number.
 fn push_report(out: &mut Vec<u8>, report: &[u8], number: u64) -> Result<(), AllocError>
-    ensures ok { OnOk result (out.new.items ≡ out.old.items ++ report.now ++ decimal number ++ 10 ∷ []) }
+    ensures ok { OnOk result
+        (out.new.items ≡ out.old.items ++ report.now ++ decimal number ++ 10 ∷ []) }
     ensures err { OnErr result (Grown out.old.items out.new.items) }
 {
     out.extend_from_slice(report)?;
@@ -182,7 +185,9 @@ pub fn push_work(
     outcome: Option<&Outcome>,
 ) -> Result<(), AllocError>
     ensures ok { OnOk result (out.new.items
-        ≡ out.old.items ++ work_text (entries ledger.now.names) filtered (option_map (λ o. ending_of o.now) outcome.entry)) }
+        ≡ out.old.items
+        ++ work_text (entries ledger.now.names) filtered
+        (option_map (λ o. ending_of o.now) outcome.entry)) }
     ensures err { OnErr result (Grown out.old.items out.new.items) }
 {
     push_all_dropped(out, ledger.iter().as_slice())?;

@@ -56,7 +56,9 @@ impl From<ReadFault> for NoReply {
 
 /// Appends what one read gives, and returns how many bytes came.
 fn read_more<R: Source>(reader: &mut R, text: &mut Vec<u8>) -> Result<usize, ReadFault>
-    ensures onto { IfOk result (λ _. ReadsOnto (R.remaining reader.old) (R.remaining reader.new) text.old.items text.new.items) }
+    ensures onto { IfOk result
+        (λ _. ReadsOnto (R.remaining reader.old)
+        (R.remaining reader.new) text.old.items text.new.items) }
     ensures len { IfOk result (λ n. vec_len text.new ≡ vec_len text.old + n) }
     ensures end { result ≡ Ok 0 → IsAtEnd (R.remaining reader.new) }
     ensures failed { result ≡ Err ReadFault.Failed → R.has_failed reader.new ≡ true }
@@ -120,14 +122,17 @@ pub fn ask<R: Source, W: Sink>(
     writer: &mut W,
     request: &[u8],
 ) -> Result<Reply, NoReply>
-    ensures reply { IfOk result (λ r. Hears (R.remaining reader.old) (R.remaining reader.new) (ReplyRead.Status r.status)) }
+    ensures reply { IfOk result
+        (λ r. Hears (R.remaining reader.old) (R.remaining reader.new) (ReplyRead.Status r.status)) }
     ensures written { IfOk result (λ r. judgement_of r.status ≡ Judgement.Done
         → Appends (W.contents writer.old) (W.contents writer.new) request.now) }
-    ensures device { result ≡ Err NoReply.Device → (R.has_failed reader.new ≡ true) ⊎ (W.has_failed writer.new ≡ true) }
+    ensures device { result ≡ Err NoReply.Device
+        → (R.has_failed reader.new ≡ true) ⊎ (W.has_failed writer.new ≡ true) }
     ensures ended { result ≡ Err NoReply.Ended
         → Hears (R.remaining reader.old) (R.remaining reader.new) ReplyRead.Partial
         × IsAtEnd (R.remaining reader.new) }
-    ensures bad { result ≡ Err NoReply.Bad → Hears (R.remaining reader.old) (R.remaining reader.new) ReplyRead.Bad }
+    ensures bad { result ≡ Err NoReply.Bad
+        → Hears (R.remaining reader.old) (R.remaining reader.new) ReplyRead.Bad }
 {
     let mut text = Vec::with_capacity(alloc, MAX_HEAD_BYTES + CHUNK)?;
     let sent = write_all(writer, request).is_ok();

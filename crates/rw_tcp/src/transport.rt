@@ -122,7 +122,8 @@ fn exchange_over<R: Source, W: Sink>(
     writer: &mut W,
     request: &[u8],
 ) -> Result<Reply, Cause>
-    ensures reply { IfOk result (λ r. Hears (R.remaining reader.old) (R.remaining reader.new) (read.Status r.status)) }
+    ensures reply { IfOk result
+        (λ r. Hears (R.remaining reader.old) (R.remaining reader.new) (read.Status r.status)) }
     ensures written { IfOk result (λ r. judgement_of r.status ≡ judgement.Done
         → Appends (W.contents writer.old) (W.contents writer.new) request.now) }
 {

@@ -17,7 +17,8 @@ pub(crate) fn after<'a>(text: &'a [u8], beginning: &[u8]) -> Option<&'a [u8]>
 pub fn split_at_byte(text: &[u8], byte: u8) -> Option<(&[u8], &[u8])>
     ensures { MatchOption result
         ((front rest : List ℕ) → text.now ≡ front ++ byte ∷ rest → ⊥)
-        (λ parts. (text.now ≡ parts.0.now ++ byte ∷ parts.1.now) × All (λ b. (b == byte) ≡ false) parts.0.now) }
+        (λ parts. (text.now ≡ parts.0.now ++ byte ∷ parts.1.now)
+        × All (λ b. (b == byte) ≡ false) parts.0.now) }
 {
     for (i, b) in text.iter().enumerate() {
         if *b == byte {

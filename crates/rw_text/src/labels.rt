@@ -14,7 +14,8 @@ use std::alloc::Global;
 fn read_quoted_name<'a>(text: &'a [u8], out: &mut Vec<u8>) -> Result<&'a [u8], TextFault>
     ensures ok { IfOk result (λ rest. (text.now ≡ quoted out.new.items ++ 61 ∷ rest.now)
         × (is_metric_name out.new.items ≡ false)) }
-    ensures err { result ≡ Err TextFault.NotOfForm → (name rest : List ℕ) → is_metric_name name ≡ false
+    ensures err { result ≡ Err TextFault.NotOfForm → (name rest : List ℕ)
+        → is_metric_name name ≡ false
         → text.now ≡ quoted name ++ 61 ∷ rest → ⊥ }
 {
     let rest = read_quoted(text, out)?;
@@ -31,7 +32,8 @@ fn read_quoted_name<'a>(text: &'a [u8], out: &mut Vec<u8>) -> Result<&'a [u8], T
 fn read_bare_name<'a>(text: &'a [u8], out: &mut Vec<u8>) -> Result<&'a [u8], TextFault>
     ensures ok { IfOk result (λ rest. (text.now ≡ out.new.items ++ 61 ∷ rest.now)
         × (is_metric_name out.new.items ≡ true)) }
-    ensures err { result ≡ Err TextFault.NotOfForm → (name rest : List ℕ) → is_metric_name name ≡ true
+    ensures err { result ≡ Err TextFault.NotOfForm → (name rest : List ℕ)
+        → is_metric_name name ≡ true
         → text.now ≡ name ++ 61 ∷ rest → ⊥ }
 {
     let Some((name, rest)) = split_at_byte(text, b'=') else {
@@ -48,7 +50,8 @@ fn read_bare_name<'a>(text: &'a [u8], out: &mut Vec<u8>) -> Result<&'a [u8], Tex
 /// Reads the name of a label and the `=` behind it.
 fn read_name<'a>(text: &'a [u8], out: &mut Vec<u8>) -> Result<&'a [u8], TextFault>
     ensures ok { IfOk result (λ rest. text.now ≡ name_text out.new.items ++ 61 ∷ rest.now) }
-    ensures err { result ≡ Err TextFault.NotOfForm → (name rest : List ℕ) → text.now ≡ name_text name ++ 61 ∷ rest → ⊥ }
+    ensures err { result ≡ Err TextFault.NotOfForm → (name rest : List ℕ)
+        → text.now ≡ name_text name ++ 61 ∷ rest → ⊥ }
 {
     match after(text, b"\"") {
         Some(_) => read_quoted_name(text, out),
@@ -77,7 +80,8 @@ impl LabelReader {
 
     /// Reads the label with which a text begins, and returns what follows it.
     fn read_label<'a>(&mut self, text: &'a [u8]) -> Result<&'a [u8], TextFault>
-        ensures ok { IfOk result (λ rest. (l : Label) × (self.new.labels ≡ self.old.labels ++ l ∷ [])
+        ensures ok { IfOk result
+            (λ rest. (l : Label) × (self.new.labels ≡ self.old.labels ++ l ∷ [])
             × (text.now ≡ label_text l ++ rest.now)) }
         ensures err { result ≡ Err TextFault.NotOfForm → (l : Label) (rest : List ℕ)
             → text.now ≡ label_text l ++ rest → ⊥ }

@@ -33,7 +33,8 @@ pub fn number_is_one()
 
 /// Law: a text stands for at most one sample's value.
 pub fn value_is_one()
-    ensures { (text : List ℕ) (v w : ℕ) → v < 2 ^ 64 → w < 2 ^ 64 → IsValue text v → IsValue text w → v ≡ w }
+    ensures { (text : List ℕ) (v w : ℕ) → v < 2 ^ 64 → w < 2 ^ 64 → IsValue text v
+        → IsValue text w → v ≡ w }
 {}
 
 /// Law: a text stands for at most one list of labels.
@@ -48,5 +49,6 @@ pub fn line_is_one()
 
 /// Law: a line of log text stands for at most one record.
 pub fn record_is_one()
-    ensures { (line rec other : List ℕ) → IsRecordOf line rec → IsRecordOf line other → rec ≡ other }
+    ensures { (line rec other : List ℕ) → IsRecordOf line rec → IsRecordOf line other
+        → rec ≡ other }
 {}

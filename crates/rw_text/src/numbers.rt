@@ -12,14 +12,16 @@ use std::alloc::AllocError;
 /// The number behind the digits of `front` once this digit follows them.
 fn with_digit(front: u64, digit: u8) -> Option<u64>
     requires { (48 ≤ digit) × (digit ≤ 57) }
-    ensures { MatchOption result (2 ^ 64 ≤ front * 10 + (digit - 48)) (λ n. n ≡ front * 10 + (digit - 48)) }
+    ensures { MatchOption result (2 ^ 64 ≤ front * 10 + (digit - 48))
+        (λ n. n ≡ front * 10 + (digit - 48)) }
 {
     front.checked_mul(10)?.checked_add((digit - b'0') as u64)
 }
 
 /// Reads decimal digits, zeros in front allowed, as a number below 2^64; `None` for any other text.
 pub fn read_number(text: &[u8]) -> Option<u64>
-    ensures { MatchOption result ((n : ℕ) → n < 2 ^ 64 → IsNumber text.now n → ⊥) (IsNumber text.now) }
+    ensures { MatchOption result ((n : ℕ) → n < 2 ^ 64 → IsNumber text.now n → ⊥)
+        (IsNumber text.now) }
 {
     if text.is_empty() {
         return None;
@@ -39,7 +41,8 @@ pub fn read_number(text: &[u8]) -> Option<u64>
 
 /// Reads decimal digits, with or without a minus before them, as a number from -2^63 to 2^63 - 1; `None` for any other text.
 pub fn read_integer(text: &[u8]) -> Option<i64>
-    ensures { MatchOption result ((z : ℤ) → FitsSigned w64 z → IsInteger text.now z → ⊥) (IsInteger text.now) }
+    ensures { MatchOption result ((z : ℤ) → FitsSigned w64 z → IsInteger text.now z → ⊥)
+        (IsInteger text.now) }
 {
     match after(text, b"-") {
         Some(digits) => 0i64.checked_sub_unsigned(read_number(digits)?),

@@ -68,7 +68,8 @@ fn put_label(out: &mut Vec<u8>, label: &(String, String)) -> Result<(), AllocErr
 
 /// Adds a label behind another one.
 fn put_next(out: &mut Vec<u8>, label: &(String, String)) -> Result<(), AllocError>
-    ensures ok { OnOk result (out.new.items ≡ out.old.items ++ 44 ∷ label_text (text_label label.now)) }
+    ensures ok { OnOk result
+        (out.new.items ≡ out.old.items ++ 44 ∷ label_text (text_label label.now)) }
     ensures err { OnErr result (Grown out.old.items out.new.items) }
 {
     push_byte(out, b',')?;
@@ -89,7 +90,8 @@ fn put_more(out: &mut Vec<u8>, labels: &[(String, String)]) -> Result<(), AllocE
 
 /// Adds labels in braces.
 fn put_labels(out: &mut Vec<u8>, labels: &[(String, String)]) -> Result<(), AllocError>
-    ensures ok { OnOk result (out.new.items ≡ out.old.items ++ labels_text (map text_label labels.now)) }
+    ensures ok { OnOk result
+        (out.new.items ≡ out.old.items ++ labels_text (map text_label labels.now)) }
     ensures err { OnErr result (Grown out.old.items out.new.items) }
 {
     push_byte(out, b'{')?;

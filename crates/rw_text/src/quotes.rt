@@ -45,7 +45,8 @@ fn read_byte(text: &[u8]) -> Option<(u8, &[u8])>
 /// Reads the text in quotes with which `text` begins into `out`, and returns what follows it.
 pub(crate) fn read_quoted<'a>(text: &'a [u8], out: &mut Vec<u8>) -> Result<&'a [u8], TextFault>
     ensures ok { IfOk result (λ rest. text.now ≡ quoted out.new.items ++ rest.now) }
-    ensures err { result ≡ Err TextFault.NotOfForm → (value rest : List ℕ) → text.now ≡ quoted value ++ rest → ⊥ }
+    ensures err { result ≡ Err TextFault.NotOfForm → (value rest : List ℕ)
+        → text.now ≡ quoted value ++ rest → ⊥ }
 {
     out.clear();
     let Some(inside) = after(text, b"\"") else {

@@ -26,7 +26,8 @@ fn digits_of(word: u64) -> [u8; 16]
 
 /// The word that eight hexadecimal pairs name, in digits of either case.
 fn word_of_digits(digits: &[u8]) -> Option<u64>
-    ensures { (word : ℕ) → word < 2 ^ 64 → digits.now ≡ hex_text (big_bytes 8 word) → result ≡ Some word }
+    ensures { (word : ℕ) → word < 2 ^ 64 → digits.now ≡ hex_text (big_bytes 8 word)
+        → result ≡ Some word }
 {
     let mut bytes = [0; 8];
     if hex::decode_to_slice(digits, &mut bytes).is_err() {
@@ -63,7 +64,8 @@ fn read_whole(text: &[u8]) -> Option<Word>
 /// Reads the value of a sample: a decimal whole number from -2^53 to 2^53, or `0x` and the sixteen lower case hexadecimal digits of its 64 bits;
 /// `None` for any other text.
 pub fn read_value(text: &[u8]) -> Option<Word>
-    ensures { MatchOption result ((word : ℕ) → word < 2 ^ 64 → IsValue text.now word → ⊥) (IsValue text.now) }
+    ensures { MatchOption result ((word : ℕ) → word < 2 ^ 64 → IsValue text.now word → ⊥)
+        (IsValue text.now) }
 {
     match after(text, b"0x") {
         Some(digits) => Some(Word(read_word(digits)?)),

@@ -54,6 +54,7 @@ pub trait Sink {
         ensures progress { IfOk result (λ n. 0 < length bytes.now → 0 < n) }
         ensures failed { is_ok result ≡ not (has_failed self.new) }
         ensures stays { has_failed self.old ≡ true → has_failed self.new ≡ true }
-        ensures fits { has_failed self.old ≡ false → length bytes.now ≤ room self.old → IsOk result }
+        ensures fits { has_failed self.old ≡ false → length bytes.now ≤ room self.old
+            → IsOk result }
         ensures room_left { IfOk result (λ n. room self.old ≤ room self.new + n) };
 }

@@ -96,7 +96,8 @@ fn overwrite_first(
 ) -> Result<(), AllocError>
     requires { vec_len labels.old ≤ length new.now }
     ensures len { vec_len labels.new ≡ vec_len labels.old }
-    ensures ok { OnOk result (map text_label labels.new.items ≡ map text_label (take (vec_len labels.new) new.now)) }
+    ensures ok { OnOk result
+        (map text_label labels.new.items ≡ map text_label (take (vec_len labels.new) new.now)) }
 {
     for i in 0..labels.len() {
         overwrite_label(&mut labels[i], &new[i])?;
@@ -169,7 +170,8 @@ impl LabelSet {
 
     /// Whether there are more than `max_labels` labels, or more than `max_bytes` bytes of names and values together.
     pub fn is_over(&self, max_labels: usize, max_bytes: usize) -> bool
-        ensures { result ≡ (nat_lt max_labels (length self.now) || nat_lt max_bytes (text_len self.now)) }
+        ensures { result
+            ≡ (nat_lt max_labels (length self.now) || nat_lt max_bytes (text_len self.now)) }
     {
         self.labels.len() > max_labels || are_longer_than(self.labels.as_slice(), max_bytes)
     }

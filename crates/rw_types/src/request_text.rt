@@ -113,7 +113,8 @@ impl HostName {
 
     /// The host name with this text; `None` where `is_host` refuses it. This takes no memory.
     pub fn check(text: String) -> Option<HostName>
-        ensures { result ≡ (if is_host_name (string_bytes text) then Some (string_bytes text) else None) }
+        ensures { result
+            ≡ (if is_host_name (string_bytes text) then Some (string_bytes text) else None) }
     {
         if HostName::is_host(text.as_str()) {
             Some(HostName { text })
@@ -150,7 +151,8 @@ impl RequestPath {
 
     /// The path with this text; `None` where `is_path` refuses it. This takes no memory.
     pub fn check(text: String) -> Option<RequestPath>
-        ensures { result ≡ (if is_request_path (string_bytes text) then Some (string_bytes text) else None) }
+        ensures { result
+            ≡ (if is_request_path (string_bytes text) then Some (string_bytes text) else None) }
     {
         if RequestPath::is_path(text.as_str()) {
             Some(RequestPath { text })

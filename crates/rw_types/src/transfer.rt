@@ -48,7 +48,8 @@ pub fn write_all<W: Sink>(sink: &mut W, bytes: &[u8]) -> Result<(), Failed>
 
     ensures failed { OnErr result (W.has_failed sink.new ≡ true) }
     ensures sound { OnOk result (W.has_failed sink.old ≡ false → W.has_failed sink.new ≡ false) }
-    ensures fits { W.has_failed sink.old ≡ false → length bytes.now ≤ W.room sink.old → IsOk result }
+    ensures fits { W.has_failed sink.old ≡ false → length bytes.now ≤ W.room sink.old
+        → IsOk result }
     ensures room_left { OnOk result (W.room sink.old ≤ W.room sink.new + length bytes.now) }
 {
     let mut at = 0;
@@ -74,12 +75,14 @@ fn read_some<S: Source>(
     out: &mut Vec<u8>,
 ) -> Result<usize, ReadFault>
     requires { 0 < length chunk.old }
-    ensures bytes { ReadsOnto (S.remaining source.old) (S.remaining source.new) out.old.items out.new.items }
+    ensures bytes { ReadsOnto (S.remaining source.old)
+        (S.remaining source.new) out.old.items out.new.items }
     ensures some { IfOk result (λ n. vec_len out.old + n ≤ vec_len out.new) }
     ensures end { result ≡ Ok 0 → IsAtEnd (S.remaining source.new) }
     ensures sound { OnOk result (S.has_failed source.new ≡ false) }
     ensures failed { result ≡ Err ReadFault.Failed → S.has_failed source.new ≡ true }
-    ensures memory { result ≡ Err ReadFault.OutOfMemory → S.has_failed source.new ≡ S.has_failed source.old }
+    ensures memory { result ≡ Err ReadFault.OutOfMemory
+        → S.has_failed source.new ≡ S.has_failed source.old }
 {
     out.reserve(chunk.len())?;
     match source.read(chunk) {
@@ -97,7 +100,8 @@ pub fn read_to_end<S: Source>(
     source: &mut S,
     out: &mut Vec<u8>,
 ) -> Result<(), ReadFault>
-    ensures bytes { ReadsOnto (S.remaining source.old) (S.remaining source.new) out.old.items out.new.items }
+    ensures bytes { ReadsOnto (S.remaining source.old)
+        (S.remaining source.new) out.old.items out.new.items }
     ensures end { OnOk result (IsAtEnd (S.remaining source.new)) }
     ensures sound { OnOk result (S.has_failed source.new ≡ false) }
     ensures failed { result ≡ Err ReadFault.Failed → S.has_failed source.new ≡ true }

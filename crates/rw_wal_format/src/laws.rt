@@ -12,7 +12,8 @@ ghost use Rattle.rw_wal_format.specs.Laws.{Extends, AreRecords, log_all, reading
 
 /// Law: the series record of one definition is read as that definition.
 pub fn series_record_is_read()
-    ensures { (reference : ℕ) (labels : Labels) → reference < 2 ^ 64 → length labels < 2 ^ 64 → AreTexts labels
+    ensures { (reference : ℕ) (labels : Labels) → reference < 2 ^ 64 → length labels < 2 ^ 64
+        → AreTexts labels
         → record_entries (series_record reference labels) ≡ Some (Def reference labels ∷ []) }
 {}
 
@@ -30,14 +31,18 @@ pub fn records_are_read()
 
 /// Law: of a segment with well-formed records the entries are read, in their order, and no fault.
 pub fn entries_are_read()
-    ensures { (records : List (List ℕ)) (all : List Entry) → AreRecords records → entries_of_records records ≡ Some all
-        → (entries (bytes (log_all page_size 0 records) ∷ []) ≡ all) × (fault (bytes (log_all page_size 0 records) ∷ []) ≡ None) }
+    ensures { (records : List (List ℕ)) (all : List Entry) → AreRecords records
+        → entries_of_records records ≡ Some all
+        → (entries (bytes (log_all page_size 0 records) ∷ []) ≡ all)
+        × (fault (bytes (log_all page_size 0 records) ∷ []) ≡ None) }
 {}
 
 /// Law: one more record adds its fragments at the end of a segment, and changes nothing before them.
 pub fn one_more_record()
-    ensures { (page offset : ℕ) (records : List (List ℕ)) (d : List ℕ) → log_all page offset (records ++ d ∷ [])
-        ≡ log_all page offset records ++ log_bytes page (offset + length (log_all page offset records)) d }
+    ensures { (page offset : ℕ) (records : List (List ℕ)) (d : List ℕ)
+        → log_all page offset (records ++ d ∷ [])
+        ≡ log_all page offset records
+        ++ log_bytes page (offset + length (log_all page offset records)) d }
 {}
 
 /// Law: as more of a log comes, what was read of it stays, and so does a fault.
@@ -49,7 +54,8 @@ pub fn reading_goes_on()
 /// Law: it does not matter how the bytes of a segment are cut into pieces, and an empty piece changes nothing.
 pub fn cuts_do_not_matter()
     ensures cut { (page : ℕ) (before after : List Piece) (a b : List ℕ)
-        → reading page (before ++ bytes a ∷ bytes b ∷ after) ≡ reading page (before ++ bytes (a ++ b) ∷ after) }
+        → reading page (before ++ bytes a ∷ bytes b ∷ after)
+        ≡ reading page (before ++ bytes (a ++ b) ∷ after) }
     ensures empty { (page : ℕ) (before after : List Piece)
         → reading page (before ++ bytes [] ∷ after) ≡ reading page (before ++ after) }
 {}

@@ -77,7 +77,8 @@ fn compact(buffer: &mut Vec<u8>, at: &mut usize)
 /// Appends bytes to the last segment.
 fn extend_last_segment(later: &mut VecDeque<Segment>, piece: &[u8]) -> Result<(), AllocError>
     requires { 0 < length later.old.items }
-    ensures ok { OnOk result (map waits_as later.new.items ≡ extend_last piece.now (map waits_as later.old.items)) }
+    ensures ok { OnOk result
+        (map waits_as later.new.items ≡ extend_last piece.now (map waits_as later.old.items)) }
     ensures err { OnErr result (map waits_as later.new.items ≡ map waits_as later.old.items) }
 {
     let last = later.len() - 1;

@@ -11,7 +11,8 @@ use rw_types::{Entry, Word};
 
 /// A 64-bit number in eight bytes, high byte first.
 pub(crate) fn eight(bytes: &[u8]) -> Option<(u64, &[u8])>
-    ensures value { MatchOption result (eight_at bytes.now ≡ None) (λ x. eight_at bytes.now ≡ Some (x.0, x.1.now)) }
+    ensures value { MatchOption result (eight_at bytes.now ≡ None)
+        (λ x. eight_at bytes.now ≡ Some (x.0, x.1.now)) }
     ensures shorter { IfSome result (λ x. length x.1.now + 8 ≤ length bytes.now) }
 {
     if bytes.len() < 8 {
@@ -46,7 +47,8 @@ pub(crate) fn signed(bytes: &[u8]) -> Option<(i64, &[u8])>
 
 /// A text after its length.
 pub(crate) fn text(bytes: &[u8]) -> Option<(&[u8], &[u8])>
-    ensures value { MatchOption result (text_at bytes.now ≡ None) (λ x. text_at bytes.now ≡ Some (x.0.now, x.1.now)) }
+    ensures value { MatchOption result (text_at bytes.now ≡ None)
+        (λ x. text_at bytes.now ≡ Some (x.0.now, x.1.now)) }
     ensures shorter { IfSome result (λ x. length x.1.now ≤ length bytes.now) }
 {
     let (len, rest) = unsigned(bytes)?;

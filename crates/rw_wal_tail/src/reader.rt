@@ -156,7 +156,12 @@ impl Reader {
         requires whole { 7 + len ≤ length self.old.input.rest }
         requires in_page { 7 + len ≤ self.old.left }
         requires counted { can_count self.old.input ≡ true }
-        ensures { self.new ≡ record self.old { input = passed (7 + len) self.old.input; left = left_after page_size self.old.left (7 + len); zeros = 0 } }
+        ensures { self.new
+            ≡ record self.old {
+              input = passed (7 + len) self.old.input;
+              left = left_after page_size self.old.left (7 + len);
+              zeros = 0;
+            } }
     {
         let left = self.left;
         let size = HEADER_BYTES + len;
@@ -177,7 +182,8 @@ impl Reader {
     fn first(&mut self, len: usize) -> Result<Step, AllocError>
         requires { FoundAt first len self.old }
         ensures same { Same self.old self.new }
-        ensures stepped { MatchResult result (λ s. Stepped s self.old self.new) (λ _. self.new.ready.items ≡ []) }
+        ensures stepped { MatchResult result (λ s. Stepped s self.old self.new)
+            (λ _. self.new.ready.items ≡ []) }
     {
         self.begun.clear();
         self.begun
@@ -191,7 +197,8 @@ impl Reader {
     fn middle(&mut self, len: usize) -> Result<Step, AllocError>
         requires { FoundAt middle len self.old }
         ensures same { Same self.old self.new }
-        ensures stepped { MatchResult result (λ s. Stepped s self.old self.new) (λ _. self.new.ready.items ≡ []) }
+        ensures stepped { MatchResult result (λ s. Stepped s self.old self.new)
+            (λ _. self.new.ready.items ≡ []) }
     {
         self.begun
             .extend_from_slice(fragment_data(self.input.rest(), len))?;
@@ -203,7 +210,8 @@ impl Reader {
     fn full(&mut self, len: usize) -> Result<Step, AllocError>
         requires { FoundAt full len self.old }
         ensures same { Same self.old self.new }
-        ensures stepped { MatchResult result (λ s. Stepped s self.old self.new) (λ _. self.new.ready.items ≡ []) }
+        ensures stepped { MatchResult result (λ s. Stepped s self.old self.new)
+            (λ _. self.new.ready.items ≡ []) }
     {
         let data = fragment_data(self.input.rest(), len);
         if !read_whole(self.alloc, data, &mut self.ready, &mut self.passed)? {
@@ -217,7 +225,8 @@ impl Reader {
     fn last(&mut self, len: usize) -> Result<Step, AllocError>
         requires { FoundAt last len self.old }
         ensures same { Same self.old self.new }
-        ensures stepped { MatchResult result (λ s. Stepped s self.old self.new) (λ _. self.new.ready.items ≡ []) }
+        ensures stepped { MatchResult result (λ s. Stepped s self.old self.new)
+            (λ _. self.new.ready.items ≡ []) }
     {
         let before = self.begun.len();
         self.begun
@@ -244,7 +253,8 @@ impl Reader {
     fn fragment(&mut self, kind: FragmentType, len: usize) -> Result<Step, AllocError>
         requires { FoundFragment (kind_of kind) len self.old }
         ensures same { Same self.old self.new }
-        ensures stepped { MatchResult result (λ s. Stepped s self.old self.new) (λ _. self.new.ready.items ≡ []) }
+        ensures stepped { MatchResult result (λ s. Stepped s self.old self.new)
+            (λ _. self.new.ready.items ≡ []) }
     {
         if self.is_open {
             match kind {
@@ -286,7 +296,8 @@ impl Reader {
         requires reader { IsReader self.old }
         requires none_ready { self.old.ready.items ≡ [] }
         ensures same { Same self.old self.new }
-        ensures stepped { MatchResult result (λ s. Stepped s self.old self.new) (λ _. self.new.ready.items ≡ []) }
+        ensures stepped { MatchResult result (λ s. Stepped s self.old self.new)
+            (λ _. self.new.ready.items ≡ []) }
     {
         if let Some(fault) = self.fault {
             return Ok(Step::Failed(fault));

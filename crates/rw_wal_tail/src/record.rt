@@ -87,8 +87,10 @@ fn series(alloc: Global, bytes: &[u8], out: &mut VecDeque<Entry>) -> Result<(), 
 /// Reads samples, as deltas against the reference `base` and the timestamp `start`.
 fn samples(base: u64, start: u64, bytes: &[u8], out: &mut VecDeque<Entry>) -> Result<(), Unread>
     requires { out.old.items ≡ [] }
-    ensures ok { OnOk result (samples_at base (cast_signed w64 start) bytes.now ≡ Some out.new.items) }
-    ensures err { IfErr result (λ e. BadFormOnly e (samples_at base (cast_signed w64 start) bytes.now ≡ None)) }
+    ensures ok { OnOk result
+        (samples_at base (cast_signed w64 start) bytes.now ≡ Some out.new.items) }
+    ensures err { IfErr result
+        (λ e. BadFormOnly e (samples_at base (cast_signed w64 start) bytes.now ≡ None)) }
 {
     if bytes.is_empty() {
         return Err(Unread::BadForm);

@@ -78,10 +78,13 @@ impl Tail {
 
     /// Takes more bytes of the segment at hand, cut anywhere. An `Err` changes nothing; it is also the answer where a count would reach 2^60.
     pub fn feed(&mut self, piece: &[u8]) -> Result<(), AllocError>
-        ensures ok { OnOk result (self.new ≡ record self.old { pieces = self.old.pieces ++ bytes piece.now ∷ [] }) }
+        ensures ok { OnOk result
+            (self.new ≡ record self.old { pieces = self.old.pieces ++ bytes piece.now ∷ [] }) }
         ensures err { OnErr result (self.new ≡ self.old) }
-        ensures goes_on { OnOk result (Extends (reading page_size self.old.pieces) (reading page_size self.new.pieces)) }
-        ensures cut_anywhere { OnOk result (CutsDoNotMatter self.old.pieces self.new.pieces piece.now) }
+        ensures goes_on { OnOk result
+            (Extends (reading page_size self.old.pieces) (reading page_size self.new.pieces)) }
+        ensures cut_anywhere { OnOk result
+            (CutsDoNotMatter self.old.pieces self.new.pieces piece.now) }
     {
         self.reader.feed(piece)?;
         self.pieces.push(&Told::Bytes(History::of(piece)));
@@ -90,8 +93,10 @@ impl Tail {
 
     /// Ends the segment at hand: what comes next belongs to the next one. This takes no memory.
     pub fn next_segment(&mut self)
-        ensures next { self.new ≡ record self.old { pieces = self.old.pieces ++ next_segment ∷ [] } }
-        ensures goes_on { Extends (reading page_size self.old.pieces) (reading page_size self.new.pieces) }
+        ensures next { self.new
+            ≡ record self.old { pieces = self.old.pieces ++ next_segment ∷ [] } }
+        ensures goes_on { Extends (reading page_size self.old.pieces)
+            (reading page_size self.new.pieces) }
     {
         self.reader.next_segment();
         self.pieces.push(&Told::NextSegment);
@@ -99,9 +104,11 @@ impl Tail {
 
     /// Takes the next piece of the log. An `Err` changes nothing.
     pub fn feed_piece(&mut self, piece: &Piece) -> Result<(), AllocError>
-        ensures ok { OnOk result (self.new ≡ record self.old { pieces = self.old.pieces ++ piece_of piece.now ∷ [] }) }
+        ensures ok { OnOk result
+            (self.new ≡ record self.old { pieces = self.old.pieces ++ piece_of piece.now ∷ [] }) }
         ensures err { OnErr result (self.new ≡ self.old) }
-        ensures goes_on { OnOk result (Extends (reading page_size self.old.pieces) (reading page_size self.new.pieces)) }
+        ensures goes_on { OnOk result
+            (Extends (reading page_size self.old.pieces) (reading page_size self.new.pieces)) }
     {
         match piece {
             Piece::Bytes(bytes) => self.feed(bytes),
@@ -116,7 +123,8 @@ impl Tail {
     ///
     /// After `OutOfMemory` the same call may be made again. It is also the answer where a count would reach 2^60.
     pub fn next_entry(&mut self) -> Result<Option<Entry>, TailFault>
-        ensures answer { (result ≡ Err OutOfMemory) ⊎ (result ≡ next_of self.old.pieces self.old.given) }
+        ensures answer { (result ≡ Err OutOfMemory)
+            ⊎ (result ≡ next_of self.old.pieces self.old.given) }
         ensures after { self.new ≡ answered self.old result }
         ensures stays { (f : TailFault) → self.old.fault ≡ Some f → result ≡ Err f }
     {
@@ -166,7 +174,8 @@ impl Tail {
     /// Where the fault is that `next_entry` has reported; `None` before it has reported one. This takes no memory.
     pub fn fault_place(&self) -> Option<FaultPlace>
         ensures place { result ≡ told_place self.now.fault self.now.pieces }
-        ensures is_fault { (f : TailFault) → self.now.fault ≡ Some f → fault self.now.pieces ≡ Some f }
+        ensures is_fault { (f : TailFault) → self.now.fault ≡ Some f
+            → fault self.now.pieces ≡ Some f }
     {
         match self.told {
             Some(_) => Some(self.reader.place()),

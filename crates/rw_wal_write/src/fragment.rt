@@ -29,7 +29,8 @@ fn header(kind: FragmentType, part: &[u8]) -> [u8; HEADER_BYTES]
 /// Writes one fragment.
 fn put_fragment<W: Sink>(sink: &mut W, kind: FragmentType, part: &[u8]) -> Result<(), Failed>
     requires { length part.now < 2 ^ 16 }
-    ensures { Takes W.contents W.has_failed W.room sink.old sink.new (frame (kind_of kind) part.now) result }
+    ensures { Takes W.contents W.has_failed W.room sink.old sink.new
+        (frame (kind_of kind) part.now) result }
 {
     write_all(sink, &header(kind, part))?;
     write_all(sink, part)
@@ -64,9 +65,11 @@ fn put_last<W: Sink>(
 ) -> Result<usize, Failed>
     requires short { length part.now ≤ room }
     requires page { room < 2 ^ 15 }
-    ensures bytes { Takes W.contents W.has_failed W.room sink.old sink.new (frame (kind_of kind) part.now
+    ensures bytes { Takes W.contents W.has_failed W.room sink.old sink.new
+        (frame (kind_of kind) part.now
         ++ padding (room - length part.now)) result }
-    ensures len { IfOk result (λ n. n ≡ length (frame (kind_of kind) part.now ++ padding (room - length part.now))) }
+    ensures len { IfOk result
+        (λ n. n ≡ length (frame (kind_of kind) part.now ++ padding (room - length part.now))) }
 {
     put_fragment(sink, kind, part)?;
     let zeros = put_padding(sink, room - part.len())?;
@@ -78,7 +81,8 @@ pub fn put_record<W: Sink>(sink: &mut W, offset: usize, rec: &[u8]) -> Result<us
     requires some { 0 < length rec.now }
     requires place { 7 ≤ page_size - offset % page_size }
     requires fits { offset + length (log_bytes page_size offset rec.now) ≤ 2 ^ 32 }
-    ensures bytes { Takes W.contents W.has_failed W.room sink.old sink.new (log_bytes page_size offset rec.now) result }
+    ensures bytes { Takes W.contents W.has_failed W.room sink.old sink.new
+        (log_bytes page_size offset rec.now) result }
     ensures end { IfOk result (λ end. end ≡ offset + length (log_bytes page_size offset rec.now)) }
 {
     let mut at = offset;

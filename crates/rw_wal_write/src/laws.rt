@@ -10,8 +10,10 @@ use rw_types::Sink;
 
 /// Law: the records of a segment that was written from its beginning on are read back: their entries in their order, and no fault.
 pub fn entries_are_read<W: Sink>()
-    ensures { (old new : Segment W) (records : List (List ℕ × List Entry)) → old.offset ≡ 0 → All HasEntries records
+    ensures { (old new : Segment W) (records : List (List ℕ × List Entry)) → old.offset ≡ 0
+        → All HasEntries records
         → AreLogged W.contents W.has_failed W.room old new (map (λ r. r.0) records)
         → (text : List ℕ) × Appends (W.contents old.sink) (W.contents new.sink) text
-        × (entries (bytes text ∷ []) ≡ flat_map (λ r. r.1) records) × (fault (bytes text ∷ []) ≡ None) }
+        × (entries (bytes text ∷ []) ≡ flat_map (λ r. r.1) records)
+        × (fault (bytes text ∷ []) ≡ None) }
 {}

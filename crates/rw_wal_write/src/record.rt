@@ -46,7 +46,8 @@ fn put_label(out: &mut Vec<u8>, label: &(Vec<u8>, Vec<u8>)) -> Result<(), AllocE
 }
 
 fn put_labels(out: &mut Vec<u8>, labels: &[(Vec<u8>, Vec<u8>)]) -> Result<(), AllocError>
-    ensures { OnOk result (out.new.items ≡ out.old.items ++ flat_map label_bytes (map bytes_label labels.now)) }
+    ensures { OnOk result
+        (out.new.items ≡ out.old.items ++ flat_map label_bytes (map bytes_label labels.now)) }
 {
     for label in labels {
         put_label(out, label)?;
@@ -60,7 +61,8 @@ pub fn series_record(
     reference: u64,
     labels: &RawLabels,
 ) -> Result<Vec<u8>, AllocError>
-    ensures { IfOk result (λ record_bytes. record_bytes.items ≡ bytes_of_series reference labels.now) }
+    ensures { IfOk result
+        (λ record_bytes. record_bytes.items ≡ bytes_of_series reference labels.now) }
 {
     let mut out = Vec::with_capacity(alloc, SERIES_BYTES)?;
     out.push(RecordType::Series.to_byte())?;
@@ -90,7 +92,8 @@ fn put_samples(
     start: i64,
     samples: &[(u64, i64, Word)],
 ) -> Result<(), AllocError>
-    ensures { OnOk result (out.new.items ≡ out.old.items ++ flat_map (sample_bytes base start) samples.now) }
+    ensures { OnOk result
+        (out.new.items ≡ out.old.items ++ flat_map (sample_bytes base start) samples.now) }
 {
     for sample in samples {
         put_sample(out, base, start, sample)?;

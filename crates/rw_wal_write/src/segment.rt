@@ -40,9 +40,15 @@ impl<W: Sink> Model for SegmentWriter<W> {
 
     ghost Value = { Segment W };
 
-    ghost view = { λ s. record { sink = s.sink; pages = s.pages; offset = s.offset; closed = s.closed } };
+    ghost view = { λ s. record {
+      sink = s.sink;
+      pages = s.pages;
+      offset = s.offset;
+      closed = s.closed;
+    } };
 
-    ghost invariant = { λ s. IsPlace s.pages s.offset × (s.closed ≡ true → W.has_failed s.sink ≡ true) };
+    ghost invariant = { λ s. IsPlace s.pages s.offset
+        × (s.closed ≡ true → W.has_failed s.sink ≡ true) };
 }
 
 impl<W: Sink> SegmentWriter<W> {
@@ -105,13 +111,16 @@ impl<W: Sink> SegmentWriter<W> {
         // What is refused writes nothing and leaves the writer as it was.
         ensures refused { IfSome (refusal self.old (length rec.now)) (λ fault. (result ≡ Err fault)
             × (self.new ≡ self.old)) }
-        ensures taken { refusal self.old (length rec.now) ≡ None → IfErr result (λ fault. fault ≡ LogFault.Device) }
+        ensures taken { refusal self.old (length rec.now) ≡ None
+            → IfErr result (λ fault. fault ≡ LogFault.Device) }
 
-        ensures ok { OnOk result (IsLogged W.contents W.has_failed W.room self.old self.new rec.now) }
+        ensures ok { OnOk result
+            (IsLogged W.contents W.has_failed W.room self.old self.new rec.now) }
 
         // The device failed, in this call or an earlier one.
         ensures part { result ≡ Err LogFault.Device
-            → TakesPart W.contents W.has_failed W.room self.old.sink self.new.sink (log_bytes page_size self.old.offset rec.now) }
+            → TakesPart W.contents W.has_failed W.room self.old.sink self.new.sink
+            (log_bytes page_size self.old.offset rec.now) }
         ensures closes { result ≡ Err LogFault.Device
             → self.new ≡ record self.old { sink = self.new.sink; closed = true } }
     {

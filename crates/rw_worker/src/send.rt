@@ -40,7 +40,10 @@ pub(crate) fn send_once<T: Transport>(
 ) -> Result<bool, AllocError>
     requires guard { can_send core.old ≡ true }
     requires room { HasRoomFor core.old ledger.old }
-    ensures ok { IfOk result (λ settled. WasSent (T.tells transport.old) (T.tells transport.new) (T.seen transport.old) (T.seen transport.new) (working core.old ledger.old) (working core.new ledger.new) settled) }
+    ensures ok { IfOk result
+        (λ settled. WasSent (T.tells transport.old) (T.tells transport.new) (T.seen transport.old)
+        (T.seen transport.new) (working core.old ledger.old)
+        (working core.new ledger.new) settled) }
     ensures err { OnErr result (core.new ≡ core.old) }
     ensures err_ledger { OnErr result (ledger.new ≡ ledger.old) }
     ensures err_transport { OnErr result (transport.new ≡ transport.old) }

@@ -20,11 +20,14 @@ fn freeze<T: Transport, P: Pause>(
     sending: &mut Sending<T>,
     pause: &mut P,
 )
-    requires state { IsStateFrom T.tells T.seen P.tells P.paused _start.now _intake.now sending.old pause.old }
+    requires state { IsStateFrom T.tells T.seen P.tells P.paused _start.now _intake.now
+        sending.old pause.old }
     requires full { can_take sending.old.core ≡ false }
     requires none { is_empty sending.old.core.batch ≡ true }
-    ensures state { IsStateFrom T.tells T.seen P.tells P.paused _start.now _intake.now sending.new pause.new }
-    ensures steps { HasStepped T.tells T.seen P.tells P.paused sending.old sending.new pause.old pause.new }
+    ensures state { IsStateFrom T.tells T.seen P.tells P.paused _start.now _intake.now sending.new
+        pause.new }
+    ensures steps { HasStepped T.tells T.seen P.tells P.paused sending.old sending.new pause.old
+        pause.new }
 {
     match sending.core.freeze(&mut sending.ledger) {
         Ok(_) => {}
@@ -41,11 +44,14 @@ fn send<T: Transport, P: Pause>(
     sending: &mut Sending<T>,
     pause: &mut P,
 )
-    requires state { IsStateFrom T.tells T.seen P.tells P.paused _start.now _intake.now sending.old pause.old }
+    requires state { IsStateFrom T.tells T.seen P.tells P.paused _start.now _intake.now
+        sending.old pause.old }
     requires core { IsCore sending.old.core }
     requires some { is_empty sending.old.core.batch ≡ false }
-    ensures state { IsStateFrom T.tells T.seen P.tells P.paused _start.now _intake.now sending.new pause.new }
-    ensures steps { HasStepped T.tells T.seen P.tells P.paused sending.old sending.new pause.old pause.new }
+    ensures state { IsStateFrom T.tells T.seen P.tells P.paused _start.now _intake.now sending.new
+        pause.new }
+    ensures steps { HasStepped T.tells T.seen P.tells P.paused sending.old sending.new pause.old
+        pause.new }
 {
     let count = sending.core.pending_places().len() as u64;
     match send_once(
@@ -74,8 +80,10 @@ fn give_up<T: Transport, P: Pause>(
     _pause: &P,
     stopped: Stopped,
 ) -> Progress
-    requires { IsStateFrom T.tells T.seen P.tells P.paused _start.now intake _sending.now _pause.now }
-    ensures report { IsProgressFrom T.tells T.seen P.tells P.paused _start.now result _sending.now _pause.now }
+    requires { IsStateFrom T.tells T.seen P.tells P.paused _start.now
+        intake _sending.now _pause.now }
+    ensures report { IsProgressFrom T.tells T.seen P.tells P.paused _start.now
+        result _sending.now _pause.now }
     ensures still { result ≡ progress.Stops (given_back intake) (Some stopped) }
 {
     Progress::Stops(intake.close(), Some(stopped))
@@ -95,10 +103,13 @@ fn take<T: Transport, P: Pause, R: Wait>(
     sending: &mut Sending<T>,
     _pause: &P,
 ) -> Progress
-    requires sending { IsSendingFrom T.tells T.seen P.tells P.paused _start.now drain sending.old _pause.now }
+    requires sending { IsSendingFrom T.tells T.seen P.tells P.paused _start.now drain
+        sending.old _pause.now }
     requires can { can_take sending.old.core ≡ true }
-    ensures progress { IsProgressFrom T.tells T.seen P.tells P.paused _start.now result sending.new _pause.now }
-    ensures steps { StepsOn T.tells T.seen P.tells P.paused sending.old result sending.new _pause.now _pause.now }
+    ensures progress { IsProgressFrom T.tells T.seen P.tells P.paused _start.now result
+        sending.new _pause.now }
+    ensures steps { StepsOn T.tells T.seen P.tells P.paused sending.old result
+        sending.new _pause.now _pause.now }
     ensures goes { IsNotStopped result }
 {
     match drain.take(rt) {
@@ -126,10 +137,13 @@ fn go_on<T: Transport, P: Pause, R: Wait>(
     pause: &P,
     stop: &StopFlag,
 ) -> Progress
-    requires state { IsStateFrom T.tells T.seen P.tells P.paused start.now intake sending.old pause.now }
+    requires state { IsStateFrom T.tells T.seen P.tells P.paused start.now intake sending.old
+        pause.now }
     requires can { can_take sending.old.core ≡ true }
-    ensures progress { IsProgressFrom T.tells T.seen P.tells P.paused start.now result sending.new pause.now }
-    ensures steps { StepsOn T.tells T.seen P.tells P.paused sending.old result sending.new pause.now pause.now }
+    ensures progress { IsProgressFrom T.tells T.seen P.tells P.paused start.now result sending.new
+        pause.now }
+    ensures steps { StepsOn T.tells T.seen P.tells P.paused sending.old result sending.new
+        pause.now pause.now }
     ensures stopped { IsStoppedAt stop.now intake sending.old result sending.new }
 {
     match intake {
@@ -153,8 +167,10 @@ pub(crate) fn step<T: Transport, P: Pause, R: Wait>(
     stop: &StopFlag,
 ) -> Progress
     requires { IsStateFrom T.tells T.seen P.tells P.paused start.now intake sending.old pause.old }
-    ensures progress { IsProgressFrom T.tells T.seen P.tells P.paused start.now result sending.new pause.new }
-    ensures steps { StepsOn T.tells T.seen P.tells P.paused sending.old result sending.new pause.old pause.new }
+    ensures progress { IsProgressFrom T.tells T.seen P.tells P.paused start.now result sending.new
+        pause.new }
+    ensures steps { StepsOn T.tells T.seen P.tells P.paused sending.old result sending.new
+        pause.old pause.new }
     ensures stopped { IsStoppedAt stop.now intake sending.old result sending.new }
 {
     if sending.core.can_take() {

@@ -56,5 +56,6 @@ pub trait Pause {
 
     /// Waits for so many milliseconds.
     fn pause(&mut self, ms: u64)
-        ensures { tells self.new → tells self.old × (paused self.new ≡ paused self.old ++ ms ∷ []) };
+        ensures { tells self.new
+            → tells self.old × (paused self.new ≡ paused self.old ++ ms ∷ []) };
 }

@@ -101,7 +101,8 @@ impl Worker {
         pause: &mut P,
         stop: &StopFlag,
     ) -> WorkerReport<T>
-        ensures report { HasRun T.tells T.seen P.tells P.paused self transport pause.old result pause.new }
+        ensures report { HasRun T.tells T.seen P.tells P.paused self transport pause.old result
+            pause.new }
         ensures flag { IfSome result.stopped (λ flag. flag ≡ stop.now) }
     {
         let start = Start {
@@ -121,7 +122,8 @@ impl Worker {
 
     /// The state before the first step.
     fn begin<T: Transport, P: Pause>(self, transport: T, _pause: &P) -> (Intake, Sending<T>)
-        ensures { IsState T.tells T.seen P.tells P.paused self transport _pause.now result.0 result.1 _pause.now }
+        ensures { IsState T.tells T.seen P.tells P.paused self transport _pause.now result.0
+            result.1 _pause.now }
     {
         let Worker {
             drain,

@@ -39,7 +39,10 @@ impl Engine {
     fn judge(&mut self, k: usize) -> Result<(), AllocError>
         requires { k < length self.old.world.requests }
         ensures ok { OnOk result (self.new
-            ≡ record self.old { world = arrive self.old.setup self.old.world Plain (slice_get self.old.world.requests k) }) }
+            ≡ record self.old {
+              world = arrive self.old.setup self.old.world Plain
+                  (slice_get self.old.world.requests k);
+            }) }
         ensures err { OnErr result (self.new ≡ self.old) }
     {
         self.replies.reserve(1)?;
@@ -54,7 +57,10 @@ impl Engine {
     fn turn_away(&mut self, k: usize, status: StatusCode) -> Result<(), AllocError>
         requires { k < length self.old.world.requests }
         ensures ok { OnOk result (self.new
-            ≡ record self.old { world = turned_away self.old.world status (slice_get self.old.world.requests k) }) }
+            ≡ record self.old {
+              world = turned_away self.old.world status
+                  (slice_get self.old.world.requests k);
+            }) }
         ensures err { OnErr result (self.new ≡ self.old) }
     {
         self.replies.reserve(1)?;
@@ -66,7 +72,10 @@ impl Engine {
     /// The request with this number arrives, if there is one.
     pub(crate) fn arrive(&mut self, k: u64, how: How) -> Result<(), AllocError>
         ensures ok { OnOk result (self.new
-            ≡ record self.old { world = arrive self.old.setup self.old.world how (slice_get self.old.world.requests k) }) }
+            ≡ record self.old {
+              world = arrive self.old.setup self.old.world how
+                  (slice_get self.old.world.requests k);
+            }) }
         ensures err { OnErr result (self.new ≡ self.old) }
     {
         let k = k as usize;

@@ -16,7 +16,13 @@ impl Engine {
         requires next { IsDroppedNext self.old reason }
         requires small { self.old.world.placed < 2 ^ 60 }
         ensures ok { OnOk result (self.new
-            ≡ record self.old { world = record self.old.world { names = insert self.old.world.names self.old.world.placed reason; placed = suc self.old.world.placed } }) }
+            ≡ record self.old {
+              world = record self.old.world {
+                names = insert
+                    self.old.world.names self.old.world.placed reason;
+                placed = suc self.old.world.placed;
+              };
+            }) }
         ensures err { OnErr result (self.new ≡ self.old) }
     {
         self.senders.name(self.placed, reason)?;
@@ -50,7 +56,8 @@ impl Engine {
 
     /// The next entry is placed, where there is one and it may be.
     pub(crate) fn place(&mut self) -> Result<(), AllocError>
-        ensures ok { OnOk result (self.new ≡ record self.old { world = place self.old.setup self.old.world }) }
+        ensures ok { OnOk result
+            (self.new ≡ record self.old { world = place self.old.setup self.old.world }) }
         ensures err { OnErr result (self.new ≡ self.old) }
     {
         if self.draining.is_some() || self.placed >= self.log.len() {

@@ -22,7 +22,8 @@ fn stands(positions: &[u64], pos: u64) -> bool
 impl Engine {
     /// The positions of the samples that were put and are not resolved.
     fn pending(&self) -> Result<Vec<u64>, AllocError>
-        ensures { IfOk result (λ v. v.items ≡ filter (is_pending self.now.world) (up_to self.now.world.placed)) }
+        ensures { IfOk result
+            (λ v. v.items ≡ filter (is_pending self.now.world) (up_to self.now.world.placed)) }
     {
         let pending = self.senders.pending()?;
         let mut samples = Vec::new(self.alloc);

@@ -55,7 +55,9 @@ fn newest(requests: &[Sent], id: BatchId) -> u64
 impl Engine {
     /// Whether a sample of this reference and timestamp may be placed: only one that is sent needs room.
     fn can_place_known(&self, reference: u64, t: i64) -> bool
-        ensures { result ≡ can_place_known self.now.setup self.now.world t (known self.now.setup.choice (placed_entries self.now) reference) }
+        ensures { result
+            ≡ can_place_known self.now.setup self.now.world t
+            (known self.now.setup.choice (placed_entries self.now) reference) }
     {
         match self.router.would_send(reference, t) {
             Some(series) => {
@@ -107,7 +109,8 @@ impl Engine {
     /// The open batch of this shard is sent, or where it waits its newest request arrives and is replied to.
     fn exchange(&self, i: usize) -> Next
         requires { IsOpen (slice_get self.now.world.shards i) }
-        ensures { events_of result ≡ exchange_at self.now.world i (slice_get self.now.world.shards i) }
+        ensures { events_of result
+            ≡ exchange_at self.now.world i (slice_get self.now.world.shards i) }
     {
         match self.senders.waiting_id(i) {
             Some(id) => Next::Exchange(newest(&self.requests, id), self.replies.len() as u64),
@@ -127,7 +130,8 @@ impl Engine {
 
     /// A mark is put where one is to come and there is room for it, or else the next shards take over.
     fn mark(&self) -> Next
-        ensures { events_of result ≡ first_of_these (if is_finished self.now.world || is_some self.now.world.draining
+        ensures { events_of result
+            ≡ first_of_these (if is_finished self.now.world || is_some self.now.world.draining
             then at_first (may_flush self.now.setup.capacity) (λ i. event.Flush i ∷ []) self.now.world
             else None) (event.Restart ∷ []) }
     {
@@ -161,7 +165,8 @@ impl Engine {
 
     /// This reply arrives.
     fn hear(&mut self, k: u64)
-        ensures { self.new ≡ record self.old { world = happens self.old.setup self.old.world (event.Reply k) } }
+        ensures { self.new
+            ≡ record self.old { world = happens self.old.setup self.old.world (event.Reply k) } }
     {
         if self.is_over() {
             return;
@@ -171,7 +176,8 @@ impl Engine {
 
     /// No more is read.
     fn shut(&mut self)
-        ensures { self.new ≡ record self.old { world = happens self.old.setup self.old.world event.Close } }
+        ensures { self.new
+            ≡ record self.old { world = happens self.old.setup self.old.world event.Close } }
     {
         if self.is_over() {
             return;

@@ -37,7 +37,8 @@ impl Engine {
     }
 
     fn feed(&mut self, piece: &Piece) -> Result<(), AllocError>
-        ensures ok { OnOk result (self.new ≡ record self.old { world = feed self.old.world piece.now }) }
+        ensures ok { OnOk result
+            (self.new ≡ record self.old { world = feed self.old.world piece.now }) }
         ensures err { OnErr result (self.new ≡ self.old) }
     {
         if self.closed.is_some() {
@@ -61,7 +62,11 @@ impl Engine {
     }
 
     fn flush(&mut self, i: u64)
-        ensures { self.new ≡ record self.old { world = changed self.old.world i (flush_shard self.old.setup self.old.world) } }
+        ensures { self.new
+            ≡ record self.old {
+              world = changed self.old.world i
+                  (flush_shard self.old.setup self.old.world);
+            } }
     {
         let kind = self.mark_kind();
         self.senders.flush(i as usize, kind);
@@ -74,7 +79,8 @@ impl Engine {
     }
 
     fn freeze(&mut self, i: u64) -> Result<(), AllocError>
-        ensures ok { OnOk result (self.new ≡ record self.old { world = changed self.old.world i shard_freeze }) }
+        ensures ok { OnOk result
+            (self.new ≡ record self.old { world = changed self.old.world i shard_freeze }) }
         ensures err { OnErr result (self.new ≡ self.old) }
     {
         self.senders.freeze(i as usize)
@@ -88,7 +94,10 @@ impl Engine {
 
     fn send(&mut self, i: u64) -> Result<(), AllocError>
         ensures ok { OnOk result (self.new
-            ≡ record self.old { world = send_batch self.old.world i (slice_get self.old.world.shards i) }) }
+            ≡ record self.old {
+              world = send_batch self.old.world i
+                  (slice_get self.old.world.shards i);
+            }) }
         ensures err { OnErr result (self.new ≡ self.old) }
     {
         self.requests.reserve(1)?;
@@ -100,7 +109,11 @@ impl Engine {
     }
 
     pub(crate) fn reply(&mut self, k: u64)
-        ensures { self.new ≡ record self.old { world = take_reply self.old.world (slice_get self.old.world.replies k) } }
+        ensures { self.new
+            ≡ record self.old {
+              world = take_reply self.old.world
+                  (slice_get self.old.world.replies k);
+            } }
     {
         let k = k as usize;
         if k >= self.replies.len() {
@@ -131,7 +144,8 @@ impl Engine {
     }
 
     fn restart(&mut self) -> Result<(), AllocError>
-        ensures ok { OnOk result (self.new ≡ record self.old { world = restart self.old.setup self.old.world }) }
+        ensures ok { OnOk result
+            (self.new ≡ record self.old { world = restart self.old.setup self.old.world }) }
         ensures err { OnErr result (self.new ≡ self.old) }
     {
         let Some(n) = self.draining else {
@@ -147,7 +161,8 @@ impl Engine {
 
     /// What one event does while there is no report.
     fn act(&mut self, event: &Event) -> Result<(), AllocError>
-        ensures ok { OnOk result (self.new ≡ record self.old { world = act self.old.setup self.old.world event.now }) }
+        ensures ok { OnOk result
+            (self.new ≡ record self.old { world = act self.old.setup self.old.world event.now }) }
         ensures err { OnErr result (self.new ≡ self.old) }
         ensures never { takes_memory event.now ≡ false → IsOk result }
     {

@@ -56,7 +56,11 @@ pub struct Refused {
 impl World {
     /// Before the first event.
     pub fn new(alloc: Global, config: Config, limits: Limits) -> Result<World, AllocError>
-        ensures { IfOk result (λ w. w ≡ record { setup = setup_of config limits; world = start (setup_of config limits) }) }
+        ensures { IfOk result
+            (λ w. w ≡ record {
+              setup = setup_of config limits;
+              world = start (setup_of config limits);
+            }) }
     {
         let engine = Engine::new(alloc, config, limits)?;
         Ok(World { engine })
@@ -86,7 +90,8 @@ impl World {
 
     /// One event. Where memory is refused the world is as it was.
     pub fn step(&mut self, event: Event) -> Result<(), AllocError>
-        ensures ok { OnOk result (self.new ≡ record self.old { world = happens self.old.setup self.old.world event }) }
+        ensures ok { OnOk result
+            (self.new ≡ record self.old { world = happens self.old.setup self.old.world event }) }
         ensures err { OnErr result (self.new ≡ self.old) }
         // What takes no memory is never refused.
         ensures never { takes_memory event ≡ false → IsOk result }
@@ -100,9 +105,14 @@ impl World {
 
     /// Events, one after the other. Where one is refused the world is that after the events before it.
     fn run_all(&mut self, events: &[Event]) -> Result<(), Refused>
-        ensures ok { OnOk result (self.new ≡ record self.old { world = run self.old.setup events.now self.old.world }) }
+        ensures ok { OnOk result
+            (self.new ≡ record self.old { world = run self.old.setup events.now self.old.world }) }
         ensures err { IfErr result (λ r. (r.at < length events.now)
-            × (self.new ≡ record self.old { world = run self.old.setup (take r.at events.now) self.old.world })) }
+            × (self.new
+            ≡ record self.old {
+              world = run self.old.setup
+                  (take r.at events.now) self.old.world;
+            })) }
     {
         for at in 0..events.len() {
             match self.happen(&events[at]) {
@@ -115,9 +125,14 @@ impl World {
 
     /// Events, one after the other. Where one is refused the world is that after the events before it.
     pub fn run(&mut self, events: &[Event]) -> Result<(), Refused>
-        ensures ok { OnOk result (self.new ≡ record self.old { world = run self.old.setup events.now self.old.world }) }
+        ensures ok { OnOk result
+            (self.new ≡ record self.old { world = run self.old.setup events.now self.old.world }) }
         ensures err { IfErr result (λ r. (r.at < length events.now)
-            × (self.new ≡ record self.old { world = run self.old.setup (take r.at events.now) self.old.world })) }
+            × (self.new
+            ≡ record self.old {
+              world = run self.old.setup
+                  (take r.at events.now) self.old.world;
+            })) }
         // What holds of every world.
         ensures kept { IsKept self.new.setup self.new.world }
     {

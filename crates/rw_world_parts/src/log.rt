@@ -95,7 +95,8 @@ impl Log {
     pub fn feed(&mut self, piece: &Piece) -> Result<(), AllocError>
         ensures ok { OnOk result (self.new ≡ self.old ++ piece_of piece.now ∷ []) }
         ensures err { OnErr result (self.new ≡ self.old) }
-        ensures goes_on { OnOk result (Extends (reading page_size self.old) (reading page_size self.new)) }
+        ensures goes_on { OnOk result
+            (Extends (reading page_size self.old) (reading page_size self.new)) }
     {
         let mut tail = self.tail.copy()?;
         tail.feed_piece(piece)?;

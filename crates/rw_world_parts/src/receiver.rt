@@ -49,7 +49,8 @@ fn ask(
     limits: &Limits,
 ) -> Result<u16, AllocError>
     requires { IsSentTo host.now limits.now.path sent.now }
-    ensures { IsReplied (answer_within limits.now.max_body_bytes head.old sent.now.batch) head.old result head.new }
+    ensures { IsReplied
+        (answer_within limits.now.max_body_bytes head.old sent.now.batch) head.old result head.new }
 {
     let _host = host.as_str();
     let _path = limits.path.as_str();
@@ -70,8 +71,10 @@ pub fn answer_to(
     limits: &Limits,
 ) -> Result<StatusCode, AllocError>
     requires { IsSentTo host.now limits.now.path sent.now }
-    ensures status { IfOk result (λ s. s ≡ (answer_within limits.now.max_body_bytes head.old sent.now.batch).status) }
-    ensures head { OnOk result (head.new ≡ (answer_within limits.now.max_body_bytes head.old sent.now.batch).head) }
+    ensures status { IfOk result
+        (λ s. s ≡ (answer_within limits.now.max_body_bytes head.old sent.now.batch).status) }
+    ensures head { OnOk result
+        (head.new ≡ (answer_within limits.now.max_body_bytes head.old sent.now.batch).head) }
     ensures err { OnErr result (head.new ≡ head.old) }
 {
     let status = ask(alloc, sent, host, head, limits)?;

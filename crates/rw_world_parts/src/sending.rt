@@ -59,7 +59,8 @@ impl Model for Shards {
       names = s.ledger.names;
     } };
 
-    ghost invariant = { λ s. IsSending s.target s.capacity s.batch s.epoch s.shards.items s.next s.ledger };
+    ghost invariant = { λ s. IsSending s.target s.capacity s.batch s.epoch s.shards.items s.next
+        s.ledger };
 }
 
 /// No shard is put more samples. Where one would be, memory is said to have run out.
@@ -167,7 +168,11 @@ impl Shards {
 
     /// A mark is put into this shard's queue, where one may be.
     pub fn flush(&mut self, i: usize, kind: Option<Kind>)
-        ensures { self.new ≡ record self.old { shards = change i (flushed self.old.capacity kind) self.old.shards } }
+        ensures { self.new
+            ≡ record self.old {
+              shards = change i
+                  (flushed self.old.capacity kind) self.old.shards;
+            } }
     {
         if i >= self.shards.len() {
             return;
@@ -187,7 +192,8 @@ impl Shards {
 
     /// This shard's builder becomes its open batch.
     pub fn freeze(&mut self, i: usize) -> Result<(), AllocError>
-        ensures ok { OnOk result (self.new ≡ record self.old { shards = change i shard_freeze self.old.shards }) }
+        ensures ok { OnOk result
+            (self.new ≡ record self.old { shards = change i shard_freeze self.old.shards }) }
         ensures err { OnErr result (self.new ≡ self.old) }
     {
         if i >= self.shards.len() {
@@ -210,8 +216,10 @@ impl Shards {
     /// This shard sends its open batch, if it may.
     pub fn send(&mut self, i: usize) -> Result<Option<Sent>, AllocError>
         ensures sent { IfOk result (λ r. r ≡ sent_at (slice_get self.old.shards i)) }
-        ensures read { IfOk result (λ r. IfSome r (λ s. IsSentTo self.old.target.host self.old.target.path s)) }
-        ensures ok { OnOk result (self.new ≡ record self.old { shards = change i shard_send self.old.shards }) }
+        ensures read { IfOk result
+            (λ r. IfSome r (λ s. IsSentTo self.old.target.host self.old.target.path s)) }
+        ensures ok { OnOk result
+            (self.new ≡ record self.old { shards = change i shard_send self.old.shards }) }
         ensures err { OnErr result (self.new ≡ self.old) }
     {
         if i >= self.shards.len() {
@@ -258,7 +266,8 @@ impl Shards {
         ensures ok { OnOk result (self.new
             ≡ put_to self.old i pos series t word labels.value (slice_get self.old.shards i)) }
         ensures err { OnErr result (self.new ≡ self.old) }
-        ensures full { OnErr result (MatchOption (slice_get self.old.shards i) ⊥ (λ s. 2 ^ 60 ≤ length s.put)) }
+        ensures full { OnErr result
+            (MatchOption (slice_get self.old.shards i) ⊥ (λ s. 2 ^ 60 ≤ length s.put)) }
     {
         if i >= self.shards.len() {
             return Ok(());
@@ -304,7 +313,8 @@ impl Shards {
     pub fn pending(&self) -> Result<Vec<u64>, AllocError>
         ensures found { IfOk result (λ v. (pos : ℕ)
             → list_any (λ p. p == pos) v.items
-            ≡ list_any (λ s. list_any (λ (x : Placed). x.place.pos == pos) (pending s)) self.now.shards) }
+            ≡ list_any
+            (λ s. list_any (λ (x : Placed). x.place.pos == pos) (pending s)) self.now.shards) }
         ensures sorted { IfOk result (λ v. IsNonDecreasing v.items) }
     {
         let mut positions = Vec::new(self.alloc);
@@ -332,7 +342,16 @@ impl Shards {
         requires batch_most { batch ≤ MAX_BATCH }
         requires some { 1 ≤ shards }
         requires most { shards ≤ 1000 }
-        ensures { IfOk result (λ v. v ≡ record { target = target; capacity = capacity; batch = batch; epoch = 0; shards = map (λ h. h.shard) (new_held target capacity batch 0 0 shards); next = 0; names = empty }) }
+        ensures { IfOk result
+            (λ v. v ≡ record {
+              target = target;
+              capacity = capacity;
+              batch = batch;
+              epoch = 0;
+              shards = map (λ h. h.shard) (new_held target capacity batch 0 0 shards);
+              next = 0;
+              names = empty;
+            }) }
     {
         Ok(Shards {
             alloc,
@@ -351,7 +370,12 @@ impl Shards {
         requires some { 1 ≤ shards }
         requires most { shards ≤ 1000 }
         ensures ok { OnOk result (self.new
-            ≡ record self.old { epoch = self.old.epoch + 1; shards = map (λ h. h.shard) (new_held self.old.target self.old.capacity self.old.batch (self.old.epoch + 1) 0 shards) }) }
+            ≡ record self.old {
+              epoch = self.old.epoch + 1;
+              shards = map (λ h. h.shard)
+                  (new_held self.old.target self.old.capacity self.old.batch
+                  (self.old.epoch + 1) 0 shards);
+            }) }
         ensures err { OnErr result (self.new ≡ self.old) }
     {
         let Some(epoch) = self.epoch.checked_add(1) else {

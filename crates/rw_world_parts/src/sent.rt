@@ -46,7 +46,8 @@ impl Model for Answer {
 impl Sent {
     /// The batch of an attempt.
     pub(crate) fn of(attempt: Attempt, samples: History<Item>) -> Sent
-        ensures { result ≡ record { id = attempt.id; batch = samples_in samples; bytes = attempt.request } }
+        ensures { result
+            ≡ record { id = attempt.id; batch = samples_in samples; bytes = attempt.request } }
     {
         let Attempt { id, request } = attempt;
         Sent {

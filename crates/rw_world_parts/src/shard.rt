@@ -45,7 +45,8 @@ impl Model for WorldShard {
 
     ghost view = { λ s. held_of s.queue s.end_put s.core };
 
-    ghost invariant = { λ s. (s.epoch ≡ s.core.epoch) × (s.shard ≡ s.core.shard) × IsShard s.queue s.core s.count s.taken };
+    ghost invariant = { λ s. (s.epoch ≡ s.core.epoch) × (s.shard ≡ s.core.shard)
+        × IsShard s.queue s.core s.count s.taken };
 }
 
 /// Puts an item into a queue that takes one more.
@@ -88,7 +89,8 @@ fn add_places(places: &[Place], positions: &mut Vec<u64>) -> Result<(), AllocErr
 
 /// Adds the position of an item, if it is a sample.
 fn add_item(item: &Item, positions: &mut Vec<u64>) -> Result<(), AllocError>
-    ensures { OnOk result (positions.new.items ≡ positions.old.items ++ positions_of (places_in (item.now ∷ []))) }
+    ensures { OnOk result
+        (positions.new.items ≡ positions.old.items ++ positions_of (places_in (item.now ∷ []))) }
 {
     match item {
         Item::Sample(place, _, _, _) => {
@@ -101,7 +103,8 @@ fn add_item(item: &Item, positions: &mut Vec<u64>) -> Result<(), AllocError>
 
 /// Adds the positions of the samples that wait in the queue.
 fn add_queued(queue: &PlainQueue, positions: &mut Vec<u64>) -> Result<(), AllocError>
-    ensures { OnOk result (positions.new.items ≡ positions.old.items ++ positions_of (places_in queue.now.items)) }
+    ensures { OnOk result
+        (positions.new.items ≡ positions.old.items ++ positions_of (places_in queue.now.items)) }
 {
     for item in queue.iter() {
         add_item(item, positions)?;
@@ -121,7 +124,11 @@ impl WorldShard {
     ) -> Result<WorldShard, AllocError>
         requires some { 0 < batch }
         requires most { batch ≤ MAX_BATCH }
-        ensures { IfOk result (λ s. s ≡ record { capacity = capacity; shard = new_shard (new_core target.now epoch shard batch) }) }
+        ensures { IfOk result
+            (λ s. s ≡ record {
+              capacity = capacity;
+              shard = new_shard (new_core target.now epoch shard batch);
+            }) }
     {
         Ok(WorldShard {
             queue: PlainQueue::new(alloc, capacity)?,
@@ -154,7 +161,11 @@ impl WorldShard {
         requires room { has_room self.old.capacity self.old.shard ≡ true }
         requires few { length self.old.shard.put < 2 ^ 60 }
         requires later { IfSome (last_of self.old.shard.put) (λ y. y.place.pos < pos) }
-        ensures { self.new ≡ record self.old { shard = shard_put (sample_for self.old.shard pos series t word labels.value) self.old.shard } }
+        ensures { self.new
+            ≡ record self.old {
+              shard = shard_put
+                  (sample_for self.old.shard pos series t word labels.value) self.old.shard;
+            } }
     {
         let place = Place {
             epoch: self.epoch,
@@ -186,7 +197,8 @@ impl WorldShard {
 
     /// Puts a mark while the End was not put and there is room: the End of this kind, or else a Flush.
     pub(crate) fn flush(&mut self, kind: Option<Kind>)
-        ensures { self.new ≡ record self.old { shard = flushed self.old.capacity kind self.old.shard } }
+        ensures { self.new
+            ≡ record self.old { shard = flushed self.old.capacity kind self.old.shard } }
     {
         if self.end_put || !self.has_room() {
             return;
@@ -213,7 +225,8 @@ impl WorldShard {
 
     /// The builder becomes the open batch, where none is open.
     pub(crate) fn freeze(&mut self, ledger: &mut Ledger) -> Result<(), AllocError>
-        ensures ok { OnOk result (self.new ≡ record self.old { shard = shard_freeze self.old.shard }) }
+        ensures ok { OnOk result
+            (self.new ≡ record self.old { shard = shard_freeze self.old.shard }) }
         ensures ledger { OnOk result (ledger.new ≡ freeze_room self.old.shard.core ledger.old) }
         ensures err { OnErr result (self.new ≡ self.old) }
         ensures err_ledger { OnErr result (ledger.new ≡ ledger.old) }
@@ -226,7 +239,8 @@ impl WorldShard {
     pub(crate) fn send(&mut self) -> Result<Option<Sent>, AllocError>
         ensures sent { IfOk result (λ r. r ≡ sent_by self.old.shard) }
         ensures read { IsReadAgain self.old.shard.core.batch }
-        ensures ok { OnOk result (self.new ≡ record self.old { shard = shard_send self.old.shard }) }
+        ensures ok { OnOk result
+            (self.new ≡ record self.old { shard = shard_send self.old.shard }) }
         ensures err { OnErr result (self.new ≡ self.old) }
     {
         let samples = self.core.open_samples();
@@ -246,9 +260,12 @@ impl WorldShard {
     /// Takes a reply.
     pub(crate) fn reply(&mut self, id: BatchId, status: StatusCode, ledger: &mut Ledger)
         requires { HasRoomFor self.old.shard.core ledger.old }
-        ensures shard { self.new ≡ record self.old { shard = with_core (core.reply id status) self.old.shard } }
-        ensures names { ledger.new.names ≡ (reply_names id status self.old.shard.core ledger.old).names }
-        ensures room { ledger.new.room ≡ (reply_names id status self.old.shard.core ledger.old).room }
+        ensures shard { self.new
+            ≡ record self.old { shard = with_core (core.reply id status) self.old.shard } }
+        ensures names { ledger.new.names
+            ≡ (reply_names id status self.old.shard.core ledger.old).names }
+        ensures room { ledger.new.room
+            ≡ (reply_names id status self.old.shard.core ledger.old).room }
     {
         self.core.reply(id, status, ledger);
     }

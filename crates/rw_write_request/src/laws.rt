@@ -13,17 +13,20 @@ ghost use Rattle.rw_write_request.specs.Canon.{canon, sample_field, sample_field
 
 /// Law: bytes are read as a message exactly where they spell it.
 pub fn reads_spellings()
-    ensures { (bytes : List ℕ) (message : WriteRequest) → (read bytes ≡ Ok message) ↔ Spells bytes message }
+    ensures { (bytes : List ℕ) (message : WriteRequest)
+        → (read bytes ≡ Ok message) ↔ Spells bytes message }
 {}
 
 /// Law: bytes spell at most one message.
 pub fn one_message()
-    ensures { (bytes : List ℕ) (one other : WriteRequest) → Spells bytes one → Spells bytes other → one ≡ other }
+    ensures { (bytes : List ℕ) (one other : WriteRequest) → Spells bytes one → Spells bytes other
+        → one ≡ other }
 {}
 
 /// Law: bytes are refused exactly by their first fault: before it stand whole and sound fields, and it is the fault of the field there.
 pub fn faults_are_first()
-    ensures { (bytes : List ℕ) (fault : WireFault) → (read bytes ≡ Err fault) ↔ RequestFault bytes fault }
+    ensures { (bytes : List ℕ) (fault : WireFault)
+        → (read bytes ≡ Err fault) ↔ RequestFault bytes fault }
 {}
 
 /// Law: the canonical spelling of a message is one of its spellings.

@@ -107,7 +107,8 @@ pub(crate) fn parts_len(labels: &[(String, String)], samples: &[(Word, i64)]) ->
 #[tactic(auto, unfolding(crate::specs::Canon::series_head))]
 pub fn series_head_len(labels: &[(String, String)], len: usize) -> Option<usize>
     ensures some { IfSome result (λ n. n ≡ length (series_head (map text_label labels.now) len)) }
-    ensures none { IfNone result (2 ^ 64 ≤ length (series_head (map text_label labels.now) len) + len) }
+    ensures none { IfNone result
+        (2 ^ 64 ≤ length (series_head (map text_label labels.now) len) + len) }
 {
     let fields = label_fields_len(labels)?;
     let inner = fields.checked_add(len)?;
@@ -117,8 +118,10 @@ pub fn series_head_len(labels: &[(String, String)], len: usize) -> Option<usize>
 /// The length of the field of a series with these labels and samples, in the canonical spelling; `None` where it does not fit 64 bits.
 #[tactic(auto, unfolding(crate::specs::Canon::series_field))]
 pub fn series_field_len(labels: &[(String, String)], samples: &[(Word, i64)]) -> Option<usize>
-    ensures some { IfSome result (λ n. n ≡ length (series_field (series_of labels.now samples.now))) }
-    ensures none { IfNone result (2 ^ 64 ≤ length (series_field (series_of labels.now samples.now))) }
+    ensures some { IfSome result
+        (λ n. n ≡ length (series_field (series_of labels.now samples.now))) }
+    ensures none { IfNone result
+        (2 ^ 64 ≤ length (series_field (series_of labels.now samples.now))) }
 {
     let inner = parts_len(labels, samples)?;
     bytes_field_len(inner)

@@ -22,7 +22,8 @@ pub fn message_part(bytes: &[u8]) -> Result<(Option<&[u8]>, &[u8]), WireFault>
     ensures series { IfOk result (λ x. IfSome x.0 (λ s. (m : WriteRequest)
         → read_on m bytes.now ≡ with_series m (read_series s.now) x.1.now)) }
     // Any other field is passed over.
-    ensures other { IfOk result (λ x. x.0 ≡ None → (m : WriteRequest) → read_on m bytes.now ≡ read_on m x.1.now) }
+    ensures other { IfOk result
+        (λ x. x.0 ≡ None → (m : WriteRequest) → read_on m bytes.now ≡ read_on m x.1.now) }
     ensures fault { IfErr result (λ e. (m : WriteRequest) → read_on m bytes.now ≡ Err e) }
     ensures shorter { IfOk result (λ x. length x.1.now < length bytes.now) }
 {
@@ -63,8 +64,10 @@ pub fn head_of(bytes: &[u8]) -> &[u8]
 #[tactic(auto, unfolding(crate::specs::Read::series_step))]
 fn add_sample(samples: &mut Vec<(Word, i64)>, part: Part<'_>) -> Result<(), WireFault>
     requires { part.number ≢ 1 }
-    ensures { (labels : Labels) → GivesOrMemory (λ _. record { labels = labels; samples = samples.new.items }) result
-        (series_step (record { labels = labels; samples = samples.old.items }) (field_view part.entry)) }
+    ensures { (labels : Labels)
+        → GivesOrMemory (λ _. record { labels = labels; samples = samples.new.items }) result
+        (series_step (record { labels = labels; samples = samples.old.items })
+        (field_view part.entry)) }
 {
     if part.number == 2 {
         let sample = nested_sample(part.held)?;

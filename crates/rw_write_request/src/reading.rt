@@ -344,7 +344,8 @@ pub fn decode(alloc: Global, bytes: &[u8]) -> Result<Message, WireFault>
     // What is read is spelled so.
     ensures found { IfOk result (λ m. Spells bytes.now m) }
     // What is spelled so is read, unless memory runs out.
-    ensures only { (m : WriteRequest) → Spells bytes.now m → MatchResult result (λ n. n ≡ m) (λ e. e ≡ OutOfMemory) }
+    ensures only { (m : WriteRequest) → Spells bytes.now m
+        → MatchResult result (λ n. n ≡ m) (λ e. e ≡ OutOfMemory) }
     // Any other fault is the first one in reading order.
     ensures fault { IfErr result (λ e. e ≢ OutOfMemory → read bytes.now ≡ Err e) }
 {

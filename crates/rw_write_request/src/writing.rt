@@ -50,7 +50,8 @@ fn put_string_field(out: &mut Vec<u8>, number: u8, text: &str)
 /// Appends the field of a label in its series to a vector that has room for it. This takes no memory.
 #[tactic(auto, unfolding(crate::specs::Canon::label_field, crate::specs::Canon::label))]
 pub fn put_label_field(out: &mut Vec<u8>, name: &str, value: &str)
-    requires room { vec_len out.old + length (label_field (name.now, value.now)) ≤ vec_capacity out.old }
+    requires room { vec_len out.old + length (label_field (name.now, value.now))
+        ≤ vec_capacity out.old }
     ensures items { out.new.items ≡ out.old.items ++ label_field (name.now, value.now) }
     ensures capacity { vec_capacity out.old ≤ vec_capacity out.new }
 {
@@ -89,7 +90,8 @@ fn put_timestamp(out: &mut Vec<u8>, timestamp: i64)
 /// Appends the field of a sample in its series, at most 22 bytes, to a vector that has room for it. This takes no memory.
 #[tactic(auto, unfolding(crate::specs::Canon::sample_field, crate::specs::Canon::sample))]
 pub fn put_sample_field(out: &mut Vec<u8>, word: Word, timestamp: i64)
-    requires room { vec_len out.old + length (sample_field (word, timestamp)) ≤ vec_capacity out.old }
+    requires room { vec_len out.old + length (sample_field (word, timestamp))
+        ≤ vec_capacity out.old }
     ensures items { out.new.items ≡ out.old.items ++ sample_field (word, timestamp) }
     ensures fits { word < 2 ^ 64 }
     ensures capacity { vec_capacity out.old ≤ vec_capacity out.new }
@@ -109,7 +111,8 @@ pub fn put_series_front(out: &mut Vec<u8>, len: usize)
 }
 
 fn put_label_fields(out: &mut Vec<u8>, labels: &[(String, String)])
-    requires room { vec_len out.old + length (label_fields (map text_label labels.now)) ≤ vec_capacity out.old }
+    requires room { vec_len out.old + length (label_fields (map text_label labels.now))
+        ≤ vec_capacity out.old }
     ensures items { out.new.items ≡ out.old.items ++ label_fields (map text_label labels.now) }
     ensures texts { AllByRecursion IsLabel (map text_label labels.now) }
     ensures capacity { vec_capacity out.old ≤ vec_capacity out.new }
@@ -124,7 +127,8 @@ fn put_label_fields(out: &mut Vec<u8>, labels: &[(String, String)])
 #[tactic(auto, unfolding(crate::specs::Canon::series_head))]
 pub fn put_series_head(out: &mut Vec<u8>, labels: &[(String, String)], len: usize)
     requires fits { length (series_head (map text_label labels.now) len) + len < 2 ^ 64 }
-    requires room { vec_len out.old + length (series_head (map text_label labels.now) len) ≤ vec_capacity out.old }
+    requires room { vec_len out.old + length (series_head (map text_label labels.now) len)
+        ≤ vec_capacity out.old }
     ensures items { out.new.items ≡ out.old.items ++ series_head (map text_label labels.now) len }
     ensures texts { AllByRecursion IsLabel (map text_label labels.now) }
     ensures capacity { vec_capacity out.old ≤ vec_capacity out.new }
@@ -148,8 +152,10 @@ fn put_sample_fields(out: &mut Vec<u8>, samples: &[(Word, i64)])
 /// Appends the field of a series with these labels and samples to a vector that has room for it. This takes no memory.
 #[tactic(auto, unfolding(crate::specs::Canon::series_field, crate::specs::Canon::series))]
 pub fn put_series(out: &mut Vec<u8>, labels: &[(String, String)], samples: &[(Word, i64)])
-    requires room { vec_len out.old + length (series_field (series_of labels.now samples.now)) ≤ vec_capacity out.old }
-    ensures items { out.new.items ≡ out.old.items ++ series_field (series_of labels.now samples.now) }
+    requires room { vec_len out.old + length (series_field (series_of labels.now samples.now))
+        ≤ vec_capacity out.old }
+    ensures items { out.new.items
+        ≡ out.old.items ++ series_field (series_of labels.now samples.now) }
     ensures valid { IsSeries (series_of labels.now samples.now) }
     ensures capacity { vec_capacity out.old ≤ vec_capacity out.new }
 {
