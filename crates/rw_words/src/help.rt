@@ -57,8 +57,8 @@ Example:
 Sender, network and receiver run on one thread. docs/REPLAY.md tells the events, and docs/SETTINGS.md
 the settings.
 
-Exit status: 0; 1 for a bad line or a fault of the log; 2 for bad words or settings; 3 out of memory;
-4 where a file, standard input or output failed.";
+Exit status: 0; 1 for a bad line; 2 for bad words or settings; 3 out of memory; 4 where a file, standard
+input or output failed.";
 
 pub(crate) const SETTINGS: &str = "\
 Example:

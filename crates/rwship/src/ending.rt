@@ -62,7 +62,7 @@ pub fn followed(rt: &HostRuntime, fault: FollowFault) -> ExitCode
 pub fn dropped(rt: &HostRuntime, count: u64) -> ExitCode
     ensures { process.exit_status result ≡ 1 }
 {
-    let _ = eprintln!(rt; "rwship: {count} samples were dropped");
+    let _ = eprintln!(rt; "rwship: samples dropped: {count}");
     ExitCode::from(DROPPED)
 }
 
@@ -70,7 +70,7 @@ pub fn dropped(rt: &HostRuntime, count: u64) -> ExitCode
 pub fn missing(rt: &HostRuntime, count: u64) -> ExitCode
     ensures { process.exit_status result ≡ 1 }
 {
-    let _ = eprintln!(rt; "rwship: {count} positions are not there");
+    let _ = eprintln!(rt; "rwship: positions without an entry: {count}");
     ExitCode::from(NOT_THERE)
 }
 
