@@ -16,7 +16,7 @@ pub enum Counters {
 }
 
 impl Counters {
-    /// The same counters once more.
+    /// Another share of these counters.
     pub fn share(&self) -> Result<Counters, AllocError> {
         Ok(match self {
             Counters::Send(counters) => Counters::Send(Arc::try_clone(counters)?),

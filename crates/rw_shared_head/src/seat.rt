@@ -96,8 +96,8 @@ impl<L: Ledger> Seat<L> {
         self.ask(rt, shared, body).status
     }
 
-    /// The same, with the number of label sets of which the head has samples from then on: those that it had at the start, and those of what
-    /// this seat stored, are among them.
+    /// Answers a request as `answer` does, and tells how many label sets the head has samples of from then on: those that it had at the start, and
+    /// those of what this seat stored, are among them.
     pub fn ask<R: Wait>(&mut self, rt: &R, shared: &SharedHead<L>, body: &[u8]) -> Asked
         ensures statuses { IsStatus result.status }
         ensures asked { HasAsked self.old body.now result.status self.new }

@@ -17,7 +17,7 @@ impl Tally {
         Ok(Tally { resolved })
     }
 
-    /// The same tally once more. It takes no memory, and is refused where there are too many shares already.
+    /// Another share of this tally. It takes no memory, and is refused where there are too many shares already.
     pub(crate) fn share(&self) -> Result<Tally, AllocError> {
         let resolved = self.resolved.clone()?;
         Ok(Tally { resolved })

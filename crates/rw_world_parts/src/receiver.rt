@@ -13,7 +13,7 @@ use std::alloc::{AllocError, Global};
 /// No request is longer. Where one would be, memory is said to have run out.
 const MOST_BYTES: usize = 1 << 62;
 
-/// The same limits, at this path.
+/// These limits, with another path.
 pub fn limits_at(alloc: Global, limits: Limits, path: &RequestPath) -> Result<Limits, AllocError>
     ensures { IfOk result (λ l. l ≡ record limits { path = path.now }) }
 {

@@ -41,7 +41,7 @@ pub fn ended(rt: &HostRuntime, outcome: Result<(), ToolFault>) -> ExitCode
     }
 }
 
-/// The same of shipping that has ended so.
+/// Says why a log was followed no further, and gives the exit status.
 pub fn followed(rt: &HostRuntime, fault: FollowFault) -> ExitCode
     ensures { process.exit_status result ≡ follow_status fault }
 {
@@ -88,7 +88,7 @@ fn tell(rt: &HostRuntime, notes: &[SettingsNote]) {
     }
 }
 
-/// The same of settings that cannot be read, and what is wrong with them where that is asked for.
+/// Says that settings cannot be read, and what is wrong with them where that is asked for, and gives the exit status.
 pub fn unset(rt: &HostRuntime, fault: Unset) -> ExitCode
     ensures { process.exit_status result ≡ unset_status fault }
 {

@@ -47,7 +47,7 @@ fn log_from<S: Source>(
     }
 }
 
-/// The same of standard input.
+/// Writes the log that standard input tells, and says what is wrong with a bad line where that is asked for.
 pub fn log(
     rt: &HostRuntime,
     hex: bool,

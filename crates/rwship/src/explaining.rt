@@ -99,7 +99,7 @@ fn tell_input(rt: &HostRuntime, input: &Input, fault: ToolFault) -> Result<(), T
     }
 }
 
-/// The same as `ended` of a run over an input, and what is wrong with the input.
+/// Ends as `ended` does, after a run over an input, and says what is wrong with the input.
 pub fn explained(rt: &HostRuntime, input: &Input, outcome: Result<(), ToolFault>) -> ExitCode {
     match outcome {
         Ok(()) => ended(rt, Ok(())),

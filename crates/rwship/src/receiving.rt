@@ -99,7 +99,7 @@ fn new_counters(rt: &HostRuntime) -> Result<Arc<ReceiveCounters, Global>, AllocE
     Ok(Arc::new(rt.alloc(), counters)?)
 }
 
-/// The same, with what is told of it while it goes on.
+/// Serves, and tells how it goes where that is asked for.
 fn serve_and_tell<R: Threads + Wait + Clock + Sync>(
     rt: &HostRuntime,
     threads: &R,
