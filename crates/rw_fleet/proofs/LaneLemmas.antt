@@ -7,7 +7,7 @@ use Rattle.rw_shard_core.specs.declared.config.ConfigFields.{ConfigFields}
 use Rattle.rw_plain_queue.specs.Items.{samples_in}
 use Rattle.rw_plain_queue.specs.declared.item.Item.TheVariants as item
 use Rattle.rw_router.specs.declared.sample.RoutedSample.{RoutedSample}
-use Rattle.rw_fleet.specs.ShardHistories.{ShardHistory, IsSetUp, AreSetUp, AreSame, AreFresh, IsPut, put_as, marks_in, marked, marks}
+use Rattle.rw_fleet.specs.ShardHistories.{ShardHistory, IsSetUp, AreSetUp, AreSame, AreFresh, IsMarked, IsPut, put_as, item_as, marks_in, marked, marks}
 use Rattle.rw_fleet.proofs.PutLemmas.{samples_mark}
 use Rattle.rw_fleet.proofs.ListLemmas.{get_snoc, get_at}
 
@@ -69,8 +69,28 @@ pub marks_kept : (n : ℕ) (ls now after : List ShardHistory) (l m : ShardHistor
 marks_kept n ls now after l m is at same set_is = marks_same n ls after (set_is ∙ ap (λ y. set now n y) (same ∙ at) ∙ set-get_or now n l ∙ is)
 
 -- one shard was put a sample
-pub put_at : (k : ℕ) (s : RoutedSample) (old new : List ShardHistory) (was now : ShardHistory) → k < length old → was ≡ get_or old k was → new ≡ set old k now → now.setup ≡ was.setup → samples_in now.put ≡ samples_in was.put ++ put_as was s ∷ [] → marks_in now.put ≡ marks_in was.put → IsPut k s old new
-put_at k s old new was now below at is setup put marks = record { was = was; now = now; at = get_at old was k below at; setup = setup; put = put; marks = marks; is = is }
+pub put_at : (k : ℕ) (s : RoutedSample) (old new : List ShardHistory) (was now : ShardHistory) → k < length old → was ≡ get_or old k was → new ≡ set old k now → now.setup ≡ was.setup → samples_in now.put ≡ samples_in was.put ++ put_as was s ∷ [] → marks_in now.put ≡ marks_in was.put
+    → now.put ≡ was.put ++ item_as was s ∷ [] → IsPut k s old new
+put_at k s old new was now below at is setup put marks items = record { was = was; now = now; at = get_at old was k below at; setup = setup; put = put; marks = marks; items = items; is = is }
+
+-- one shard was put a Flush
+pub mark_at : (k : ℕ) (old new : List ShardHistory) (was now : ShardHistory) → k < length old → was ≡ get_or old k was → new ≡ set old k now → now.setup ≡ was.setup → now.put ≡ was.put ++ item.Flush ∷ [] → IsMarked k old new
+mark_at k old new was now below at is setup put = record { was = was; at = get_at old was k below at; is = is ∙ ap (set old k) (λ i. record { setup = setup i; put = put i }) }
+
+pub same_self : (ls : List ShardHistory) → AreSame ls ls
+same_self [] = tt
+same_self (l ∷ ls) = (refl, refl, same_self ls)
+
+pub same_at : (k : ℕ) (old new : List ShardHistory) (was now : ShardHistory) → was ≡ get_or old k was → new ≡ set old k now → now.setup ≡ was.setup → samples_in now.put ≡ samples_in was.put → AreSame old new
+same_at k old new was now at is setup samples = subst (AreSame old) (sym is) (go k old at)
+  where
+    go : (k : ℕ) (ls : List ShardHistory) → was ≡ get_or ls k was → AreSame ls (set ls k now)
+    go k [] at = tt
+    go zero (x ∷ xs) at = (setup ∙ ap (λ (l : ShardHistory). l.setup) at, samples ∙ ap (λ (l : ShardHistory). samples_in l.put) at, same_self xs)
+    go (suc k) (x ∷ xs) at = (refl, refl, go k xs at)
+
+pub same_marked : (k : ℕ) (old new : List ShardHistory) (was now : ShardHistory) → was ≡ get_or old k was → new ≡ set old k now → now.setup ≡ was.setup → now.put ≡ was.put ++ item.Flush ∷ [] → AreSame old new
+same_marked k old new was now at is setup put = same_at k old new was now at is setup (samples_mark was.put now.put item.Flush put refl)
 
 pub put_back : (k : ℕ) (old new : List ShardHistory) (was now : ShardHistory) → was ≡ get_or old k was → new ≡ set old k now → now ≡ was → new ≡ old
 put_back k old new was now at is same = is ∙ ap (set old k) (same ∙ at) ∙ set-get_or old k was

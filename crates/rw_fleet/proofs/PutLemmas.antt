@@ -7,7 +7,7 @@ use Rattle.rw_plain_queue.specs.declared.item.Item.{Item}
 use Rattle.rw_plain_queue.specs.declared.item.Item.TheVariants as item
 use Rattle.rw_plain_queue.specs.Items.{Placed, samples_in, places_in}
 use Rattle.rw_plain_queue.specs.History.{IsFew}
-use Rattle.rw_fleet.specs.ShardHistories.{ShardHistory, put_as, marks_in}
+use Rattle.rw_fleet.specs.ShardHistories.{ShardHistory, put_as, item_as, marks_in}
 use Rattle.rw_router.specs.declared.sample.RoutedSample.{RoutedSample}
 use Rattle.rw_fleet.specs.Work.{positions_in}
 
@@ -57,6 +57,10 @@ positions_more xs zs x p was now is one old new =
 pub as_put : (lane : ShardHistory) (s : RoutedSample) (epoch shard seq : ℕ) (t : ℤ) → epoch ≡ lane.setup.queue.epoch → shard ≡ lane.setup.queue.shard → seq ≡ length (places_in lane.put) → t ≡ s.t
     → ◌≡◌ {A = Placed} (record { place = record { epoch = epoch; shard = shard; seq = seq; pos = s.pos; series = s.series }; t = t; word = s.word; labels = arc_value s.labels }) (put_as lane s)
 as_put lane s epoch shard seq t e h n z = λ i. record { place = record { epoch = e i; shard = h i; seq = n i; pos = s.pos; series = s.series }; t = z i; word = s.word; labels = arc_value s.labels }
+
+pub as_item : (lane : ShardHistory) (s : RoutedSample) (epoch shard seq : ℕ) (t : ℤ) → epoch ≡ lane.setup.queue.epoch → shard ≡ lane.setup.queue.shard → seq ≡ length (places_in lane.put) → t ≡ s.t
+    → ◌≡◌ {A = Item} (item.Sample (record { epoch = epoch; shard = shard; seq = seq; pos = s.pos; series = s.series }) t s.word s.labels) (item_as lane s)
+as_item lane s epoch shard seq t e h n z = λ i. item.Sample (record { epoch = e i; shard = h i; seq = n i; pos = s.pos; series = s.series }) (z i) s.word s.labels
 
 pub marks_append : (xs ys : List Item) → marks_in (xs ++ ys) ≡ marks_in xs ++ marks_in ys
 marks_append [] ys = refl

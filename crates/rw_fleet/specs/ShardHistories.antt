@@ -35,6 +35,10 @@ put_as lane s = record {
   labels = arc_value s.labels;
 }
 
+-- and as an item of its queue
+abbrev pub item_as : ShardHistory → RoutedSample → Item
+item_as lane s = item.Sample (put_as lane s).place s.t s.word s.labels
+
 -- the marks among items, without the samples
 abbrev pub marks_in : List Item → List Item
 marks_in [] = []
@@ -54,6 +58,7 @@ pub record IsPut (k : ℕ) (s : RoutedSample) (old new : List ShardHistory) : Ty
   pub setup : now.setup ≡ was.setup
   pub put : samples_in now.put ≡ samples_in was.put ++ put_as was s ∷ []
   pub marks : marks_in now.put ≡ marks_in was.put
+  pub items : now.put ≡ was.put ++ item_as was s ∷ []
   pub is : new ≡ set old k now
 
 -- the shard numbered k was put as many samples as are counted
@@ -74,6 +79,12 @@ AreFresh epoch lanes = (k : ℕ) (l : ShardHistory) → slice_get lanes k ≡ So
 -- with a Flush put
 abbrev pub marked : ShardHistory → ShardHistory
 marked l = record l { put = l.put ++ item.Flush ∷ [] }
+
+-- the shard numbered k was put a Flush, the others nothing
+pub record IsMarked (k : ℕ) (old new : List ShardHistory) : Type 0 where
+  pub was : ShardHistory
+  pub at : slice_get old k ≡ Some was
+  pub is : new ≡ set old k (marked was)
 
 -- the first n of the shards with a Flush put
 abbrev pub marks : ℕ → List ShardHistory → List ShardHistory

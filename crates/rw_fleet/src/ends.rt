@@ -50,10 +50,13 @@ pub(crate) fn meet<R>(rt: &R, fed: Fed, end: TakingEnd) -> Ends
     ensures begins { IsTakenOf result }
     ensures ended { is_compared result ≡ true → IsEndTaken end }
     ensures apart { is_compared result ≡ false → IsApart result }
-    ensures fits { length (put_of result) ≤ length (taken_of result) + (feeding fed).queue.capacity }
-    ensures history { IsHistory (feeding fed).queue.epoch (feeding fed).queue.shard (put_of result) }
+    ensures fits { length (put_of result)
+        ≤ length (taken_of result) + (feeding fed).queue.capacity }
+    ensures history { IsHistory (feeding fed).queue.epoch (feeding fed).queue.shard
+        (put_of result) }
     ensures last { is_compared result ≡ true → IsEnded (taken_of result) }
-    ensures within { length (places_in (put_of result)) ≤ length (places_in (taken_of result)) + (feeding fed).queue.capacity }
+    ensures within { length (places_in (put_of result))
+        ≤ length (places_in (taken_of result)) + (feeding fed).queue.capacity }
 {
     match (fed, end) {
         (Fed::Open(feed), TakingEnd::Killed(drain)) => {

@@ -3,7 +3,7 @@
 ghost use Rattle.std.specs.Prelude.{◌≡◌, ◌+◌, ◌<◌, ◌≤◌, ◌^◌, ℕ, List, [], ◌∷◌, ◌++◌, length, map, MatchResult, IfOk, IfErr, OnOk, OnErr, Some, Err, true, false, slice_get};
 ghost use Rattle.rw_types.specs.declared.place.Place.{Place};
 ghost use Rattle.rw_plain_queue.specs.Items.{places_in};
-ghost use Rattle.rw_fleet.specs.ShardHistories.{ShardHistory, AreFresh, AreSame, AreSetUp, IsPut, IsUsedUp, marked};
+ghost use Rattle.rw_fleet.specs.ShardHistories.{ShardHistory, AreFresh, AreSame, AreSetUp, IsMarked, IsPut, IsUsedUp, marked};
 ghost use Rattle.rw_worker.specs.Report.{is_hard};
 ghost use Rattle.rw_fleet.specs.Work.{AreResolved, AreWorked, HasCut, lane_of, finished_of};
 ghost use Rattle.rw_fleet.specs.Fleets.{AreAll, EndBy, HasClosed};
@@ -51,7 +51,12 @@ impl<C: Connect + Drop> Model for ShardSet<C> {
 
     ghost coded = { Prim.hlevel (codes, names.code) };
 
-    ghost view = { λ f. record { config = f.config; epoch = f.epoch; current = f.running.items; ended = f.joined.items } };
+    ghost view = { λ f. record {
+      config = f.config;
+      epoch = f.epoch;
+      current = f.running.items;
+      ended = f.joined.items;
+    } };
 
     ghost invariant = { λ f. AreWorked C.T.tells C.T.seen C.T.is_for f.joined.items
         × AreSetUp f.config (map lane_of f.joined.items)
@@ -66,7 +71,8 @@ impl<C: Connect + Drop> Model for ShardSet<C> {
 impl<C: Connect + Drop> ShardSet<C> {
     /// A fleet before epoch 0 is opened: it has no shard.
     pub fn new(alloc: Global, config: Config, connect: C) -> Result<ShardSet<C>, AllocError>
-        ensures { IfOk result (λ f. f ≡ record { config = config; epoch = 0; current = []; ended = [] }) }
+        ensures { IfOk result
+            (λ f. f ≡ record { config = config; epoch = 0; current = []; ended = [] }) }
     {
         let stop = StopFlag::new(alloc)?;
         Ok(ShardSet {
@@ -150,7 +156,8 @@ impl<C: Connect + Drop> ShardSet<C> {
     /// Puts a sample into the queue of shard number `shard`. It may wait for room. An `Err` changes nothing.
     pub fn put<R: Wait>(&mut self, rt: &R, shard: usize, sample: RoutedSample) -> Result<(), Fault>
         requires within { shard < length self.old.current }
-        requires later { (lane : ShardHistory) (k : ℕ) (o : Place) → slice_get self.old.current shard ≡ Some lane
+        requires later { (lane : ShardHistory) (k : ℕ) (o : Place)
+            → slice_get self.old.current shard ≡ Some lane
             → slice_get (places_in lane.put) k ≡ Some o → o.pos < sample.pos }
         ensures rest { self.new ≡ record self.old { current = self.new.current } }
         ensures ok { OnOk result (IsPut shard sample self.old.current self.new.current) }
@@ -158,6 +165,21 @@ impl<C: Connect + Drop> ShardSet<C> {
         ensures memory { result ≡ Err Fault.OutOfMemory → IsUsedUp shard self.old.current }
     {
         if let Err(fault) = self.running[shard].put(rt, sample) {
+            return Err(fault);
+        }
+        Ok(())
+    }
+
+    /// Puts a Flush into the queue of shard number `shard`. It may wait for room. An `Err` changes nothing.
+    pub fn mark_one<R: Wait>(&mut self, rt: &R, shard: usize) -> Result<(), Fault>
+        requires { shard < length self.old.current }
+        ensures rest { self.new ≡ record self.old { current = self.new.current } }
+        ensures ok { OnOk result (IsMarked shard self.old.current self.new.current) }
+        ensures err { OnErr result (self.new ≡ self.old) }
+        ensures same { AreSame self.old.current self.new.current }
+        ensures memory { result ≡ Err Fault.OutOfMemory → ⊥ }
+    {
+        if let Err(fault) = self.running[shard].mark(rt) {
             return Err(fault);
         }
         Ok(())

@@ -113,7 +113,8 @@ pub(crate) fn join_all<T: Transport + Send + Drop + 'static, R: Threads>(
     requires worked { AreWorked T.tells T.seen T.is_for joined.items }
     ensures capacity { vec_capacity result ≡ vec_capacity joined }
     ensures len { vec_len result ≡ vec_len joined + vec_len ending }
-    ensures same { (more : List _) × (result.items ≡ joined.items ++ more) × (map lane_of more ≡ ending.items) }
+    ensures same { (more : List _) × (result.items ≡ joined.items ++ more)
+        × (map lane_of more ≡ ending.items) }
     ensures worked { AreWorked T.tells T.seen T.is_for result.items }
 {
     let mut rest = ending.into_iter();
@@ -139,7 +140,8 @@ pub(crate) fn all_resolved<T: Transport>(joined: &Vec<StoppedShard<T>>) -> bool
 
 /// How far the samples of shards that have ended have come.
 pub(crate) fn load_of_ended<T: Transport>(joined: &Vec<StoppedShard<T>>) -> Load
-    ensures { result ≡ load_of (sum_by resolved_in joined.now.items) (sum_by left_in joined.now.items) }
+    ensures { result
+        ≡ load_of (sum_by resolved_in joined.now.items) (sum_by left_in joined.now.items) }
 {
     let mut load = Load::none();
     for shard in joined.iter() {

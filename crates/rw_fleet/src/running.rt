@@ -1,9 +1,9 @@
 //! A shard at work, and one that is to end.
 
-ghost use Rattle.std.specs.Prelude.{◌≡◌, ◌<◌, ◌≤◌, ◌^◌, ℕ, List, [], ◌∷◌, ◌++◌, length, IfOk, MatchResult, Err, Some, slice_get};
+ghost use Rattle.std.specs.Prelude.{◌≡◌, ◌<◌, ◌≤◌, ◌^◌, ℕ, List, [], ◌∷◌, ◌++◌, length, IfOk, OnOk, MatchResult, Err, Some, slice_get};
 ghost use Rattle.rw_types.specs.declared.place.Place.{Place};
 ghost use Rattle.rw_plain_queue.specs.Items.{samples_in, places_in};
-ghost use Rattle.rw_fleet.specs.ShardHistories.{IsSetUp, put_as, marks_in};
+ghost use Rattle.rw_fleet.specs.ShardHistories.{IsSetUp, put_as, item_as, marks_in};
 ghost use Rattle.rw_fleet.specs.Loads.{count_in, left_at_work};
 ghost use Rattle.rw_fleet.specs.Work.{lane_of, IsEndedBy, IsWorked};
 
@@ -60,7 +60,8 @@ impl<T: Transport + Send + Drop + 'static> Model for RunningShard<T> {
         × (T.seen r.handle.promise.transport.value ≡ [])
         × IsUnended r.feed.put
         × (r.window.most ≡ r.worker.value.queue.capacity + r.worker.value.batch)
-        × T.is_for r.worker.value.queue.epoch r.worker.value.queue.shard r.handle.promise.transport.value };
+        × T.is_for r.worker.value.queue.epoch r.worker.value.queue.shard
+        r.handle.promise.transport.value };
 }
 
 /// A shard that is to end, which has to be joined. Contracts see what its worker is set up with, and what was put into its queue.
@@ -85,7 +86,8 @@ impl<T: Transport + Send + Drop + 'static> Model for StoppingShard<T> {
         × (r.handle.promise.worker.value ≡ r.worker.value)
         × (T.seen r.handle.promise.transport.value ≡ [])
         × (r.window.most ≡ r.worker.value.queue.capacity + r.worker.value.batch)
-        × T.is_for r.worker.value.queue.epoch r.worker.value.queue.shard r.handle.promise.transport.value };
+        × T.is_for r.worker.value.queue.epoch r.worker.value.queue.shard
+        r.handle.promise.transport.value };
 }
 
 impl<T: Transport + Send + Drop + 'static> RunningShard<T> {
@@ -102,7 +104,8 @@ impl<T: Transport + Send + Drop + 'static> RunningShard<T> {
     ) -> Result<RunningShard<T>, AllocError>
         requires unused { T.seen transport ≡ [] }
         requires made { T.is_for epoch shard transport }
-        ensures queue { IfOk result (λ r. (r.setup.queue.epoch ≡ epoch) × (r.setup.queue.shard ≡ shard)) }
+        ensures queue { IfOk result
+            (λ r. (r.setup.queue.epoch ≡ epoch) × (r.setup.queue.shard ≡ shard)) }
         ensures setup { IfOk result (λ r. IsSetUp config.now r.setup) }
         ensures empty { IfOk result (λ r. r.put ≡ []) }
     {
@@ -148,11 +151,13 @@ impl<T: Transport + Send + Drop + 'static> RunningShard<T> {
 
     /// Puts a sample. It may wait for room.
     pub(crate) fn put<R: Wait>(&mut self, rt: &R, sample: RoutedSample) -> Result<(), Fault>
-        requires later { (k : ℕ) (o : Place) → slice_get (places_in self.old.put) k ≡ Some o → o.pos < sample.pos }
+        requires later { (k : ℕ) (o : Place) → slice_get (places_in self.old.put) k ≡ Some o
+            → o.pos < sample.pos }
         ensures setup { self.new.setup ≡ self.old.setup }
         ensures put { MatchResult result (λ _. samples_in self.new.put
             ≡ samples_in self.old.put ++ put_as self.old sample ∷ []) (λ _. self.new ≡ self.old) }
         ensures marks { marks_in self.new.put ≡ marks_in self.old.put }
+        ensures items { OnOk result (self.new.put ≡ self.old.put ++ item_as self.old sample ∷ []) }
         ensures memory { result ≡ Err Fault.OutOfMemory → 2 ^ 60 ≤ length (places_in self.old.put) }
     {
         let RoutedSample {

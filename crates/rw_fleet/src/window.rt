@@ -26,7 +26,8 @@ impl Model for Window {
 
     ghost view = { λ w. record { all = w.all; most = w.most } };
 
-    ghost invariant = { λ w. (w.kept.items ≡ latest w.most w.all) × (w.count ≡ length w.all) × (0 < w.most) × (w.most ≤ deque_capacity w.kept) };
+    ghost invariant = { λ w. (w.kept.items ≡ latest w.most w.all) × (w.count ≡ length w.all)
+        × (0 < w.most) × (w.most ≤ deque_capacity w.kept) };
 }
 
 impl Window {

@@ -9,7 +9,7 @@ use Rattle.rw_types.specs.declared.place.Place.{Place}
 use Rattle.rw_relabel.specs.declared.choice.Choice.{Choice}
 use Rattle.rw_plain_queue.specs.Items.{places_in}
 use Rattle.rw_plain_queue.specs.declared.item.Kind.TheVariants.{Reshard}
-use Rattle.rw_fleet.specs.ShardHistories.{ShardHistory, AreFresh, AreSame, IsPut, marks_of}
+use Rattle.rw_fleet.specs.ShardHistories.{ShardHistory, AreFresh, AreSame, IsPut, marked, marks_of}
 use Rattle.rw_fleet.specs.Work.{lane_of, finished_of, AreResolved, HasCut}
 use Rattle.rw_fleet.specs.declared.running.Fault.{Fault}
 use Rattle.rw_fleet.specs.Fleets.{Shards, AreAll, EndBy, HasClosed}
@@ -26,8 +26,11 @@ use Rattle.rw_wal_format.specs.declared.tail_fault.TailFault.{TailFault}
 use Rattle.rw_shard_core.specs.declared.outcome.Outcome.{Outcome}
 use Rattle.rw_shard_core.specs.declared.outcome.Outcome.TheVariants as outcome
 use Rattle.rw_shipper.specs.Reports.{abandoned_in, end_of, IsAbandoned, IsAbandonedAt, ListsCut}
-use Rattle.rw_shipper.specs.Shipping.{Shipping, PlacesAll, IsReady, IsRead, GoesOn, HasCompared, Ends, HasStopped}
+use Rattle.rw_shipper.specs.Shipping.{Shipping, PlacesAll, IsReady, IsReckoned, IsRead, GoesOn, HasCompared, Ends, HasStopped}
+use Rattle.rw_batch_bytes.specs.Rooms.{Counting, AreFull}
+use Rattle.rw_shipper.specs.Cutting.{AreCounted}
 use Rattle.rw_shipper.proofs.PlacementLemmas.{same_length, placing_put, placing_closed, placing_whole, placing_opened, placing_begun, placing_same, set_length, kept_self, kept_on, kept_put}
+use Rattle.rw_shipper.proofs.CutLemmas.{kept_same, counted_fresh, counted_marked}
 use Rattle.rw_shipper.proofs.BelowLemmas.{placing_below}
 use Rattle.rw_shipper.proofs.ListingLemmas.{lanes_append}
 
@@ -63,8 +66,8 @@ module _ {T : Type 0} where
       subst (λ (f : Shards T). PlacesAll new f) (sym rest) (subst (λ s. IsPlacing was.epoch (map lane_of was.ended) now.current s) (sym (placed_samples old new e (sent_by l ∷ []) after hand is)) next)
 
   -- the entries placed so far stay
-  pub goes_same : (old new : Sorting) (was : Shards T) → new ≡ old → GoesOn old new was was
-  goes_same old new was same = record {
+  pub goes_same : (limit : Option ℕ) (old new : Sorting) (was : Shards T) → new ≡ old → GoesOn limit old new was was
+  goes_same limit old new was same = record {
     choice = ap (λ (s : Sorting). s.choice) same;
     pieces = ap (λ (s : Sorting). s.pieces) same;
     more = [];
@@ -72,11 +75,12 @@ module _ {T : Type 0} where
     fleet = refl;
     len = refl;
     kept = kept_self was.current;
-    marks = refl;
+    marks = λ none. refl;
   }
 
-  pub goes_placed : (old held new : Sorting) (was now : Shards T) → held ≡ old → HasPlaced held new → now ≡ record was { current = now.current } → length now.current ≡ length was.current → AreKept was.current now.current → map marks_of now.current ≡ map marks_of was.current → GoesOn old new was now
-  goes_placed old held new was now same placed rest len kept marks =
+  pub goes_placed : (limit : Option ℕ) (old held new : Sorting) (was now : Shards T) → held ≡ old → HasPlaced held new → now ≡ record was { current = now.current } → length now.current ≡ length was.current → AreKept was.current now.current
+      → (limit ≡ None → map marks_of now.current ≡ map marks_of was.current) → GoesOn limit old new was now
+  goes_placed limit old held new was now same placed rest len kept marks =
       let after : HasPlaced old new = placed ∙ ap (λ (s : Sorting). record s { placed = s.placed ++ s.hand; hand = [] }) same in record {
         choice = ap (λ (s : Sorting). s.choice) after;
         pieces = ap (λ (s : Sorting). s.pieces) after;
@@ -88,8 +92,8 @@ module _ {T : Type 0} where
         marks = marks;
       }
 
-  pub goes_on : (a b c : Sorting) (x y z : Shards T) → GoesOn a b x y → GoesOn b c y z → GoesOn a c x z
-  goes_on a b c x y z h g = record {
+  pub goes_on : (limit : Option ℕ) (a b c : Sorting) (x y z : Shards T) → GoesOn limit a b x y → GoesOn limit b c y z → GoesOn limit a c x z
+  goes_on limit a b c x y z h g = record {
     choice = g.choice ∙ h.choice;
     pieces = g.pieces ∙ h.pieces;
     more = h.more ++ g.more;
@@ -97,12 +101,15 @@ module _ {T : Type 0} where
     fleet = g.fleet ∙ ap (λ (s : Shards T). record s { current = z.current }) h.fleet;
     len = g.len ∙ h.len;
     kept = kept_on x.current y.current z.current h.kept g.kept;
-    marks = g.marks ∙ h.marks;
+    marks = λ none. g.marks none ∙ h.marks none;
   }
 
+  pub goes_next : (limit same : Option ℕ) (a b c : Sorting) (x y z : Shards T) → same ≡ limit → GoesOn limit a b x y → GoesOn same b c y z → GoesOn limit a c x z
+  goes_next limit same a b c x y z is h g = goes_on limit a b c x y z h (subst (λ m. GoesOn m b c y z) is g)
+
   -- an entry in hand changes nothing of the rest
-  pub goes_read : (old new : Sorting) (e : Entry) (was : Shards T) → new ≡ record old { hand = e ∷ [] } → GoesOn old new was was
-  goes_read old new e was is = record {
+  pub goes_read : (limit : Option ℕ) (old new : Sorting) (e : Entry) (was : Shards T) → new ≡ record old { hand = e ∷ [] } → GoesOn limit old new was was
+  goes_read limit old new e was is = record {
     choice = ap (λ (s : Sorting). s.choice) is;
     pieces = ap (λ (s : Sorting). s.pieces) is;
     more = [];
@@ -110,7 +117,7 @@ module _ {T : Type 0} where
     fleet = refl;
     len = refl;
     kept = kept_self was.current;
-    marks = refl;
+    marks = λ none. refl;
   }
 
 marks_set : (qs : List ShardHistory) (k : ℕ) (was now : ShardHistory) → slice_get qs k ≡ Some was → marks_of now ≡ marks_of was → map marks_of (set qs k now) ≡ map marks_of qs
@@ -135,6 +142,27 @@ module _ {T : Type 0} where
   -- a sample more leaves the marks
   pub put_marks : (k : ℕ) (l : RoutedSample) (was now : Shards T) → IsPut k l was.current now.current → map marks_of now.current ≡ map marks_of was.current
   put_marks k l was now put = ap (map marks_of) put.is ∙ marks_set was.current k put.was put.now put.at put.marks
+
+module _ {T : Type 0} where
+  -- a sample was put behind a mark, where that was asked for
+  pub goes_cut : (limit : Option ℕ) (k : ℕ) (l : RoutedSample) (old held new : Sorting) (was mid now : Shards T) → held ≡ old → HasPlaced held new → mid ≡ record was { current = mid.current } → now ≡ record mid { current = now.current } → AreSame was.current mid.current
+      → (limit ≡ None → mid ≡ was) → IsPut k l mid.current now.current → GoesOn limit old new was now
+  goes_cut limit k l old held new was mid now same placed rest next samples none put =
+      goes_placed limit old held new was now same placed (next ∙ ap (λ (f : Shards T). record f { current = now.current }) rest) (put_len k l mid now put ∙ same_length was.current mid.current samples)
+      (kept_on was.current mid.current now.current (kept_same was.current mid.current samples) (put_kept k l mid now put)) (λ no. put_marks k l mid now put ∙ ap (λ (f : Shards T). map marks_of f.current) (none no))
+
+  -- nothing was placed and no sample was put, but a mark may have been
+  pub goes_marked : (limit : Option ℕ) (old new : Sorting) (was now : Shards T) → new ≡ old → now ≡ record was { current = now.current } → AreSame was.current now.current → (limit ≡ None → now ≡ was) → GoesOn limit old new was now
+  goes_marked limit old new was now same rest samples none = record {
+    choice = ap (λ (s : Sorting). s.choice) same;
+    pieces = ap (λ (s : Sorting). s.pieces) same;
+    more = [];
+    grown = ap (λ (s : Sorting). s.placed) same ∙ sym (append-nil old.placed);
+    fleet = rest;
+    len = same_length was.current now.current samples;
+    kept = kept_same was.current now.current samples;
+    marks = λ no. ap (λ (f : Shards T). map marks_of f.current) (none no);
+  }
 
 sent_fate_pos : (choice : Choice) (before : List Entry) (t : ℤ) (word : ℕ) (f : Fate) (x : Sent) → sent_by_fate choice before t word f ≡ x ∷ [] → length before ≡ x.pos
 sent_fate_pos choice before t word (Sends l) x is = ap (λ (y : Sent). y.pos) (first (kept_sample choice before t word l) x is)
@@ -193,6 +221,15 @@ module _ {T : Type 0} where
   ready_next log was now None n h len some = (h.0, omega arith)
   ready_next log was now (Some f) n h len some = tt
 
+  -- what is counted where the next epoch begins, and behind a mark in each queue
+  pub reckoned_fresh : (cuts : Counting) (now : Shards T) (f : Option Fault) (n : ℕ) → AreFull cuts.limit cuts.rooms → length now.current ≡ n → n ≤ 1000 → AreFresh now.epoch now.current → IsReckoned cuts now f
+  reckoned_fresh cuts now None n full len few fresh = counted_fresh cuts.limit cuts.rooms now.epoch n now.current full len few fresh
+  reckoned_fresh cuts now (Some f) n full len few fresh = tt
+
+  pub reckoned_marked : (old new : Counting) (was now : Shards T) (f : Option Fault) → IsReckoned old was f → new.limit ≡ old.limit → AreFull new.limit new.rooms → now.current ≡ map marked was.current → IsReckoned new now f
+  reckoned_marked old new was now None h same full is = counted_marked new.limit old.rooms new.rooms was.current now.current (subst (λ m. AreCounted m old.rooms was.current) (sym same) h) full is
+  reckoned_marked old new was now (Some f) h same full is = tt
+
   pub ready_same : (log : Sorting) (was now : Shards T) (f : Option Fault) → IsReady log was f → AreSame was.current now.current → IsReady log now f
   ready_same log was now None h same = (h.0, let n = same_length was.current now.current same in let some = h.1 in omega arith)
   ready_same log was now (Some f) h same = tt
@@ -222,8 +259,8 @@ pub read_of : (log : Sorting) (f : Option Fault) (damage : Option TailFault) →
 read_of log f damage h is = subst (λ (x : Option Fault). IsRead log x damage) is h
 
 -- the entries placed so far stay, with a piece more
-pub grown_fed : {T : Type 0} (old fed new : Sorting) (was now : Shards T) (ps : List Piece) → fed ≡ record old { pieces = ps } → GoesOn fed new was now → (more : List Entry) × (new.placed ≡ old.placed ++ more)
-grown_fed old fed new was now ps is h = (h.more, h.grown ∙ ap (λ (s : Sorting). s.placed ++ h.more) is)
+pub grown_fed : {T : Type 0} (limit : Option ℕ) (old fed new : Sorting) (was now : Shards T) (ps : List Piece) → fed ≡ record old { pieces = ps } → GoesOn limit fed new was now → (more : List Entry) × (new.placed ≡ old.placed ++ more)
+grown_fed limit old fed new was now ps is h = (h.more, h.grown ∙ ap (λ (s : Sorting). s.placed ++ h.more) is)
 
 pub grown_same : (old new : Sorting) → new ≡ old → (more : List Entry) × (new.placed ≡ old.placed ++ more)
 grown_same old new is = ([], ap (λ (s : Sorting). s.placed) is ∙ sym (append-nil old.placed))

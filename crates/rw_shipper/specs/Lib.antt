@@ -1,4 +1,5 @@
 pub mod Placement
 pub mod Spread
 pub mod Reports
+pub mod Cutting
 pub mod Shipping

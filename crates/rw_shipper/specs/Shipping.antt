@@ -16,6 +16,8 @@ use Rattle.rw_shard_core.specs.declared.outcome.Outcome.TheVariants as outcome
 use Rattle.rw_fleet.specs.declared.joined.StoppedShard.{StoppedShard}
 use Rattle.rw_feeder.specs.Feeders.{Sorting, HasRead}
 use Rattle.rw_feeder.specs.Logs.{sent, named, dropped, filtered}
+use Rattle.rw_batch_bytes.specs.Rooms.{Counting}
+use Rattle.rw_shipper.specs.Cutting.{AreCounted}
 use Rattle.rw_shipper.specs.Placement.{IsPlacing, ArePlaced, AreKept}
 use Rattle.rw_shipper.specs.declared.place.Progress.{Progress}
 use Rattle.rw_shipper.specs.declared.place.Progress.TheVariants.{Placed, End}
@@ -25,11 +27,12 @@ use Rattle.rw_shipper.specs.Reports.{part_of, abandoned_in}
 use Rattle.rw_shipper.specs.declared.shipper.FeedFault.{FeedFault}
 use Rattle.rw_shipper.specs.declared.shipper.FeedFault.TheVariants.{OutOfMemory, Damaged, Gone}
 
--- the log as far as it was placed, the shards, and the fault by which it failed
+-- the log as far as it was placed, the shards, the fault by which it failed, and how many bytes a batch may take
 pub record Shipping (T : Type 0) : Type 0 where
   pub log : Sorting
   pub fleet : Shards T
   pub fault : Option Fault
+  pub limit : Option ℕ
 
 -- the shards of all epochs were put the samples of the entries placed
 abbrev pub PlacesAll : {T : Type 0} → Sorting → Shards T → Type 0
@@ -40,6 +43,11 @@ abbrev pub IsReady : {T : Type 0} → Sorting → Shards T → Option Fault → 
 IsReady log fleet None = (log.hand ≡ []) × (0 < length fleet.current)
 IsReady log fleet (Some f) = ⊤
 
+-- while it has not failed what the queues were put since their last marks is counted
+abbrev pub IsReckoned : {T : Type 0} → Counting → Shards T → Option Fault → Type 0
+IsReckoned cuts fleet None = AreCounted cuts.limit cuts.rooms fleet.current
+IsReckoned cuts fleet (Some f) = ⊤
+
 -- while it has not failed all entries were placed, and this is the fault after them
 abbrev pub IsRead : Sorting → Option Fault → Option TailFault → Type 0
 IsRead log None damage = HasRead log.pieces log.placed damage
@@ -49,8 +57,8 @@ IsRead log (Some f) damage = ⊤
 abbrev pub HasCompared : {T : Type 0} → Shards T → Shards T → Type 0
 HasCompared old new = AreAll old new.ended × EndBy Reshard old (map finished_of new.ended) × ((new.current ≡ []) ⊎ AreResolved new.ended)
 
--- more entries may have been placed, and their samples put: the rest is as it was, and no mark was put
-pub record GoesOn {T : Type 0} (old new : Sorting) (was now : Shards T) : Type 0 where
+-- more entries may have been placed, and their samples put: the rest is as it was, and without a limit no mark was put
+pub record GoesOn {T : Type 0} (limit : Option ℕ) (old new : Sorting) (was now : Shards T) : Type 0 where
   pub choice : new.choice ≡ old.choice
   pub pieces : new.pieces ≡ old.pieces
   pub more : List Entry
@@ -58,7 +66,7 @@ pub record GoesOn {T : Type 0} (old new : Sorting) (was now : Shards T) : Type 0
   pub fleet : now ≡ record was { current = now.current }
   pub len : length now.current ≡ length was.current
   pub kept : AreKept was.current now.current
-  pub marks : map marks_of now.current ≡ map marks_of was.current
+  pub marks : limit ≡ None → map marks_of now.current ≡ map marks_of was.current
 
 -- what one step of the feeder came to
 abbrev pub Steps : Sorting → Progress → Type 0

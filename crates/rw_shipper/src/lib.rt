@@ -8,7 +8,7 @@ mod place;
 mod report;
 mod shipper;
 
-pub use laws::samples_are_spread;
+pub use laws::{batches_are_short, queues_stay_within, samples_are_spread};
 pub use report::Report;
 pub use rw_fleet::{Connect, Ends, Fault, Fed, Finished, Load};
 pub use rw_shard_core::Outcome;

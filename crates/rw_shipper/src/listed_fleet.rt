@@ -3,7 +3,7 @@
 ghost use Rattle.std.specs.Prelude.{◌≡◌, ◌+◌, ◌<◌, ◌≤◌, ◌^◌, ℕ, [], length, map, IfOk, OnOk, OnErr, Some, Err, true, false, slice_get};
 ghost use Rattle.rw_types.specs.declared.place.Place.{Place};
 ghost use Rattle.rw_plain_queue.specs.Items.{places_in};
-ghost use Rattle.rw_fleet.specs.ShardHistories.{ShardHistory, AreFresh, AreSame, IsPut, IsUsedUp, marked};
+ghost use Rattle.rw_fleet.specs.ShardHistories.{ShardHistory, AreFresh, AreSame, IsMarked, IsPut, IsUsedUp, marked};
 ghost use Rattle.rw_fleet.specs.Work.{AreResolved, HasCut};
 ghost use Rattle.rw_fleet.specs.Fleets.{HasClosed};
 ghost use Rattle.rw_fleet.specs.Loads.{IsLoad};
@@ -53,7 +53,8 @@ impl<C: Connect + Drop> ListedFleet<C> {
         config: Config,
         connect: C,
     ) -> Result<ListedFleet<C>, AllocError>
-        ensures { IfOk result (λ f. f ≡ record { config = config; epoch = 0; current = []; ended = [] }) }
+        ensures { IfOk result
+            (λ f. f ≡ record { config = config; epoch = 0; current = []; ended = [] }) }
     {
         let mut lists = Lists::new(alloc);
         lists.reserve_shards(1)?;
@@ -124,7 +125,8 @@ impl<C: Connect + Drop> ListedFleet<C> {
         sample: RoutedSample,
     ) -> Result<(), Fault>
         requires within { shard < length self.old.current }
-        requires later { (lane : ShardHistory) (k : ℕ) (o : Place) → slice_get self.old.current shard ≡ Some lane
+        requires later { (lane : ShardHistory) (k : ℕ) (o : Place)
+            → slice_get self.old.current shard ≡ Some lane
             → slice_get (places_in lane.put) k ≡ Some o → o.pos < sample.pos }
         ensures rest { self.new ≡ record self.old { current = self.new.current } }
         ensures ok { OnOk result (IsPut shard sample self.old.current self.new.current) }
@@ -135,6 +137,16 @@ impl<C: Connect + Drop> ListedFleet<C> {
             return Err(fault);
         }
         Ok(())
+    }
+
+    /// Puts a Flush into the queue of a shard. It may wait for room.
+    pub(crate) fn mark_one<R: Wait>(&mut self, rt: &R, shard: usize) -> Result<(), Fault>
+        requires { shard < length self.old.current }
+        ensures rest { self.new ≡ record self.old { current = self.new.current } }
+        ensures ok { OnOk result (IsMarked shard self.old.current self.new.current) }
+        ensures same { AreSame self.old.current self.new.current }
+    {
+        self.fleet.mark_one(rt, shard)
     }
 
     /// Puts a Flush into each queue. It may wait for room.

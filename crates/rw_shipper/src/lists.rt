@@ -19,7 +19,8 @@ pub(crate) struct Lists<T> {
 impl<T: Transport + Drop> Lists<T> {
     /// This takes no memory.
     pub(crate) fn new(alloc: Global) -> Lists<T>
-        ensures { (vec_len result.parts ≡ 0) × (vec_len result.workers ≡ 0) × (vec_len result.samples ≡ 0) }
+        ensures { (vec_len result.parts ≡ 0) × (vec_len result.workers ≡ 0)
+            × (vec_len result.samples ≡ 0) }
     {
         Lists {
             parts: Vec::new(alloc),
@@ -31,8 +32,10 @@ impl<T: Transport + Drop> Lists<T> {
     /// Makes room for so many parts and workers.
     pub(crate) fn reserve_shards(&mut self, shards: usize) -> Result<(), AllocError>
         ensures grown { IsGrown self.old self.new }
-        ensures parts { OnOk result (vec_len self.new.parts + shards ≤ vec_capacity self.new.parts) }
-        ensures workers { OnOk result (vec_len self.new.workers + shards ≤ vec_capacity self.new.workers) }
+        ensures parts { OnOk result
+            (vec_len self.new.parts + shards ≤ vec_capacity self.new.parts) }
+        ensures workers { OnOk result
+            (vec_len self.new.workers + shards ≤ vec_capacity self.new.workers) }
     {
         self.parts.reserve(shards)?;
         self.workers.reserve(shards)
@@ -41,7 +44,8 @@ impl<T: Transport + Drop> Lists<T> {
     /// Makes room for so many samples.
     pub(crate) fn reserve_samples(&mut self, samples: usize) -> Result<(), AllocError>
         ensures grown { IsGrown self.old self.new }
-        ensures samples { OnOk result (vec_len self.new.samples + samples ≤ vec_capacity self.new.samples) }
+        ensures samples { OnOk result
+            (vec_len self.new.samples + samples ≤ vec_capacity self.new.samples) }
     {
         self.samples.reserve(samples)
     }

@@ -10,6 +10,7 @@ ghost use Rattle.rw_types.specs.declared.entry.Entry.{Entry};
 ghost use Rattle.rw_wal_format.specs.Pieces.{entries};
 ghost use Rattle.rw_feeder.specs.Logs.{named, dropped, filtered};
 ghost use Rattle.rw_shard_core.specs.Configs.{choice_of};
+ghost use Rattle.rw_shipper.specs.Cutting.{AreCutBy};
 ghost use Rattle.rw_shipper.specs.Placement.{AreKept};
 ghost use Rattle.rw_shipper.specs.Reports.{IsAbandoned, IsAbandonedAt, ListsCut, end_of, kind_of};
 ghost use Rattle.rw_shipper.specs.Shipping.{answer_to, FailsBy, Feeds, Joins, HasCompared, HasStopped, PlacesAll};
@@ -18,6 +19,7 @@ use crate::listed_fleet::ListedFleet;
 use crate::lists::Lists;
 use crate::place::place_all;
 use crate::report::Report;
+use rw_batch_bytes::Cuts;
 use rw_feeder::Feeder;
 use rw_fleet::{Connect, Fault, Load};
 use rw_ledger::Ledger;
@@ -132,10 +134,13 @@ fn split_choice(alloc: Global, config: Config) -> (Config, Choice)
 
 /// Reads a log as it grows, and puts its samples into the queues of their shards, each with a worker in a thread of its own.
 ///
-/// Contracts see the log as far as it was placed, the shards with what they were put, and the fault by which the shipper has failed. One that was started has to be stopped.
+/// Contracts see the log as far as it was placed, the shards with what they were put, the fault by
+/// which the shipper has failed, and how many bytes a batch may take. One that was started has to be
+/// stopped.
 pub struct Shipper<C: Connect + Drop> {
     feeder: Feeder,
     fleet: ListedFleet<C>,
+    cuts: Cuts,
     /// By which it has failed.
     fault: Option<Fault>,
     /// Of the log, as far as it was fed while the shipper had not failed.
@@ -145,15 +150,23 @@ pub struct Shipper<C: Connect + Drop> {
 impl<C: Connect + Drop> Model for Shipper<C> {
     ghost use Rattle.std.specs.Coded.{codes};
     ghost use Rattle.std.specs.FinMap as names;
-    ghost use Rattle.rw_shipper.specs.Shipping.{Shipping, PlacesAll, IsReady, IsRead};
+    ghost use Rattle.rw_shipper.specs.Shipping.{Shipping, PlacesAll, IsReady, IsRead, IsReckoned};
 
     ghost Value = { Shipping C.T };
 
     ghost coded = { Prim.hlevel (codes, names.code) };
 
-    ghost view = { λ s. record { log = s.feeder; fleet = s.fleet; fault = s.fault } };
+    ghost view = { λ s. record {
+      log = s.feeder;
+      fleet = s.fleet;
+      fault = s.fault;
+      limit = s.cuts.limit;
+    } };
 
-    ghost invariant = { λ s. PlacesAll s.feeder s.fleet × IsReady s.feeder s.fleet s.fault × IsRead s.feeder s.fault s.damage };
+    ghost invariant = { λ s. PlacesAll s.feeder s.fleet
+        × IsReady s.feeder s.fleet s.fault
+        × IsRead s.feeder s.fault s.damage
+        × IsReckoned s.cuts s.fleet s.fault };
 }
 
 impl<C: Connect + Drop> Shipper<C> {
@@ -170,9 +183,33 @@ impl<C: Connect + Drop> Shipper<C> {
         ensures opened { IfOk result (λ s. (s.fleet.epoch ≡ 0) × (s.fleet.ended ≡ [])
             × (length s.fleet.current ≡ config.shards) × AreFresh 0 s.fleet.current) }
         ensures fault { IfOk result (λ s. s.fault ≡ None) }
+        ensures limit { IfOk result (λ s. s.limit ≡ None) }
+    {
+        Shipper::start_within(rt, alloc, config, connect, None)
+    }
+
+    /// The same, where batches may have a limit in bytes: no body takes more, but that of a single
+    /// sample that does. A sample counts as many bytes as a message of it alone takes, so that batches
+    /// of several samples of a series end below the limit. It opens epoch 0 as `start` does. Where
+    /// memory or a thread is refused the workers that were started are stopped and joined.
+    pub fn start_within<R: Threads + Wait + Copy + Send + 'static>(
+        rt: &R,
+        alloc: Global,
+        config: Config,
+        connect: C,
+        limit: Option<u64>,
+    ) -> Result<Shipper<C>, AllocError>
+        ensures log { IfOk result (λ s. s.log
+            ≡ record { choice = choice_of config; pieces = []; placed = []; hand = [] }) }
+        ensures config { IfOk result (λ s. s.fleet.config ≡ record config { rules = [] }) }
+        ensures opened { IfOk result (λ s. (s.fleet.epoch ≡ 0) × (s.fleet.ended ≡ [])
+            × (length s.fleet.current ≡ config.shards) × AreFresh 0 s.fleet.current) }
+        ensures fault { IfOk result (λ s. s.fault ≡ None) }
+        ensures limit { IfOk result (λ s. s.limit ≡ limit) }
     {
         let shards = config.fields().shards.get() as u32;
         let (config, choice) = split_choice(alloc, config);
+        let cuts = Cuts::within(alloc, limit)?;
         let mut fleet = ListedFleet::new(alloc, config, connect)?;
         if fleet.open(rt, shards).is_err() {
             let _ = fleet.finish(rt, Kind::Hard, Ledger::new(alloc));
@@ -181,6 +218,7 @@ impl<C: Connect + Drop> Shipper<C> {
         Ok(Shipper {
             feeder: Feeder::new(alloc, choice),
             fleet,
+            cuts,
             fault: None,
             damage: None,
         })
@@ -188,16 +226,24 @@ impl<C: Connect + Drop> Shipper<C> {
 
     /// Places the entries that the log has with one piece more, and hands all of them to the workers. It may wait for room in a queue.
     pub fn feed<R: Wait>(&mut self, rt: &R, piece: Piece) -> Result<(), FeedFault>
-        ensures failed { IfSome self.old.fault (λ f. (result ≡ Err (answer_to f)) × (self.new ≡ self.old)) }
+        ensures failed { IfSome self.old.fault
+            (λ f. (result ≡ Err (answer_to f)) × (self.new ≡ self.old)) }
         ensures fed { self.old.fault ≡ None → Feeds self.new result }
-        ensures pieces { self.old.fault ≡ None → Joins self.old.log self.new.log (piece_of piece) result }
+        ensures pieces { self.old.fault ≡ None
+            → Joins self.old.log self.new.log (piece_of piece) result }
         ensures grown { (more : List Entry) × (self.new.log.placed ≡ self.old.log.placed ++ more) }
         ensures choice { self.new.log.choice ≡ self.old.log.choice }
         ensures rest { self.new.fleet ≡ record self.old.fleet { current = self.new.fleet.current } }
         ensures len { length self.new.fleet.current ≡ length self.old.fleet.current }
         ensures placed { PlacesAll self.new.log self.new.fleet }
         ensures kept { AreKept self.old.fleet.current self.new.fleet.current }
-        ensures marks { map marks_of self.new.fleet.current ≡ map marks_of self.old.fleet.current }
+        ensures limit { self.new.limit ≡ self.old.limit }
+        ensures marks { self.old.limit ≡ None
+            → map marks_of self.new.fleet.current ≡ map marks_of self.old.fleet.current }
+        // While it has not failed, a mark stands only before a sample that would take what is counted
+        // since the last one above the limit.
+        ensures cut { self.new.fault ≡ None
+            → AreCutBy self.old.limit self.old.fleet.current self.new.fleet.current }
     {
         if let Some(fault) = self.fault {
             return Err(answer_to(fault));
@@ -206,7 +252,7 @@ impl<C: Connect + Drop> Shipper<C> {
             self.fault = Some(Fault::OutOfMemory);
             return Err(FeedFault::OutOfMemory);
         }
-        let read = place_all(rt, &mut self.feeder, &mut self.fleet);
+        let read = place_all(rt, &mut self.feeder, &mut self.fleet, &mut self.cuts);
         self.fleet.hand_over(rt);
         match read {
             Ok(None) => {
@@ -226,9 +272,15 @@ impl<C: Connect + Drop> Shipper<C> {
 
     /// Puts one Flush into each queue of the epoch. It may wait for room in a queue.
     pub fn flush<R: Wait>(&mut self, rt: &R) -> Result<(), FeedFault>
-        ensures failed { IfSome self.old.fault (λ f. (result ≡ Err (answer_to f)) × (self.new ≡ self.old)) }
+        ensures failed { IfSome self.old.fault
+            (λ f. (result ≡ Err (answer_to f)) × (self.new ≡ self.old)) }
         ensures marked { OnOk result (self.new
-            ≡ record self.old { fleet = record self.old.fleet { current = map marked self.old.fleet.current } }) }
+            ≡ record self.old {
+              fleet = record self.old.fleet {
+                current = map marked
+                    self.old.fleet.current;
+              };
+            }) }
         ensures log { self.new.log ≡ self.old.log }
         ensures rest { self.new.fleet ≡ record self.old.fleet { current = self.new.fleet.current } }
         ensures placed { PlacesAll self.new.log self.new.fleet }
@@ -242,6 +294,7 @@ impl<C: Connect + Drop> Shipper<C> {
             self.fault = Some(fault);
             return Err(answer_to(fault));
         }
+        self.cuts.reset();
         Ok(())
     }
 
@@ -253,16 +306,20 @@ impl<C: Connect + Drop> Shipper<C> {
     ) -> Result<(), FeedFault>
         requires some { 1 ≤ shards }
         requires most { shards ≤ 1000 }
-        ensures failed { IfSome self.old.fault (λ f. (result ≡ Err (answer_to f)) × (self.new ≡ self.old)) }
+        ensures failed { IfSome self.old.fault
+            (λ f. (result ≡ Err (answer_to f)) × (self.new ≡ self.old)) }
         ensures log { self.new.log ≡ self.old.log }
         ensures config { self.new.fleet.config ≡ self.old.fleet.config }
+        ensures limit { self.new.limit ≡ self.old.limit }
         ensures opened { OnOk result ((self.new.fleet.epoch ≡ self.old.fleet.epoch + 1)
             × (length self.new.fleet.current ≡ shards)
             × AreFresh self.new.fleet.epoch self.new.fleet.current) }
         ensures drained { OnOk result (AreResolved self.new.fleet.ended) }
-        ensures gone { self.old.fault ≡ None → result ≡ Err FeedFault.Gone → HasCut self.new.fleet.ended }
+        ensures gone { self.old.fault ≡ None → result ≡ Err FeedFault.Gone
+            → HasCut self.new.fleet.ended }
         ensures placed { PlacesAll self.new.log self.new.fleet }
-        ensures compared { (self.new.fleet ≡ self.old.fleet) ⊎ HasCompared self.old.fleet self.new.fleet }
+        ensures compared { (self.new.fleet ≡ self.old.fleet)
+            ⊎ HasCompared self.old.fleet self.new.fleet }
         ensures fault { OnOk result (self.new.fault ≡ None) }
         ensures fails { IfErr result (FailsBy self.new.fault) }
     {
@@ -281,6 +338,7 @@ impl<C: Connect + Drop> Shipper<C> {
             self.fault = Some(Fault::OutOfMemory);
             return Err(FeedFault::OutOfMemory);
         }
+        self.cuts.reset();
         Ok(())
     }
 
@@ -328,6 +386,7 @@ impl<C: Connect + Drop> Shipper<C> {
         let Shipper {
             feeder,
             fleet,
+            cuts: _,
             fault: _,
             damage,
         } = self;
@@ -354,7 +413,8 @@ impl<C: Connect + Drop> Shipper<C> {
         ensures stopped { HasStopped C.T.tells C.T.seen C.T.is_for self result }
         ensures ended { EndBy (kind_of (is_some self.fault)) self.fleet result.workers.items }
         ensures failed { IfSome self.fault (λ _. IsAbandoned result.outcome) }
-        ensures cut { self.fault ≡ None → IsAbandoned result.outcome → ListsCut result.workers.items }
+        ensures cut { self.fault ≡ None → IsAbandoned result.outcome
+            → ListsCut result.workers.items }
     {
         let is_hard = self.fault.is_some();
         self.stop(rt, is_hard, end)

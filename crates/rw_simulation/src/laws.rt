@@ -39,5 +39,6 @@ pub fn a_stopped_shard_is_a_run<T: Transport>()
 /// ended because the number of shards changed, by `first` where it never did.
 pub fn a_stopped_shipper_is_a_run<T: Transport>()
     ensures epochs { (s : Shipping T) (r : Report T) → StopsAsRun T.tells T.seen T.is_for s r }
-    ensures first { (s : Shipping T) (r : Report T) → StopsInFirstEpoch T.tells T.seen T.is_for s r }
+    ensures first { (s : Shipping T) (r : Report T)
+        → StopsInFirstEpoch T.tells T.seen T.is_for s r }
 {}

@@ -22,7 +22,7 @@ pub returns-clause-ok : goal.returns-clause-ok
 returns-clause-ok g c =
     let current = ap (λ (s : Shards _). s.current) c.self.view_is in
     let within = subst (λ (l : List ShardHistory). c.args.shard < length l) (sym current) c.requires.within in
-    subst (λ (l : List ShardHistory). IsPut c.args.shard c.args.sample l (set c.self.inside.running.items c.args.shard c.put.new.self)) current (put_at c.args.shard c.args.sample c.self.inside.running.items (set c.self.inside.running.items c.args.shard c.put.new.self) _ c.put.new.self within c.index_mut.ensures.value refl c.put.ensures.setup c.in_default.ensures.put c.put.ensures.marks)
+    subst (λ (l : List ShardHistory). IsPut c.args.shard c.args.sample l (set c.self.inside.running.items c.args.shard c.put.new.self)) current (put_at c.args.shard c.args.sample c.self.inside.running.items (set c.self.inside.running.items c.args.shard c.put.new.self) _ c.put.new.self within c.index_mut.ensures.value refl c.put.ensures.setup c.in_default.ensures.put c.put.ensures.marks c.in_default.ensures.items)
 
 pub returns-in-Err-clause-rest : goal.returns-in-Err-clause-rest
 returns-in-Err-clause-rest g c = ap (λ (s : Shards _). record s { current = set c.self.inside.running.items c.args.shard c.put.new.self }) c.self.view_is

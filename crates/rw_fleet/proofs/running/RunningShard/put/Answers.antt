@@ -5,9 +5,10 @@ use Rattle.std.proofs.lemmas.Int.{to_z-of_z}
 use Rattle.std.specs.Prelude.{slice_get}
 use Rattle.rw_shard_channel.specs.Ends.{QueueId}
 use Rattle.rw_plain_queue.specs.Items.{Placed, samples_in, places_in}
-use Rattle.rw_fleet.specs.ShardHistories.{ShardHistory, put_as, marks_in}
+use Rattle.rw_plain_queue.specs.declared.item.Item.{Item}
+use Rattle.rw_fleet.specs.ShardHistories.{ShardHistory, put_as, item_as, marks_in}
 use Rattle.rw_fleet.specs.Positions.{Positions}
-use Rattle.rw_fleet.proofs.PutLemmas.{few_more, samples_more, positions_more, positions_length, as_put, marks_same_but}
+use Rattle.rw_fleet.proofs.PutLemmas.{few_more, samples_more, positions_more, positions_length, as_put, as_item, marks_same_but}
 use Rattle.rw_fleet.proofs.SoftLemmas.{unended_push}
 use Rattle.rw_fleet.proofs.running.RunningShard.put.Goals as goal
 
@@ -36,3 +37,14 @@ returns-clause-put g c =
 
 pub returns-clause-marks : goal.returns-clause-marks
 returns-clause-marks g c = marks_same_but _ _ _ c.in_default.ensures.put refl ∙ ap (λ (l : ShardHistory). marks_in l.put) c.self.view_is
+
+pub returns-clause-items : goal.returns-clause-items
+returns-clause-items g c =
+    let i = c.self.invariant in
+    let fits : SFits w64 c.args.sample.t = search rules in
+    let len : c.len-seq.result ≡ length (places_in c.self.inside.feed.put) = c.len-seq.ensures ∙ positions_length c.self.inside.feed.put _ i.0 in
+    let queue = sym i.3 in
+    let lane : ShardHistory = record { setup = c.self.inside.worker.value; put = c.self.inside.feed.put } in
+    c.in_default.ensures.put
+    ∙ ap (λ (x : Item). c.self.inside.feed.put ++ x ∷ []) (as_item lane c.args.sample _ _ _ _ (i.1 ∙ ap (λ (q : QueueId). q.epoch) queue) (i.2 ∙ ap (λ (q : QueueId). q.shard) queue) len (to_z-of_z w64 c.args.sample.t fits))
+    ∙ ap (λ (l : ShardHistory). l.put ++ item_as l c.args.sample ∷ []) c.self.view_is

@@ -6,7 +6,7 @@ use Rattle.rw_shipper.proofs.ShippingLemmas.{rest_as, kept_still}
 use Rattle.rw_shipper.proofs.shipper.Shipper.feed.Goals as goal
 
 pub invariant_of-self-in-Err : goal.invariant_of-self-in-Err
-invariant_of-self-in-Err g c = (subst (λ (f : Shards _). PlacesAll c.place_all-read.new.feeder f) (sym c.hand_over.ensures) c.place_all-read.ensures.places, tt, tt)
+invariant_of-self-in-Err g c = (subst (λ (f : Shards _). PlacesAll c.place_all-read.new.feeder f) (sym c.hand_over.ensures) c.place_all-read.ensures.places, tt, tt, tt)
 
 pub returns-in-Ok-None-clause-rest : goal.returns-in-Ok-None-clause-rest
 returns-in-Ok-None-clause-rest g c = rest_as c.args.self.now.fleet _ _ c.hand_over.ensures (c.place_all-read.ensures.goes.fleet ∙ ap (λ (s : Shipping _). record s.fleet { current = c.place_all-read.new.fleet.current }) c.self.view_is)

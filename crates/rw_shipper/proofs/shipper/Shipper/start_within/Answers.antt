@@ -3,18 +3,21 @@ use Rattle.rw_shard_core.specs.declared.config.ConfigFields.{ConfigFields}
 use Rattle.rw_feeder.specs.Feeders.{Sorting}
 use Rattle.rw_fleet.specs.ShardHistories.{AreFresh}
 use Rattle.rw_fleet.specs.Fleets.{Shards}
+use Rattle.rw_shipper.proofs.CutLemmas.{counted_fresh}
 use Rattle.rw_shipper.proofs.ShippingLemmas.{places_begun, read_begun, on_ok}
-use Rattle.rw_shipper.proofs.shipper.Shipper.start.Goals as goal
+use Rattle.rw_shipper.proofs.shipper.Shipper.start_within.Goals as goal
 
 pub invariant_of-result : goal.invariant_of-result
 invariant_of-result g c =
     let fleet = c.in_ok-fleet.ensures in
     let feeder = c.new-2.ensures in
     let all = on_ok c.open.result _ (sym c.is_err.ensures.value ∙ c.if-is_err.false) c.open.ensures.all in
-    let low = c.get-shards.ensures.low in (
+    let low = c.get-shards.ensures.low in
+    let high = c.get-shards.ensures.high in (
       places_begun c.new-2.result c.in_ok-fleet.fleet c.open.new.self (ap (λ (s : Sorting). s.placed) feeder) (ap (λ (s : Shards _). s.epoch) fleet) (ap (λ (s : Shards _). s.ended) fleet) (ap (λ (s : Shards _). s.current) fleet) c.open.ensures.rest c.open.ensures.fresh,
       (ap (λ (s : Sorting). s.hand) feeder, omega arith),
       read_begun c.new-2.result _ feeder,
+      counted_fresh c.in_ok-cuts.cuts.limit c.in_ok-cuts.cuts.rooms c.open.new.self.epoch _ c.open.new.self.current c.in_ok-cuts.ensures.full all (omega arith) c.open.ensures.fresh,
     )
 
 pub returns-clause-opened : goal.returns-clause-opened

@@ -1,0 +1,26 @@
+-- How many bytes each shard may still be put before a mark.
+use Rattle.std.specs.Prelude.{◌≡◌, ◌≢◌, ℕ, ◌-◌, ◌<◌, ◌≤◌, List, length, slice_index, Option, Some, None, Bool, true, false, ⊤}
+
+-- the limit, and the room of each number that a shard can have
+pub record Counting : Type 0 where
+  pub limit : Option ℕ
+  pub rooms : List ℕ
+
+abbrev pub HasRooms : Option ℕ → List ℕ → Type 0
+HasRooms None rooms = ⊤
+HasRooms (Some limit) rooms = length rooms ≡ 1000
+
+-- nothing is counted
+abbrev pub AreFull : Option ℕ → List ℕ → Type 0
+AreFull None rooms = ⊤
+AreFull (Some limit) rooms = (k : ℕ) → k < 1000 → slice_index rooms k ≡ limit
+
+-- this shard has this room now, and the others have what they had
+abbrev pub IsRoomNow : List ℕ → List ℕ → ℕ → ℕ → Type 0
+IsRoomNow old new k room = (slice_index new k ≡ room) × ((j : ℕ) → j ≢ k → slice_index new j ≡ slice_index old j)
+
+-- a sample of so many bytes was counted for the shard numbered k: it does not fit and stands behind a mark, or it fits
+abbrev pub Counts : Option ℕ → ℕ → ℕ → List ℕ → List ℕ → Bool → Type 0
+Counts None k bytes old new over = over ≡ false
+Counts (Some limit) k bytes old new true = (slice_index old k < bytes) × IsRoomNow old new k (limit - bytes)
+Counts (Some limit) k bytes old new false = (bytes ≤ slice_index old k) × IsRoomNow old new k (slice_index old k - bytes)
