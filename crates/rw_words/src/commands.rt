@@ -80,7 +80,7 @@ fn command_of<'a>(alloc: Global, words: &Words) -> Result<Command<'a>, AllocErro
 }
 
 /// The commands of rows.
-fn commands_of<'a>(alloc: Global, rows: &[Words]) -> Result<Vec<Command<'a>>, AllocError> {
+fn commands_of<'a>(alloc: Global, rows: &[&Words]) -> Result<Vec<Command<'a>>, AllocError> {
     let mut commands = Vec::with_capacity(alloc, rows.len())?;
     for words in rows {
         commands.push(command_of(alloc, words)?)?;
@@ -88,13 +88,17 @@ fn commands_of<'a>(alloc: Global, rows: &[Words]) -> Result<Vec<Command<'a>>, Al
     Ok(commands)
 }
 
-/// All commands.
-pub fn command_line<'a>(alloc: Global) -> Result<Command<'a>, AllocError> {
-    let commands = commands_of(alloc, commands())?;
+/// The program without its commands.
+fn program<'a>(alloc: Global) -> Command<'a> {
     Command::new(alloc, "rwship")
         .version("0.1.0")
         .about("Remote-write shipper and receiving head of Prometheus")
         .after_help(help::ALL)
         .subcommand_required(true)
-        .subcommands(commands)
+}
+
+/// All commands.
+pub fn command_line<'a>(alloc: Global) -> Result<Command<'a>, AllocError> {
+    let commands = commands_of(alloc, &commands())?;
+    program(alloc).subcommands(commands)
 }

@@ -18,7 +18,7 @@ use send::send_task;
 use std::alloc::{AllocError, Global};
 
 /// Which settings are asked for.
-#[derive(Clone, Copy, Debug)]
+#[derive(Clone, Copy)]
 pub struct SettingsFile<'a> {
     /// The path of the file; none stands for the defaults.
     pub path: Option<&'a str>,
@@ -27,7 +27,7 @@ pub struct SettingsFile<'a> {
 }
 
 /// How long connections are served.
-#[derive(Clone, Copy, Debug)]
+#[derive(Clone, Copy)]
 pub enum Until<'a> {
     /// So many have come, and have ended.
     Connections(Bounded<1, 1_000>),
@@ -38,7 +38,7 @@ pub enum Until<'a> {
 }
 
 /// How a log is followed that a server writes to.
-#[derive(Clone, Copy, Debug)]
+#[derive(Clone, Copy)]
 pub struct Following<'a> {
     /// It ends once this file is there; without one, once standard input has ended.
     pub stop_file: Option<&'a str>,
@@ -51,7 +51,7 @@ pub struct Following<'a> {
 }
 
 /// How far a log is read.
-#[derive(Clone, Copy, Debug)]
+#[derive(Clone, Copy)]
 pub enum Reading<'a> {
     /// To the end that it has.
     Whole,
@@ -60,7 +60,7 @@ pub enum Reading<'a> {
 }
 
 /// What is told of the work while it goes on.
-#[derive(Clone, Copy, Debug)]
+#[derive(Clone, Copy)]
 pub struct Reporting<'a> {
     /// Whether a line of progress a second is written to standard error.
     pub has_progress: bool,
@@ -69,7 +69,7 @@ pub struct Reporting<'a> {
 }
 
 /// What `send` is to do.
-#[derive(Clone, Copy, Debug)]
+#[derive(Clone, Copy)]
 pub struct Sending<'a> {
     /// The segments of this folder are shipped.
     pub dir: &'a str,
@@ -81,7 +81,7 @@ pub struct Sending<'a> {
 }
 
 /// What `receive` is to do.
-#[derive(Clone, Copy, Debug)]
+#[derive(Clone, Copy)]
 pub struct Receiving<'a> {
     pub listen: Address<'a>,
     pub until: Until<'a>,
@@ -91,7 +91,7 @@ pub struct Receiving<'a> {
 }
 
 /// What the words ask for. A file or a folder is a path.
-#[derive(Clone, Copy, Debug)]
+#[derive(Clone, Copy)]
 pub enum Task<'a> {
     /// One log segment in; its body out.
     Body {
@@ -142,17 +142,29 @@ pub enum Task<'a> {
     },
 }
 
-/// The option and the value of a HOST:PORT that is none, if the words have one.
-pub fn bad_address<'a>(words: &ArgMatches<'a>) -> Option<(&'static str, &'a str)> {
-    let (_, options) = words.subcommand()?;
+/// The value of an option that is to be a HOST:PORT and is none.
+fn bad_value<'a>(options: &ArgMatches<'a>, option: &str) -> Option<&'a str> {
+    let value = options.get_str(option)?;
+    if read_address(value).is_some() {
+        return None;
+    }
+    Some(value)
+}
+
+/// The option and the value of a HOST:PORT that is none, if the options have one.
+fn bad_option<'a>(options: &ArgMatches<'a>) -> Option<(&'static str, &'a str)> {
     for option in ["to", "listen", "metrics"] {
-        if let Some(value) = options.get_str(option) {
-            if read_address(value).is_none() {
-                return Some((option, value));
-            }
+        if let Some(value) = bad_value(options, option) {
+            return Some((option, value));
         }
     }
     None
+}
+
+/// The option and the value of a HOST:PORT that is none, if the words have one.
+pub fn bad_address<'a>(words: &ArgMatches<'a>) -> Option<(&'static str, &'a str)> {
+    let (_, options) = words.subcommand()?;
+    bad_option(options)
 }
 
 /// What the options of `inspect` ask for.
@@ -192,33 +204,51 @@ fn log_task<'a>(options: &ArgMatches<'a>) -> Option<Task<'a>> {
     })
 }
 
+/// What the options of `body` ask for.
+fn body_task<'a>(options: &ArgMatches<'a>) -> Task<'a> {
+    Task::Body {
+        hex: options.get_flag("hex"),
+        is_explained: options.get_flag("explain"),
+    }
+}
+
 /// What the options of a command ask for that has no `--settings`.
 fn plain_task<'a>(name: &str, options: &ArgMatches<'a>) -> Option<Task<'a>> {
-    match name.as_bytes() {
-        b"body" => Some(Task::Body {
-            hex: options.get_flag("hex"),
-            is_explained: options.get_flag("explain"),
-        }),
-        b"log" => log_task(options),
-        b"inspect" => Some(inspect_task(options)),
-        _ => None,
+    if name == "body" {
+        Some(body_task(options))
+    } else if name == "log" {
+        log_task(options)
+    } else if name == "inspect" {
+        Some(inspect_task(options))
+    } else {
+        None
+    }
+}
+
+/// What the options of `plan` ask for.
+fn plan_task<'a>(settings: SettingsFile<'a>, options: &ArgMatches<'a>) -> Task<'a> {
+    Task::Plan {
+        settings,
+        hex: options.get_flag("hex"),
+        dir: options.get_str("dir"),
     }
 }
 
 /// What the options of a command ask for.
 fn task_named<'a>(name: &str, options: &ArgMatches<'a>) -> Option<Task<'a>> {
     let settings = settings_of(options);
-    match name.as_bytes() {
-        b"plan" => Some(Task::Plan {
-            settings,
-            hex: options.get_flag("hex"),
-            dir: options.get_str("dir"),
-        }),
-        b"replay" => Some(Task::Replay { settings }),
-        b"settings" => Some(Task::Settings { settings }),
-        b"send" => send_task(settings, options),
-        b"receive" => receive_task(settings, options),
-        _ => plain_task(name, options),
+    if name == "plan" {
+        Some(plan_task(settings, options))
+    } else if name == "replay" {
+        Some(Task::Replay { settings })
+    } else if name == "settings" {
+        Some(Task::Settings { settings })
+    } else if name == "send" {
+        send_task(settings, options)
+    } else if name == "receive" {
+        receive_task(settings, options)
+    } else {
+        plain_task(name, options)
     }
 }
 

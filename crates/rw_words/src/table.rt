@@ -101,193 +101,239 @@ const METRICS: Opt = Opt {
     help: "Serve metrics here, at /metrics, in the text format of Prometheus",
 };
 
-static COMMANDS: [Words; 8] = [
-    Words {
-        name: "body",
-        about: "Reads one log segment and writes the remote-write body of its samples",
-        after: help::BODY,
-        options: &[HEX, EXPLAIN_INPUT],
-    },
-    Words {
-        name: "log",
-        about: "Reads log text and writes log segments",
-        after: help::LOG,
-        options: &[
-            HEX,
-            Opt {
-                name: "pages",
-                takes: Takes::NumberOr(1, 4096, "4096"),
-                bonds: &[],
-                help: "Give a segment at most this many pages, 1 to 4096",
-            },
-            Opt {
-                name: "dir",
-                takes: Takes::Path("DIR"),
-                bonds: &[],
-                help: "Write numbered segment files into this folder",
-            },
-            EXPLAIN_INPUT,
-        ],
-    },
-    Words {
-        name: "plan",
-        about: "Reads a log and prints which of its series the rules keep",
-        after: help::PLAN,
-        options: &[
-            SETTINGS,
-            EXPLAIN,
-            SEGMENTS,
-            Opt {
-                name: "hex",
-                takes: Takes::Nothing,
-                bonds: &[Bond::Excludes("dir")],
-                help: "Read and write lower case hexadecimal text in place of bytes",
-            },
-        ],
-    },
-    Words {
-        name: "inspect",
-        about: "Reads a log and prints what its segments hold, and where it is damaged",
-        after: help::INSPECT,
-        options: &[
-            SEGMENTS,
-            Opt {
-                name: "json",
-                takes: Takes::Nothing,
-                bonds: &[],
-                help: "Write JSON, one object a line",
-            },
-            Opt {
-                name: "at",
-                takes: Takes::Numbers("POS"),
-                bonds: &[Bond::Excludes("json"), Bond::Needs("dir")],
-                help: "With --dir: print the entries at these positions of a report of 'send', and nothing else",
-            },
-        ],
-    },
-    Words {
-        name: "replay",
-        about: "Reads an event script and prints the state at its end",
-        after: help::REPLAY,
-        options: &[SETTINGS, EXPLAIN],
-    },
-    Words {
-        name: "settings",
-        about: "Prints the settings that a file gives, each key with its value",
-        after: help::SETTINGS,
-        options: &[
-            Opt {
-                name: "settings",
-                takes: Takes::Place("FILE"),
-                bonds: &[],
-                help: "Print the settings of this TOML file, and without it the defaults",
-            },
-            EXPLAIN,
-        ],
-    },
-    Words {
-        name: "send",
-        about: "Ships all segments of a folder and prints a report",
-        after: help::SEND,
-        options: &[
-            SETTINGS,
-            EXPLAIN,
-            Opt {
-                name: "dir",
-                takes: Takes::Path("DIR"),
-                bonds: &[Bond::Required],
-                help: "Ship the segments of this folder",
-            },
-            Opt {
-                name: "to",
-                takes: Takes::Text("HOST:PORT"),
-                bonds: &[Bond::Required],
-                help: "Send to this receiver",
-            },
-            Opt {
-                name: "follow",
-                takes: Takes::Nothing,
-                bonds: &[],
-                help: "Go on with what the server writes, until standard input ends",
-            },
-            Opt {
-                name: "stop-file",
-                takes: Takes::Path("FILE"),
-                bonds: &[Bond::Needs("follow")],
-                help: "With --follow: stop once this file is there, and do not look at standard input",
-            },
-            Opt {
-                name: "poll-ms",
-                takes: Takes::NumberOr(10, 60_000, "200"),
-                bonds: &[Bond::Needs("follow")],
-                help: "With --follow: look for more every N milliseconds, 10 to 60000",
-            },
-            Opt {
-                name: "flush-ms",
-                takes: Takes::NumberOr(10, 3_600_000, "5000"),
-                bonds: &[Bond::Needs("follow")],
-                help: "With --follow: let a sample wait N milliseconds for a full batch, 10 to 3600000",
-            },
-            Opt {
-                name: "reshard-ms",
-                takes: Takes::NumberOr(10, 3_600_000, "10000"),
-                bonds: &[Bond::Needs("follow")],
-                help: "With --follow: ask every N milliseconds how many shards are wanted, 10 to 3600000",
-            },
-            Opt {
-                name: "fail-on-drop",
-                takes: Takes::Nothing,
-                bonds: &[],
-                help: "End with status 1 where all was answered for, but samples were dropped",
-            },
-            PROGRESS,
-            METRICS,
-        ],
-    },
-    Words {
-        name: "receive",
-        about: "Serves connections and prints what they left",
-        after: help::RECEIVE,
-        options: &[
-            SETTINGS,
-            EXPLAIN,
-            Opt {
-                name: "listen",
-                takes: Takes::Text("HOST:PORT"),
-                bonds: &[Bond::Required],
-                help: "Listen here",
-            },
-            Opt {
-                name: "connections",
-                takes: Takes::Number(1, 1000),
-                bonds: &[Bond::RequiredWithout("until-eof")],
-                help: "Serve this many connections, 1 to 1000",
-            },
-            Opt {
-                name: "until-eof",
-                takes: Takes::Nothing,
-                bonds: &[Bond::Excludes("connections")],
-                help: "Serve any number of connections, until standard input ends",
-            },
-            Opt {
-                name: "stop-file",
-                takes: Takes::Path("FILE"),
-                bonds: &[Bond::Excludes("connections")],
-                help: "Stop once this file is there, and do not look at standard input",
-            },
-            Opt {
-                name: "idle-ms",
-                takes: Takes::NumberOr(10, 3_600_000, "60000"),
-                bonds: &[],
-                help: "Close a connection from which no byte comes for this many milliseconds, 10 to 3600000",
-            },
-            PROGRESS,
-            METRICS,
-        ],
-    },
-];
+static BODY: Words = Words {
+    name: "body",
+    about: "Reads one log segment and writes the remote-write body of its samples",
+    after: help::BODY,
+    options: &[HEX, EXPLAIN_INPUT],
+};
+
+fn body() -> &'static Words {
+    &BODY
+}
+
+static LOG: Words = Words {
+    name: "log",
+    about: "Reads log text and writes log segments",
+    after: help::LOG,
+    options: &[
+        HEX,
+        Opt {
+            name: "pages",
+            takes: Takes::NumberOr(1, 4096, "4096"),
+            bonds: &[],
+            help: "Give a segment at most this many pages, 1 to 4096",
+        },
+        Opt {
+            name: "dir",
+            takes: Takes::Path("DIR"),
+            bonds: &[],
+            help: "Write numbered segment files into this folder",
+        },
+        EXPLAIN_INPUT,
+    ],
+};
+
+fn log() -> &'static Words {
+    &LOG
+}
+
+static PLAN: Words = Words {
+    name: "plan",
+    about: "Reads a log and prints which of its series the rules keep",
+    after: help::PLAN,
+    options: &[
+        SETTINGS,
+        EXPLAIN,
+        SEGMENTS,
+        Opt {
+            name: "hex",
+            takes: Takes::Nothing,
+            bonds: &[Bond::Excludes("dir")],
+            help: "Read and write lower case hexadecimal text in place of bytes",
+        },
+    ],
+};
+
+fn plan() -> &'static Words {
+    &PLAN
+}
+
+static INSPECT: Words = Words {
+    name: "inspect",
+    about: "Reads a log and prints what its segments hold, and where it is damaged",
+    after: help::INSPECT,
+    options: &[
+        SEGMENTS,
+        Opt {
+            name: "json",
+            takes: Takes::Nothing,
+            bonds: &[],
+            help: "Write JSON, one object a line",
+        },
+        Opt {
+            name: "at",
+            takes: Takes::Numbers("POS"),
+            bonds: &[Bond::Excludes("json"), Bond::Needs("dir")],
+            help: "With --dir: print the entries at these positions of a report of 'send', and nothing else",
+        },
+    ],
+};
+
+fn inspect() -> &'static Words {
+    &INSPECT
+}
+
+static REPLAY: Words = Words {
+    name: "replay",
+    about: "Reads an event script and prints the state at its end",
+    after: help::REPLAY,
+    options: &[SETTINGS, EXPLAIN],
+};
+
+fn replay() -> &'static Words {
+    &REPLAY
+}
+
+static SETTINGS_COMMAND: Words = Words {
+    name: "settings",
+    about: "Prints the settings that a file gives, each key with its value",
+    after: help::SETTINGS,
+    options: &[
+        Opt {
+            name: "settings",
+            takes: Takes::Place("FILE"),
+            bonds: &[],
+            help: "Print the settings of this TOML file, and without it the defaults",
+        },
+        EXPLAIN,
+    ],
+};
+
+fn settings() -> &'static Words {
+    &SETTINGS_COMMAND
+}
+
+static SEND: Words = Words {
+    name: "send",
+    about: "Ships all segments of a folder and prints a report",
+    after: help::SEND,
+    options: &[
+        SETTINGS,
+        EXPLAIN,
+        Opt {
+            name: "dir",
+            takes: Takes::Path("DIR"),
+            bonds: &[Bond::Required],
+            help: "Ship the segments of this folder",
+        },
+        Opt {
+            name: "to",
+            takes: Takes::Text("HOST:PORT"),
+            bonds: &[Bond::Required],
+            help: "Send to this receiver",
+        },
+        Opt {
+            name: "follow",
+            takes: Takes::Nothing,
+            bonds: &[],
+            help: "Go on with what the server writes, until standard input ends",
+        },
+        Opt {
+            name: "stop-file",
+            takes: Takes::Path("FILE"),
+            bonds: &[Bond::Needs("follow")],
+            help: "With --follow: stop once this file is there, and do not look at standard input",
+        },
+        Opt {
+            name: "poll-ms",
+            takes: Takes::NumberOr(10, 60_000, "200"),
+            bonds: &[Bond::Needs("follow")],
+            help: "With --follow: look for more every N milliseconds, 10 to 60000",
+        },
+        Opt {
+            name: "flush-ms",
+            takes: Takes::NumberOr(10, 3_600_000, "5000"),
+            bonds: &[Bond::Needs("follow")],
+            help: "With --follow: let a sample wait N milliseconds for a full batch, 10 to 3600000",
+        },
+        Opt {
+            name: "reshard-ms",
+            takes: Takes::NumberOr(10, 3_600_000, "10000"),
+            bonds: &[Bond::Needs("follow")],
+            help: "With --follow: ask every N milliseconds how many shards are wanted, 10 to 3600000",
+        },
+        Opt {
+            name: "fail-on-drop",
+            takes: Takes::Nothing,
+            bonds: &[],
+            help: "End with status 1 where all was answered for, but samples were dropped",
+        },
+        PROGRESS,
+        METRICS,
+    ],
+};
+
+fn send() -> &'static Words {
+    &SEND
+}
+
+static RECEIVE: Words = Words {
+    name: "receive",
+    about: "Serves connections and prints what they left",
+    after: help::RECEIVE,
+    options: &[
+        SETTINGS,
+        EXPLAIN,
+        Opt {
+            name: "listen",
+            takes: Takes::Text("HOST:PORT"),
+            bonds: &[Bond::Required],
+            help: "Listen here",
+        },
+        Opt {
+            name: "connections",
+            takes: Takes::Number(1, 1000),
+            bonds: &[Bond::RequiredWithout("until-eof")],
+            help: "Serve this many connections, 1 to 1000",
+        },
+        Opt {
+            name: "until-eof",
+            takes: Takes::Nothing,
+            bonds: &[Bond::Excludes("connections")],
+            help: "Serve any number of connections, until standard input ends",
+        },
+        Opt {
+            name: "stop-file",
+            takes: Takes::Path("FILE"),
+            bonds: &[Bond::Excludes("connections")],
+            help: "Stop once this file is there, and do not look at standard input",
+        },
+        Opt {
+            name: "idle-ms",
+            takes: Takes::NumberOr(10, 3_600_000, "60000"),
+            bonds: &[],
+            help: "Close a connection from which no byte comes for this many milliseconds, 10 to 3600000",
+        },
+        PROGRESS,
+        METRICS,
+    ],
+};
+
+fn receive() -> &'static Words {
+    &RECEIVE
+}
 
 /// All commands.
-pub(crate) fn commands() -> &'static [Words] {
-    &COMMANDS
+pub(crate) fn commands() -> [&'static Words; 8] {
+    [
+        body(),
+        log(),
+        plan(),
+        inspect(),
+        replay(),
+        settings(),
+        send(),
+        receive(),
+    ]
 }
