@@ -44,7 +44,8 @@ impl Model for Counter {
 
     ghost view = { λ c. record { entries = c.taken; here = c.here } };
 
-    ghost invariant = { λ c. IsCounter c.taken c.here c.count c.cache c.sums c.sums_here c.troubles };
+    ghost invariant = { λ c. IsCounter c.taken c.here c.count c.cache c.sums c.sums_here
+        c.troubles };
 }
 
 /// What becomes of a sample with this reference and timestamp, where all label sets are kept.
@@ -74,7 +75,8 @@ fn place(
     reference: u64,
     t: i64,
 ) -> Result<(), AllocError>
-    ensures ok { OnOk result (IsPlaced cache.old cache.new troubles.old troubles.new position reference t) }
+    ensures ok { OnOk result
+        (IsPlaced cache.old cache.new troubles.old troubles.new position reference t) }
     ensures err { OnErr result ((cache.new ≡ cache.old) × (troubles.new ≡ troubles.old)) }
 {
     match judge(cache, reference, t) {
@@ -106,7 +108,10 @@ impl Counter {
     /// Takes the next entry.
     pub fn take(&mut self, entry: Entry) -> Result<(), AllocError>
         ensures ok { OnOk result (self.new
-            ≡ record { entries = self.old.entries ++ entry ∷ []; here = self.old.here ++ entry ∷ [] }) }
+            ≡ record {
+              entries = self.old.entries ++ entry ∷ [];
+              here = self.old.here ++ entry ∷ [];
+            }) }
         ensures err { OnErr result (self.new ≡ self.old) }
     {
         let count = one_more(self.count)?;

@@ -99,7 +99,8 @@ fn push_sample(
     word: Word,
     known: &Known<'_>,
 ) -> Result<(), AllocError>
-    ensures { OnOk result (out.new.items ≡ out.old.items ++ sample_text reference t word (standing_in known.now)) }
+    ensures { OnOk result
+        (out.new.items ≡ out.old.items ++ sample_text reference t word (standing_in known.now)) }
 {
     out.extend_from_slice(b"sample ")?;
     push_number(out, reference)?;
@@ -182,7 +183,8 @@ fn push_not_there(out: &mut Vec<u8>, position: u64) -> Result<(), AllocError>
 /// Takes the definition of an entry, where it is one.
 fn define(cache: &mut Cache, entry: Entry) -> Result<(), AllocError>
     ensures choice { OnOk result (cache.new.choice ≡ cache.old.choice) }
-    ensures defined { OnOk result ((before : List Entry) → definitions_of before ≡ cache.old.definitions
+    ensures defined { OnOk result
+        ((before : List Entry) → definitions_of before ≡ cache.old.definitions
         → definitions_of (before ++ entry ∷ []) ≡ cache.new.definitions) }
     ensures err { OnErr result (cache.new ≡ cache.old) }
 {
@@ -265,7 +267,8 @@ impl Finder {
         requires { is_asked self.now.positions.items position ≡ true }
         ensures line { OnOk result (out.new.items
             ≡ out.old.items ++ position_text segments.now self.now.entries position) }
-        ensures missing { IfOk result (λ is_there. not is_there ≡ is_missing self.now.entries position) }
+        ensures missing { IfOk result
+            (λ is_there. not is_there ≡ is_missing self.now.entries position) }
     {
         match text_noted(&self.notes, position) {
             Some(text) => {

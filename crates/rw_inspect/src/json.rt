@@ -135,7 +135,8 @@ fn push_totals(
     counts: &Counts,
     first: &[u64],
 ) -> Result<(), AllocError>
-    ensures { OnOk result (out.new.items ≡ out.old.items ++ totals_json sizes.now counts.now first.now) }
+    ensures { OnOk result
+        (out.new.items ≡ out.old.items ++ totals_json sizes.now counts.now first.now) }
 {
     out.extend_from_slice(b"{\"type\":\"totals\"")?;
     push_measures(out, sizes, &counts.sums)?;
@@ -210,7 +211,8 @@ fn push_any_damage(
     segments: &[Segment],
     damage: &Option<Damage>,
 ) -> Result<(), AllocError>
-    ensures { OnOk result (out.new.items ≡ out.old.items ++ any_damage damage_json segments.now damage.now) }
+    ensures { OnOk result
+        (out.new.items ≡ out.old.items ++ any_damage damage_json segments.now damage.now) }
 {
     match damage {
         Some(damage) => push_damage(out, segments, damage),

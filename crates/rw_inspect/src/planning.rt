@@ -51,7 +51,9 @@ fn plan_of_all<S: Source + Drop>(
     choice: Choice,
     segments: Vec<Named<S>>,
 ) -> Result<(Vec<u8>, Option<Damage>), ReadFault>
-    ensures ok { IfOk result (λ found. IsPlanOf choice (map (source_of S.remaining) segments.items) found.0.items (fault_in found.1)) }
+    ensures ok { IfOk result
+        (λ found. IsPlanOf choice (map (source_of S.remaining) segments.items) found.0.items
+        (fault_in found.1)) }
     ensures sure { AllSure (map (source_of S.is_sure) segments.items) → result ≡ Err Failed → ⊥ }
 {
     let mut planning = Planning {
@@ -75,8 +77,11 @@ pub fn plan_segments<S: Source + Drop, W: Sink>(
     segments: Vec<Named<S>>,
     writer: &mut W,
 ) -> Result<Option<Damage>, ReadFault>
-    ensures planned { result ≡ Ok None → WritesPlan choice (map (source_of S.remaining) segments.items) (W.contents writer.old) (W.contents writer.new) }
-    ensures sound { OnOk result (W.has_failed writer.old ≡ false → W.has_failed writer.new ≡ false) }
+    ensures planned { result ≡ Ok None
+        → WritesPlan choice (map (source_of S.remaining) segments.items) (W.contents writer.old)
+        (W.contents writer.new) }
+    ensures sound { OnOk result
+        (W.has_failed writer.old ≡ false → W.has_failed writer.new ≡ false) }
 
     // A fault is the one that the log has, and nothing is written then, or where memory ran out.
     ensures damaged { IfOk result (λ damage. (f : TailFault) → fault_in damage ≡ Some f
@@ -86,7 +91,9 @@ pub fn plan_segments<S: Source + Drop, W: Sink>(
     // Where a device fails, the writer holds a beginning of the plan.
     ensures device { result ≡ Err Failed
         → ((AllSure (map (source_of S.is_sure) segments.items) → ⊥) × (writer.new ≡ writer.old))
-        ⊎ ((W.has_failed writer.new ≡ true) × WritesPlanPart choice (map (source_of S.remaining) segments.items) (W.contents writer.old) (W.contents writer.new)) }
+        ⊎ ((W.has_failed writer.new ≡ true)
+        × WritesPlanPart choice (map (source_of S.remaining) segments.items)
+        (W.contents writer.old) (W.contents writer.new)) }
 {
     let (plan, damage) = plan_of_all(alloc, choice, segments)?;
     if damage.is_some() {

@@ -138,7 +138,8 @@ pub(crate) fn push_numbers(
     separator: &[u8],
     numbers: &[u64],
 ) -> Result<(), AllocError>
-    ensures { OnOk result (out.new.items ≡ out.old.items ++ flat_map (field_text separator.now) numbers.now) }
+    ensures { OnOk result
+        (out.new.items ≡ out.old.items ++ flat_map (field_text separator.now) numbers.now) }
 {
     for n in numbers {
         push_field(out, separator, *n)?;

@@ -36,7 +36,8 @@ fn next_of(tail: &mut Tail) -> Result<Next, AllocError>
 /// Takes the entries that the reader of the log has left, and answers the fault behind them, if there is one.
 fn take_all<T: Taker>(tail: &mut Tail, taker: &mut T) -> Result<Option<TailFault>, AllocError>
     requires { HasTaken tail.old (T.counted taker.old).entries }
-    ensures ok { IfOk result (TakesAll tail.old tail.new (T.counted taker.old) (T.counted taker.new)) }
+    ensures ok { IfOk result
+        (TakesAll tail.old tail.new (T.counted taker.old) (T.counted taker.new)) }
     ensures task { OnOk result (T.task taker.new ≡ T.task taker.old) }
 {
     for _ in 0..u64::MAX {
@@ -59,7 +60,8 @@ fn feed_some<S: Source>(
         → FeedsMore (S.remaining source.old) (S.remaining source.new) tail.old tail.new n }
     ensures end { result ≡ Ok None → Consumes (S.remaining source.old) (S.remaining source.new) []
         × IsAtEnd (S.remaining source.new) × (tail.new ≡ tail.old) }
-    ensures sure { S.is_sure source.old ≡ true → (S.is_sure source.new ≡ true) × (result ≡ Err Failed → ⊥) }
+    ensures sure { S.is_sure source.old ≡ true
+        → (S.is_sure source.new ≡ true) × (result ≡ Err Failed → ⊥) }
 {
     let Ok(count) = source.read(chunk) else {
         return Err(ReadFault::Failed);
@@ -87,7 +89,9 @@ pub(crate) fn read_text<S: Source, T: Taker>(
 ) -> Result<(u64, Option<TailFault>), ReadFault>
     requires room { 0 < length chunk.old }
     requires taken { HasTaken tail.old (T.counted taker.old).entries }
-    ensures ok { IfOk result (ReadsText (S.remaining source.old) (S.remaining source.new) tail.old tail.new (T.counted taker.old) (T.counted taker.new)) }
+    ensures ok { IfOk result
+        (ReadsText (S.remaining source.old) (S.remaining source.new) tail.old tail.new
+        (T.counted taker.old) (T.counted taker.new)) }
     ensures task { OnOk result (T.task taker.new ≡ T.task taker.old) }
     ensures sure { S.is_sure source.old ≡ true → result ≡ Err Failed → ⊥ }
 {

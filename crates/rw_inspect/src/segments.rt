@@ -68,7 +68,9 @@ fn read_segment<S: Source + Drop, T: Taker>(
 ) -> Result<(Segment, Option<TailFault>), ReadFault>
     requires room { 0 < length chunk.old }
     requires sound { HasTakenAll tail.old (T.counted taker.old).entries None }
-    ensures ok { IfOk result (ReadsSegment is_first (S.remaining segment.source) tail.old tail.new (T.counted taker.old) (T.counted taker.new)) }
+    ensures ok { IfOk result
+        (ReadsSegment is_first (S.remaining segment.source) tail.old tail.new
+        (T.counted taker.old) (T.counted taker.new)) }
     ensures task { OnOk result (T.task taker.new ≡ T.task taker.old) }
     ensures sure { S.is_sure segment.source ≡ true → result ≡ Err Failed → ⊥ }
 {
@@ -132,7 +134,9 @@ pub fn read_into<S: Source + Drop, T: Taker>(
     taker: &mut T,
 ) -> Result<LogRead, ReadFault>
     requires { T.counted taker.old ≡ record { entries = []; here = [] } }
-    ensures ok { IfOk result (λ read. ReadsInto (map (source_of S.remaining) segments.items) (T.counted taker.new).entries read.segments.items (fault_in read.damage)) }
+    ensures ok { IfOk result
+        (λ read. ReadsInto (map (source_of S.remaining) segments.items)
+        (T.counted taker.new).entries read.segments.items (fault_in read.damage)) }
     ensures task { OnOk result (T.task taker.new ≡ T.task taker.old) }
     ensures sure { AllSure (map (source_of S.is_sure) segments.items) → result ≡ Err Failed → ⊥ }
 {

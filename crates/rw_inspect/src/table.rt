@@ -186,7 +186,8 @@ fn push_any_damage(
     segments: &[Segment],
     damage: &Option<Damage>,
 ) -> Result<(), AllocError>
-    ensures { OnOk result (out.new.items ≡ out.old.items ++ any_damage damage_text segments.now damage.now) }
+    ensures { OnOk result
+        (out.new.items ≡ out.old.items ++ any_damage damage_text segments.now damage.now) }
 {
     match damage {
         Some(damage) => push_damage(out, segments, damage),

@@ -25,7 +25,12 @@ pub trait Taker {
 
     /// Takes the next entry.
     fn take(&mut self, entry: Entry) -> Result<(), AllocError>
-        ensures taken { OnOk result (counted self.new ≡ record { entries = (counted self.old).entries ++ entry ∷ []; here = (counted self.old).here ++ entry ∷ [] }) }
+        ensures taken { OnOk result
+            (counted self.new
+            ≡ record {
+              entries = (counted self.old).entries ++ entry ∷ [];
+              here = (counted self.old).here ++ entry ∷ [];
+            }) }
         ensures task { OnOk result (task self.new ≡ task self.old) };
 
     /// What the entries of the segment at hand add up to.

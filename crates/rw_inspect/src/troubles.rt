@@ -41,7 +41,8 @@ impl Model for Troubles {
 
     ghost view = { λ t. t.all };
 
-    ghost invariant = { λ t. AreCounted t.all t.without_series t.bad_labels t.not_rising t.first.items };
+    ghost invariant = { λ t. AreCounted t.all t.without_series t.bad_labels t.not_rising
+        t.first.items };
 }
 
 impl Troubles {

@@ -20,7 +20,8 @@ fn log_line(
     requires good { (recs : List (List ℕ)) × AreRecords (line.now ∷ []) recs }
     requires memory { HasMemory writer.old }
     ensures { IfOk result (λ took. (recs : List (List ℕ)) × AreRecords (line.now ∷ []) recs
-        × MatchBool took (TakesRecords writer.old writer.new recs) ((writer.new ≡ writer.old) × (have_room writer.old.pages writer.old.offset recs ≡ false))) }
+        × MatchBool took (TakesRecords writer.old writer.new recs)
+        ((writer.new ≡ writer.old) × (have_room writer.old.pages writer.old.offset recs ≡ false))) }
 {
     if line.is_empty() {
         return Ok(true);

@@ -52,7 +52,9 @@ fn read_segment<R: Source>(
         × ReadsRecords pages (R.remaining reader.old) (R.remaining reader.new) recs
         × (v.items ≡ segment_of recs)) }
     ensures sound { OnOk result (R.has_failed reader.new ≡ false) }
-    ensures err { IfErr result (StopsLog pages (R.remaining reader.old) (R.remaining reader.new) (R.has_failed reader.new)) }
+    ensures err { IfErr result
+        (StopsLog pages (R.remaining reader.old) (R.remaining reader.new)
+        (R.has_failed reader.new)) }
 {
     let text = read_input(alloc, reader)?;
     one_segment(alloc, &text, pages)
@@ -70,9 +72,12 @@ pub fn run_log<R: Source, W: Sink>(
 ) -> Result<(), ToolFault>
     requires some { 1 ≤ pages }
     requires most { pages ≤ 4096 }
-    ensures ok { OnOk result (WritesLog hex pages (R.remaining reader.old) (R.remaining reader.new) (W.contents writer.old) (W.contents writer.new)) }
+    ensures ok { OnOk result
+        (WritesLog hex pages (R.remaining reader.old) (R.remaining reader.new)
+        (W.contents writer.old) (W.contents writer.new)) }
     ensures reader_sound { OnOk result (R.has_failed reader.new ≡ false) }
-    ensures writer_sound { OnOk result (W.has_failed writer.old ≡ false → W.has_failed writer.new ≡ false) }
+    ensures writer_sound { OnOk result
+        (W.has_failed writer.old ≡ false → W.has_failed writer.new ≡ false) }
 
     // A line that is no log text comes before records that have no room, and nothing is written at either.
     ensures line { (n : ℕ) → result ≡ Err (Line n)
@@ -83,8 +88,11 @@ pub fn run_log<R: Source, W: Sink>(
     ensures untouched { IfErr result (λ e. e ≢ Device → writer.new ≡ writer.old) }
 
     // Where a device fails, the writer holds a beginning of the output.
-    ensures device { result ≡ Err Device → ((R.has_failed reader.new ≡ true) × (writer.new ≡ writer.old))
-        ⊎ ((W.has_failed writer.new ≡ true) × WritesLogPart hex pages (R.remaining reader.old) (R.remaining reader.new) (W.contents writer.old) (W.contents writer.new)) }
+    ensures device { result ≡ Err Device
+        → ((R.has_failed reader.new ≡ true) × (writer.new ≡ writer.old))
+        ⊎ ((W.has_failed writer.new ≡ true)
+        × WritesLogPart hex pages (R.remaining reader.old) (R.remaining reader.new)
+        (W.contents writer.old) (W.contents writer.new)) }
 {
     let segment = read_segment(alloc, reader, pages)?;
     let output = output_of(alloc, segment, hex)?;

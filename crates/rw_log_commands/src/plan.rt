@@ -34,7 +34,8 @@ fn read_plan<R: Source>(alloc: Global, reader: &mut R, choice: Choice) -> Result
         × ReadsSegment None (R.remaining reader.old) (R.remaining reader.new) segment
         × (v.items ≡ plan_of choice segment)) }
     ensures sound { OnOk result (R.has_failed reader.new ≡ false) }
-    ensures err { IfErr result (StopsReading (R.remaining reader.old) (R.remaining reader.new) (R.has_failed reader.new)) }
+    ensures err { IfErr result
+        (StopsReading (R.remaining reader.old) (R.remaining reader.new) (R.has_failed reader.new)) }
 {
     let planner = read_segment(alloc, reader, Planner::new(alloc, choice))?;
     Ok(planner.into_text()?)
@@ -50,7 +51,9 @@ fn read_hex_plan<R: Source>(
         × ReadsInput true None (R.remaining reader.old) (R.remaining reader.new) segment
         × (v.items ≡ plan_of choice segment)) }
     ensures sound { OnOk result (R.has_failed reader.new ≡ false) }
-    ensures err { IfErr result (StopsInput true (R.remaining reader.old) (R.remaining reader.new) (R.has_failed reader.new)) }
+    ensures err { IfErr result
+        (StopsInput true (R.remaining reader.old) (R.remaining reader.new)
+        (R.has_failed reader.new)) }
 {
     let text = read_input(alloc, reader)?;
     let segment = rw_hex::read(alloc, &text)?;
@@ -75,20 +78,27 @@ pub fn run_plan<R: Source, W: Sink>(
     settings: Settings,
     hex: bool,
 ) -> Result<(), ToolFault>
-    ensures ok { OnOk result (WritesPlan (choice_of settings.config) hex (R.remaining reader.old) (R.remaining reader.new) (W.contents writer.old) (W.contents writer.new)) }
+    ensures ok { OnOk result
+        (WritesPlan (choice_of settings.config) hex (R.remaining reader.old)
+        (R.remaining reader.new) (W.contents writer.old) (W.contents writer.new)) }
     ensures reader_sound { OnOk result (R.has_failed reader.new ≡ false) }
-    ensures writer_sound { OnOk result (W.has_failed writer.old ≡ false → W.has_failed writer.new ≡ false) }
+    ensures writer_sound { OnOk result
+        (W.has_failed writer.old ≡ false → W.has_failed writer.new ≡ false) }
 
     // A fault of the data is the one that the input has, and nothing is written then, or where memory ran out.
     ensures log { (f : TailFault) → result ≡ Err (Log f)
         → ReadsFault hex f (R.remaining reader.old) (R.remaining reader.new) }
-    ensures line { (n : ℕ) → result ≡ Err (Line n) → ReadsLine hex n (R.remaining reader.old) (R.remaining reader.new) }
+    ensures line { (n : ℕ) → result ≡ Err (Line n)
+        → ReadsLine hex n (R.remaining reader.old) (R.remaining reader.new) }
     ensures no_full { result ≡ Err SegmentFull → ⊥ }
     ensures untouched { IfErr result (λ e. e ≢ Device → writer.new ≡ writer.old) }
 
     // Where a device fails, the writer holds a beginning of the plan.
-    ensures device { result ≡ Err Device → ((R.has_failed reader.new ≡ true) × (writer.new ≡ writer.old))
-        ⊎ ((W.has_failed writer.new ≡ true) × WritesPlanPart (choice_of settings.config) hex (R.remaining reader.old) (R.remaining reader.new) (W.contents writer.old) (W.contents writer.new)) }
+    ensures device { result ≡ Err Device
+        → ((R.has_failed reader.new ≡ true) × (writer.new ≡ writer.old))
+        ⊎ ((W.has_failed writer.new ≡ true)
+        × WritesPlanPart (choice_of settings.config) hex (R.remaining reader.old)
+        (R.remaining reader.new) (W.contents writer.old) (W.contents writer.new)) }
 {
     let choice = choice_in(settings);
     let plan = if hex {

@@ -55,11 +55,13 @@ fn feed_some<R: Source>(
     tail: &mut Tail,
 ) -> Result<bool, ToolFault>
     requires { 0 < length chunk.old }
-    ensures more { result ≡ Ok true → FeedsMore (R.remaining reader.old) (R.remaining reader.new) tail.old tail.new }
+    ensures more { result ≡ Ok true
+        → FeedsMore (R.remaining reader.old) (R.remaining reader.new) tail.old tail.new }
     ensures end { result ≡ Ok false → Consumes (R.remaining reader.old) (R.remaining reader.new) []
         × IsAtEnd (R.remaining reader.new) × (tail.new ≡ tail.old) }
     ensures sound { OnOk result (R.has_failed reader.new ≡ false) }
-    ensures err { IfErr result (λ e. (e ≡ OutOfMemory) ⊎ ((e ≡ Device) × (R.has_failed reader.new ≡ true))) }
+    ensures err { IfErr result
+        (λ e. (e ≡ OutOfMemory) ⊎ ((e ≡ Device) × (R.has_failed reader.new ≡ true))) }
 {
     let count = reader.read(chunk)?;
     if count == 0 {
@@ -81,7 +83,8 @@ pub(crate) fn read_segment<R: Source, T: Taker + Drop>(
         × (T.taken t ≡ entries (bytes segment ∷ []))) }
     ensures choice { IfOk result (λ t. T.choice t ≡ T.choice taker) }
     ensures sound { OnOk result (R.has_failed reader.new ≡ false) }
-    ensures err { IfErr result (StopsReading (R.remaining reader.old) (R.remaining reader.new) (R.has_failed reader.new)) }
+    ensures err { IfErr result
+        (StopsReading (R.remaining reader.old) (R.remaining reader.new) (R.has_failed reader.new)) }
 {
     let mut tail = Tail::new(alloc);
     let mut chunk = zeros(alloc, CHUNK)?;

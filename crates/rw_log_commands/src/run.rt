@@ -17,10 +17,12 @@ use std::alloc::{AllocError, Global};
 
 /// Reads to the end.
 pub(crate) fn read_input<R: Source>(alloc: Global, reader: &mut R) -> Result<Vec<u8>, ToolFault>
-    ensures read { IfOk result (λ v. Consumes (R.remaining reader.old) (R.remaining reader.new) v.items) }
+    ensures read { IfOk result
+        (λ v. Consumes (R.remaining reader.old) (R.remaining reader.new) v.items) }
     ensures end { OnOk result (IsAtEnd (R.remaining reader.new)) }
     ensures sound { OnOk result (R.has_failed reader.new ≡ false) }
-    ensures err { IfErr result (λ e. (e ≡ OutOfMemory) ⊎ ((e ≡ Device) × (R.has_failed reader.new ≡ true))) }
+    ensures err { IfErr result
+        (λ e. (e ≡ OutOfMemory) ⊎ ((e ≡ Device) × (R.has_failed reader.new ≡ true))) }
 {
     let mut input = Vec::new(alloc);
     read_to_end(alloc, reader, &mut input)?;
@@ -33,7 +35,8 @@ fn read_body<R: Source>(alloc: Global, reader: &mut R) -> Result<Vec<u8>, ToolFa
         × ReadsSegment None (R.remaining reader.old) (R.remaining reader.new) segment
         × (v.items ≡ body_of segment)) }
     ensures sound { OnOk result (R.has_failed reader.new ≡ false) }
-    ensures err { IfErr result (StopsReading (R.remaining reader.old) (R.remaining reader.new) (R.has_failed reader.new)) }
+    ensures err { IfErr result
+        (StopsReading (R.remaining reader.old) (R.remaining reader.new) (R.has_failed reader.new)) }
 {
     let labelling = read_segment(alloc, reader, Labelling::new(alloc))?;
     Ok(encode(alloc, &labelling.into_message())?)
@@ -45,7 +48,9 @@ fn read_hex_body<R: Source>(alloc: Global, reader: &mut R) -> Result<Vec<u8>, To
         × ReadsInput true None (R.remaining reader.old) (R.remaining reader.new) segment
         × (v.items ≡ body_of segment)) }
     ensures sound { OnOk result (R.has_failed reader.new ≡ false) }
-    ensures err { IfErr result (StopsInput true (R.remaining reader.old) (R.remaining reader.new) (R.has_failed reader.new)) }
+    ensures err { IfErr result
+        (StopsInput true (R.remaining reader.old) (R.remaining reader.new)
+        (R.has_failed reader.new)) }
 {
     let text = read_input(alloc, reader)?;
     let segment = rw_hex::read(alloc, &text)?;
@@ -74,20 +79,27 @@ pub fn run_body<R: Source, W: Sink>(
     writer: &mut W,
     hex: bool,
 ) -> Result<(), ToolFault>
-    ensures ok { OnOk result (WritesBody hex (R.remaining reader.old) (R.remaining reader.new) (W.contents writer.old) (W.contents writer.new)) }
+    ensures ok { OnOk result
+        (WritesBody hex (R.remaining reader.old) (R.remaining reader.new) (W.contents writer.old)
+        (W.contents writer.new)) }
     ensures reader_sound { OnOk result (R.has_failed reader.new ≡ false) }
-    ensures writer_sound { OnOk result (W.has_failed writer.old ≡ false → W.has_failed writer.new ≡ false) }
+    ensures writer_sound { OnOk result
+        (W.has_failed writer.old ≡ false → W.has_failed writer.new ≡ false) }
 
     // A fault of the data is the one that the input has, and nothing is written then, or where memory ran out.
     ensures log { (f : TailFault) → result ≡ Err (Log f)
         → ReadsFault hex f (R.remaining reader.old) (R.remaining reader.new) }
-    ensures line { (n : ℕ) → result ≡ Err (Line n) → ReadsLine hex n (R.remaining reader.old) (R.remaining reader.new) }
+    ensures line { (n : ℕ) → result ≡ Err (Line n)
+        → ReadsLine hex n (R.remaining reader.old) (R.remaining reader.new) }
     ensures no_full { result ≡ Err SegmentFull → ⊥ }
     ensures untouched { IfErr result (λ e. e ≢ Device → writer.new ≡ writer.old) }
 
     // Where a device fails, the writer holds a beginning of the output.
-    ensures device { result ≡ Err Device → ((R.has_failed reader.new ≡ true) × (writer.new ≡ writer.old))
-        ⊎ ((W.has_failed writer.new ≡ true) × WritesPart hex (R.remaining reader.old) (R.remaining reader.new) (W.contents writer.old) (W.contents writer.new)) }
+    ensures device { result ≡ Err Device
+        → ((R.has_failed reader.new ≡ true) × (writer.new ≡ writer.old))
+        ⊎ ((W.has_failed writer.new ≡ true)
+        × WritesPart hex (R.remaining reader.old) (R.remaining reader.new) (W.contents writer.old)
+        (W.contents writer.new)) }
 {
     let body = if hex {
         read_hex_body(alloc, reader)?

@@ -50,7 +50,8 @@ impl<L: Ledger> Model for Places<L> {
 
     ghost view = { λ p. vec_len p.free + vec_len p.busy };
 
-    ghost invariant = { λ p. (vec_len p.free + vec_len p.busy ≤ vec_capacity p.free) × (vec_len p.free + vec_len p.busy ≤ vec_capacity p.busy) };
+    ghost invariant = { λ p. (vec_len p.free + vec_len p.busy ≤ vec_capacity p.free)
+        × (vec_len p.free + vec_len p.busy ≤ vec_capacity p.busy) };
 }
 
 /// Serves a connection in a thread of the scope, or here, where no thread can be made. One for which memory is refused is closed.

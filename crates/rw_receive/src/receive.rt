@@ -26,8 +26,10 @@ use std::time::Clock;
 
 /// Prints what a head holds.
 fn print_held<W: Sink>(alloc: Global, head: &Head, writer: &mut W) -> Result<(), ToolFault>
-    ensures ok { OnOk result (Appends (W.contents writer.old) (W.contents writer.new) (store_text head.now.store)) }
-    ensures sound { OnOk result (W.has_failed writer.old ≡ false → W.has_failed writer.new ≡ false) }
+    ensures ok { OnOk result
+        (Appends (W.contents writer.old) (W.contents writer.new) (store_text head.now.store)) }
+    ensures sound { OnOk result
+        (W.has_failed writer.old ≡ false → W.has_failed writer.new ≡ false) }
     ensures faults { IfErr result (λ e. (e ≡ OutOfMemory) ⊎ (e ≡ Device)) }
     ensures memory { result ≡ Err OutOfMemory → writer.new ≡ writer.old }
     ensures device { result ≡ Err Device → (W.has_failed writer.new ≡ true)
@@ -69,7 +71,8 @@ pub fn run_receive<R: Threads + Wait + Clock + Sync, W: Sink>(
     writer: &mut W,
 ) -> Result<(), ToolFault>
     ensures ok { OnOk result (WritesHeld (W.contents writer.old) (W.contents writer.new)) }
-    ensures sound { OnOk result (W.has_failed writer.old ≡ false → W.has_failed writer.new ≡ false) }
+    ensures sound { OnOk result
+        (W.has_failed writer.old ≡ false → W.has_failed writer.new ≡ false) }
     ensures faults { IfErr result (λ e. (e ≡ OutOfMemory) ⊎ (e ≡ Device)) }
     ensures memory { result ≡ Err OutOfMemory → writer.new ≡ writer.old }
 
@@ -110,7 +113,8 @@ pub fn run_receive_until<R: Threads + Wait + Clock + Sync, W: Sink>(
     writer: &mut W,
 ) -> Result<(), ToolFault>
     ensures ok { OnOk result (WritesHeld (W.contents writer.old) (W.contents writer.new)) }
-    ensures sound { OnOk result (W.has_failed writer.old ≡ false → W.has_failed writer.new ≡ false) }
+    ensures sound { OnOk result
+        (W.has_failed writer.old ≡ false → W.has_failed writer.new ≡ false) }
     ensures faults { IfErr result (λ e. (e ≡ OutOfMemory) ⊎ (e ≡ Device)) }
     ensures memory { result ≡ Err OutOfMemory → writer.new ≡ writer.old }
 

@@ -40,7 +40,7 @@ pub(crate) fn served<L: Ledger, R: Wait + Clock>(
     seat
 }
 
-/// The same, without a count.
+/// Serves a connection to its end, and gives its seat back. It is not counted here.
 fn served_to_end<L: Ledger, R: Wait + Clock>(
     rt: &R,
     post: &Post<'_>,

@@ -61,7 +61,8 @@ impl Player {
     /// What was written reaches the log.
     fn feed(&mut self, written: Written) -> Result<(), AllocError>
         requires { IsPlace segment_pages written.offset }
-        ensures { OnOk result (Feeds self.old (fed written.bytes.items ∷ []) written.offset self.new) }
+        ensures { OnOk result
+            (Feeds self.old (fed written.bytes.items ∷ []) written.offset self.new) }
     {
         let Written { bytes, offset } = written;
         self.world.step(Event::Feed(Piece::Bytes(bytes)))?;
@@ -73,7 +74,9 @@ impl Player {
     fn log_in_next(&mut self, rec: &[u8]) -> Result<(), AllocError>
         requires some { 0 < length rec.now }
         requires short { length rec.now ≤ 16 * 1024 * 1024 }
-        ensures { OnOk result (Feeds self.old (next_segment ∷ fed (log_bytes page_size 0 rec.now) ∷ []) (length (log_bytes page_size 0 rec.now)) self.new) }
+        ensures { OnOk result
+            (Feeds self.old (next_segment ∷ fed (log_bytes page_size 0 rec.now) ∷ [])
+            (length (log_bytes page_size 0 rec.now)) self.new) }
     {
         self.world.step(Event::Feed(Piece::NextSegment))?;
         match write_behind(self.alloc, 0, rec)? {

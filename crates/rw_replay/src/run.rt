@@ -31,9 +31,12 @@ fn commands_of(alloc: Global, text: &[u8]) -> Result<Vec<Command>, ToolFault>
 
 /// Reads a script to its end, and answers its commands.
 fn read_commands<R: Source>(alloc: Global, reader: &mut R) -> Result<Vec<Command>, ToolFault>
-    ensures ok { IfOk result (λ commands. ReadsScript (R.remaining reader.old) (R.remaining reader.new) (map order_of commands.items)) }
+    ensures ok { IfOk result
+        (λ commands. ReadsScript (R.remaining reader.old) (R.remaining reader.new)
+        (map order_of commands.items)) }
     ensures sound { OnOk result (R.has_failed reader.new ≡ false) }
-    ensures err { IfErr result (StopsReading (R.remaining reader.old) (R.remaining reader.new) (R.has_failed reader.new)) }
+    ensures err { IfErr result
+        (StopsReading (R.remaining reader.old) (R.remaining reader.new) (R.has_failed reader.new)) }
 {
     let mut text = Vec::new(alloc);
     read_to_end(alloc, reader, &mut text)?;
@@ -47,7 +50,9 @@ fn state_after(
     commands: Vec<Command>,
 ) -> Result<Vec<u8>, AllocError>
     requires { AllByRecursion IsWritable (map order_of commands.items) }
-    ensures { IfOk result (λ text. IsPrinted (setup_of settings.config settings.limits) (map order_of commands.items) text.items) }
+    ensures { IfOk result
+        (λ text. IsPrinted (setup_of settings.config settings.limits)
+        (map order_of commands.items) text.items) }
 {
     let mut player = Player::new(alloc, settings)?;
     player.play_all(commands)?;
@@ -64,19 +69,26 @@ pub fn run_replay<R: Source, W: Sink>(
     writer: &mut W,
     settings: Settings,
 ) -> Result<(), ToolFault>
-    ensures ok { OnOk result (WritesState (setup_of settings.config settings.limits) (R.remaining reader.old) (R.remaining reader.new) (W.contents writer.old) (W.contents writer.new)) }
+    ensures ok { OnOk result
+        (WritesState (setup_of settings.config settings.limits) (R.remaining reader.old)
+        (R.remaining reader.new) (W.contents writer.old) (W.contents writer.new)) }
     ensures reader_sound { OnOk result (R.has_failed reader.new ≡ false) }
-    ensures writer_sound { OnOk result (W.has_failed writer.old ≡ false → W.has_failed writer.new ≡ false) }
+    ensures writer_sound { OnOk result
+        (W.has_failed writer.old ≡ false → W.has_failed writer.new ≡ false) }
 
     // The only fault of the data is the first line that makes the text no script. Nothing is written then, or where memory ran out.
-    ensures line { (n : ℕ) → result ≡ Err (Line n) → ReadsBadLine (R.remaining reader.old) (R.remaining reader.new) n }
+    ensures line { (n : ℕ) → result ≡ Err (Line n)
+        → ReadsBadLine (R.remaining reader.old) (R.remaining reader.new) n }
     ensures no_log { (f : TailFault) → result ≡ Err (Log f) → ⊥ }
     ensures no_full { result ≡ Err SegmentFull → ⊥ }
     ensures untouched { IfErr result (λ e. e ≢ Device → writer.new ≡ writer.old) }
 
     // Where a device fails, the writer holds a beginning of the state.
-    ensures device { result ≡ Err Device → ((R.has_failed reader.new ≡ true) × (writer.new ≡ writer.old))
-        ⊎ ((W.has_failed writer.new ≡ true) × WritesStatePart (setup_of settings.config settings.limits) (R.remaining reader.old) (R.remaining reader.new) (W.contents writer.old) (W.contents writer.new)) }
+    ensures device { result ≡ Err Device
+        → ((R.has_failed reader.new ≡ true) × (writer.new ≡ writer.old))
+        ⊎ ((W.has_failed writer.new ≡ true)
+        × WritesStatePart (setup_of settings.config settings.limits) (R.remaining reader.old)
+        (R.remaining reader.new) (W.contents writer.old) (W.contents writer.new)) }
 {
     let commands = read_commands(alloc, reader)?;
     let state = state_after(alloc, settings, commands)?;

@@ -29,7 +29,10 @@ impl<N> Model for TcpConnect<N> {
 
     ghost Value = { Receiver };
 
-    ghost view = { λ c. record { addresses = c.addresses.items; timeout = c.timeout_ms * 1_000_000 } };
+    ghost view = { λ c. record {
+      addresses = c.addresses.items;
+      timeout = c.timeout_ms * 1_000_000;
+    } };
 }
 
 impl<N> TcpConnect<N> {

@@ -75,7 +75,8 @@ pub(crate) struct SegmentName {
 
 /// The number of a segment by the name of its file; none where it is no name of a segment.
 fn number_of(name: &str) -> Option<u64>
-    ensures { MatchOption result ((n : ℕ) → n < 2 ^ 64 → IsNameOf name.now n → ⊥) (IsNameOf name.now) }
+    ensures { MatchOption result ((n : ℕ) → n < 2 ^ 64 → IsNameOf name.now n → ⊥)
+        (IsNameOf name.now) }
 {
     if name.len() > MAX_DIGITS {
         return None;

@@ -67,7 +67,8 @@ fn feed_bytes<R: Wait, C: Connect + Drop>(
     ensures fed { OnOk result (meal_of shipper.new.log.pieces
         ≡ with_piece (meal_of shipper.old.log.pieces) piece.items) }
     ensures part { OnErr result ((meal_of shipper.new.log.pieces ≡ meal_of shipper.old.log.pieces)
-        ⊎ (meal_of shipper.new.log.pieces ≡ with_piece (meal_of shipper.old.log.pieces) piece.items)) }
+        ⊎ (meal_of shipper.new.log.pieces
+        ≡ with_piece (meal_of shipper.old.log.pieces) piece.items)) }
 
     ensures halted { IfErr result (IsHalted shipper.new) }
 {
@@ -87,7 +88,8 @@ fn feed_next<R: Threads + Wait + Clock + Copy + Send + 'static, C: Connect + Dro
     ensures shards { IfOk result (λ s. length shipper.new.fleet.current ≡ s.shards) }
     ensures short { AreShort shipper.old.log.pieces → AreShort shipper.new.log.pieces }
     ensures live { OnOk result (shipper.new.fault ≡ None) }
-    ensures fed { OnOk result (meal_of shipper.new.log.pieces ≡ with_next (meal_of shipper.old.log.pieces)) }
+    ensures fed { OnOk result
+        (meal_of shipper.new.log.pieces ≡ with_next (meal_of shipper.old.log.pieces)) }
     ensures part { OnErr result ((meal_of shipper.new.log.pieces ≡ meal_of shipper.old.log.pieces)
         ⊎ (meal_of shipper.new.log.pieces ≡ with_next (meal_of shipper.old.log.pieces))) }
 
@@ -102,7 +104,8 @@ fn feed_next<R: Threads + Wait + Clock + Copy + Send + 'static, C: Connect + Dro
 fn flush<R: Wait, C: Connect + Drop>(rt: &R, shipper: &mut Shipper<C>) -> Result<(), Halt>
     requires live { shipper.old.fault ≡ None }
     ensures kept { IsKept shipper.old shipper.new }
-    ensures shards { OnOk result (length shipper.new.fleet.current ≡ length shipper.old.fleet.current) }
+    ensures shards { OnOk result
+        (length shipper.new.fleet.current ≡ length shipper.old.fleet.current) }
     ensures log { shipper.new.log ≡ shipper.old.log }
     ensures live { OnOk result (shipper.new.fault ≡ None) }
     ensures halted { IfErr result (IsHalted shipper.new) }
@@ -131,7 +134,8 @@ fn obey<R: Threads + Wait + Clock + Copy + Send + 'static, C: Connect + Drop>(
     ensures fed { OnOk result (meal_of shipper.new.log.pieces
         ≡ given_by turn buf.now (meal_of shipper.old.log.pieces)) }
     ensures part { OnErr result ((meal_of shipper.new.log.pieces ≡ meal_of shipper.old.log.pieces)
-        ⊎ (meal_of shipper.new.log.pieces ≡ given_by turn buf.now (meal_of shipper.old.log.pieces))) }
+        ⊎ (meal_of shipper.new.log.pieces
+        ≡ given_by turn buf.now (meal_of shipper.old.log.pieces))) }
 
     ensures halted { IfErr result (IsHalted shipper.new) }
 {
@@ -171,7 +175,8 @@ fn step<R: Threads + Wait + Clock + Copy + Send + 'static, C: Connect + Drop>(
     ensures fed { OnOk result (meal_of shipper.new.log.pieces
         ≡ given_by turn buf.now (meal_of shipper.old.log.pieces)) }
     ensures part { OnErr result ((meal_of shipper.new.log.pieces ≡ meal_of shipper.old.log.pieces)
-        ⊎ (meal_of shipper.new.log.pieces ≡ given_by turn buf.now (meal_of shipper.old.log.pieces))) }
+        ⊎ (meal_of shipper.new.log.pieces
+        ≡ given_by turn buf.now (meal_of shipper.old.log.pieces))) }
 
     ensures halted { IfErr result (IsHalted shipper.new) }
 {
@@ -212,8 +217,10 @@ pub(crate) fn ship_live<
     ensures kept { IsKept shipper.old shipper.new }
     ensures short { AreShort shipper.new.log.pieces }
     ensures live { OnOk result (shipper.new.fault ≡ None) }
-    ensures begins { Known (S.now segments.new) (λ m. IsBeginning (meal_of shipper.new.log.pieces) (growth.texts m)) }
-    ensures whole { result ≡ Ok Stop.Orderly → Known (S.now segments.new) (HadAll (meal_of shipper.new.log.pieces)) }
+    ensures begins { Known (S.now segments.new)
+        (λ m. IsBeginning (meal_of shipper.new.log.pieces) (growth.texts m)) }
+    ensures whole { result ≡ Ok Stop.Orderly
+        → Known (S.now segments.new) (HadAll (meal_of shipper.new.log.pieces)) }
     ensures signed { IfOk result (λ stop. W.said watch.new ≡ wish_of stop) }
     ensures cut { IfErr result (IsCut shipper.new (S.now segments.new)) }
 {

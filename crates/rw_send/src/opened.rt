@@ -51,7 +51,8 @@ impl<O: Open> Opened<O> {
 
     fn read_on(&mut self, buf: &mut [u8]) -> Result<usize, Failed>
         ensures bound { ReadsAtMost result buf.new }
-        ensures bytes { ReadConsumes (left_of O.S.remaining self.old.source) (left_of O.S.remaining self.new.source) result buf.new }
+        ensures bytes { ReadConsumes (left_of O.S.remaining self.old.source)
+            (left_of O.S.remaining self.new.source) result buf.new }
     {
         if self.source.is_none() {
             self.source = Some(self.place.open()?);

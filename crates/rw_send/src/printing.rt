@@ -34,7 +34,7 @@ fn names_by_position(alloc: Global, parts: &[Ledger]) -> Result<Vec<(u64, Reason
     Ok(names)
 }
 
-/// The same outcome, with its samples by position.
+/// An outcome with its samples by position.
 fn by_position(outcome: Outcome) -> Outcome
     ensures { IsEnding outcome (ending_of result) }
 {
@@ -89,7 +89,8 @@ pub(crate) fn print_report<T: Drop, W: Sink>(
 ) -> Result<(), ToolFault>
     ensures ok { OnOk result ((text : List ℕ) × IsTextOf report text
         × Appends (W.contents writer.old) (W.contents writer.new) text) }
-    ensures sound { OnOk result (W.has_failed writer.old ≡ false → W.has_failed writer.new ≡ false) }
+    ensures sound { OnOk result
+        (W.has_failed writer.old ≡ false → W.has_failed writer.new ≡ false) }
     ensures faults { IfErr result (λ e. (e ≡ OutOfMemory) ⊎ (e ≡ Device)) }
     ensures memory { result ≡ Err OutOfMemory → writer.new ≡ writer.old }
     ensures device { result ≡ Err Device → (W.has_failed writer.new ≡ true)

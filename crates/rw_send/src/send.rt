@@ -61,9 +61,12 @@ pub(crate) fn stopped<R: Threads + Wait, C: Connect + Drop>(
     requires halted { IfErr shipped (IsHalted shipper) }
     requires live { OnOk shipped (shipper.fault ≡ None) }
     ensures stopped { HasStopped C.T.tells C.T.seen C.T.is_for shipper result.report }
-    ensures cut { hard_fault shipped ≡ None → IsAbandoned result.report.outcome → ListsCut result.report.workers.items }
-    ensures answers { Answers (IsOk shipped) (shipped ≡ Err Halt.Unreadable) result.report.outcome result.answer }
-    ensures hard { (f : ToolFault) → hard_fault shipped ≡ Some f → IsAbandoned result.report.outcome }
+    ensures cut { hard_fault shipped ≡ None → IsAbandoned result.report.outcome
+        → ListsCut result.report.workers.items }
+    ensures answers { Answers (IsOk shipped)
+        (shipped ≡ Err Halt.Unreadable) result.report.outcome result.answer }
+    ensures hard { (f : ToolFault) → hard_fault shipped ≡ Some f
+        → IsAbandoned result.report.outcome }
 {
     match hard_fault(shipped) {
         None => {
@@ -87,11 +90,17 @@ fn ship<R: Threads + Wait + Clock + Copy + Send + 'static, S: Source + Drop, C: 
     segments: Vec<S>,
     line: Counted<'_, C>,
 ) -> Result<Sent<C::T>, AllocError>
-    ensures { IfOk result (λ s. IsSent C.T.tells C.T.seen C.T.is_for config (map S.remaining segments.items) (map S.is_sure segments.items) s.report s.answer) }
+    ensures { IfOk result
+        (λ s. IsSent C.T.tells C.T.seen C.T.is_for config (map S.remaining segments.items)
+        (map S.is_sure segments.items) s.report s.answer) }
 {
     let sharding = Sharding::of(&config);
-    let Counted { connect, counters } = line;
-    let mut shipper = Shipper::start(rt, alloc, config, connect)?;
+    let Counted {
+        connect,
+        counters,
+        max_batch_bytes,
+    } = line;
+    let mut shipper = Shipper::start_within(rt, alloc, config, connect, max_batch_bytes)?;
     let means = Means { alloc, counters };
     let shipped = ship_all(rt, means, &mut shipper, sharding, segments);
     tell(counters, &shipper);
@@ -122,17 +131,28 @@ pub fn run_send<
     line: Counted<'_, C>,
     writer: &mut W,
 ) -> Result<(), ToolFault>
-    ensures complete { OnOk result (IsPrinted C.T.tells C.T.seen C.T.is_for settings.config (map S.remaining segments.items) (map S.is_sure segments.items) (W.contents writer.old) (W.contents writer.new) (Ok tt)) }
-    ensures sound { OnOk result (W.has_failed writer.old ≡ false → W.has_failed writer.new ≡ false) }
+    ensures complete { OnOk result
+        (IsPrinted C.T.tells C.T.seen C.T.is_for settings.config (map S.remaining segments.items)
+        (map S.is_sure segments.items) (W.contents writer.old) (W.contents writer.new) (Ok tt)) }
+    ensures sound { OnOk result
+        (W.has_failed writer.old ≡ false → W.has_failed writer.new ≡ false) }
     ensures damaged { (f : TailFault) → result ≡ Err (Log f)
-        → IsPrinted C.T.tells C.T.seen C.T.is_for settings.config (map S.remaining segments.items) (map S.is_sure segments.items) (W.contents writer.old) (W.contents writer.new) (Err (Log f)) }
+        → IsPrinted C.T.tells C.T.seen C.T.is_for settings.config (map S.remaining segments.items)
+        (map S.is_sure segments.items) (W.contents writer.old) (W.contents writer.new)
+        (Err (Log f)) }
     ensures memory { result ≡ Err OutOfMemory → (writer.new ≡ writer.old)
-        ⊎ IsPrinted C.T.tells C.T.seen C.T.is_for settings.config (map S.remaining segments.items) (map S.is_sure segments.items) (W.contents writer.old) (W.contents writer.new) (Err OutOfMemory) }
+        ⊎ IsPrinted C.T.tells C.T.seen C.T.is_for settings.config (map S.remaining segments.items)
+        (map S.is_sure segments.items) (W.contents writer.old) (W.contents writer.new)
+        (Err OutOfMemory) }
 
     // A segment cannot be read, or the writer holds a beginning of the report.
     ensures device { result ≡ Err Device
-        → IsPrinted C.T.tells C.T.seen C.T.is_for settings.config (map S.remaining segments.items) (map S.is_sure segments.items) (W.contents writer.old) (W.contents writer.new) (Err Device)
-        ⊎ ((W.has_failed writer.new ≡ true) × IsPrintedPart C.T.tells C.T.seen C.T.is_for settings.config (map S.remaining segments.items) (map S.is_sure segments.items) (W.contents writer.old) (W.contents writer.new)) }
+        → IsPrinted C.T.tells C.T.seen C.T.is_for settings.config (map S.remaining segments.items)
+        (map S.is_sure segments.items) (W.contents writer.old) (W.contents writer.new) (Err Device)
+        ⊎ ((W.has_failed writer.new ≡ true)
+        × IsPrintedPart C.T.tells C.T.seen C.T.is_for settings.config
+        (map S.remaining segments.items) (map S.is_sure segments.items) (W.contents writer.old)
+        (W.contents writer.new)) }
     ensures no_line { (n : ℕ) → result ≡ Err (Line n) → ⊥ }
     ensures no_full { result ≡ Err SegmentFull → ⊥ }
 {

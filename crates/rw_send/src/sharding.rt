@@ -49,7 +49,8 @@ impl Sharding {
 
     /// As many shards as are wanted under this load.
     fn under(self, load: Load) -> Sharding
-        ensures shards { result.shards ≡ wanted self.shards load.placed load.resolved load.backlog self.fewest self.most }
+        ensures shards { result.shards
+            ≡ wanted self.shards load.placed load.resolved load.backlog self.fewest self.most }
         ensures fewest { result.fewest ≡ self.fewest }
         ensures most { result.most ≡ self.most }
     {
@@ -72,7 +73,9 @@ impl Sharding {
 
     /// As many shards as are wanted under what was placed and resolved since the clock asked last, and what waits under this load.
     fn lately(self, load: Load) -> Sharding
-        ensures shards { result.shards ≡ wanted self.shards (load.placed - self.placed) (load.resolved - self.resolved) load.backlog self.fewest self.most }
+        ensures shards { result.shards
+            ≡ wanted self.shards (load.placed - self.placed)
+            (load.resolved - self.resolved) load.backlog self.fewest self.most }
         ensures fewest { result.fewest ≡ self.fewest }
         ensures most { result.most ≡ self.most }
         ensures placed { result.placed ≡ load.placed }
@@ -120,11 +123,13 @@ pub(crate) fn resharded<R: Threads + Wait + Clock + Copy + Send + 'static, C: Co
 ) -> Result<Sharding, Halt>
     requires { length shipper.old.fleet.current ≡ sharding.shards }
     ensures put { shipper.old.fault ≡ None → HasPutAll shipper.old }
-    ensures set { OnOk result (IsSet is_more sharding.fewest sharding.most shipper.old shipper.new) }
+    ensures set { OnOk result
+        (IsSet is_more sharding.fewest sharding.most shipper.old shipper.new) }
     ensures shards { IfOk result (λ s. s.shards ≡ length shipper.new.fleet.current) }
     ensures range { IfOk result (λ s. (s.fewest ≡ sharding.fewest) × (s.most ≡ sharding.most)) }
     ensures log { shipper.new.log ≡ shipper.old.log }
-    ensures compared { (shipper.new.fleet ≡ shipper.old.fleet) ⊎ HasCompared shipper.old.fleet shipper.new.fleet }
+    ensures compared { (shipper.new.fleet ≡ shipper.old.fleet)
+        ⊎ HasCompared shipper.old.fleet shipper.new.fleet }
     ensures config { shipper.new.fleet.config ≡ shipper.old.fleet.config }
     ensures sound { shipper.old.fault ≡ None → OnOk result (shipper.new.fault ≡ None) }
     ensures err { OnErr result (result ≡ Err Halt.Failed) }
@@ -151,13 +156,16 @@ pub(crate) fn retuned<R: Threads + Wait + Clock + Copy + Send + 'static, C: Conn
 ) -> Result<Sharding, Halt>
     requires { length shipper.old.fleet.current ≡ sharding.shards }
     ensures set { is_due ≡ true → IfOk result (λ s. (load : Load) × IsLoad shipper.old.fleet load
-        × (s.shards ≡ wanted_since sharding.fewest sharding.most sharding.shards sharding.placed sharding.resolved load)) }
+        × (s.shards
+        ≡ wanted_since sharding.fewest sharding.most sharding.shards sharding.placed
+        sharding.resolved load)) }
     ensures stays { is_due ≡ false → shipper.new ≡ shipper.old }
     ensures shards { IfOk result (λ s. length shipper.new.fleet.current ≡ s.shards) }
     ensures range { IfOk result (λ s. (s.fewest ≡ sharding.fewest) × (s.most ≡ sharding.most)) }
     ensures log { shipper.new.log ≡ shipper.old.log }
     ensures config { shipper.new.fleet.config ≡ shipper.old.fleet.config }
-    ensures compared { (shipper.new.fleet ≡ shipper.old.fleet) ⊎ HasCompared shipper.old.fleet shipper.new.fleet }
+    ensures compared { (shipper.new.fleet ≡ shipper.old.fleet)
+        ⊎ HasCompared shipper.old.fleet shipper.new.fleet }
     ensures sound { shipper.old.fault ≡ None → OnOk result (shipper.new.fault ≡ None) }
     ensures err { OnErr result (result ≡ Err Halt.Failed) }
 {

@@ -29,10 +29,12 @@ pub(crate) fn zeros(alloc: Global) -> Result<Vec<u8>, AllocError>
 
 /// Reads some bytes of a segment; none at its end.
 fn read_piece<S: Source>(alloc: Global, segment: &mut S) -> Result<Vec<u8>, Halt>
-    ensures bytes { IfOk result (λ v. Consumes (S.remaining segment.old) (S.remaining segment.new) v.items) }
+    ensures bytes { IfOk result
+        (λ v. Consumes (S.remaining segment.old) (S.remaining segment.new) v.items) }
     ensures short { IfOk result (λ v. length v.items ≤ PIECE_BYTES) }
     ensures end { IfOk result (λ v. vec_len v ≡ 0 → IsAtEnd (S.remaining segment.new)) }
-    ensures sure { S.is_sure segment.old ≡ true → (S.is_sure segment.new ≡ true) × (result ≡ Err Unreadable → ⊥) }
+    ensures sure { S.is_sure segment.old ≡ true
+        → (S.is_sure segment.new ≡ true) × (result ≡ Err Unreadable → ⊥) }
     ensures err { IfErr result (λ h. (h ≡ Halt.Failed) ⊎ (h ≡ Unreadable)) }
 {
     let mut piece = zeros(alloc)?;
@@ -52,13 +54,18 @@ fn ship_piece<R: Wait, S: Source, C: Connect + Drop>(
     ensures stays { StaysOpen shipper.old shipper.new }
     ensures short { AreShort shipper.old.log.pieces → AreShort shipper.new.log.pieces }
     ensures sound { OnOk result (shipper.new.fault ≡ None) }
-    ensures more { result ≡ Ok true → IsFedMore (S.remaining segment.old) (S.remaining segment.new) shipper.old.log.pieces shipper.new.log.pieces }
-    ensures end { result ≡ Ok false → Consumes (S.remaining segment.old) (S.remaining segment.new) []
+    ensures more { result ≡ Ok true
+        → IsFedMore (S.remaining segment.old)
+        (S.remaining segment.new) shipper.old.log.pieces shipper.new.log.pieces }
+    ensures end { result ≡ Ok false
+        → Consumes (S.remaining segment.old) (S.remaining segment.new) []
         × IsAtEnd (S.remaining segment.new) × (shipper.new.log.pieces ≡ shipper.old.log.pieces) }
     ensures part { OnErr result ((shipper.new.log.pieces ≡ shipper.old.log.pieces)
-        ⊎ IsFedMore (S.remaining segment.old) (S.remaining segment.new) shipper.old.log.pieces shipper.new.log.pieces) }
+        ⊎ IsFedMore (S.remaining segment.old)
+        (S.remaining segment.new) shipper.old.log.pieces shipper.new.log.pieces) }
     ensures halted { IfErr result (IsHalted shipper.new) }
-    ensures sure { S.is_sure segment.old ≡ true → (S.is_sure segment.new ≡ true) × (result ≡ Err Unreadable → ⊥) }
+    ensures sure { S.is_sure segment.old ≡ true
+        → (S.is_sure segment.new ≡ true) × (result ≡ Err Unreadable → ⊥) }
 {
     let piece = read_piece(means.alloc, segment)?;
     if piece.is_empty() {
@@ -81,8 +88,10 @@ fn ship_segment<R: Wait, S: Source + Drop, C: Connect + Drop>(
     ensures stays { StaysOpen shipper.old shipper.new }
     ensures short { AreShort shipper.old.log.pieces → AreShort shipper.new.log.pieces }
     ensures sound { OnOk result (shipper.new.fault ≡ None) }
-    ensures whole { OnOk result (IsFed (S.remaining segment) shipper.old.log.pieces shipper.new.log.pieces) }
-    ensures part { OnErr result (IsFedPart (S.remaining segment) shipper.old.log.pieces shipper.new.log.pieces) }
+    ensures whole { OnOk result
+        (IsFed (S.remaining segment) shipper.old.log.pieces shipper.new.log.pieces) }
+    ensures part { OnErr result
+        (IsFedPart (S.remaining segment) shipper.old.log.pieces shipper.new.log.pieces) }
     ensures halted { IfErr result (IsHalted shipper.new) }
     ensures sure { S.is_sure segment ≡ true → result ≡ Err Unreadable → ⊥ }
 {
@@ -137,8 +146,11 @@ pub(crate) fn ship_all<
     ensures short { AreShort shipper.new.log.pieces }
     ensures live { OnOk result (shipper.new.fault ≡ None) }
     ensures whole { OnOk result (IsLogOf (map S.remaining segments.items) shipper.new.log.pieces) }
-    ensures steps { OnOk result (AreShipped sharding.fewest sharding.most true (map S.remaining segments.items) shipper.old shipper.new) }
-    ensures part { AreShippedPart sharding.fewest sharding.most true (map S.remaining segments.items) shipper.old shipper.new }
+    ensures steps { OnOk result
+        (AreShipped sharding.fewest sharding.most true
+        (map S.remaining segments.items) shipper.old shipper.new) }
+    ensures part { AreShippedPart sharding.fewest sharding.most true
+        (map S.remaining segments.items) shipper.old shipper.new }
     ensures begins { IsBeginningOf (map S.remaining segments.items) shipper.new.log.pieces }
     ensures halted { IfErr result (IsHalted shipper.new) }
     ensures sure { AreSure (map S.is_sure segments.items) → result ≡ Err Unreadable → ⊥ }

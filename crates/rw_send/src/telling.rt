@@ -5,11 +5,14 @@ use rw_metrics::SendCounters;
 use rw_shipper::{Connect, Report, Shipper};
 use std::alloc::Global;
 
-/// What connects to a receiver, and what counts the work. Nothing is claimed of the counters.
+/// What connects to a receiver, what counts the work, and how many bytes the body of a batch may
+/// take. Nothing is claimed of the counters, nor of the limit.
 #[derive(Drop)]
 pub struct Counted<'a, C> {
     pub connect: C,
     pub counters: &'a SendCounters,
+    /// None for no limit.
+    pub max_batch_bytes: Option<u64>,
 }
 
 /// What a log is fed with, beside its shipper.

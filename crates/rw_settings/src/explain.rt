@@ -135,7 +135,9 @@ fn note_host(alloc: Global, notes: &mut Vec<SettingsNote>, send: &Table) -> Resu
 /// Adds a note where shards or backoff are not between their bounds.
 #[tactic(auto, using(crate::proofs::NoteLemmas::lesser_of_none))]
 fn note_order(alloc: Global, notes: &mut Vec<SettingsNote>, send: &Table) -> Result<(), AllocError>
-    ensures { OnOk result (noted notes.new.items ≡ lesser (noted notes.old.items) (order_fault (table_view send.now))) }
+    ensures { OnOk result
+        (noted notes.new.items
+        ≡ lesser (noted notes.old.items) (order_fault (table_view send.now))) }
 {
     let Some(fault) = order_fault(send) else {
         return Ok(());
@@ -150,7 +152,9 @@ fn note_order(alloc: Global, notes: &mut Vec<SettingsNote>, send: &Table) -> Res
 
 /// Adds a note on each fault of the table `send`.
 fn note_send(alloc: Global, notes: &mut Vec<SettingsNote>, send: &Table) -> Result<(), AllocError>
-    ensures { OnOk result (noted notes.new.items ≡ lesser (noted notes.old.items) (send_fault (table_view send.now))) }
+    ensures { OnOk result
+        (noted notes.new.items
+        ≡ lesser (noted notes.old.items) (send_fault (table_view send.now))) }
 {
     let keys = [
         "host",
@@ -311,7 +315,8 @@ fn note_part(
     key: &str,
     takes: &str,
 ) -> Result<(), AllocError>
-    ensures { OnOk result (noted notes.new.items ≡ lesser (noted notes.old.items) (Some WrongType)) }
+    ensures { OnOk result
+        (noted notes.new.items ≡ lesser (noted notes.old.items) (Some WrongType)) }
 {
     let place = String::from_str(alloc, key)?;
     let text = format!(in alloc; "is of another type; it takes {takes}")?;
@@ -454,7 +459,8 @@ fn note_patterns(
 /// Notes on a document.
 #[tactic(auto, unfolding(crate::specs::Notes::noted))]
 fn notes_of(alloc: Global, document: &Table) -> Result<Vec<SettingsNote>, AllocError>
-    ensures { IfOk result (λ v. IsNoted (document_fault (table_view document.now)) (noted v.items)) }
+    ensures { IfOk result
+        (λ v. IsNoted (document_fault (table_view document.now)) (noted v.items)) }
 {
     let mut notes = Vec::new(alloc);
     let empty = Table::new(alloc);
@@ -493,7 +499,8 @@ fn syntax_note(alloc: Global, before: &[u8], message: &str) -> Result<Vec<Settin
 
 /// Notes on a text.
 fn notes_of_text(alloc: Global, text: &str) -> Result<Vec<SettingsNote>, AllocError>
-    ensures { IfOk result (λ v. IsNoted (result_err (settings_if (parse_document text.now))) (noted v.items)) }
+    ensures { IfOk result
+        (λ v. IsNoted (result_err (settings_if (parse_document text.now))) (noted v.items)) }
 {
     match toml::table_from_str(alloc, text) {
         Ok(document) => notes_of(alloc, &document),

@@ -98,7 +98,8 @@ fn note_key(
     known: &[&str],
     key: &str,
 ) -> Result<(), AllocError>
-    ensures { OnOk result (noted notes.new.items ≡ lesser (noted notes.old.items) (Some UnknownKey)) }
+    ensures { OnOk result
+        (noted notes.new.items ≡ lesser (noted notes.old.items) (Some UnknownKey)) }
 {
     let place = format!(in alloc; "{section}{key}")?;
     let text = match nearest(alloc, known, key)? {
@@ -117,7 +118,8 @@ pub(crate) fn note_keys(
     known: &[&str],
 ) -> Result<(), AllocError>
     ensures { OnOk result (noted notes.new.items
-        ≡ lesser (noted notes.old.items) (keys_fault (map (λ k. k.now) known.now) (table_view table.now))) }
+        ≡ lesser (noted notes.old.items)
+        (keys_fault (map (λ k. k.now) known.now) (table_view table.now))) }
 {
     for key in table.keys() {
         if !is_known(known, key.as_str()) {

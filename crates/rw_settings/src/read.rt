@@ -25,7 +25,8 @@ use toml::Table;
 /// The document of a text.
 fn document_in(alloc: Global, text: &str) -> Result<Table, SettingsFault>
     ensures ok { IfOk result (λ t. parse_document text.now ≡ Some (table_view t)) }
-    ensures err { IfErr result (λ f. (f ≡ OutOfMemory) ⊎ ((f ≡ NotToml) × (parse_document text.now ≡ None))) }
+    ensures err { IfErr result
+        (λ f. (f ≡ OutOfMemory) ⊎ ((f ≡ NotToml) × (parse_document text.now ≡ None))) }
 {
     match toml::table_from_str(alloc, text) {
         Ok(document) => Ok(document),
@@ -78,7 +79,8 @@ fn config_of(alloc: Global, send: &Table, rules: Rules) -> Result<Config, AllocE
 #[tactic(auto, unfolding(crate::specs::Settings::settings_of))]
 fn settings_of(alloc: Global, document: &Table) -> Result<Settings, SettingsFault>
     ensures ok { IfOk result (λ s. settings_if (Some (table_view document.now)) ≡ Ok s) }
-    ensures readable { IfOk result (λ s. All (λ rule. HasReadablePattern rule.pattern) s.config.rules) }
+    ensures readable { IfOk result
+        (λ s. All (λ rule. HasReadablePattern rule.pattern) s.config.rules) }
     ensures err { IfErr result (IsFaultOf (settings_if (Some (table_view document.now)))) }
 {
     let empty = Table::new(alloc);
@@ -97,7 +99,8 @@ fn settings_of(alloc: Global, document: &Table) -> Result<Settings, SettingsFaul
 /// What a text sets, or the least fault of its document.
 fn settings_of_text(alloc: Global, text: &str) -> Result<Settings, SettingsFault>
     ensures ok { IfOk result (λ s. settings_if (parse_document text.now) ≡ Ok s) }
-    ensures readable { IfOk result (λ s. All (λ rule. HasReadablePattern rule.pattern) s.config.rules) }
+    ensures readable { IfOk result
+        (λ s. All (λ rule. HasReadablePattern rule.pattern) s.config.rules) }
     ensures err { IfErr result (IsFaultOf (settings_if (parse_document text.now))) }
 {
     let document = document_in(alloc, text)?;
@@ -120,7 +123,8 @@ pub(crate) fn text_in(bytes: &[u8]) -> Option<&str>
 #[tactic(auto, unfolding(crate::specs::Settings::settings_in))]
 pub fn read_settings(alloc: Global, text: &[u8]) -> Result<Settings, SettingsFault>
     ensures ok { IfOk result (λ s. settings_in text.now ≡ Ok s) }
-    ensures readable { IfOk result (λ s. All (λ rule. HasReadablePattern rule.pattern) s.config.rules) }
+    ensures readable { IfOk result
+        (λ s. All (λ rule. HasReadablePattern rule.pattern) s.config.rules) }
     ensures err { IfErr result (IsFaultOf (settings_in text.now)) }
 {
     match text_in(text) {
@@ -133,8 +137,10 @@ pub fn read_settings(alloc: Global, text: &[u8]) -> Result<Settings, SettingsFau
 /// `NotToml` gives is not said.
 #[tactic(auto, unfolding(crate::specs::Settings::settings_in))]
 pub fn read_rules(alloc: Global, text: &[u8]) -> Result<Vec<RuleFields>, SettingsFault>
-    ensures ok { IfOk result (λ v. IfOk (settings_in text.now) (λ s. map written_rule v.items ≡ s.config.rules)) }
-    ensures err { IfErr result (λ f. (f ≡ OutOfMemory) ⊎ ((f ≡ NotToml) × (settings_in text.now ≡ Err NotToml))) }
+    ensures ok { IfOk result
+        (λ v. IfOk (settings_in text.now) (λ s. map written_rule v.items ≡ s.config.rules)) }
+    ensures err { IfErr result
+        (λ f. (f ≡ OutOfMemory) ⊎ ((f ≡ NotToml) × (settings_in text.now ≡ Err NotToml))) }
 {
     let Some(text) = text_in(text) else {
         return Err(SettingsFault::NotToml);

@@ -108,7 +108,8 @@ pub(crate) fn number_or<const LOW: u64, const HIGH: u64>(
     key: &str,
     default: Bounded<LOW, HIGH>,
 ) -> Bounded<LOW, HIGH>
-    ensures { result ≡ found_or default.entry (number_at LOW HIGH (get_member key.now (table_view table.now))) }
+    ensures { result
+        ≡ found_or default.entry (number_at LOW HIGH (get_member key.now (table_view table.now))) }
 {
     match number_at(table, key) {
         Ok(Some(number)) => number,
@@ -131,7 +132,8 @@ pub(crate) fn text_fault(table: &Table, key: &str) -> Option<SettingsFault>
 
 /// The text at a key, or the default where none stands there.
 pub(crate) fn text_or<'a>(table: &'a Table, key: &str, default: &'a str) -> &'a str
-    ensures { result.now ≡ found_or default.now (text_at any_text (get_member key.now (table_view table.now))) }
+    ensures { result.now
+        ≡ found_or default.now (text_at any_text (get_member key.now (table_view table.now))) }
 {
     match value_at(table, key) {
         None => default,
@@ -144,7 +146,8 @@ pub(crate) fn text_or<'a>(table: &'a Table, key: &str, default: &'a str) -> &'a 
 
 /// What is wrong with the host at a key.
 pub(crate) fn host_fault(table: &Table, key: &str) -> Option<SettingsFault>
-    ensures { result ≡ result_err (text_at is_host_name (get_member key.now (table_view table.now))) }
+    ensures { result
+        ≡ result_err (text_at is_host_name (get_member key.now (table_view table.now))) }
 {
     match value_at(table, key) {
         None => None,
@@ -177,7 +180,8 @@ pub(crate) fn host_or_default(
 
 /// What is wrong with the path at a key.
 pub(crate) fn path_fault(table: &Table, key: &str) -> Option<SettingsFault>
-    ensures { result ≡ result_err (text_at is_request_path (get_member key.now (table_view table.now))) }
+    ensures { result
+        ≡ result_err (text_at is_request_path (get_member key.now (table_view table.now))) }
 {
     match value_at(table, key) {
         None => None,
@@ -257,7 +261,8 @@ pub(crate) fn names_or_legacy(table: &Table, key: &str) -> Names
 /// The table at a key, or the empty one where no value stands there; `None` where a value of another type does.
 pub(crate) fn section<'a>(document: &'a Table, key: &str, empty: &'a Table) -> Option<&'a Table>
     requires { table_view empty.now ≡ no_members }
-    ensures { option_map (λ t. table_view t.now) result ≡ section (get_member key.now (table_view document.now)) }
+    ensures { option_map (λ t. table_view t.now) result
+        ≡ section (get_member key.now (table_view document.now)) }
 {
     match value_at(document, key) {
         None => Some(empty),
@@ -267,7 +272,8 @@ pub(crate) fn section<'a>(document: &'a Table, key: &str, empty: &'a Table) -> O
 
 /// The items of the list at a key, no items where no value stands there; `None` where a value of another type does.
 pub(crate) fn list_at<'a>(table: &'a Table, key: &str) -> Option<&'a [Value]>
-    ensures { option_map (λ v. items_view v.now) result ≡ list_at (get_member key.now (table_view table.now)) }
+    ensures { option_map (λ v. items_view v.now) result
+        ≡ list_at (get_member key.now (table_view table.now)) }
 {
     match value_at(table, key) {
         None => Some(&[]),
@@ -281,7 +287,8 @@ pub(crate) fn list_at<'a>(table: &'a Table, key: &str) -> Option<&'a [Value]>
 /// The table at a key, or the empty one where none stands there.
 pub(crate) fn section_or<'a>(document: &'a Table, key: &str, empty: &'a Table) -> &'a Table
     requires { table_view empty.now ≡ no_members }
-    ensures { table_view result.now ≡ part_or no_members (section (get_member key.now (table_view document.now))) }
+    ensures { table_view result.now
+        ≡ part_or no_members (section (get_member key.now (table_view document.now))) }
 {
     match section(document, key, empty) {
         None => empty,
@@ -291,7 +298,8 @@ pub(crate) fn section_or<'a>(document: &'a Table, key: &str, empty: &'a Table) -
 
 /// The items of the list at a key, none where no list stands there.
 pub(crate) fn list_or_none<'a>(table: &'a Table, key: &str) -> &'a [Value]
-    ensures { items_view result.now ≡ part_or no_items (list_at (get_member key.now (table_view table.now))) }
+    ensures { items_view result.now
+        ≡ part_or no_items (list_at (get_member key.now (table_view table.now))) }
 {
     match list_at(table, key) {
         None => &[],

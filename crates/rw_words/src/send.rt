@@ -38,6 +38,7 @@ pub(crate) fn send_task<'a>(
             reading,
             reporting,
             fails_on_drop: options.get_flag("fail-on-drop"),
+            max_batch_bytes: options.get_one::<u64>("max-batch-bytes"),
         },
     })
 }

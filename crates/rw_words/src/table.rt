@@ -11,11 +11,11 @@ pub(crate) enum Takes {
     Text(&'static str),
     /// A path, which is no empty word.
     Path(&'static str),
-    /// The same, without the name of the option before it.
+    /// A path that stands alone, without the name of an option before it.
     Place(&'static str),
     /// A number from the first to the second one.
     Number(i64, i64),
-    /// The same, and the number that stands where none is given.
+    /// A number from the first to the second one, and the number that stands where none is given.
     NumberOr(i64, i64, &'static str),
     /// One number or more, shown by this name.
     Numbers(&'static str),
@@ -268,6 +268,12 @@ static SEND: Words = Words {
             takes: Takes::Nothing,
             bonds: &[],
             help: "End with status 1 where all was answered for, but samples were dropped",
+        },
+        Opt {
+            name: "max-batch-bytes",
+            takes: Takes::Number(1, 1_099_511_627_776),
+            bonds: &[],
+            help: "Send no body above N bytes but that of one sample, 1 to 1099511627776",
         },
         PROGRESS,
         METRICS,

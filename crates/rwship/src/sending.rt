@@ -38,13 +38,17 @@ fn ship<R: Threads + Wait + Clock + Copy + Send + 'static>(
     rt: &HostRuntime,
     threads: &R,
     settings: Settings,
-    dir: &str,
+    sending: &Sending<'_>,
     addresses: Vec<SocketAddr>,
     counters: &Arc<SendCounters, Global>,
 ) -> Result<(), ToolFault> {
     let connect = connect_to(rt, &settings, addresses, counters)?;
-    let segments = segment_files(rt, dir, Some(counters))?;
-    let line = Counted { connect, counters };
+    let segments = segment_files(rt, sending.dir, Some(counters))?;
+    let line = Counted {
+        connect,
+        counters,
+        max_batch_bytes: sending.max_batch_bytes,
+    };
     let mut output = Std::new(rt.stdout());
     run_send(threads, rt.alloc(), settings, segments, line, &mut output)
 }
@@ -67,16 +71,20 @@ fn follow<R: Threads + Wait + Clock + Copy + Send + 'static>(
     rt: &HostRuntime,
     threads: &R,
     settings: Settings,
-    dir: &str,
+    sending: &Sending<'_>,
     addresses: Vec<SocketAddr>,
     following: &Following<'_>,
     counters: &Arc<SendCounters, Global>,
 ) -> Result<(), FollowFault> {
     let connect = connect_to(rt, &settings, addresses, counters)?;
-    let dir = String::from_str(rt.alloc(), dir)?;
+    let dir = String::from_str(rt.alloc(), sending.dir)?;
     let mut segments = Folder::new(*rt, dir, Arc::try_clone(counters)?);
     let mut watch = watch_of(rt, threads, following)?;
-    let line = Counted { connect, counters };
+    let line = Counted {
+        connect,
+        counters,
+        max_batch_bytes: sending.max_batch_bytes,
+    };
     let mut output = Std::new(rt.stdout());
     run_follow(
         threads,
@@ -98,13 +106,14 @@ fn ship_or_follow<R: Threads + Wait + Clock + Copy + Send + 'static>(
     addresses: Vec<SocketAddr>,
     counters: &Arc<SendCounters, Global>,
 ) -> Result<(), FollowFault> {
-    let dir = sending.dir;
     match &sending.reading {
         Reading::Whole => {
-            ship(rt, threads, settings, dir, addresses, counters).map_err(FollowFault::Tool)
+            ship(rt, threads, settings, sending, addresses, counters).map_err(FollowFault::Tool)
         }
         Reading::Follow(following) => {
-            follow(rt, threads, settings, dir, addresses, following, counters)
+            follow(
+                rt, threads, settings, sending, addresses, following, counters,
+            )
         }
     }
 }

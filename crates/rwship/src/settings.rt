@@ -76,7 +76,8 @@ pub fn settings_in(rt: &HostRuntime, file: SettingsFile<'_>) -> Result<Settings,
 
 /// The settings that are asked for, as a text that gives each key.
 pub fn printed_settings(rt: &HostRuntime, file: SettingsFile<'_>) -> Result<String, Unset>
-    ensures { file.entry.path ≡ None → IfOk result (λ t. IsOkAnd (toml.settings_in []) (λ s. string_bytes t ≡ settings_text s)) }
+    ensures { file.entry.path ≡ None
+        → IfOk result (λ t. IsOkAnd (toml.settings_in []) (λ s. string_bytes t ≡ settings_text s)) }
 {
     let text = text_of(rt, file)?;
     match print_settings(rt.alloc(), &text) {

@@ -142,6 +142,7 @@ fn does<R: Threads + Wait + Clock + Copy + Send + 'static>(
             status: StatusCode::NO_CONTENT,
         },
         counters: &counters,
+        max_batch_bytes: None,
     };
     let answer = run_follow(
         rt,
@@ -271,6 +272,7 @@ fn flushed<R: Threads + Wait + Clock + Copy + Send + 'static>(
             status: StatusCode::BAD_REQUEST,
         },
         counters: &counters,
+        max_batch_bytes: None,
     };
     Ok(run_follow(rt, alloc, settings, &mut log, line, &mut watch, printed))
 }

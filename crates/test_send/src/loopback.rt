@@ -123,6 +123,7 @@ fn sends<R: Threads + Wait + Clock + Copy + Send + 'static, C: Connect + Drop>(
     let line = Counted {
         connect,
         counters: &counters,
+        max_batch_bytes: None,
     };
     match read_settings(alloc, row.0) {
         Ok(settings) => run_send(rt, alloc, settings, segments, line, printed).is_ok(),

@@ -122,6 +122,7 @@ fn shipped<R: Threads + Wait + Clock + Copy + Send + 'static>(
     let line = Counted {
         connect: receivers_of(rt, row.2)?,
         counters: &counters,
+        max_batch_bytes: None,
     };
     match read_settings(alloc, row.0) {
         Ok(settings) => Ok(run_send(rt, alloc, settings, readers, line, printed)),

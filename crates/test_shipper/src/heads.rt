@@ -163,6 +163,7 @@ static ALL: Row<'static> = Row {
         batch: 2_000,
         calls: &[Feed(&[UP], &[(1, 10, ONE), (1, 20, TWO)], None), Flush],
         stop: Stop::Orderly,
+        limit: None,
     },
     wanted: Wanted {
         faults: &[None, None],
@@ -192,6 +193,7 @@ static OF_BOTH_EPOCHS: Row<'static> = Row {
             Feed(&[], &[(4, 20, TWO)], None),
         ],
         stop: Stop::Orderly,
+        limit: None,
     },
     wanted: Wanted {
         faults: &[None, None, None, None],
@@ -222,6 +224,7 @@ static THAT_RISE: Row<'static> = Row {
             Feed(&[], &[(4, 10, TWO), (4, 20, TWO)], None),
         ],
         stop: Stop::Orderly,
+        limit: None,
     },
     wanted: Wanted {
         faults: &[None, None, None, None],

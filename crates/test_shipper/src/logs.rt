@@ -41,6 +41,22 @@ pub(crate) const FOUR: [Named; 4] = [
     },
 ];
 
+/// Three series whose names have 200 bytes.
+pub(crate) const LONG: [Named; 3] = [
+    Named {
+        reference: 1,
+        name: &[b'a'; 200],
+    },
+    Named {
+        reference: 2,
+        name: &[b'b'; 200],
+    },
+    Named {
+        reference: 3,
+        name: &[b'c'; 200],
+    },
+];
+
 /// Samples: their references, times and the bits of their values.
 pub(crate) type Samples<'a> = &'a [(u64, i64, u64)];
 

@@ -1,6 +1,6 @@
 //! What a shipper places and sends, and what its report says.
 
-use crate::logs::{FOUR, ONE, TWO, UP, segment};
+use crate::logs::{FOUR, LONG, ONE, TWO, UP, segment};
 use crate::peers::{Peer, Peers, TURNS};
 use crate::work::{Call, Ending, Stop, Task, Wanted, Work, config_of, done, ends_so};
 use Call::{Feed, Flush, NextSegment, Reshard};
@@ -106,6 +106,7 @@ static ALL_SENT: Row<'static> = Row {
         batch: 2_000,
         calls: &[Feed(&[UP], &[(1, 10, ONE), (1, 20, TWO)], None), Flush],
         stop: Stop::Orderly,
+        limit: None,
     },
     status: 204,
     epochs: u64::MAX,
@@ -131,6 +132,7 @@ static NAMED: Row<'static> = Row {
         batch: 2_000,
         calls: &[Feed(&[UP], &[(9, 10, ONE), (1, 20, TWO)], None)],
         stop: Stop::Orderly,
+        limit: None,
     },
     status: 400,
     epochs: u64::MAX,
@@ -174,6 +176,7 @@ static ONE_SERIES: Row<'static> = Row {
             Feed(&[], &[(4, 20, TWO)], None),
         ],
         stop: Stop::Orderly,
+        limit: None,
     },
     status: 204,
     epochs: u64::MAX,
@@ -205,6 +208,7 @@ static KEPT_SHARDS: Row<'static> = Row {
             Feed(&[], &[(3, 20, ONE), (4, 30, TWO)], None),
         ],
         stop: Stop::Orderly,
+        limit: None,
     },
     status: 204,
     epochs: u64::MAX,
@@ -230,6 +234,7 @@ static HARD_STOP: Row<'static> = Row {
         batch: 1,
         calls: &[Feed(&[UP], &[(1, 10, ONE), (1, 20, TWO)], None)],
         stop: Stop::Hard,
+        limit: None,
     },
     status: 503,
     epochs: u64::MAX,
@@ -256,6 +261,7 @@ static DAMAGED: Row<'static> = Row {
         batch: 2_000,
         calls: &[Feed(&[UP], &[(1, 10, ONE), (1, 20, TWO)], Some(8))],
         stop: Stop::Orderly,
+        limit: None,
     },
     status: 204,
     epochs: u64::MAX,
@@ -291,6 +297,7 @@ static REFUSED_EPOCH: Row<'static> = Row {
             Reshard(3),
         ],
         stop: Stop::Orderly,
+        limit: None,
     },
     status: 204,
     epochs: 1,
@@ -327,12 +334,14 @@ static STOPPED: [Task<'static>; 2] = [
         batch: 2_000,
         calls: OVER_TWO_EPOCHS,
         stop: Stop::Orderly,
+        limit: None,
     },
     Task {
         shards: 2,
         batch: 2_000,
         calls: OVER_TWO_EPOCHS,
         stop: Stop::Hard,
+        limit: None,
     },
 ];
 
@@ -383,6 +392,7 @@ static NO_CALLS: Task<'static> = Task {
     batch: 1,
     calls: &[],
     stop: Stop::Hard,
+    limit: None,
 };
 
 #[test]
@@ -398,6 +408,7 @@ static ONE_EACH: Task<'static> = Task {
     batch: 1,
     calls: &[Feed(&FOUR, &[(1, 10, ONE), (2, 20, TWO)], None)],
     stop: Stop::Orderly,
+    limit: None,
 };
 
 /// Whether each of two shards makes one request, where the receiver of this shard is held until the other one has answered.
@@ -457,4 +468,86 @@ fn resolves_in_time<R: Threads + Wait + Copy + Send + 'static>(
 #[test]
 fn a_fed_sample_is_resolved_without_a_flush(rt: HostRuntime) {
     assert_eq!(rt; resolves_in_time(&rt, rt.alloc()), Ok(true));
+}
+
+/// Two samples of one series, each of which counts 31 bytes, though the body of both takes 44.
+const SHORT: &[Call<'static>] = &[Feed(&[UP], &[(1, 10, ONE), (1, 20, TWO)], None)];
+
+/// A sample of each of three metrics whose names have 200 bytes: each counts 232 bytes.
+const LARGE: &[Call<'static>] = &[Feed(&LONG, &[(1, 10, ONE), (2, 10, ONE), (3, 10, ONE)], None)];
+
+/// What is called, how many entries that places, how many bytes a batch may take, and how many each body takes.
+static LIMITED: [(&[Call<'static>], u64, Option<u64>, &[usize]); 9] = [
+    (SHORT, 3, None, &[44]),
+    (SHORT, 3, Some(62), &[44]),
+    (SHORT, 3, Some(61), &[31, 31]),
+    (SHORT, 3, Some(1), &[31, 31]),
+    (LARGE, 6, None, &[696]),
+    (LARGE, 6, Some(696), &[696]),
+    (LARGE, 6, Some(695), &[464, 232]),
+    (LARGE, 6, Some(463), &[232, 232, 232]),
+    (LARGE, 6, Some(1), &[232, 232, 232]),
+];
+
+/// How many bytes stand behind the empty line of a request.
+fn body_len(request: &[u8]) -> usize {
+    for i in 0..request.len() {
+        let rest = &request[i..];
+        if rest.starts_with(b"\r\n\r\n") {
+            return rest.len().saturating_sub(4);
+        }
+    }
+    0
+}
+
+/// Whether the bodies of the requests are so long.
+fn has_lens(peer: &Peer, lens: &[usize]) -> bool {
+    for (request, len) in peer.requests().iter().zip(lens) {
+        if body_len(request) != *len {
+            return false;
+        }
+    }
+    peer.requests().len() == lens.len()
+}
+
+/// Whether all is sent, in bodies that are so long, where batches have this limit.
+fn sends_in<R: Threads + Wait + Copy + Send + 'static>(
+    rt: &R,
+    alloc: Global,
+    task: &Task<'_>,
+    placed: u64,
+    lens: &[usize],
+) -> bool {
+    let Ok(peers) = peers_of(alloc, 204, u64::MAX, None) else {
+        return false;
+    };
+    let Some((work, peers)) = done(rt, alloc, task, peers) else {
+        return false;
+    };
+    match peers.as_slice() {
+        [peer] => has_lens(peer, lens) && ends_so(&work.outcome, Ending::Complete(placed)),
+        _ => false,
+    }
+}
+
+/// The number of the first limit at which all is not sent as it says.
+fn wrong_limit<R: Threads + Wait + Copy + Send + 'static>(rt: &R, alloc: Global) -> Option<usize> {
+    for (i, (calls, placed, limit, lens)) in LIMITED.iter().enumerate() {
+        let task = Task {
+            shards: 1,
+            batch: 2_000,
+            calls,
+            stop: Stop::Orderly,
+            limit: *limit,
+        };
+        if !sends_in(rt, alloc, &task, *placed, lens) {
+            return Some(i);
+        }
+    }
+    None
+}
+
+#[test]
+fn batches_keep_a_limit(rt: HostRuntime) {
+    assert_eq!(rt; wrong_limit(&rt, rt.alloc()), None);
 }

@@ -44,6 +44,8 @@ pub(crate) struct Task<'a> {
     pub(crate) batch: u64,
     pub(crate) calls: &'a [Call<'a>],
     pub(crate) stop: Stop,
+    /// How many bytes a batch may take.
+    pub(crate) limit: Option<u64>,
 }
 
 /// What a shipper did.
@@ -321,13 +323,13 @@ fn ship<R: Threads + Wait + Copy + Send + 'static, C: Connect + Drop>(
     config: Config,
     connect: C,
     steps: Vec<Step>,
-    stop: Stop,
+    task: &Task<'_>,
 ) -> Result<(Work, Vec<C::T>), AllocError> {
     let mut faults = Vec::with_capacity(alloc, steps.len())?;
     let mut loads = Vec::with_capacity(alloc, steps.len())?;
-    let mut shipper = Shipper::start(rt, alloc, config, connect)?;
+    let mut shipper = Shipper::start_within(rt, alloc, config, connect, task.limit)?;
     take_steps(rt, &mut shipper, steps, &mut faults, &mut loads);
-    work_of(alloc, faults, loads, report_of(rt, shipper, stop))
+    work_of(alloc, faults, loads, report_of(rt, shipper, task.stop))
 }
 
 /// Does a task. Gives what was done, and the transports; none where the start is refused, or memory is.
@@ -340,5 +342,5 @@ pub(crate) fn done<R: Threads + Wait + Copy + Send + 'static, C: Connect + Drop>
     let mut steps = Vec::new(alloc);
     put_steps(alloc, &mut steps, task.calls).ok()?;
     let config = config_of(alloc, task.shards, task.batch)?;
-    ship(rt, alloc, config, connect, steps, task.stop).ok()
+    ship(rt, alloc, config, connect, steps, task).ok()
 }
