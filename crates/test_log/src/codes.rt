@@ -1,129 +1,116 @@
 //! The codes: values from the public standards, and the edges of each length.
 
 use crate::rows::none_is_wrong;
+use Row::{Crc, Form, Number, Signed, Unsigned};
 use rw_codes::{CodeFault, crc32c, get_uvarint, get_varint, put_uvarint, put_varint};
-use std::alloc::{AllocError, Global};
-use std::test::Fail;
+use std::alloc::Global;
 
-/// Numbers and their shortest forms: the least and the greatest of each length.
-static NUMBERS: [(u64, &[u8]); 21] = [
-    (0, &[0]),
-    (127, &[127]),
-    (128, &[128, 1]),
-    (300, &[172, 2]),
-    (16_383, &[255, 127]),
-    (16_384, &[128, 128, 1]),
-    (2_097_151, &[255, 255, 127]),
-    (2_097_152, &[128, 128, 128, 1]),
-    (268_435_455, &[255, 255, 255, 127]),
-    (268_435_456, &[128, 128, 128, 128, 1]),
-    (34_359_738_367, &[255, 255, 255, 255, 127]),
-    (34_359_738_368, &[128, 128, 128, 128, 128, 1]),
-    (4_398_046_511_103, &[255, 255, 255, 255, 255, 127]),
-    (4_398_046_511_104, &[128, 128, 128, 128, 128, 128, 1]),
-    (562_949_953_421_311, &[255, 255, 255, 255, 255, 255, 127]),
-    (562_949_953_421_312, &[128, 128, 128, 128, 128, 128, 128, 1]),
-    (
+/// What a row says.
+enum Row {
+    /// A text and its CRC.
+    Crc(&'static [u8], u32),
+    /// A number and its shortest form.
+    Number(u64, &'static [u8]),
+    /// A signed number and its shortest form.
+    Signed(i64, &'static [u8]),
+    /// A text that no number has as its shortest form, and what is read of it.
+    Form(&'static [u8], Result<(u64, usize), CodeFault>),
+    /// A text that no signed number has, and what is read of it.
+    Unsigned(&'static [u8], CodeFault),
+}
+
+static ROWS: [Row; 45] = [
+    Crc(b"", 0x0000_0000),
+    Crc(b"123456789", 0xE306_9283),
+    Crc(&[2], 0xB346_23A6),
+    Crc(b"a", 0xC1D0_4330),
+    Crc(&[0; 32], 0x8A91_36AA),
+    Crc(&[255; 32], 0x62A8_AB43),
+    // the least and the greatest number of each length
+    Number(0, &[0]),
+    Number(127, &[127]),
+    Number(128, &[128, 1]),
+    Number(300, &[172, 2]),
+    Number(16_383, &[255, 127]),
+    Number(16_384, &[128, 128, 1]),
+    Number(2_097_151, &[255, 255, 127]),
+    Number(2_097_152, &[128, 128, 128, 1]),
+    Number(268_435_455, &[255, 255, 255, 127]),
+    Number(268_435_456, &[128, 128, 128, 128, 1]),
+    Number(34_359_738_367, &[255, 255, 255, 255, 127]),
+    Number(34_359_738_368, &[128, 128, 128, 128, 128, 1]),
+    Number(4_398_046_511_103, &[255, 255, 255, 255, 255, 127]),
+    Number(4_398_046_511_104, &[128, 128, 128, 128, 128, 128, 1]),
+    Number(562_949_953_421_311, &[255, 255, 255, 255, 255, 255, 127]),
+    Number(562_949_953_421_312, &[128, 128, 128, 128, 128, 128, 128, 1]),
+    Number(
         72_057_594_037_927_935,
         &[255, 255, 255, 255, 255, 255, 255, 127],
     ),
-    (
+    Number(
         72_057_594_037_927_936,
         &[128, 128, 128, 128, 128, 128, 128, 128, 1],
     ),
-    (
+    Number(
         9_223_372_036_854_775_807,
         &[255, 255, 255, 255, 255, 255, 255, 255, 127],
     ),
-    (
+    Number(
         9_223_372_036_854_775_808,
         &[128, 128, 128, 128, 128, 128, 128, 128, 128, 1],
     ),
-    (
+    Number(
         18_446_744_073_709_551_615,
         &[255, 255, 255, 255, 255, 255, 255, 255, 255, 1],
     ),
-];
-
-/// Texts and their CRC.
-static CRCS: [(&[u8], u32); 6] = [
-    (b"", 0x0000_0000),
-    (b"123456789", 0xE306_9283),
-    (&[2], 0xB346_23A6),
-    (b"a", 0xC1D0_4330),
-    (&[0; 32], 0x8A91_36AA),
-    (&[255; 32], 0x62A8_AB43),
-];
-
-/// Signed numbers and their shortest forms.
-static SIGNED: [(i64, &[u8]); 8] = [
-    (0, &[0]),
-    (-1, &[1]),
-    (1, &[2]),
-    (-10, &[19]),
-    (63, &[126]),
-    (-65, &[129, 1]),
-    (i64::MAX, &[254, 255, 255, 255, 255, 255, 255, 255, 255, 1]),
-    (i64::MIN, &[255, 255, 255, 255, 255, 255, 255, 255, 255, 1]),
-];
-
-/// Texts that no number has as its shortest form, and what is read of them.
-static OTHER_FORMS: [(&[u8], Result<(u64, usize), CodeFault>); 8] = [
-    (&[128, 0], Ok((0, 2))),
-    (&[129, 128, 0], Ok((1, 3))),
-    (
+    Signed(0, &[0]),
+    Signed(-1, &[1]),
+    Signed(1, &[2]),
+    Signed(-10, &[19]),
+    Signed(63, &[126]),
+    Signed(-65, &[129, 1]),
+    Signed(i64::MAX, &[254, 255, 255, 255, 255, 255, 255, 255, 255, 1]),
+    Signed(i64::MIN, &[255, 255, 255, 255, 255, 255, 255, 255, 255, 1]),
+    Form(&[128, 0], Ok((0, 2))),
+    Form(&[129, 128, 0], Ok((1, 3))),
+    Form(
         &[128, 128, 128, 128, 128, 128, 128, 128, 128, 0],
         Ok((0, 10)),
     ),
-    (
+    Form(
         &[255, 255, 255, 255, 255, 255, 255, 255, 255, 1, 1],
         Ok((u64::MAX, 10)),
     ),
-    (
+    Form(
         &[255, 255, 255, 255, 255, 255, 255, 255, 255, 2],
         Err(CodeFault::TooBig),
     ),
-    (
+    Form(
         &[128, 128, 128, 128, 128, 128, 128, 128, 128, 2],
         Err(CodeFault::TooBig),
     ),
-    (
+    Form(
         &[128, 128, 128, 128, 128, 128, 128, 128, 128, 128, 1],
         Err(CodeFault::TooBig),
     ),
-    (
+    Form(
         &[128, 128, 128, 128, 128, 128, 128, 128, 128],
         Err(CodeFault::Short),
     ),
+    Unsigned(&[128], CodeFault::Short),
+    Unsigned(&[255; 10], CodeFault::TooBig),
 ];
 
-/// Texts that no signed number has, and what is read of them.
-static NO_SIGNED: [(&[u8], CodeFault); 2] = [
-    (&[128], CodeFault::Short),
-    (&[255; 10], CodeFault::TooBig),
-];
-
-fn wrong_crc() -> Option<usize> {
-    for (i, (text, want)) in CRCS.iter().enumerate() {
-        if crc32c(text) != *want {
-            return Some(i);
-        }
-    }
-    None
-}
-
-#[test]
-fn crc_of_known_texts(rt: HostRuntime) {
-    none_is_wrong(&rt, wrong_crc());
-}
-
-/// Whether the number has this form, also with another byte behind it.
-fn is_form_of(out: &mut Vec<u8>, n: u64, bytes: &[u8]) -> Result<bool, AllocError> {
+/// Whether a number is written so, and then another byte behind it.
+fn is_written(out: &mut Vec<u8>, n: u64, bytes: &[u8]) -> bool {
     out.clear();
-    put_uvarint(out, n)?;
-    let is_written = out.as_slice() == bytes;
-    out.push(7)?;
-    Ok(is_written && get_uvarint(out) == Ok((n, bytes.len())))
+    put_uvarint(out, n).is_ok() && out.as_slice() == bytes && out.push(7).is_ok()
+}
+
+/// The same of a signed number.
+fn is_signed_written(out: &mut Vec<u8>, z: i64, bytes: &[u8]) -> bool {
+    out.clear();
+    put_varint(out, z).is_ok() && out.as_slice() == bytes && out.push(7).is_ok()
 }
 
 /// Whether each front of the form is too short.
@@ -136,42 +123,26 @@ fn is_short_where_cut(bytes: &[u8]) -> bool {
     true
 }
 
-fn wrong_number(out: &mut Vec<u8>) -> Result<Option<usize>, AllocError> {
-    for (i, (n, bytes)) in NUMBERS.iter().enumerate() {
-        if !is_form_of(out, *n, bytes)? || !is_short_where_cut(bytes) {
-            return Ok(Some(i));
+/// Whether a row is so: a form is also read with another byte behind it, and too short in each of its fronts.
+fn is_so(out: &mut Vec<u8>, row: &Row) -> bool {
+    match row {
+        Crc(text, crc) => crc32c(text) == *crc,
+        Number(n, bytes) => {
+            is_written(out, *n, bytes)
+                && get_uvarint(out) == Ok((*n, bytes.len()))
+                && is_short_where_cut(bytes)
         }
-    }
-    Ok(None)
-}
-
-#[test]
-fn numbers_there_and_back(rt: HostRuntime) -> Result<(), Fail> {
-    none_is_wrong(&rt, wrong_number(&mut Vec::new(rt.alloc()))?);
-    Ok(())
-}
-
-/// Whether the signed number has this form, also with another byte behind it.
-fn is_signed_form_of(out: &mut Vec<u8>, z: i64, bytes: &[u8]) -> Result<bool, AllocError> {
-    out.clear();
-    put_varint(out, z)?;
-    let is_written = out.as_slice() == bytes;
-    out.push(7)?;
-    Ok(is_written && get_varint(out) == Ok((z, bytes.len())))
-}
-
-fn wrong_signed(out: &mut Vec<u8>) -> Result<Option<usize>, AllocError> {
-    for (i, (z, bytes)) in SIGNED.iter().enumerate() {
-        if !is_signed_form_of(out, *z, bytes)? {
-            return Ok(Some(i));
+        Signed(z, bytes) => {
+            is_signed_written(out, *z, bytes) && get_varint(out) == Ok((*z, bytes.len()))
         }
+        Form(text, read) => get_uvarint(text) == *read,
+        Unsigned(text, fault) => get_varint(text) == Err(*fault),
     }
-    Ok(None)
 }
 
-fn read_signed() -> Option<usize> {
-    for (i, (text, fault)) in NO_SIGNED.iter().enumerate() {
-        if get_varint(text) != Err(*fault) {
+fn wrong_row(out: &mut Vec<u8>) -> Option<usize> {
+    for (i, row) in ROWS.iter().enumerate() {
+        if !is_so(out, row) {
             return Some(i);
         }
     }
@@ -179,24 +150,8 @@ fn read_signed() -> Option<usize> {
 }
 
 #[test]
-fn signed_there_and_back(rt: HostRuntime) -> Result<(), Fail> {
-    none_is_wrong(&rt, wrong_signed(&mut Vec::new(rt.alloc()))?);
-    none_is_wrong(&rt, read_signed());
-    Ok(())
-}
-
-fn wrong_form() -> Option<usize> {
-    for (i, (text, want)) in OTHER_FORMS.iter().enumerate() {
-        if get_uvarint(text) != *want {
-            return Some(i);
-        }
-    }
-    None
-}
-
-#[test]
-fn other_forms(rt: HostRuntime) {
-    none_is_wrong(&rt, wrong_form());
+fn texts_and_numbers(rt: HostRuntime) {
+    none_is_wrong(&rt, wrong_row(&mut Vec::new(rt.alloc())));
 }
 
 /// Whether the number is written whole, or nothing where memory is refused.
@@ -210,17 +165,19 @@ fn is_whole_or_nothing(out: &mut Vec<u8>, n: u64, bytes: &[u8]) -> bool {
 
 /// The same of the signed number -1.
 fn is_signed_whole_or_nothing(out: &mut Vec<u8>) -> bool {
-    let len = out.len();
+    let before = out.len();
     match put_varint(out, -1) {
-        Ok(()) => out.len() == len + 1,
-        Err(_) => out.len() == len,
+        Ok(()) => out.len() == before + 1,
+        Err(_) => out.len() == before,
     }
 }
 
 fn half_written(out: &mut Vec<u8>) -> Option<usize> {
-    for (i, (n, bytes)) in NUMBERS.iter().enumerate() {
-        if !is_whole_or_nothing(out, *n, bytes) || !is_signed_whole_or_nothing(out) {
-            return Some(i);
+    for (i, row) in ROWS.iter().enumerate() {
+        if let Number(n, bytes) = row {
+            if !is_whole_or_nothing(out, *n, bytes) || !is_signed_whole_or_nothing(out) {
+                return Some(i);
+            }
         }
     }
     None

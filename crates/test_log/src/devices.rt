@@ -1,9 +1,9 @@
 //! Readers and writers that give little, fail in mid-stream or have too little room.
 
+use crate::rows::holds;
 use rw_types::{Failed, ReadFault, Room, Sink, Source, Std, read_to_end, write_all};
-use std::alloc::{AllocError, Global};
+use std::alloc::Global;
 use std::io::{self, ErrorKind};
-use std::test::Fail;
 
 /// Gives one byte at a time, and fails after the last one if it is to fail.
 #[derive(Drop)]
@@ -110,22 +110,35 @@ fn read_in_turn(alloc: Global) -> bool {
 
 #[test]
 fn reads_to_the_end(rt: HostRuntime) {
-    assert!(rt; read_in_turn(rt.alloc()));
+    holds(&rt, read_in_turn(rt.alloc()));
 }
 
-fn fills_its_room(alloc: Global) -> Result<bool, AllocError> {
-    let mut room = Room::new(alloc, 8)?;
-    let written = write_all(&mut room, b"exactly ");
-    Ok(written == Ok(()) && room.into_bytes().as_slice() == b"exactly ".as_slice())
+fn fills_its_room(alloc: Global) -> bool {
+    match Room::new(alloc, 8) {
+        Ok(mut room) => {
+            write_all(&mut room, b"exactly ").is_ok()
+                && room.into_bytes().as_slice() == b"exactly ".as_slice()
+        }
+        Err(_) => false,
+    }
 }
 
-fn fails_past_its_room(alloc: Global) -> Result<bool, AllocError> {
-    let mut room = Room::new(alloc, 7)?;
-    let first = write_all(&mut room, b"one ");
-    let second = write_all(&mut room, b"more");
+/// Whether a room of seven bytes takes four of them, and no more then.
+fn takes_one_of_two(room: &mut Room) -> bool {
+    let first = write_all(room, b"one ");
+    let second = write_all(room, b"more");
     let third = room.write(b"x");
-    let is_so = first == Ok(()) && second == Err(Failed) && third == Err(Failed);
-    Ok(is_so && room.as_slice() == b"one ".as_slice())
+    first == Ok(())
+        && second == Err(Failed)
+        && third == Err(Failed)
+        && room.as_slice() == b"one ".as_slice()
+}
+
+fn fails_past_its_room(alloc: Global) -> bool {
+    match Room::new(alloc, 7) {
+        Ok(mut room) => takes_one_of_two(&mut room),
+        Err(_) => false,
+    }
 }
 
 fn fails_where_no_byte_is_taken() -> bool {
@@ -142,9 +155,8 @@ fn fails_where_no_byte_is_taken() -> bool {
 }
 
 #[test]
-fn writes_within_room(rt: HostRuntime) -> Result<(), Fail> {
-    let fills = fills_its_room(rt.alloc())?;
-    let fails = fails_past_its_room(rt.alloc())?;
-    assert!(rt; fills && fails && fails_where_no_byte_is_taken());
-    Ok(())
+fn writes_within_room(rt: HostRuntime) {
+    holds(&rt, fills_its_room(rt.alloc()));
+    holds(&rt, fails_past_its_room(rt.alloc()));
+    holds(&rt, fails_where_no_byte_is_taken());
 }

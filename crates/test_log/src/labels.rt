@@ -1,9 +1,9 @@
 //! Which labels are a label set, and the order of label sets.
 
-use crate::rows::none_is_wrong;
+use crate::rows::{holds, none_is_wrong};
+use Names::{Legacy, Utf8};
 use rw_types::{LabelFault, LabelSet, MAX_LABEL_BYTES, MAX_LABELS, Names, RawLabels};
 use std::alloc::{AllocError, Global};
-use std::test::Fail;
 
 type Labels<'a> = &'a [(&'a str, &'a str)];
 
@@ -14,36 +14,53 @@ fn push_all(raw: &mut RawLabels, labels: Labels<'_>) -> Result<(), AllocError> {
     Ok(())
 }
 
-/// Labels, and the first fault of them.
-static FAULTS: [(Labels<'static>, LabelFault); 12] = [
-    (&[("", "1")], LabelFault::EmptyName),
-    (&[("9a", "1")], LabelFault::BadName),
-    (&[("a:b", "1")], LabelFault::BadName),
-    (&[("säge", "1")], LabelFault::BadName),
-    (&[("__name__", "9up")], LabelFault::BadName),
-    (&[("__name__", "http.rate")], LabelFault::BadName),
-    (&[("a", "")], LabelFault::EmptyValue),
-    (&[("b", "1"), ("a", "1")], LabelFault::NotSorted),
-    (&[("a", "1"), ("a", "2")], LabelFault::NotSorted),
+/// The names that are taken, labels, and the first fault of them, if there is one.
+static FAULTS: [(Names, Labels<'static>, Option<LabelFault>); 23] = [
+    (Legacy, &[("", "1")], Some(LabelFault::EmptyName)),
+    (Legacy, &[("9a", "1")], Some(LabelFault::BadName)),
+    (Legacy, &[("a:b", "1")], Some(LabelFault::BadName)),
+    (Legacy, &[("säge", "1")], Some(LabelFault::BadName)),
+    (Legacy, &[("__name__", "9up")], Some(LabelFault::BadName)),
+    (
+        Legacy,
+        &[("__name__", "http.rate")],
+        Some(LabelFault::BadName),
+    ),
+    (Legacy, &[("a", "")], Some(LabelFault::EmptyValue)),
+    (
+        Legacy,
+        &[("b", "1"), ("a", "1")],
+        Some(LabelFault::NotSorted),
+    ),
+    (
+        Legacy,
+        &[("a", "1"), ("a", "2")],
+        Some(LabelFault::NotSorted),
+    ),
     // two faults at once
-    (&[("", "1"), ("9", "")], LabelFault::EmptyName),
-    (&[("__name__", "")], LabelFault::BadName),
-    (&[("b", ""), ("a", "1")], LabelFault::EmptyValue),
-];
-
-/// Labels, and the first fault of them where any name is taken, if there is one.
-static UTF8_FAULTS: [(Labels<'static>, Option<LabelFault>); 11] = [
-    (&[("", "1")], Some(LabelFault::EmptyName)),
-    (&[("9a", "1")], None),
-    (&[("a:b", "1")], None),
-    (&[("säge", "1")], None),
-    (&[("\"\\\n", "1")], None),
-    (&[("__name__", "http.rate")], None),
-    (&[("__name__", "")], Some(LabelFault::EmptyValue)),
-    (&[("a.b", "")], Some(LabelFault::EmptyValue)),
-    (&[("b.", "1"), ("a.", "1")], Some(LabelFault::NotSorted)),
-    (&[(".", "1"), (".", "2")], Some(LabelFault::NotSorted)),
-    (&[("", "1"), ("9", "")], Some(LabelFault::EmptyName)),
+    (Legacy, &[("", "1"), ("9", "")], Some(LabelFault::EmptyName)),
+    (Legacy, &[("__name__", "")], Some(LabelFault::BadName)),
+    (
+        Legacy,
+        &[("b", ""), ("a", "1")],
+        Some(LabelFault::EmptyValue),
+    ),
+    // any name is taken
+    (Utf8, &[("", "1")], Some(LabelFault::EmptyName)),
+    (Utf8, &[("9a", "1")], None),
+    (Utf8, &[("a:b", "1")], None),
+    (Utf8, &[("säge", "1")], None),
+    (Utf8, &[("\"\\\n", "1")], None),
+    (Utf8, &[("__name__", "http.rate")], None),
+    (Utf8, &[("__name__", "")], Some(LabelFault::EmptyValue)),
+    (Utf8, &[("a.b", "")], Some(LabelFault::EmptyValue)),
+    (
+        Utf8,
+        &[("b.", "1"), ("a.", "1")],
+        Some(LabelFault::NotSorted),
+    ),
+    (Utf8, &[(".", "1"), (".", "2")], Some(LabelFault::NotSorted)),
+    (Utf8, &[("", "1"), ("9", "")], Some(LabelFault::EmptyName)),
 ];
 
 static SETS: [Labels<'static>; 4] = [
@@ -67,27 +84,22 @@ fn fault(alloc: Global, labels: &RawLabels) -> Option<LabelFault> {
     LabelSet::check(alloc, labels).err()
 }
 
-/// The fault of labels where any name is taken. Want of memory is one too.
-fn utf8_fault(alloc: Global, labels: Labels<'_>) -> Option<LabelFault> {
+/// The fault of labels where these names are taken. Want of memory is one too.
+fn fault_as(alloc: Global, names: Names, labels: Labels<'_>) -> Option<LabelFault> {
     let mut raw = RawLabels::new(alloc);
     match push_all(&mut raw, labels) {
-        Ok(()) => LabelSet::check_as(alloc, Names::Utf8, &raw).err(),
+        Ok(()) => LabelSet::check_as(alloc, names, &raw).err(),
         Err(_) => Some(LabelFault::OutOfMemory),
     }
 }
 
-fn wrong_utf8_fault(alloc: Global) -> Option<usize> {
-    for (i, (labels, first)) in UTF8_FAULTS.iter().enumerate() {
-        if utf8_fault(alloc, labels) != *first {
+fn wrong_fault(alloc: Global) -> Option<usize> {
+    for (i, (names, labels, first)) in FAULTS.iter().enumerate() {
+        if fault_as(alloc, *names, labels) != *first {
             return Some(i);
         }
     }
     None
-}
-
-#[test]
-fn names_of_any_text(rt: HostRuntime) {
-    none_is_wrong(&rt, wrong_utf8_fault(rt.alloc()));
 }
 
 /// The fault of labels once these are added to them. Want of memory is one too.
@@ -96,15 +108,6 @@ fn fault_with(alloc: Global, labels: &mut RawLabels, more: Labels<'_>) -> Option
         Ok(()) => fault(alloc, labels),
         Err(_) => Some(LabelFault::OutOfMemory),
     }
-}
-
-fn wrong_fault(alloc: Global) -> Option<usize> {
-    for (i, (labels, first)) in FAULTS.iter().enumerate() {
-        if fault_with(alloc, &mut RawLabels::new(alloc), labels) != Some(*first) {
-            return Some(i);
-        }
-    }
-    None
 }
 
 /// Whether a name that is empty, and a value that is no UTF-8, have this fault.
@@ -118,10 +121,10 @@ fn bytes_have(alloc: Global, first: LabelFault) -> bool {
 #[test]
 fn first_faults(rt: HostRuntime) {
     none_is_wrong(&rt, wrong_fault(rt.alloc()));
-    assert!(rt;
-        bytes_have(rt.alloc(), LabelFault::NotUtf8)
-            && LabelFault::NotUtf8 as u8 == 1
-            && LabelFault::TooLong as u8 == 7
+    holds(&rt, bytes_have(rt.alloc(), LabelFault::NotUtf8));
+    holds(
+        &rt,
+        LabelFault::NotUtf8 as u8 == 1 && LabelFault::TooLong as u8 == 7,
     );
 }
 
@@ -183,7 +186,7 @@ fn judges_many(alloc: Global) -> bool {
 }
 
 /// Whether a label of the most bytes has no fault, one more byte has one, and too many labels too.
-fn judges_long(alloc: Global, longest: &[u8]) -> bool {
+fn judges_longest(alloc: Global, longest: &[u8]) -> bool {
     let mut labels = RawLabels::new(alloc);
     labels.push(b"a", longest).is_ok()
         && fault(alloc, &labels) == None
@@ -192,11 +195,18 @@ fn judges_long(alloc: Global, longest: &[u8]) -> bool {
         && fault(alloc, &labels) == TOO_MANY
 }
 
+/// The same; the name of the label is one byte.
+fn judges_long(alloc: Global) -> bool {
+    match vec![in alloc; b'x'; MAX_LABEL_BYTES] {
+        Ok(value) => judges_longest(alloc, &value[1..]),
+        Err(_) => false,
+    }
+}
+
 #[test]
-fn limits(rt: HostRuntime) -> Result<(), Fail> {
-    let value = vec![in rt.alloc(); b'x'; MAX_LABEL_BYTES]?;
-    assert!(rt; judges_many(rt.alloc()) && judges_long(rt.alloc(), &value[1..]));
-    Ok(())
+fn limits(rt: HostRuntime) {
+    holds(&rt, judges_many(rt.alloc()));
+    holds(&rt, judges_long(rt.alloc()));
 }
 
 /// The first of the sets that is not ordered beside this one as their places are.

@@ -1,5 +1,5 @@
 use crate::message_rows::{ONE, WORD_OF_ONE, is_spelled};
-use crate::rows::none_is_wrong;
+use crate::rows::{holds, none_is_wrong};
 use rw_types::Word;
 use rw_write_request::{Message, Series, WireFault, decode};
 use std::alloc::Global;
@@ -42,8 +42,8 @@ fn has_ones(message: Result<Message, WireFault>, count: usize) -> bool {
 
 #[test]
 fn a_message_is_read(rt: HostRuntime) {
-    let is_read = has_ones(decode(rt.alloc(), &ONE), 1);
-    assert!(rt; is_read && has_ones(decode(rt.alloc(), &[]), 0));
+    holds(&rt, has_ones(decode(rt.alloc(), &ONE), 1));
+    holds(&rt, has_ones(decode(rt.alloc(), &[]), 0));
 }
 
 /// Each text, and the canonical spelling of the message that it spells.
@@ -108,9 +108,12 @@ fn is_one_behind(alloc: Global, front: &[u8], rest: &[u8]) -> bool {
 
 #[test]
 fn other_spellings_are_read(rt: HostRuntime) {
-    let long_length = is_one_behind(rt.alloc(), &[0x0a, 0x9e, 0x00], &ONE[2..]);
-    let unknown_field = is_one_behind(rt.alloc(), &[0x1a, 0x01, 0x61], &ONE);
-    assert!(rt; long_length && unknown_field);
+    // a length in one byte more, and an unknown field
+    holds(
+        &rt,
+        is_one_behind(rt.alloc(), &[0x0a, 0x9e, 0x00], &ONE[2..]),
+    );
+    holds(&rt, is_one_behind(rt.alloc(), &[0x1a, 0x01, 0x61], &ONE));
     none_is_wrong(&rt, wrong_spelling(rt.alloc()));
 }
 
@@ -188,12 +191,18 @@ fn count_changes(alloc: Global, counts: &mut [u32; 10], i: usize) {
     }
 }
 
-/// How many of the texts that differ from `ONE` in one byte get each answer, as another reader counts them.
-#[test]
-fn changed_bytes_are_judged(rt: HostRuntime) {
+/// How many of the texts that differ from `ONE` in one byte get each answer.
+fn counts_of_changes(alloc: Global) -> [u32; 10] {
     let mut counts = [0u32; 10];
     for i in 0..32usize {
-        count_changes(rt.alloc(), &mut counts, i);
+        count_changes(alloc, &mut counts, i);
     }
-    assert!(rt; counts == [3704, 1654, 0, 92, 1049, 380, 1281, 0, 0, 0]);
+    counts
+}
+
+/// Another reader counted them.
+#[test]
+fn changed_bytes_are_judged(rt: HostRuntime) {
+    let wanted = [3704, 1654, 0, 92, 1049, 380, 1281, 0, 0, 0];
+    holds(&rt, counts_of_changes(rt.alloc()) == wanted);
 }

@@ -1,12 +1,11 @@
-use crate::message_rows::{ONE, WORD_OF_ONE, is_spelled, message};
-use crate::rows::none_is_wrong;
+use crate::message_rows::{ONE, WORD_OF_ONE, is_spelled};
+use crate::rows::{holds, none_is_wrong};
 use rw_types::Word;
 use rw_write_request::{
-    bytes_field_len, encoded_len, label_field_len, put_label_field, put_sample_field,
+    bytes_field_len, decode, encoded_len, label_field_len, put_label_field, put_sample_field,
     put_series_front, sample_field_is_short,
 };
 use std::alloc::{AllocError, Global};
-use std::test::Fail;
 
 fn put_sample(out: &mut Vec<u8>, word: u64, timestamp: i64) -> Result<(), AllocError> {
     sample_field_is_short();
@@ -15,11 +14,17 @@ fn put_sample(out: &mut Vec<u8>, word: u64, timestamp: i64) -> Result<(), AllocE
     Ok(())
 }
 
+/// Whether the message that is read of `ONE`, which `a_message_is_read` looks at, is spelled so, and as long as it is said to be.
+fn is_one(alloc: Global) -> bool {
+    match decode(alloc, &ONE) {
+        Ok(message) => is_spelled(alloc, &message, &ONE) && encoded_len(&message) == Some(32),
+        Err(_) => false,
+    }
+}
+
 #[test]
-fn a_message_is_spelled(rt: HostRuntime) -> Result<(), Fail> {
-    let message = message(rt.alloc())?;
-    assert!(rt; is_spelled(rt.alloc(), &message, &ONE) && encoded_len(&message) == Some(32));
-    Ok(())
+fn a_message_is_spelled(rt: HostRuntime) {
+    holds(&rt, is_one(rt.alloc()));
 }
 
 /// Neither a word of 0 nor a timestamp of 0 is written, and a negative timestamp takes ten bytes.
@@ -56,47 +61,41 @@ static SAMPLES: [(u64, i64, &[u8]); 6] = [
 ];
 
 /// Whether a sample has this field.
-fn is_field_of(
-    field: &mut Vec<u8>,
-    word: u64,
-    timestamp: i64,
-    expected: &[u8],
-) -> Result<bool, AllocError> {
+fn is_field_of(field: &mut Vec<u8>, word: u64, timestamp: i64, expected: &[u8]) -> bool {
     field.clear();
-    put_sample(field, word, timestamp)?;
-    Ok(field.as_slice() == expected)
+    put_sample(field, word, timestamp).is_ok() && field.as_slice() == expected
 }
 
-fn wrong_sample(field: &mut Vec<u8>) -> Result<Option<usize>, AllocError> {
+fn wrong_sample(field: &mut Vec<u8>) -> Option<usize> {
     for (i, (word, timestamp, expected)) in SAMPLES.iter().enumerate() {
-        if !is_field_of(field, *word, *timestamp, expected)? {
-            return Ok(Some(i));
+        if !is_field_of(field, *word, *timestamp, expected) {
+            return Some(i);
         }
     }
-    Ok(None)
+    None
 }
 
 #[test]
-fn samples_are_spelled(rt: HostRuntime) -> Result<(), Fail> {
-    none_is_wrong(&rt, wrong_sample(&mut Vec::new(rt.alloc()))?);
-    Ok(())
+fn samples_are_spelled(rt: HostRuntime) {
+    none_is_wrong(&rt, wrong_sample(&mut Vec::new(rt.alloc())));
 }
 
 /// Whether a series has its parts, which are as long as they are said to be.
-fn has_parts(alloc: Global) -> Result<bool, AllocError> {
+fn has_parts(alloc: Global) -> bool {
     if label_field_len("__name__", "up") != Some(16) || bytes_field_len(30) != Some(32) {
-        return Ok(false);
+        return false;
     }
-    let mut bytes = Vec::with_capacity(alloc, 32)?;
+    let Ok(mut bytes) = Vec::with_capacity(alloc, 32) else {
+        return false;
+    };
     put_series_front(&mut bytes, 30);
     put_label_field(&mut bytes, "__name__", "up");
-    let is_put = put_sample(&mut bytes, WORD_OF_ONE, 1000).is_ok();
-    Ok(is_put && bytes.as_slice() == ONE.as_slice())
+    put_sample(&mut bytes, WORD_OF_ONE, 1000).is_ok() && bytes.as_slice() == ONE.as_slice()
 }
 
 /// A series as one who knows its parts writes it.
 #[test]
 fn a_series_is_made_in_parts(rt: HostRuntime) {
-    let is_none = bytes_field_len(usize::MAX).is_none();
-    assert!(rt; is_none && has_parts(rt.alloc()) == Ok(true));
+    holds(&rt, has_parts(rt.alloc()));
+    holds(&rt, bytes_field_len(usize::MAX).is_none());
 }

@@ -2,6 +2,7 @@
 //! allocation refused in turn: the refused call says so, and the next one answers as if nothing had happened.
 
 use crate::message_rows::{ONE, is_spelled};
+use crate::rows::holds;
 use rw_write_request::{Message, WireFault, decode};
 use std::alloc::Global;
 
@@ -19,8 +20,13 @@ fn is_there_and_back(alloc: Global) -> bool {
     }
 }
 
+/// Whether the front of the message is found to be one.
+fn is_truncated(alloc: Global) -> bool {
+    decoded(alloc, &ONE[..31]).err() == Some(WireFault::Truncated)
+}
+
 #[test]
 fn a_call_after_refused_memory_is_right(rt: HostRuntime) {
-    let is_truncated = decoded(rt.alloc(), &ONE[..31]).err() == Some(WireFault::Truncated);
-    assert!(rt; is_there_and_back(rt.alloc()) && is_truncated);
+    holds(&rt, is_truncated(rt.alloc()));
+    holds(&rt, is_there_and_back(rt.alloc()));
 }

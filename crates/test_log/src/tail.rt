@@ -1,15 +1,16 @@
 //! The reader that follows a log: rows of the format, whole, in pieces, changed, and with memory refused.
 
 use crate::fragments::{is_logged, put_fragment, up_record};
-use crate::rows::none_is_wrong;
+use crate::rows::{holds, none_is_wrong};
+use End::{All, Place};
+use Piece::{Bytes, Next, Up};
 use rw_types::{Entry, Room, Word};
 use rw_wal_tail::{FaultPlace, Tail, TailFault};
 use rw_wal_write::{SegmentWriter, sample_record};
 use std::alloc::{AllocError, Global};
-use std::test::Fail;
 
 /// The definition of reference 1 as `{__name__="up"}`, and a sample of it at 1000 with the value 1.
-const UP: [u8; 63] = [
+pub(crate) const UP: [u8; 63] = [
     1, 0, 22, 0x39, 0x19, 0x94, 0xf3, 1, 0, 0, 0, 0, 0, 0, 0, 1, 1, 8, 95, 95, 110, 97, 109, 101,
     95, 95, 2, 117, 112, 1, 0, 27, 0x2c, 0x51, 0x4c, 0x07, 2, 0, 0, 0, 0, 0, 0, 0, 1, 0, 0, 0, 0,
     0, 0, 0x03, 0xe8, 0, 0, 0x3f, 0xf0, 0, 0, 0, 0, 0, 0,
@@ -101,10 +102,10 @@ fn is_fed(tail: &mut Tail, piece: &[u8]) -> bool {
     tail.feed(piece).is_ok() || tail.feed(piece).is_ok()
 }
 
-/// So many bytes 3, a record of another type.
-fn put_filler(out: &mut Vec<u8>, len: usize) -> Result<(), AllocError> {
+/// A fragment of this kind with so many bytes 3, which begin a record of another type.
+fn put_filler(out: &mut Vec<u8>, kind: u8, len: usize) -> Result<(), AllocError> {
     let data = vec![in *out.allocator(); 3u8; len]?;
-    put_fragment(out, 1, &data)
+    put_fragment(out, kind, &data)
 }
 
 /// Whether a reader gives this of a front, and all of both then.
@@ -159,7 +160,7 @@ fn reads_all(alloc: Global, text: &[u8], size: usize, all: Seen, read: u64, skip
 
 #[test]
 fn byte_by_byte(rt: HostRuntime) {
-    assert!(rt; reads_all(rt.alloc(), &UP, 1, BOTH, 2, 0));
+    holds(&rt, reads_all(rt.alloc(), &UP, 1, BOTH, 2, 0));
 }
 
 /// What a copy of a reader has given in all once the copy is fed another piece.
@@ -185,7 +186,7 @@ fn reads_beside_copy(alloc: Global) -> bool {
 
 #[test]
 fn copy_reads_on_by_itself(rt: HostRuntime) {
-    assert!(rt; reads_beside_copy(rt.alloc()));
+    holds(&rt, reads_beside_copy(rt.alloc()));
 }
 
 /// What is there once a byte has another value.
@@ -239,6 +240,12 @@ fn each_byte_changed(rt: HostRuntime) {
     none_is_wrong(&rt, wrong_change(rt.alloc()));
 }
 
+/// A fragment of a record that is not of its form.
+const BAD_RECORD: &[u8] = &[
+    1, 0, 19, 0x7e, 0xa6, 0xff, 0x1a, 1, 0, 0, 0, 0, 0, 0, 0, 1, 255, 255, 255, 255, 255, 255, 255,
+    255, 255, 1,
+];
+
 /// Texts, and the fault that their last byte shows.
 static FAULTS: [(&[u8], TailFault); 8] = [
     (&[5], TailFault::BadType),
@@ -251,13 +258,7 @@ static FAULTS: [(&[u8], TailFault); 8] = [
         &[2, 0, 0, 0, 0, 0, 0, 2, 0, 0, 0, 0, 0, 0],
         TailFault::Sequence,
     ),
-    (
-        &[
-            1, 0, 19, 0x7e, 0xa6, 0xff, 0x1a, 1, 0, 0, 0, 0, 0, 0, 0, 1, 255, 255, 255, 255, 255,
-            255, 255, 255, 255, 1,
-        ],
-        TailFault::BadRecord,
-    ),
+    (BAD_RECORD, TailFault::BadRecord),
 ];
 
 /// Feeds a text byte by byte. Whether anything is read before the last of them.
@@ -296,47 +297,118 @@ fn faults_stay_and_come_at_once(rt: HostRuntime) {
     none_is_wrong(&rt, wrong_fault(rt.alloc()));
 }
 
-/// Feeds pieces, of which None is the next segment. No, where memory is refused.
-fn feed_all(tail: &mut Tail, pieces: &[Option<&[u8]>]) -> bool {
+/// What a reader is given.
+enum Piece {
+    /// The bytes of `UP` from one place up to another.
+    Up(usize, usize),
+    Bytes(&'static [u8]),
+    /// The next segment.
+    Next,
+}
+
+/// What is seen at last.
+enum End {
+    /// This, where it is read at last.
+    All(Seen),
+    /// The segment and the offset of a fault, where it is also read behind each piece.
+    Place(Option<(u64, u64)>),
+}
+
+/// A whole fragment of a record that lacks the others.
+const OPENING: Piece = Bytes(&[2, 0, 0, 0, 0, 0, 0]);
+
+const TORN: End = All(Seen {
+    definitions: 1,
+    samples: 0,
+    last: (0, 0, 0),
+    end: Some(TailFault::TornSegment),
+});
+
+const TWICE: End = All(Seen {
+    definitions: 2,
+    samples: 2,
+    last: (1, 1000, 0x3ff0_0000_0000_0000),
+    end: None,
+});
+
+/// Pieces, and what is seen of them.
+static ENDS: [(&[Piece], End); 11] = [
+    (&[Up(0, 34), Next], TORN),
+    (&[Up(0, 34), Next, Up(34, 63)], TORN),
+    (&[Up(0, 63), Next, Next, Up(0, 34), Up(34, 63), Next], TWICE),
+    (&[Next, Up(0, 63), Bytes(&[0, 0]), Next, Up(0, 63)], TWICE),
+    (&[Up(0, 63), OPENING], Place(None)),
+    (&[Up(0, 63), Bytes(&[5])], Place(Some((0, 63)))),
+    (&[Up(0, 63), Bytes(&[0, 0, 1])], Place(Some((0, 63)))),
+    (
+        &[
+            Up(0, 63),
+            Next,
+            Next,
+            Up(0, 29),
+            Bytes(BAD_RECORD),
+            Up(0, 63),
+        ],
+        Place(Some((2, 29))),
+    ),
+    (&[Up(0, 29), Up(29, 63), Next, Bytes(&[4])], Place(None)),
+    (&[Up(0, 29), Up(29, 34), Next], Place(Some((0, 29)))),
+    (&[Up(0, 63), OPENING, Next, Up(0, 63)], Place(Some((0, 70)))),
+];
+
+/// Gives a piece. No, where memory is refused.
+fn is_given(tail: &mut Tail, piece: &Piece) -> bool {
+    match piece {
+        Up(from, to) => match UP.get(*from..*to) {
+            Some(bytes) => is_fed(tail, bytes),
+            None => false,
+        },
+        Bytes(bytes) => is_fed(tail, bytes),
+        Next => {
+            tail.next_segment();
+            true
+        }
+    }
+}
+
+/// Gives pieces, and reads behind each of them if it is to.
+fn are_given(tail: &mut Tail, seen: &mut Seen, pieces: &[Piece], reads: bool) -> bool {
     for piece in pieces {
-        match piece {
-            Some(bytes) => {
-                if !is_fed(tail, bytes) {
-                    return false;
-                }
-            }
-            None => tail.next_segment(),
+        if !is_given(tail, piece) {
+            return false;
+        }
+        if reads {
+            seen.read(tail);
         }
     }
     true
 }
 
-/// Whether a reader gives this of pieces.
-fn reads(alloc: Global, pieces: &[Option<&[u8]>], all: Seen) -> bool {
+/// The segment and the offset of the fault, if there is one.
+fn place_of(tail: &Tail) -> Option<(u64, u64)> {
+    match tail.fault_place() {
+        Some(FaultPlace { segment, offset }) => Some((segment, offset)),
+        None => None,
+    }
+}
+
+/// Whether this is seen of pieces.
+fn is_seen(alloc: Global, pieces: &[Piece], end: &End) -> bool {
     let mut tail = Tail::new(alloc);
-    let is_fed = feed_all(&mut tail, pieces);
     let mut seen = NOTHING;
+    if !are_given(&mut tail, &mut seen, pieces, matches!(end, Place(_))) {
+        return false;
+    }
     seen.read(&mut tail);
-    is_fed && seen == all
+    match end {
+        All(all) => seen == *all,
+        Place(place) => place_of(&tail) == *place,
+    }
 }
 
 fn wrong_end(alloc: Global) -> Option<usize> {
-    let up: &[u8] = &UP;
-    let (cut, rest) = up.split_at(34);
-    let twice = Seen {
-        definitions: 2,
-        samples: 2,
-        ..BOTH
-    };
-    let torn = DEFINITION.but(TailFault::TornSegment);
-    let rows: [(&[Option<&[u8]>], Seen); 4] = [
-        (&[Some(cut), None], torn),
-        (&[Some(cut), None, Some(rest)], torn),
-        (&[Some(up), None, None, Some(cut), Some(rest), None], twice),
-        (&[None, Some(up), Some(&[0, 0]), None, Some(up)], twice),
-    ];
-    for (i, (pieces, seen)) in rows.iter().enumerate() {
-        if !reads(alloc, pieces, *seen) {
+    for (i, (pieces, end)) in ENDS.iter().enumerate() {
+        if !is_seen(alloc, pieces, end) {
             return Some(i);
         }
     }
@@ -344,7 +416,7 @@ fn wrong_end(alloc: Global) -> Option<usize> {
 }
 
 #[test]
-fn ends_of_segments(rt: HostRuntime) {
+fn ends_of_segments_and_places_of_faults(rt: HostRuntime) {
     none_is_wrong(&rt, wrong_end(rt.alloc()));
 }
 
@@ -362,26 +434,29 @@ static PAGES: [(usize, &[u8]); 2] = [
 
 /// A filler of so many bytes, this end of its page, and the two records.
 fn put_page(text: &mut Vec<u8>, filler: usize, end: &[u8]) -> Result<(), AllocError> {
-    put_filler(text, filler)?;
+    put_filler(text, 1, filler)?;
     text.extend_from_slice(end)?;
     text.extend_from_slice(&UP)
 }
 
-fn wrong_page(alloc: Global, text: &mut Vec<u8>) -> Result<Option<usize>, AllocError> {
+/// Whether both records are read of such a page, and the filler is skipped.
+fn is_page_read(alloc: Global, filler: usize, end: &[u8]) -> bool {
+    let mut text = Vec::new(alloc);
+    put_page(&mut text, filler, end).is_ok() && reads_all(alloc, &text, text.len(), BOTH, 2, 1)
+}
+
+fn wrong_page(alloc: Global) -> Option<usize> {
     for (i, (filler, end)) in PAGES.iter().enumerate() {
-        text.clear();
-        put_page(text, *filler, end)?;
-        if !reads_all(alloc, text, text.len(), BOTH, 2, 1) {
-            return Ok(Some(i));
+        if !is_page_read(alloc, *filler, end) {
+            return Some(i);
         }
     }
-    Ok(None)
+    None
 }
 
 #[test]
-fn ends_of_pages(rt: HostRuntime) -> Result<(), Fail> {
-    none_is_wrong(&rt, wrong_page(rt.alloc(), &mut Vec::new(rt.alloc()))?);
-    Ok(())
+fn ends_of_pages(rt: HostRuntime) {
+    none_is_wrong(&rt, wrong_page(rt.alloc()));
 }
 
 /// A record of 7,000 samples.
@@ -401,19 +476,26 @@ fn put_pages(text: &mut Vec<u8>, record: &[u8]) -> Result<(), AllocError> {
     text.extend_from_slice(&[0; 1_000])
 }
 
+/// What is seen of the record.
+const LONG: Seen = Seen {
+    definitions: 0,
+    samples: 7_000,
+    last: (1, 1_001, 9),
+    end: None,
+};
+
+/// Whether the record is read of its pages.
+fn is_long_record_read(alloc: Global) -> bool {
+    let mut record = Vec::new(alloc);
+    let mut text = Vec::new(alloc);
+    put_long_record(&mut record).is_ok()
+        && put_pages(&mut text, &record).is_ok()
+        && reads_all(alloc, &text, 1_000, LONG, 7_000, 0)
+}
+
 #[test]
-fn a_record_over_three_pages(rt: HostRuntime) -> Result<(), Fail> {
-    let mut record = Vec::new(rt.alloc());
-    let mut text = Vec::new(rt.alloc());
-    let is_put = put_long_record(&mut record).is_ok() && put_pages(&mut text, &record).is_ok();
-    let whole = Seen {
-        definitions: 0,
-        samples: 7_000,
-        last: (1, 1_001, 9),
-        end: None,
-    };
-    assert!(rt; is_put && reads_all(rt.alloc(), &text, 1_000, whole, 7_000, 0));
-    Ok(())
+fn a_record_over_three_pages(rt: HostRuntime) {
+    holds(&rt, is_long_record_read(rt.alloc()));
 }
 
 /// Whether a definition, a record of another type, two samples and no sample are logged.
@@ -425,96 +507,48 @@ fn are_logged(alloc: Global, writer: &mut SegmentWriter<Room>) -> bool {
         && is_logged(writer, sample_record(alloc, &[]))
 }
 
-/// The segment of these records.
-fn written(alloc: Global) -> Result<Vec<u8>, AllocError> {
-    let mut writer = SegmentWriter::new(Room::new(alloc, 1000)?, 1);
-    if are_logged(alloc, &mut writer) {
-        Ok(writer.into_inner().into_bytes())
-    } else {
-        Err(AllocError)
-    }
+/// What is seen of these records.
+const WRITTEN: Seen = Seen {
+    definitions: 1,
+    samples: 2,
+    last: (3, 990, 7),
+    end: None,
+};
+
+/// Whether these records are read of their segment.
+fn is_written_read(alloc: Global) -> bool {
+    let Ok(room) = Room::new(alloc, 1000) else {
+        return false;
+    };
+    let mut writer = SegmentWriter::new(room, 1);
+    let is_written = are_logged(alloc, &mut writer);
+    let text = writer.into_inner().into_bytes();
+    is_written && reads_all(alloc, &text, text.len(), WRITTEN, 3, 1)
 }
 
 #[test]
-fn what_was_written_is_read(rt: HostRuntime) -> Result<(), Fail> {
-    let text = written(rt.alloc())?;
-    let all = Seen {
-        definitions: 1,
-        samples: 2,
-        last: (3, 990, 7),
-        end: None,
-    };
-    assert!(rt; reads_all(rt.alloc(), &text, text.len(), all, 3, 1));
-    Ok(())
+fn what_was_written_is_read(rt: HostRuntime) {
+    holds(&rt, is_written_read(rt.alloc()));
 }
 
-/// Where a reader of pieces, of which None is the next segment, finds a fault: the segment and the offset.
-fn fault_place(alloc: Global, pieces: &[Option<&[u8]>]) -> Option<(u64, u64)> {
+/// Whether the fault is here of a segment whose first page is a fragment of this kind, and whose second page begins so.
+fn is_place_past_page(alloc: Global, kind: u8, next: &[u8], offset: u64) -> bool {
+    let mut text = Vec::new(alloc);
     let mut tail = Tail::new(alloc);
     let mut seen = NOTHING;
-    for piece in pieces {
-        match piece {
-            Some(bytes) => seen.feed(&mut tail, bytes),
-            None => tail.next_segment(),
-        }
+    if put_filler(&mut text, kind, 32_761).is_err() || text.extend_from_slice(next).is_err() {
+        return false;
     }
-    seen.read(&mut tail);
-    let FaultPlace { segment, offset } = tail.fault_place()?;
-    Some((segment, offset))
+    seen.feed(&mut tail, &text);
+    place_of(&tail) == Some((0, offset))
 }
 
+/// The second record of the page has another CRC, and so has the end of the record that began on the first page.
 #[test]
-fn places_of_faults(rt: HostRuntime) -> Result<(), Fail> {
-    let up: &[u8] = &UP;
-    let (definition, sample) = up.split_at(29);
-    // A whole fragment of a record that lacks the others, and a fragment of a record that is not of its form.
-    let opening: &[u8] = &[2, 0, 0, 0, 0, 0, 0];
-    let (bad_record, _) = FAULTS[7];
-    let rows: [(&[Option<&[u8]>], Option<(u64, u64)>); 7] = [
-        (&[Some(up), Some(opening)], None),
-        (&[Some(up), Some(&[5])], Some((0, 63))),
-        (&[Some(up), Some(&[0, 0, 1])], Some((0, 63))),
-        (
-            &[
-                Some(up),
-                None,
-                None,
-                Some(definition),
-                Some(bad_record),
-                Some(up),
-            ],
-            Some((2, 29)),
-        ),
-        (&[Some(definition), Some(sample), None, Some(&[4])], None),
-        (&[Some(definition), Some(&sample[..5]), None], Some((0, 29))),
-        (&[Some(up), Some(opening), None, Some(up)], Some((0, 70))),
-    ];
-    for (pieces, place) in rows {
-        assert!(rt; fault_place(rt.alloc(), pieces) == place);
-    }
-    Ok(())
-}
-
-/// Where the fault is of a segment whose first page is a fragment of this kind, and whose second page begins so.
-fn place_past_page(alloc: Global, kind: u8, next: &[u8]) -> Result<Option<(u64, u64)>, AllocError> {
-    let data = vec![in alloc; 3u8; 32_761]?;
-    let mut text = Vec::new(alloc);
-    put_fragment(&mut text, kind, &data)?;
-    text.extend_from_slice(next)?;
-    Ok(fault_place(alloc, &[Some(&text)]))
-}
-
-#[test]
-fn places_of_faults_past_a_page(rt: HostRuntime) -> Result<(), Fail> {
+fn places_of_faults_past_a_page(rt: HostRuntime) {
     let mut damaged = UP;
     damaged[62] = 1;
-    // The second record of the page has another CRC, and so has the end of the record that began on the first page.
-    let rows: [(u8, &[u8], u64); 2] = [
-        (1, &damaged, 32_797),
-        (2, &[4, 0, 1, 0, 0, 0, 0, 2], 32_768),
-    ];
-    for (kind, next, offset) in rows {
-        assert!(rt; place_past_page(rt.alloc(), kind, next)? == Some((0, offset)));
-    }
-    Ok(())
+    holds(&rt, is_place_past_page(rt.alloc(), 1, &damaged, 32_797));
+    let end = [4, 0, 1, 0, 0, 0, 0, 2];
+    holds(&rt, is_place_past_page(rt.alloc(), 2, &end, 32_768));
 }

@@ -3,11 +3,11 @@
 ghost use Rattle.std.specs.Prelude.{◌<◌, ◌≤◌};
 
 use crate::fragments::{is_logged, put_fragment, up_record};
-use crate::rows::none_is_wrong;
+use crate::rows::{holds, none_is_wrong};
+use crate::tail::UP;
 use rw_types::{Failed, Room, Sink, Word};
 use rw_wal_write::{LogFault, SegmentWriter, sample_record};
 use std::alloc::{AllocError, Global};
-use std::test::Fail;
 
 /// What stands in a segment.
 enum Expected {
@@ -18,25 +18,27 @@ enum Expected {
 
 use Expected::{Fragment, Zeros};
 
+/// A run of so many times a byte.
+fn run_of(alloc: Global, byte: u8, len: usize) -> Result<Vec<u8>, AllocError> {
+    vec![in alloc; byte; len]
+}
+
 fn put_expected(alloc: Global, out: &mut Vec<u8>, expected: &Expected) -> Result<(), AllocError> {
     match expected {
-        Fragment(kind, byte, len) => {
-            let part = vec![in alloc; *byte; *len]?;
-            put_fragment(out, *kind, part.as_slice())
-        }
-        Zeros(len) => {
-            let zeros = vec![in alloc; 0; *len]?;
-            out.extend_from_slice(zeros.as_slice())
-        }
+        Fragment(kind, byte, len) => put_fragment(out, *kind, &run_of(alloc, *byte, *len)?),
+        Zeros(len) => out.extend_from_slice(&run_of(alloc, 0, *len)?),
     }
 }
 
-fn bytes_of(alloc: Global, expected: &[Expected]) -> Result<Vec<u8>, AllocError> {
-    let mut out = Vec::new(alloc);
+fn put_all_expected(
+    alloc: Global,
+    out: &mut Vec<u8>,
+    expected: &[Expected],
+) -> Result<(), AllocError> {
     for item in expected {
-        put_expected(alloc, &mut out, item)?;
+        put_expected(alloc, out, item)?;
     }
-    Ok(out)
+    Ok(())
 }
 
 /// The most bytes that a failing device takes at a write.
@@ -76,63 +78,80 @@ impl Sink for FailingAt {
     }
 }
 
-/// Logs a record of so many times this byte.
-fn log_run<W: Sink>(
+/// Whether a record of so many times this byte is answered so.
+fn logs<W: Sink>(
     alloc: Global,
     writer: &mut SegmentWriter<W>,
     byte: u8,
     len: usize,
-) -> Result<Result<(), LogFault>, AllocError> {
-    let rec = vec![in alloc; byte; len]?;
-    if rec.is_empty() {
-        return Ok(Ok(()));
+    want: Result<(), LogFault>,
+) -> bool {
+    match run_of(alloc, byte, len) {
+        Ok(run) => !run.is_empty() && writer.log(&run) == want,
+        Err(_) => false,
     }
-    Ok(writer.log(rec.as_slice()))
 }
 
 /// A run that is logged, the answer, and where the writer then stands.
 type Step = (u8, usize, Result<(), LogFault>, usize);
 
 /// The first step that goes otherwise.
-fn wrong_step(
-    alloc: Global,
-    writer: &mut SegmentWriter<Room>,
-    steps: &[Step],
-) -> Result<Option<usize>, AllocError> {
+fn wrong_step(alloc: Global, writer: &mut SegmentWriter<Room>, steps: &[Step]) -> Option<usize> {
     for (i, (byte, len, want, offset)) in steps.iter().enumerate() {
-        let answer = log_run(alloc, writer, *byte, *len)?;
-        if answer != *want || writer.offset() != *offset {
-            return Ok(Some(i));
+        if !logs(alloc, writer, *byte, *len, *want) || writer.offset() != *offset {
+            return Some(i);
         }
     }
-    Ok(None)
+    None
 }
 
 /// Whether each of these runs is logged.
 fn are_logged(alloc: Global, writer: &mut SegmentWriter<Room>, runs: &[(u8, usize)]) -> bool {
     for (byte, len) in runs {
-        if log_run(alloc, writer, *byte, *len) != Ok(Ok(())) {
+        if !logs(alloc, writer, *byte, *len, Ok(())) {
             return false;
         }
     }
     true
 }
 
-/// The segment of such runs, which have room in three pages.
-fn segment_of(alloc: Global, runs: &[(u8, usize)]) -> Result<Vec<u8>, AllocError> {
-    let mut writer = SegmentWriter::new(Room::new(alloc, 98_304)?, 3);
-    if are_logged(alloc, &mut writer, runs) {
-        Ok(writer.into_inner().into_bytes())
-    } else {
-        Err(AllocError)
+/// The segment of such runs, which have room in three pages. Nothing, where one is not logged.
+fn segment_of(alloc: Global, runs: &[(u8, usize)]) -> Vec<u8> {
+    let Ok(room) = Room::new(alloc, 98_304) else {
+        return Vec::new(alloc);
+    };
+    let mut writer = SegmentWriter::new(room, 3);
+    let is_whole = are_logged(alloc, &mut writer, runs);
+    let mut segment = writer.into_inner().into_bytes();
+    if !is_whole {
+        segment.clear();
     }
+    segment
 }
 
-/// Runs, and the segment of them.
-static SEGMENTS: [(&[(u8, usize)], &[Expected]); 5] = [
-    (&[(3, 32_761)], &[Fragment(1, 3, 32_761)]),
-    (&[(3, 32_762)], &[Fragment(2, 3, 32_761), Fragment(4, 3, 1)]),
-    (
+/// Whether the segment of such runs is so long, and ends so.
+fn ends_with(alloc: Global, runs: &[(u8, usize)], len: usize, end: &[u8]) -> bool {
+    let segment = segment_of(alloc, runs);
+    segment.len() == len && segment.as_slice().ends_with(end)
+}
+
+/// Runs of a byte that are logged one after the other.
+type Runs = &'static [(u8, usize)];
+
+/// What a row says.
+enum Row {
+    /// Runs, and the segment of them.
+    Whole(Runs, &'static [Expected]),
+    /// Runs, how many bytes their segment has, and its end.
+    Ends(Runs, usize, &'static [u8]),
+}
+
+use Row::{Ends, Whole};
+
+static SEGMENTS: [Row; 7] = [
+    Whole(&[(3, 32_761)], &[Fragment(1, 3, 32_761)]),
+    Whole(&[(3, 32_762)], &[Fragment(2, 3, 32_761), Fragment(4, 3, 1)]),
+    Whole(
         &[(3, 70_000)],
         &[
             Fragment(2, 3, 32_761),
@@ -140,71 +159,51 @@ static SEGMENTS: [(&[(u8, usize)], &[Expected]); 5] = [
             Fragment(4, 3, 4_478),
         ],
     ),
-    (
+    Whole(
         &[(3, 32_754), (2, 1)],
         &[Fragment(1, 3, 32_754), Fragment(2, 2, 0), Fragment(4, 2, 1)],
     ),
-    (
+    Whole(
         &[(3, 32_755), (2, 1)],
         &[Fragment(1, 3, 32_755), Zeros(6), Fragment(1, 2, 1)],
     ),
-];
-
-fn is_segment(
-    alloc: Global,
-    runs: &[(u8, usize)],
-    expected: &[Expected],
-) -> Result<bool, AllocError> {
-    let wanted = bytes_of(alloc, expected)?;
-    match segment_of(alloc, runs) {
-        Ok(written) => Ok(written.as_slice() == wanted.as_slice()),
-        Err(refused) => Err(refused),
-    }
-}
-
-fn wrong_segment(alloc: Global) -> Result<Option<usize>, AllocError> {
-    for (i, (runs, expected)) in SEGMENTS.iter().enumerate() {
-        if !is_segment(alloc, runs, expected)? {
-            return Ok(Some(i));
-        }
-    }
-    Ok(None)
-}
-
-#[test]
-fn fills_pages(rt: HostRuntime) -> Result<(), Fail> {
-    none_is_wrong(&rt, wrong_segment(rt.alloc())?);
-    Ok(())
-}
-
-/// Runs, how many bytes their segment has, and its end.
-static ENDS: [(&[(u8, usize)], usize, &[u8]); 2] = [
-    (
+    Ends(
         &[(3, 32_754), (2, 1)],
         32_776,
         b"\x02\0\0\0\0\0\0\x04\0\x01\xb3\x46\x23\xa6\x02",
     ),
-    (
+    Ends(
         &[(3, 32_755), (2, 1)],
         32_776,
         b"\x03\0\0\0\0\0\0\x01\0\x01\xb3\x46\x23\xa6\x02",
     ),
 ];
 
-fn wrong_end(alloc: Global) -> Result<Option<usize>, AllocError> {
-    for (i, (runs, len, end)) in ENDS.iter().enumerate() {
-        let segment = segment_of(alloc, runs)?;
-        if segment.len() != *len || !segment.as_slice().ends_with(end) {
-            return Ok(Some(i));
+fn is_segment(alloc: Global, runs: &[(u8, usize)], expected: &[Expected]) -> bool {
+    let mut wanted = Vec::new(alloc);
+    put_all_expected(alloc, &mut wanted, expected).is_ok()
+        && ends_with(alloc, runs, wanted.len(), &wanted)
+}
+
+fn is_so(alloc: Global, row: &Row) -> bool {
+    match row {
+        Whole(runs, expected) => is_segment(alloc, runs, expected),
+        Ends(runs, len, end) => ends_with(alloc, runs, *len, end),
+    }
+}
+
+fn wrong_segment(alloc: Global) -> Option<usize> {
+    for (i, row) in SEGMENTS.iter().enumerate() {
+        if !is_so(alloc, row) {
+            return Some(i);
         }
     }
-    Ok(None)
+    None
 }
 
 #[test]
-fn ends_pages(rt: HostRuntime) -> Result<(), Fail> {
-    none_is_wrong(&rt, wrong_end(rt.alloc())?);
-    Ok(())
+fn fills_and_ends_pages(rt: HostRuntime) {
+    none_is_wrong(&rt, wrong_segment(rt.alloc()));
 }
 
 static ONE_PAGE: [Step; 4] = [
@@ -220,24 +219,20 @@ static TWO_PAGES: [Step; 2] = [
 ];
 
 /// The first step that goes otherwise in a segment of so many pages, for which there is room.
-fn wrong_step_in(
-    alloc: Global,
-    room: usize,
-    pages: usize,
-    steps: &[Step],
-) -> Result<Option<usize>, AllocError>
+fn wrong_step_in(alloc: Global, room: usize, pages: usize, steps: &[Step]) -> Option<usize>
     requires some { 0 < pages }
     requires most { pages ≤ 4096 }
 {
-    let mut writer = SegmentWriter::new(Room::new(alloc, room)?, pages);
-    wrong_step(alloc, &mut writer, steps)
+    match Room::new(alloc, room) {
+        Ok(room) => wrong_step(alloc, &mut SegmentWriter::new(room, pages), steps),
+        Err(_) => Some(0),
+    }
 }
 
 #[test]
-fn refuses_what_has_no_room(rt: HostRuntime) -> Result<(), Fail> {
-    none_is_wrong(&rt, wrong_step_in(rt.alloc(), 32_768, 1, &ONE_PAGE)?);
-    none_is_wrong(&rt, wrong_step_in(rt.alloc(), 65_536, 2, &TWO_PAGES)?);
-    Ok(())
+fn refuses_what_has_no_room(rt: HostRuntime) {
+    none_is_wrong(&rt, wrong_step_in(rt.alloc(), 32_768, 1, &ONE_PAGE));
+    none_is_wrong(&rt, wrong_step_in(rt.alloc(), 65_536, 2, &TWO_PAGES));
 }
 
 /// The record of one sample.
@@ -268,37 +263,27 @@ fn spells_records(rt: HostRuntime) {
     let series = b"\x01\0\0\0\0\0\0\0\x01\x01\x08__name__\x02up".as_slice();
     let sample = b"\x02\0\0\0\0\0\0\0\x01\0\0\0\0\0\0\x03\xe8\0\0\x3f\xf0\0\0\0\0\0\0".as_slice();
     let end = b"\x03\xe8\0\0\0\0\0\0\0\0\0\0\x04\x13\0\0\0\0\0\0\0\x01".as_slice();
-    let two = sample_record(alloc, &[(1, 1_000, Word(0)), (3, 990, Word(1))]);
-    let is_so = is_spelled(up_record(alloc), series)
-        && is_spelled(one_record(alloc), sample)
-        && ends_so(two, end)
-        && is_spelled(sample_record(alloc, &[]), b"\x02");
-    assert!(rt; is_so);
+    let two = [(1, 1_000, Word(0)), (3, 990, Word(1))];
+    holds(&rt, is_spelled(up_record(alloc), series));
+    holds(&rt, is_spelled(one_record(alloc), sample));
+    holds(&rt, ends_so(sample_record(alloc, &two), end));
+    holds(&rt, is_spelled(sample_record(alloc, &[]), b"\x02"));
 }
 
-/// The segment of the records of one series and one sample.
-fn up_segment(alloc: Global) -> Result<Vec<u8>, AllocError> {
-    let mut writer = SegmentWriter::new(Room::new(alloc, 63)?, 4_096);
-    if is_logged(&mut writer, up_record(alloc)) && is_logged(&mut writer, one_record(alloc)) {
-        Ok(writer.into_inner().into_bytes())
-    } else {
-        Err(AllocError)
-    }
-}
-
-/// Adds a full fragment of a record.
-fn put_full(out: &mut Vec<u8>, record: Result<Vec<u8>, AllocError>) -> Result<(), AllocError> {
-    put_fragment(out, 1, &record?)
+/// Whether the segment of the records of one series and one sample is `UP`, which has them in full fragments.
+fn is_up_segment(alloc: Global) -> bool {
+    let Ok(room) = Room::new(alloc, 63) else {
+        return false;
+    };
+    let mut writer = SegmentWriter::new(room, 4_096);
+    let is_whole = is_logged(&mut writer, up_record(alloc))
+        && is_logged(&mut writer, one_record(alloc));
+    is_whole && writer.into_inner().into_bytes().as_slice() == UP.as_slice()
 }
 
 #[test]
-fn writes_full_fragments(rt: HostRuntime) -> Result<(), Fail> {
-    let written = up_segment(rt.alloc())?;
-    let mut wanted = Vec::new(rt.alloc());
-    let is_put = put_full(&mut wanted, up_record(rt.alloc())).is_ok()
-        && put_full(&mut wanted, one_record(rt.alloc())).is_ok();
-    assert!(rt; is_put && written.len() == 63 && written.as_slice() == wanted.as_slice());
-    Ok(())
+fn writes_full_fragments(rt: HostRuntime) {
+    holds(&rt, is_up_segment(rt.alloc()));
 }
 
 fn failing_writer(alloc: Global, writes_left: usize) -> SegmentWriter<FailingAt> {
@@ -310,23 +295,13 @@ fn failing_writer(alloc: Global, writes_left: usize) -> SegmentWriter<FailingAt>
     SegmentWriter::new(sink, 2)
 }
 
-/// Whether a run is answered so.
-fn answers(
-    alloc: Global,
-    writer: &mut SegmentWriter<FailingAt>,
-    run: (u8, usize),
-    want: Result<(), LogFault>,
-) -> bool {
-    log_run(alloc, writer, run.0, run.1) == Ok(want)
-}
-
 /// Whether a device that fails after so many writes closes the segment, and has a beginning of the whole one.
 fn closes(alloc: Global, whole: &[u8], writes_left: usize) -> bool {
     let failed = Err(LogFault::Device);
     let mut writer = failing_writer(alloc, writes_left);
-    let is_so = answers(alloc, &mut writer, (3, 32_770), failed)
-        && answers(alloc, &mut writer, (3, 1), failed)
-        && answers(alloc, &mut writer, (3, 16_777_217), failed);
+    let is_so = logs(alloc, &mut writer, 3, 32_770, failed)
+        && logs(alloc, &mut writer, 3, 1, failed)
+        && logs(alloc, &mut writer, 3, 16_777_217, failed);
     let taken = writer.into_inner().taken;
     is_so && taken.len() < whole.len() && whole.starts_with(taken.as_slice())
 }
@@ -334,24 +309,26 @@ fn closes(alloc: Global, whole: &[u8], writes_left: usize) -> bool {
 /// Whether a device that takes so many writes has the whole segment.
 fn takes_all(alloc: Global, whole: &[u8], writes_left: usize) -> bool {
     let mut writer = failing_writer(alloc, writes_left);
-    let is_so = answers(alloc, &mut writer, (3, 32_770), Ok(()));
+    let is_so = logs(alloc, &mut writer, 3, 32_770, Ok(()));
     is_so && writer.into_inner().taken.as_slice() == whole
 }
 
-/// A header, four times data, a header and data are seven writes.
+/// The number of writes after which a device that fails does otherwise. A header, four times data, a header and data are seven writes.
 fn wrong_device(alloc: Global, whole: &[u8]) -> Option<usize> {
     for writes_left in 0..7 {
         if !closes(alloc, whole, writes_left) {
             return Some(writes_left);
         }
     }
-    None
+    if takes_all(alloc, whole, 7) {
+        None
+    } else {
+        Some(7)
+    }
 }
 
 #[test]
-fn closes_where_the_device_fails(rt: HostRuntime) -> Result<(), Fail> {
-    let whole = segment_of(rt.alloc(), &[(3, 32_770)])?;
+fn closes_where_the_device_fails(rt: HostRuntime) {
+    let whole = segment_of(rt.alloc(), &[(3, 32_770)]);
     none_is_wrong(&rt, wrong_device(rt.alloc(), &whole));
-    assert!(rt; takes_all(rt.alloc(), &whole, 7));
-    Ok(())
 }

@@ -1,8 +1,9 @@
 //! Long series, which the head holds in full blocks of 120 samples and an open one.
 
 use crate::messages::{
-    DOWN, Labels, Parts, Row, Samples, UP, are_same, asked, first_wrong, holds, narrow,
+    DOWN, Labels, Parts, Row, Samples, UP, are_same, asked, first_wrong, has_samples, narrow,
 };
+use crate::rows::{holds, none_is_wrong};
 use rw_head::{Head, Verdict};
 use std::alloc::{AllocError, Global};
 
@@ -97,17 +98,28 @@ fn judges_requests(alloc: Global, head: &mut Head) -> bool {
 }
 
 /// Whether a head that was filled by requests of so many samples has its blocks, and judges the requests.
-fn is_the_same_by(alloc: Global, size: usize) -> Result<bool, AllocError> {
-    let mut head = filled(alloc, size)?;
-    let is_so = shape(&head) == (2, 1, 241) && are_filled(&head);
-    Ok(is_so && judges_requests(alloc, &mut head))
+fn is_the_same_by(alloc: Global, size: usize) -> bool {
+    match filled(alloc, size) {
+        Ok(mut head) => {
+            shape(&head) == (2, 1, 241) && are_filled(&head) && judges_requests(alloc, &mut head)
+        }
+        Err(_) => false,
+    }
+}
+
+/// The first size of requests after which it is otherwise.
+fn wrong_size(alloc: Global) -> Option<usize> {
+    for size in [1, 119, 120, 121, 241] {
+        if !is_the_same_by(alloc, size) {
+            return Some(size);
+        }
+    }
+    None
 }
 
 #[test]
 fn a_series_is_blocks_whatever_the_requests(rt: HostRuntime) {
-    for size in [1, 119, 120, 121, 241] {
-        assert_eq!(rt; is_the_same_by(rt.alloc(), size), Ok(true), "by {size}");
-    }
+    none_is_wrong(&rt, wrong_size(rt.alloc()));
 }
 
 /// The samples 1 to 300, with repeats among them and behind them.
@@ -122,33 +134,64 @@ static WITH_REPEATS: [(u32, u32); 8] = [
     (240, 240),
 ];
 
-fn takes_each_once(alloc: Global) -> Result<bool, AllocError> {
-    let samples = tens(alloc, &WITH_REPEATS)?;
-    let all = tens(alloc, &[(1, 300)])?;
-    let mut head = narrow(alloc)?;
-    let parts: [(Labels<'_>, Samples<'_>); 1] = [(UP, &samples)];
-    let is_so = is_judged(alloc, &mut head, &parts, Verdict::Stored(300), (2, 60, 300));
-    Ok(is_so && holds(alloc, &head, UP, &all))
+/// Whether the head holds the samples `i` at `10 * i` of `up`, for `i` up to this one.
+fn has_tens(alloc: Global, head: &Head, last: u32) -> bool {
+    match tens(alloc, &[(1, last)]) {
+        Ok(all) => has_samples(alloc, head, UP, &all),
+        Err(_) => false,
+    }
+}
+
+fn takes_once(alloc: Global, samples: Samples<'_>) -> bool {
+    let Ok(mut head) = narrow(alloc) else {
+        return false;
+    };
+    is_judged(
+        alloc,
+        &mut head,
+        &[(UP, samples)],
+        Verdict::Stored(300),
+        (2, 60, 300),
+    ) && has_tens(alloc, &head, 300)
+}
+
+fn takes_each_once(alloc: Global) -> bool {
+    match tens(alloc, &WITH_REPEATS) {
+        Ok(samples) => takes_once(alloc, &samples),
+        Err(_) => false,
+    }
 }
 
 #[test]
 fn a_request_fills_several_blocks(rt: HostRuntime) {
-    assert_eq!(rt; takes_each_once(rt.alloc()), Ok(true));
+    holds(&rt, takes_each_once(rt.alloc()));
 }
 
-/// Whether a head of the 241 samples refuses 259 more before a bad series, and holds what it held.
-fn refuses_more(alloc: Global) -> Result<bool, AllocError> {
-    let more = tens(alloc, &[(242, 500)])?;
-    let all = tens(alloc, &[(1, 241)])?;
-    let mut head = filled(alloc, 100)?;
-    let parts: [(Labels<'_>, Samples<'_>); 2] = [(UP, &more), (DOWN, &[(20, 1), (10, 1)])];
-    let is_so = is_judged(alloc, &mut head, &parts, Verdict::OutOfOrder, (2, 1, 241));
-    Ok(is_so && holds(alloc, &head, UP, &all))
+/// Whether a head of the 241 samples refuses these before a bad series, and holds what it held.
+fn refuses(alloc: Global, more: Samples<'_>) -> bool {
+    let Ok(mut head) = filled(alloc, 100) else {
+        return false;
+    };
+    is_judged(
+        alloc,
+        &mut head,
+        &[(UP, more), (DOWN, &[(20, 1), (10, 1)])],
+        Verdict::OutOfOrder,
+        (2, 1, 241),
+    ) && has_tens(alloc, &head, 241)
+}
+
+/// The same of 259 samples more.
+fn refuses_more(alloc: Global) -> bool {
+    match tens(alloc, &[(242, 500)]) {
+        Ok(more) => refuses(alloc, &more),
+        Err(_) => false,
+    }
 }
 
 #[test]
 fn a_refused_request_leaves_the_blocks(rt: HostRuntime) {
-    assert_eq!(rt; refuses_more(rt.alloc()), Ok(true));
+    holds(&rt, refuses_more(rt.alloc()));
 }
 
 /// A new series before one that is out of order.
@@ -166,16 +209,19 @@ static ROWS: [Row; 5] = [
 ];
 
 /// Whether an empty head has a place for none of these label sets, and then for those that it stores.
-fn has_places_for_stored(alloc: Global) -> Result<bool, AllocError> {
-    let mut head = narrow(alloc)?;
-    let is_empty = head.places() == 0;
-    let wrong = first_wrong(alloc, &mut head, &ROWS, &LAST);
-    Ok(is_empty && wrong == None && head.places() == 2 && head.label_sets().count() == 2)
+fn has_places_for_stored(alloc: Global) -> bool {
+    let Ok(mut head) = narrow(alloc) else {
+        return false;
+    };
+    head.places() == 0
+        && first_wrong(alloc, &mut head, &ROWS, &LAST) == None
+        && head.places() == 2
+        && head.label_sets().count() == 2
 }
 
 #[test]
 fn a_refused_request_leaves_no_label_sets(rt: HostRuntime) {
-    assert_eq!(rt; has_places_for_stored(rt.alloc()), Ok(true));
+    holds(&rt, has_places_for_stored(rt.alloc()));
 }
 
 /// The verdict on a message, asked for again where memory was refused and that left the 241 samples as they are.
@@ -189,15 +235,35 @@ fn verdict_at_last(alloc: Global, head: &mut Head, parts: Parts<'_>) -> Verdict 
 }
 
 /// Whether 259 samples more of `up` and a new series are taken at last.
-fn takes_more_at_last(alloc: Global) -> Result<bool, AllocError> {
-    let more = tens(alloc, &[(242, 500)]).or_else(|_| tens(alloc, &[(242, 500)]))?;
-    let mut head = filled(alloc, 241).or_else(|_| filled(alloc, 241))?;
-    let parts: [(Labels<'_>, Samples<'_>); 2] = [(UP, &more), (DOWN, &[(10, 1)])];
-    let verdict = verdict_at_last(alloc, &mut head, &parts);
-    Ok(verdict == Verdict::Stored(260) && shape(&head) == (4, 20, 501))
+fn takes_more_at_last(alloc: Global, head: &mut Head, more: Samples<'_>) -> bool {
+    verdict_at_last(alloc, head, &[(UP, more), (DOWN, &[(10, 1)])]) == Verdict::Stored(260)
+        && shape(head) == (4, 20, 501)
+}
+
+/// A head of the 241 samples, asked for again where memory was refused, that takes these.
+fn filled_takes_more(alloc: Global, more: Samples<'_>) -> bool {
+    let head = match filled(alloc, 241) {
+        Err(_) => filled(alloc, 241),
+        head => head,
+    };
+    match head {
+        Ok(mut head) => takes_more_at_last(alloc, &mut head, more),
+        Err(_) => false,
+    }
+}
+
+fn takes_more(alloc: Global) -> bool {
+    let more = match tens(alloc, &[(242, 500)]) {
+        Err(_) => tens(alloc, &[(242, 500)]),
+        more => more,
+    };
+    match more {
+        Ok(more) => filled_takes_more(alloc, &more),
+        Err(_) => false,
+    }
 }
 
 #[test]
 fn refused_memory_leaves_the_blocks(rt: HostRuntime) {
-    assert_eq!(rt; takes_more_at_last(rt.alloc()), Ok(true));
+    holds(&rt, takes_more(rt.alloc()));
 }

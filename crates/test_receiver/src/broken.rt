@@ -3,10 +3,11 @@
 ghost use Rattle.std.specs.Prelude.{⊤};
 
 use crate::devices::{Giving, Taking};
+use crate::rows::holds;
 use crate::store::{Store, is_served_by, served};
 use rw_endpoint::{Answer, ServeEnd};
 use rw_types::Room;
-use std::alloc::{AllocError, Global};
+use std::alloc::Global;
 
 const REQUESTS: &[u8] =
     b"POST /api/v1/write HTTP/1.1\r\nContent-Length: 5\r\n\r\nfirstPOST /api/v1/write HTTP/1.1\r\nConnection: close\r\nContent-Length: 6\r\n\r\nsecond";
@@ -79,28 +80,27 @@ fn may_fail(alloc: Global, side: Side) -> bool {
 }
 
 #[test]
-fn each_read_may_fail(rt: HostRuntime) {
-    assert!(rt; may_fail(rt.alloc(), Side::Reader));
-}
-
-#[test]
-fn each_write_may_fail(rt: HostRuntime) {
-    assert!(rt; may_fail(rt.alloc(), Side::Writer));
+fn each_read_and_each_write_may_fail(rt: HostRuntime) {
+    holds(&rt, may_fail(rt.alloc(), Side::Reader));
+    holds(&rt, may_fail(rt.alloc(), Side::Writer));
 }
 
 /// Whether a room of 50 bytes holds the first reply, and both bodies are asked for.
-fn holds_first_reply(alloc: Global) -> Result<bool, AllocError> {
-    let mut room = Room::new(alloc, 50)?;
+fn holds_first_reply(alloc: Global) -> bool {
+    let Ok(mut room) = Room::new(alloc, 50) else {
+        return false;
+    };
     let mut store = Store::new(alloc);
     let mut reader = REQUESTS;
-    let end = served(alloc, &mut reader, &mut room, &mut store);
-    Ok(end == ServeEnd::Device && room.as_slice() == FIRST_REPLY && store.asked == 2)
+    served(alloc, &mut reader, &mut room, &mut store) == ServeEnd::Device
+        && room.as_slice() == FIRST_REPLY
+        && store.asked == 2
 }
 
 /// A writer with too little room for the second reply holds the first one.
 #[test]
 fn rooms_hold_whole_replies(rt: HostRuntime) {
-    assert_eq!(rt; holds_first_reply(rt.alloc()), Ok(true));
+    holds(&rt, holds_first_reply(rt.alloc()));
 }
 
 /// Counts the bodies that it is asked for, and takes no memory.
@@ -146,5 +146,5 @@ fn leaves_whole_replies(alloc: Global) -> bool {
 /// Where memory is refused, what was asked has its whole reply, and what was not asked has none.
 #[test]
 fn refused_memory_leaves_whole_replies(rt: HostRuntime) {
-    assert!(rt; leaves_whole_replies(rt.alloc()));
+    holds(&rt, leaves_whole_replies(rt.alloc()));
 }

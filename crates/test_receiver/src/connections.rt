@@ -1,7 +1,7 @@
 //! A connection whose bodies a seat answers.
 
 use crate::bodies::WORD_OF_ONE;
-use crate::messages::{UP, holds, standard};
+use crate::messages::{UP, has_samples, standard};
 use crate::seats::{Talk, answered};
 use std::marker::Brand;
 use std::sync::ledger::Blank;
@@ -19,6 +19,6 @@ fn a_seat_answers_a_connection(rt: HostRuntime) -> Result<(), Fail> {
     let head = standard(alloc)?;
     let talk = Talk::Connection(REQUEST, REPLY, 1);
     let (is_so, head) = answered::<Brand, HostRuntime>(&rt, alloc, Blank::new(2), head, talk);
-    assert!(rt; is_so == Some(true) && holds(alloc, &head, UP, &[(1000, WORD_OF_ONE)]));
+    assert!(rt; is_so == Some(true) && has_samples(alloc, &head, UP, &[(1000, WORD_OF_ONE)]));
     Ok(())
 }

@@ -26,6 +26,8 @@ mod places;
 #[cfg(test)]
 mod replies;
 #[cfg(test)]
+mod rows;
+#[cfg(test)]
 mod seats;
 #[cfg(test)]
 mod store;

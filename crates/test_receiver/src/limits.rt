@@ -1,5 +1,6 @@
 //! Heads at their limits: 64 fields, and 8,192 bytes with the last empty line.
 
+use crate::rows::none_is_wrong;
 use crate::store::is_served;
 use rw_endpoint::ServeEnd;
 use std::alloc::{AllocError, Global};
@@ -39,40 +40,36 @@ static REQUESTS: [(Texts, usize, &[u8]); 6] = [
     (&[(b"\n", 8124), (START, 1), (END, 1)], 8193, REFUSED),
 ];
 
-fn request(alloc: Global, texts: &[(&[u8], usize)]) -> Result<Vec<u8>, AllocError> {
-    let mut request = Vec::new(alloc);
+fn put_texts(request: &mut Vec<u8>, texts: &[(&[u8], usize)]) -> Result<(), AllocError> {
     for (text, often) in texts {
         for _ in 0..*often {
             request.extend_from_slice(text)?;
         }
     }
-    Ok(request)
+    Ok(())
 }
 
 /// Whether a request has this length and this reply, which closes.
-fn is_replied(
-    alloc: Global,
-    texts: &[(&[u8], usize)],
-    len: usize,
-    reply: &[u8],
-) -> Result<bool, AllocError> {
-    let request = request(alloc, texts)?;
+fn is_replied(alloc: Global, texts: &[(&[u8], usize)], len: usize, reply: &[u8]) -> bool {
+    let mut request = Vec::new(alloc);
+    if put_texts(&mut request, texts).is_err() || request.len() != len {
+        return false;
+    }
     let mut reader = request.as_slice();
-    let is_served = is_served(alloc, &mut reader, reply, ServeEnd::Closed);
-    Ok(is_served && request.len() == len)
+    is_served(alloc, &mut reader, reply, ServeEnd::Closed)
 }
 
 /// The first request that has another length or another reply.
-fn first_wrong(alloc: Global) -> Result<Option<usize>, AllocError> {
+fn first_wrong(alloc: Global) -> Option<usize> {
     for (i, (texts, len, reply)) in REQUESTS.iter().enumerate() {
-        if !is_replied(alloc, texts, *len, reply)? {
-            return Ok(Some(i));
+        if !is_replied(alloc, texts, *len, reply) {
+            return Some(i);
         }
     }
-    Ok(None)
+    None
 }
 
 #[test]
 fn heads_end_within_limits(rt: HostRuntime) {
-    assert_eq!(rt; first_wrong(rt.alloc()), Ok(None));
+    none_is_wrong(&rt, first_wrong(rt.alloc()));
 }

@@ -3,8 +3,9 @@
 
 use crate::bodies::{ONE, TWO};
 use crate::messages::narrow;
+use crate::rows::none_is_wrong;
 use rw_head::Head;
-use std::alloc::{AllocError, Global};
+use std::alloc::Global;
 
 /// How many samples and how many label sets a head holds.
 fn counts(head: &Head) -> (u64, usize) {
@@ -37,12 +38,18 @@ fn first_wrong(head: &mut Head) -> Option<usize> {
     None
 }
 
-fn wrong_body(alloc: Global) -> Result<Option<usize>, AllocError> {
-    let mut head = narrow(alloc).or_else(|_| narrow(alloc))?;
-    Ok(first_wrong(&mut head))
+fn wrong_body(alloc: Global) -> Option<usize> {
+    let head = match narrow(alloc) {
+        Err(_) => narrow(alloc),
+        head => head,
+    };
+    match head {
+        Ok(mut head) => first_wrong(&mut head),
+        Err(_) => Some(0),
+    }
 }
 
 #[test]
 fn refused_memory_changes_nothing(rt: HostRuntime) {
-    assert_eq!(rt; wrong_body(rt.alloc()), Ok(None));
+    none_is_wrong(&rt, wrong_body(rt.alloc()));
 }

@@ -14,7 +14,7 @@ pub(crate) type Samples<'a> = &'a [(i64, u64)];
 /// Label sets with samples: the series of a message, or what a head holds.
 pub(crate) type Parts<'a> = &'a [(Labels<'a>, Samples<'a>)];
 
-/// A message, the verdict on it, and how many samples of each label set the head then holds, of those that it holds at last.
+/// A message, the verdict on it, and how many samples of each label set the head then has_samples, of those that it holds at last.
 pub(crate) type Row = (Parts<'static>, Verdict, &'static [usize]);
 
 pub(crate) const UP: Labels<'static> = &[("__name__", "up")];
@@ -91,7 +91,12 @@ pub(crate) fn are_same(held: &[(i64, Word)], samples: Samples<'_>) -> bool {
 }
 
 /// Whether the head holds just these samples of these labels. No, where memory is refused.
-pub(crate) fn holds(alloc: Global, head: &Head, labels: Labels<'_>, samples: Samples<'_>) -> bool {
+pub(crate) fn has_samples(
+    alloc: Global,
+    head: &Head,
+    labels: Labels<'_>,
+    samples: Samples<'_>,
+) -> bool {
     let Ok(set) = label_set(alloc, labels) else {
         return false;
     };
@@ -108,7 +113,7 @@ fn holds_first(alloc: Global, head: &Head, parts: Parts<'_>, counts: &[usize]) -
     let mut places: usize = 0;
     for ((labels, samples), count) in parts.iter().zip(counts) {
         match samples.get(..*count) {
-            Some(first) if holds(alloc, head, labels, first) => {}
+            Some(first) if has_samples(alloc, head, labels, first) => {}
             _ => return false,
         }
         total = total.saturating_add(*count as u64);

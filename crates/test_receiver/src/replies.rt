@@ -1,8 +1,10 @@
 //! Inputs with the replies to them, byte for byte. `|` stands for CR LF.
 
 use crate::devices::Giving;
+use crate::rows::{holds, none_is_wrong};
 use crate::store::{Store, is_served, served};
 use crate::waiting::{Hearing, Waiting};
+use Row::{Fields, Input};
 use ServeEnd::{Closed, Eof, Torn};
 use rw_endpoint::ServeEnd;
 use std::alloc::{AllocError, Global};
@@ -18,18 +20,23 @@ const HEAD: &[u8] =
 const MESSAGE: &[u8] =
     b"\n\x1e\n\x0e\n\x08__name__\x12\x02up\x12\x0c\x09\x00\x00\x00\x00\x00\x00\xf0?\x10\xe8\x07";
 
-/// Texts one after the other, with CR LF for each `|`.
-fn lines(alloc: Global, texts: &[&[u8]]) -> Result<Vec<u8>, AllocError> {
-    let mut out = Vec::new(alloc);
-    for text in texts {
-        for b in *text {
-            match b {
-                b'|' => out.extend_from_slice(b"\r\n")?,
-                b => out.push(*b)?,
-            }
+/// Adds a text, with CR LF for each `|`.
+fn put_lines(out: &mut Vec<u8>, text: &[u8]) -> Result<(), AllocError> {
+    for byte in text {
+        match byte {
+            b'|' => out.extend_from_slice(b"\r\n")?,
+            _ => out.push(*byte)?,
         }
     }
-    Ok(out)
+    Ok(())
+}
+
+/// Adds texts one after the other.
+fn put_all_lines(out: &mut Vec<u8>, texts: &[&[u8]]) -> Result<(), AllocError> {
+    for text in texts {
+        put_lines(out, text)?;
+    }
+    Ok(())
 }
 
 /// Whether an input has these replies for one who sends it and then waits for them: no more is read before they are written.
@@ -52,15 +59,12 @@ fn is_served_however_it_comes(alloc: Global, input: &[u8], replies: &[u8], how: 
 }
 
 /// The same, for an input and replies that are written with `|`.
-fn are_served(
-    alloc: Global,
-    input: &[&[u8]],
-    replies: &[u8],
-    how: ServeEnd,
-) -> Result<bool, AllocError> {
-    let input = lines(alloc, input)?;
-    let replies = lines(alloc, &[replies])?;
-    Ok(is_served_however_it_comes(alloc, &input, &replies, how))
+fn are_served(alloc: Global, input: &[&[u8]], replies: &[u8], how: ServeEnd) -> bool {
+    let mut whole = Vec::new(alloc);
+    let mut wanted = Vec::new(alloc);
+    put_all_lines(&mut whole, input).is_ok()
+        && put_lines(&mut wanted, replies).is_ok()
+        && is_served_however_it_comes(alloc, &whole, &wanted, how)
 }
 
 const LENGTH_REQUIRED: &[u8] =
@@ -85,241 +89,244 @@ const SERVICE_UNAVAILABLE_KEPT: &[u8] = b"HTTP/1.1 503 Service Unavailable|Conte
 
 const NO_CONTENT: &[u8] = b"HTTP/1.1 204 No Content|Connection: close||";
 
-/// What stands behind the first line of a request, and the reply.
-static FIELDS: [(&[u8], &[u8]); 28] = [
+/// What a row says.
+enum Row {
+    /// What stands behind the first line of a request, and the reply.
+    Fields(&'static [u8], &'static [u8]),
+    /// An input, the replies, and the end.
+    Input(&'static [u8], &'static [u8], ServeEnd),
+}
+
+static ROWS: [Row; 44] = [
     // no length, or a transfer encoding
-    (b"|", LENGTH_REQUIRED),
-    (b"Transfer-Encoding: chunked||0||", LENGTH_REQUIRED),
-    (
+    Fields(b"|", LENGTH_REQUIRED),
+    Fields(b"Transfer-Encoding: chunked||0||", LENGTH_REQUIRED),
+    Fields(
         b"Content-Length: 3|transfer-encoding: identity||abc",
         LENGTH_REQUIRED,
     ),
     // lengths that are none
-    (b"Content-Length: ||", BAD_REQUEST),
-    (b"Content-Length: +3||abc", BAD_REQUEST),
-    (b"Content-Length: 3, 3||abc", BAD_REQUEST),
-    (b"Content-Length: 00000000000000000003||abc", BAD_REQUEST),
-    (b"Content-Length: 3|Content-Length: 4||abcd", BAD_REQUEST),
+    Fields(b"Content-Length: ||", BAD_REQUEST),
+    Fields(b"Content-Length: +3||abc", BAD_REQUEST),
+    Fields(b"Content-Length: 3, 3||abc", BAD_REQUEST),
+    Fields(b"Content-Length: 00000000000000000003||abc", BAD_REQUEST),
+    Fields(b"Content-Length: 3|Content-Length: 4||abcd", BAD_REQUEST),
     // 19 digits, and one length written twice
-    (
+    Fields(
         b"Content-Length: 0000000000000000003|CONTENT-LENGTH: 03||abc",
         NO_CONTENT_KEPT,
     ),
     // at the limit and over it, however far
-    (
+    Fields(
         b"Content-Length: 32||12345678901234567890123456789012",
         NO_CONTENT_KEPT,
     ),
-    (b"Content-Length: 33||", CONTENT_TOO_LARGE),
-    (b"Content-Length: 9999999999999999999||", CONTENT_TOO_LARGE),
+    Fields(b"Content-Length: 33||", CONTENT_TOO_LARGE),
+    Fields(b"Content-Length: 9999999999999999999||", CONTENT_TOO_LARGE),
     // the length is judged before the encoding
-    (
+    Fields(
         b"Content-Length: 33|Content-Encoding: snappy||",
         CONTENT_TOO_LARGE,
     ),
     // encodings
-    (
+    Fields(
         b"Content-Encoding: snappy|Content-Length: 3||abc",
         UNSUPPORTED_MEDIA_TYPE,
     ),
-    (
+    Fields(
         b"Content-Encoding:|Content-Length: 3||abc",
         UNSUPPORTED_MEDIA_TYPE,
     ),
-    (
+    Fields(
         b"Content-Encoding: Identity|Content-Length: 3||abc",
         NO_CONTENT_KEPT,
     ),
-    (
+    Fields(
         b"Content-Encoding: identity|Content-Encoding: gzip|Content-Length: 3||abc",
         UNSUPPORTED_MEDIA_TYPE,
     ),
     // media types
-    (
+    Fields(
         b"Content-Type: application/x-protobuf|Content-Length: 3||abc",
         NO_CONTENT_KEPT,
     ),
-    (
+    Fields(
         b"Content-Type: APPLICATION/X-Protobuf \t;\t Proto=Prometheus.WRITERequest|Content-Length: 3||abc",
         NO_CONTENT_KEPT,
     ),
-    (
+    Fields(
         b"Content-Type: application/x-protobuf;|Content-Length: 3||abc",
         UNSUPPORTED_MEDIA_TYPE,
     ),
-    (
+    Fields(
         b"Content-Type: application/x-protobuf; proto=prometheus.WriteRequest2|Content-Length: 3||abc",
         UNSUPPORTED_MEDIA_TYPE,
     ),
-    (
+    Fields(
         b"Content-Type: application/x-protobuf; proto = prometheus.WriteRequest|Content-Length: 3||abc",
         UNSUPPORTED_MEDIA_TYPE,
     ),
-    (
+    Fields(
         b"Content-Type: application/x-protobuf proto=prometheus.WriteRequest|Content-Length: 3||abc",
         UNSUPPORTED_MEDIA_TYPE,
     ),
-    (
+    Fields(
         b"Content-Type: text/plain|Content-Length: 3||abc",
         UNSUPPORTED_MEDIA_TYPE,
     ),
-    (
+    Fields(
         b"Content-Type: |Content-Length: 3||abc",
         UNSUPPORTED_MEDIA_TYPE,
     ),
     // what the body is answered
-    (b"Content-Length: 3||bad", BAD_REQUEST_KEPT),
-    (
+    Fields(b"Content-Length: 3||bad", BAD_REQUEST_KEPT),
+    Fields(
         b"Content-Length: 4|Connection: CLOSE||busy",
         TOO_MANY_REQUESTS,
     ),
-    (
+    Fields(
         b"Content-Length: 4|Connection: keep-alive||full",
         SERVICE_UNAVAILABLE_KEPT,
     ),
-];
-
-/// Inputs, the replies to them, and how their connections end.
-static INPUTS: [(&[u8], &[u8], ServeEnd); 16] = [
     // two requests that keep the connection
-    (
+    Input(
         b"POST /api/v1/write HTTP/1.1|Content-Length: 0||POST /api/v1/write HTTP/1.1|Content-Length: 0||",
         b"HTTP/1.1 204 No Content||HTTP/1.1 204 No Content||",
         Eof,
     ),
     // nothing
-    (b"", b"", Eof),
+    Input(b"", b"", Eof),
     // another method
-    (
+    Input(
         b"GET /api/v1/write HTTP/1.1||",
         b"HTTP/1.1 405 Method Not Allowed|Allow: POST|Content-Length: 0|Connection: close||",
         Closed,
     ),
-    (
+    Input(
         b"post /api/v1/write HTTP/1.1|Content-Length: 0||",
         b"HTTP/1.1 405 Method Not Allowed|Allow: POST|Content-Length: 0|Connection: close||",
         Closed,
     ),
     // another target, which is judged before the method
-    (
+    Input(
         b"POST /other HTTP/1.1|Content-Length: 0||",
         b"HTTP/1.1 404 Not Found|Content-Length: 0|Connection: close||",
         Closed,
     ),
-    (
+    Input(
         b"GET /other HTTP/1.1||",
         b"HTTP/1.1 404 Not Found|Content-Length: 0|Connection: close||",
         Closed,
     ),
-    (
+    Input(
         b"POST /api/v1/Write HTTP/1.1|Content-Length: 0||",
         b"HTTP/1.1 404 Not Found|Content-Length: 0|Connection: close||",
         Closed,
     ),
     // an older version closes
-    (
+    Input(
         b"POST /api/v1/write HTTP/1.0|Content-Length: 3||abc",
         b"HTTP/1.1 204 No Content|Connection: close||",
         Closed,
     ),
     // nothing is answered behind a reply that closes
-    (
+    Input(
         b"POST /api/v1/write HTTP/1.1|Content-Length: 3||abcPOST /api/v1/write HTTP/1.1|Connection: close|Content-Length: 3||defPOST /api/v1/write HTTP/1.1|Content-Length: 0||",
         b"HTTP/1.1 204 No Content||HTTP/1.1 204 No Content|Connection: close||",
         Closed,
     ),
-    (
+    Input(
         b"GET /api/v1/write HTTP/1.1||POST /api/v1/write HTTP/1.1|Content-Length: 0||",
         b"HTTP/1.1 405 Method Not Allowed|Allow: POST|Content-Length: 0|Connection: close||",
         Closed,
     ),
     // empty lines before a request, and line feeds alone
-    (
+    Input(
         b"|\nPOST /api/v1/write HTTP/1.1\nContent-Length: 3\n\nabc",
         b"HTTP/1.1 204 No Content||",
         Eof,
     ),
     // no heads
-    (
+    Input(
         b"HELLO WORLD||",
         b"HTTP/1.1 400 Bad Request|Content-Length: 0|Connection: close||",
         Closed,
     ),
-    (
+    Input(
         b"POST /api/v1/write HTTP/2.0|",
         b"HTTP/1.1 400 Bad Request|Content-Length: 0|Connection: close||",
         Closed,
     ),
-    (
+    Input(
         b"POST /api/v1/write HTTP/1.1|Content Length: 3||abc",
         b"HTTP/1.1 400 Bad Request|Content-Length: 0|Connection: close||",
         Closed,
     ),
     // behind a reply the input ends inside a request
-    (
+    Input(
         b"POST /api/v1/write HTTP/1.1|Content-Length: 3||abcPOST /api/v1/write HTTP/1.1|",
         b"HTTP/1.1 204 No Content||",
         Torn,
     ),
-    (
+    Input(
         b"POST /api/v1/write HTTP/1.1|Content-Length: 4||abc",
         b"",
         Torn,
     ),
 ];
 
-/// The first fields with another reply.
-fn wrong_fields(alloc: Global) -> Result<Option<usize>, AllocError> {
-    for (i, (fields, reply)) in FIELDS.iter().enumerate() {
-        let closes = reply.ends_with(b"Connection: close||");
-        let how = if closes { Closed } else { Eof };
-        if !are_served(alloc, &[LINE, *fields], *reply, how)? {
-            return Ok(Some(i));
+fn is_so(alloc: Global, row: &Row) -> bool {
+    match row {
+        Fields(fields, reply) => {
+            let closes = reply.ends_with(b"Connection: close||");
+            let how = if closes { Closed } else { Eof };
+            are_served(alloc, &[LINE, *fields], reply, how)
         }
+        Input(input, replies, how) => are_served(alloc, &[*input], replies, *how),
     }
-    Ok(None)
 }
 
-#[test]
-fn fields_are_judged(rt: HostRuntime) {
-    assert_eq!(rt; wrong_fields(rt.alloc()), Ok(None));
-}
-
-/// The first input with other replies or another end.
-fn wrong_input(alloc: Global) -> Result<Option<usize>, AllocError> {
-    for (i, (input, replies, how)) in INPUTS.iter().enumerate() {
-        if !are_served(alloc, &[*input], *replies, *how)? {
-            return Ok(Some(i));
+/// The first row with other replies or another end.
+fn wrong_row(alloc: Global) -> Option<usize> {
+    for (i, row) in ROWS.iter().enumerate() {
+        if !is_so(alloc, row) {
+            return Some(i);
         }
     }
-    Ok(None)
+    None
 }
 
 #[test]
 fn connections_have_their_replies(rt: HostRuntime) {
-    assert_eq!(rt; wrong_input(rt.alloc()), Ok(None));
+    none_is_wrong(&rt, wrong_row(rt.alloc()));
 }
 
 /// Where the shipper's request may be cut so that it has a reply, or ends otherwise than a torn one.
-fn wrong_cut(alloc: Global) -> Result<Option<usize>, AllocError> {
-    let request = lines(alloc, &[HEAD, MESSAGE])?;
+fn wrong_cut_of(alloc: Global, request: &[u8]) -> Option<usize> {
     for len in 0..request.len() {
         let mut part = &request[..len];
         let how = if len == 0 { Eof } else { Torn };
         if !is_served(alloc, &mut part, b"", how) {
-            return Ok(Some(len));
+            return Some(len);
         }
     }
-    Ok(None)
+    None
+}
+
+fn wrong_cut(alloc: Global) -> Option<usize> {
+    let mut request = Vec::new(alloc);
+    match put_all_lines(&mut request, &[HEAD, MESSAGE]) {
+        Ok(()) => wrong_cut_of(alloc, &request),
+        Err(_) => Some(0),
+    }
 }
 
 /// The shipper's request has its reply, and none where it is cut before one of its bytes.
 #[test]
 fn cut_requests_have_no_reply(rt: HostRuntime) {
-    let alloc = rt.alloc();
-    assert_eq!(rt;
-        are_served(alloc, &[HEAD, MESSAGE], NO_CONTENT, Closed),
-        Ok(true)
+    holds(
+        &rt,
+        are_served(rt.alloc(), &[HEAD, MESSAGE], NO_CONTENT, Closed),
     );
-    assert_eq!(rt; wrong_cut(alloc), Ok(None));
+    none_is_wrong(&rt, wrong_cut(rt.alloc()));
 }

@@ -4,7 +4,7 @@ ghost use Rattle.std.specs.Prelude.{◌≡◌, ◌+◌, IfOk};
 ghost use Rattle.rw_head.specs.Store.{total};
 
 use crate::bodies::{ONE, TWO, WORD_OF_ONE};
-use crate::messages::{UP, holds, standard};
+use crate::messages::{UP, has_samples, standard};
 use crate::store::is_served_by;
 use rw_endpoint::{Answer, ServeEnd};
 use rw_head::Head;
@@ -75,7 +75,7 @@ fn is_stored_once(alloc: Global, outcome: &Outcome) -> bool {
     outcome.statuses == (204, 204)
         && matches!(outcome.stored, (1, 0) | (0, 1))
         && outcome.head.total() == 1
-        && holds(alloc, &outcome.head, UP, &[(1000, WORD_OF_ONE)])
+        && has_samples(alloc, &outcome.head, UP, &[(1000, WORD_OF_ONE)])
 }
 
 #[test]
@@ -157,8 +157,8 @@ pub(crate) fn answered<L: Ledger, R: Wait>(
 fn holds_what_was_stored(alloc: Global, is_answered: Option<bool>, head: &Head) -> bool {
     let samples = [(1000, WORD_OF_ONE), (2000, WORD_OF_ONE)];
     match is_answered {
-        None => head.total() == 1 && holds(alloc, head, UP, &samples[..1]),
-        Some(is_so) => is_so && head.total() == 3 && holds(alloc, head, UP, &samples),
+        None => head.total() == 1 && has_samples(alloc, head, UP, &samples[..1]),
+        Some(is_so) => is_so && head.total() == 3 && has_samples(alloc, head, UP, &samples),
     }
 }
 
