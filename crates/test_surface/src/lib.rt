@@ -1,5 +1,8 @@
-//! The public surface up to the queue of a shard: each call and type, named through the crate that a caller names. That this compiles is the test; nothing is run.
+//! The public surface: each call and type of the seventeen libraries, named through its own crate. That this compiles is the test; nothing is run.
 #![tactic(auto)]
 
+pub mod ends;
 pub mod log;
+pub mod receiver;
 pub mod sender;
+pub mod shippers;

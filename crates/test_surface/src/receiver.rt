@@ -1,0 +1,30 @@
+//! The receiver: its head, alone and under a lock, and its endpoint.
+
+use rw_recv_head::{Head, LabelSets, Limits, Seat, SharedHead, Verdict};
+use rw_recv_http::{Answer, Asking, ServeEnd, serve};
+use rw_types::{Sink, Source};
+use std::sync::Wait;
+use std::sync::ledger::Ledger;
+
+/// The types of rw_recv_head and rw_recv_http.
+pub type Types<'a, R, L> = (
+    (Head, Limits, Verdict, LabelSets<'a>),
+    (SharedHead<L>, Seat<L>, Asking<'a, R, L>, ServeEnd),
+);
+
+/// The calls of rw_recv_head.
+pub fn of_heads() {
+    let _ = (Head::new, Head::apply, Head::answer, Head::samples);
+    let _ = (Head::label_sets, Head::total);
+}
+
+/// The calls of a head under a lock.
+pub fn of_shared_heads<R: Wait, L: Ledger>() {
+    let _ = (SharedHead::<L>::seats, SharedHead::<L>::gather);
+    let _ = (Seat::<L>::answer::<R>, Seat::<L>::stored);
+}
+
+/// The calls of rw_recv_http.
+pub fn of_endpoints<R: Source, W: Sink, A: Answer>() {
+    let _ = (A::answer, serve::<R, W, A>);
+}

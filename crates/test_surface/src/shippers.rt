@@ -1,0 +1,75 @@
+//! The upper half of the sender: shards, workers, shippers.
+
+use rw_sender::{
+    Attempt, Config, Connect, FeedFault, Finished, Load, Lost, Outcome, Pause, Reply, ReplyRead,
+    Report, ShardCore, Shipper, StopFlag, Target, Transport, Worker, WorkerReport, read_reply,
+    request_bytes,
+};
+use std::sync::Wait;
+use std::thread::Threads;
+
+/// The types of rw_sender.
+pub type Types<T> = (
+    (Config, Target, ShardCore, Attempt, ReplyRead, Outcome),
+    (Reply, Lost, StopFlag, Worker, WorkerReport<T>),
+    (Load, Finished<T>, FeedFault, Report<T>),
+);
+
+/// The calls of a shard.
+pub fn of_shards() {
+    let _ = (
+        ShardCore::new,
+        ShardCore::can_take,
+        ShardCore::take,
+        ShardCore::due,
+    );
+    let _ = (ShardCore::freeze, ShardCore::attempt, ShardCore::reply);
+    let _ = (ShardCore::lost, ShardCore::kill, request_bytes, read_reply);
+}
+
+/// The making of a worker.
+pub fn of_new_workers() {
+    let _ = Worker::new;
+}
+
+/// The run of a worker, and what it runs with.
+pub fn of_workers<T: Transport + Drop, P: Pause, R: Wait>() {
+    let _ = (T::exchange, P::pause);
+    let _ = Worker::run::<T, P, R>;
+}
+
+/// The start of a shipper.
+pub fn of_new_shippers<C: Connect + Drop, R: Threads + Wait + Copy + Send + 'static>() {
+    let _ = C::transport;
+    let _ = Shipper::<C>::start::<R>;
+}
+
+/// What a shipper is fed.
+pub fn of_fed_shippers<C: Connect + Drop, R: Wait>() {
+    let _ = Shipper::<C>::feed::<R>;
+}
+
+/// The marks of a shipper.
+pub fn of_marked_shippers<C: Connect + Drop, R: Wait>() {
+    let _ = Shipper::<C>::flush::<R>;
+}
+
+/// The epochs of a shipper.
+pub fn of_resharded_shippers<C: Connect + Drop, R: Threads + Wait + Copy + Send + 'static>() {
+    let _ = Shipper::<C>::reshard::<R>;
+}
+
+/// How far a shipper is.
+pub fn of_loads<C: Connect + Drop>() {
+    let _ = (Shipper::<C>::entries_read, Shipper::<C>::load);
+}
+
+/// The orderly stop.
+pub fn of_orderly_stops<C: Connect + Drop, R: Threads + Wait>() {
+    let _ = Shipper::<C>::stop_orderly::<R>;
+}
+
+/// The hard stop.
+pub fn of_hard_stops<C: Connect + Drop, R: Threads + Wait>() {
+    let _ = Shipper::<C>::stop_hard::<R>;
+}
