@@ -1,4 +1,4 @@
-//! The public surface: each call and type of the seventeen libraries, named through its own crate. That this compiles is the test; nothing is run.
+//! The public surface: what a caller needs of each of the seventeen libraries, calls and types, named through its own crate. That this compiles is the test; nothing is run.
 #![tactic(auto)]
 
 pub mod ends;
