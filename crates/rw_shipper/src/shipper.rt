@@ -188,10 +188,10 @@ impl<C: Connect + Drop> Shipper<C> {
         Shipper::start_within(rt, alloc, config, connect, None)
     }
 
-    /// The same, where batches may have a limit in bytes: no body takes more, but that of a single
-    /// sample that does. A sample counts as many bytes as a message of it alone takes, so that batches
-    /// of several samples of a series end below the limit. It opens epoch 0 as `start` does. Where
-    /// memory or a thread is refused the workers that were started are stopped and joined.
+    /// Opens epoch 0 as `start` does, for batches that may have a limit in bytes: no body takes more, but
+    /// that of a single sample that does. A sample counts as many bytes as a message of it alone takes,
+    /// so that batches of several samples of a series end below the limit. Where memory or a thread is
+    /// refused the workers that were started are stopped and joined.
     pub fn start_within<R: Threads + Wait + Copy + Send + 'static>(
         rt: &R,
         alloc: Global,
