@@ -15,13 +15,12 @@ ghost use Rattle.rw_shipper.specs.Placement.{AreKept};
 ghost use Rattle.rw_shipper.specs.Reports.{IsAbandoned, IsAbandonedAt, ListsCut, end_of, kind_of};
 ghost use Rattle.rw_shipper.specs.Shipping.{answer_to, FailsBy, Feeds, Joins, HasCompared, HasStopped, PlacesAll};
 
-use crate::listed_fleet::ListedFleet;
-use crate::lists::Lists;
+use crate::lists::{Lists, finish_listed, open_listed};
 use crate::place::place_all;
 use crate::report::Report;
 use rw_batch_bytes::Cuts;
 use rw_feeder::Feeder;
-use rw_fleet::{Connect, Fault, Load};
+use rw_fleet::{Connect, Fault, Load, ShardSet};
 use rw_ledger::Ledger;
 use rw_relabel::{Choice, Rules};
 use rw_shard_channel::Kind;
@@ -139,7 +138,8 @@ fn split_choice(alloc: Global, config: Config) -> (Config, Choice)
 /// stopped.
 pub struct Shipper<C: Connect + Drop> {
     feeder: Feeder,
-    fleet: ListedFleet<C>,
+    fleet: ShardSet<C>,
+    lists: Lists<C::T>,
     cuts: Cuts,
     /// By which it has failed.
     fault: Option<Fault>,
@@ -150,6 +150,7 @@ pub struct Shipper<C: Connect + Drop> {
 impl<C: Connect + Drop> Model for Shipper<C> {
     ghost use Rattle.std.specs.Coded.{codes};
     ghost use Rattle.std.specs.FinMap as names;
+    ghost use Rattle.rw_shipper.specs.Reports.{IsRoomFor};
     ghost use Rattle.rw_shipper.specs.Shipping.{Shipping, PlacesAll, IsReady, IsRead, IsReckoned};
 
     ghost Value = { Shipping C.T };
@@ -166,7 +167,8 @@ impl<C: Connect + Drop> Model for Shipper<C> {
     ghost invariant = { λ s. PlacesAll s.feeder s.fleet
         × IsReady s.feeder s.fleet s.fault
         × IsRead s.feeder s.fault s.damage
-        × IsReckoned s.cuts s.fleet s.fault };
+        × IsReckoned s.cuts s.fleet s.fault
+        × IsRoomFor s.fleet s.lists };
 }
 
 impl<C: Connect + Drop> Shipper<C> {
@@ -210,14 +212,16 @@ impl<C: Connect + Drop> Shipper<C> {
         let shards = config.fields().shards.get() as u32;
         let (config, choice) = split_choice(alloc, config);
         let cuts = Cuts::within(alloc, limit)?;
-        let mut fleet = ListedFleet::new(alloc, config, connect)?;
-        if fleet.open(rt, shards).is_err() {
-            let _ = fleet.finish(rt, Kind::Hard, Ledger::new(alloc));
+        let mut lists = Lists::new(alloc)?;
+        let mut fleet = ShardSet::new(alloc, config, connect)?;
+        if open_listed(rt, &mut fleet, &mut lists, shards).is_err() {
+            let _ = fleet.finish(rt, Kind::Hard);
             return Err(AllocError);
         }
         Ok(Shipper {
             feeder: Feeder::new(alloc, choice),
             fleet,
+            lists,
             cuts,
             fault: None,
             damage: None,
@@ -334,7 +338,7 @@ impl<C: Connect + Drop> Shipper<C> {
             self.fault = Some(Fault::Gone);
             return Err(FeedFault::Gone);
         }
-        if self.fleet.open(rt, shards).is_err() {
+        if open_listed(rt, &mut self.fleet, &mut self.lists, shards).is_err() {
             self.fault = Some(Fault::OutOfMemory);
             return Err(FeedFault::OutOfMemory);
         }
@@ -386,14 +390,16 @@ impl<C: Connect + Drop> Shipper<C> {
         let Shipper {
             feeder,
             fleet,
+            lists,
             cuts: _,
             fault: _,
             damage,
         } = self;
         let (part, filtered) = feeder.finish();
         let kind = kind_of(is_hard);
-        let (lists, is_resolved) = fleet.finish(rt, kind, part);
+        let (lists, is_resolved) = finish_listed(rt, fleet, lists, kind, part);
         let Lists {
+            room: _,
             parts,
             workers,
             samples,
