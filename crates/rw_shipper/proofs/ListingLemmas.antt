@@ -12,6 +12,8 @@ use Rattle.rw_worker.specs.Report.{is_hard}
 use Rattle.rw_fleet.specs.Work.{lane_of, finished_of, is_compared, is_resolved, AreResolved, AreWorked, HasCut}
 use Rattle.rw_fleet.specs.Fleets.{Shards, AreAll, EndBy, HasClosed}
 use Rattle.rw_fleet.specs.declared.joined.StoppedShard.{StoppedShard}
+use Rattle.rw_fleet.specs.declared.joined.Resolution.{Resolution}
+use Rattle.rw_fleet.specs.declared.joined.Resolution.TheVariants.{All, NotAll}
 use Rattle.rw_fleet.specs.Loads.{window_of}
 use Rattle.rw_shipper.specs.Reports.{part_of, abandoned_in, HasListed, HasRoom, HasSpace, ListsAfter, IsRoomFor}
 use Rattle.rw_shipper.specs.declared.lists.Lists.{Lists}
@@ -233,9 +235,9 @@ module _ {T : Type 0} where
   lists_none a = (sym (append-nil a.parts.items), sym (append-nil a.workers.items), sym (append-nil a.samples.items))
 
   -- all is listed behind one part
-  pub listed_all : (tells : T → Type 0) (seen : T → List Exchange) (is_for : ℕ → ℕ → T → Type 0) (s : Shards T) (part : Named) (a b c : Lists T) (kind : Kind) (r : Bool) (js : List (StoppedShard T)) → length a.parts.items ≡ 0 → length a.workers.items ≡ 0 → length a.samples.items ≡ 0
+  pub listed_all : (tells : T → Type 0) (seen : T → List Exchange) (is_for : ℕ → ℕ → T → Type 0) (s : Shards T) (part : Named) (a b c : Lists T) (kind : Kind) (r : Resolution) (js : List (StoppedShard T)) → length a.parts.items ≡ 0 → length a.workers.items ≡ 0 → length a.samples.items ≡ 0
       → b.parts.items ≡ a.parts.items ++ part ∷ [] → b.workers.items ≡ a.workers.items → b.samples.items ≡ a.samples.items → ListsAfter b js c
-      → AreAll s js → AreWorked tells seen is_for js → AreSetUp s.config (map lane_of js) → (r ≡ true → AreResolved js) → (is_hard kind ≡ false → r ≡ false → HasCut js) → EndBy kind s (map finished_of js) → HasListed tells seen is_for s part c kind r
+      → AreAll s js → AreWorked tells seen is_for js → AreSetUp s.config (map lane_of js) → (r ≡ All → AreResolved js) → (is_hard kind ≡ false → r ≡ NotAll → HasCut js) → EndBy kind s (map finished_of js) → HasListed tells seen is_for s part c kind r
   listed_all tells seen is_for s part a b c kind r js np nw ns bp bw bs after all worked setup resolved cut ended =
       let workers : c.workers.items ≡ map finished_of js = after.1 ∙ ap (λ l. l ++ map finished_of js) (bw ∙ nil_of a.workers.items nw) in
       record {
@@ -246,7 +248,7 @@ module _ {T : Type 0} where
         parts = after.0 ∙ ap (λ l. l ++ map part_of js) (bp ∙ ap (λ l. l ++ part ∷ []) (nil_of a.parts.items np));
         workers = workers;
         samples = after.2 ∙ ap (λ l. l ++ abandoned_in js) (bs ∙ nil_of a.samples.items ns);
-        is_resolved = resolved;
+        resolved = resolved;
         cut = cut;
         ended = subst (EndBy kind s) (sym workers) ended;
       }

@@ -15,6 +15,8 @@ use Rattle.rw_fleet.specs.declared.running.Fault.{Fault}
 use Rattle.rw_fleet.specs.Fleets.{Shards, AreAll, EndBy, HasClosed}
 use Rattle.rw_fleet.specs.declared.joined.Finished.{Finished}
 use Rattle.rw_fleet.specs.declared.joined.StoppedShard.{StoppedShard}
+use Rattle.rw_fleet.specs.declared.joined.Resolution.{Resolution}
+use Rattle.rw_fleet.specs.declared.joined.Resolution.TheVariants.{All, NotAll}
 use Rattle.rw_router.specs.declared.sample.RoutedSample.{RoutedSample}
 use Rattle.rw_feeder.specs.Feeders.{Sorting, HasPlaced, HasRead, sent_by}
 use Rattle.rw_router.specs.Fates.{Fate, Drops, Filters, Sends, fate}
@@ -283,12 +285,12 @@ module _ {T : Type 0} where
   ends_whole s js placed None a read resolved = (a, read, resolved)
   ends_whole s js placed (Some f) a read resolved = (read, resolved)
 
-  pub ends_so : (s : Shipping T) (js : List (StoppedShard T)) (is_hard is_resolved : Bool) (placed : ℕ) (damage : Option TailFault) (samples : List ℕ) (o : Outcome) → placed ≡ length s.log.placed → samples ≡ abandoned_in js
-      → (is_resolved ≡ true → AreResolved js) → (is_hard ≡ false → HasRead s.log.pieces s.log.placed damage)
-      → (is_hard ≡ true → IsAbandonedAt placed samples o) → (is_resolved ≡ false → IsAbandonedAt placed samples o) → (is_hard ≡ false → is_resolved ≡ true → o ≡ end_of placed damage) → Ends s js o
-  ends_so s js true is_resolved placed damage samples o a b resolved read hard apart whole = abandons s js placed samples o (hard refl) a b
-  ends_so s js false false placed damage samples o a b resolved read hard apart whole = abandons s js placed samples o (apart refl) a b
-  ends_so s js false true placed damage samples o a b resolved read hard apart whole =
+  pub ends_so : (s : Shipping T) (js : List (StoppedShard T)) (is_hard : Bool) (resolution : Resolution) (placed : ℕ) (damage : Option TailFault) (samples : List ℕ) (o : Outcome) → placed ≡ length s.log.placed → samples ≡ abandoned_in js
+      → (resolution ≡ All → AreResolved js) → (is_hard ≡ false → HasRead s.log.pieces s.log.placed damage)
+      → (is_hard ≡ true → IsAbandonedAt placed samples o) → (resolution ≡ NotAll → IsAbandonedAt placed samples o) → (is_hard ≡ false → resolution ≡ All → o ≡ end_of placed damage) → Ends s js o
+  ends_so s js true resolution placed damage samples o a b resolved read hard apart whole = abandons s js placed samples o (hard refl) a b
+  ends_so s js false NotAll placed damage samples o a b resolved read hard apart whole = abandons s js placed samples o (apart refl) a b
+  ends_so s js false All placed damage samples o a b resolved read hard apart whole =
       subst (Ends s js) (sym (whole refl refl)) (ends_whole s js placed damage a (read refl) (resolved refl))
 
 pub is_abandoned : (placed : ℕ) (samples : List ℕ) (o : Outcome) → IsAbandonedAt placed samples o → IsAbandoned o
@@ -318,9 +320,9 @@ module _ {T : Type 0} where
   at_finished (x ∷ xs) (suc k) j at = at_finished xs k j at
 
   -- the work that was to end with all, and was abandoned, has a queue that was cut
-  pub lists_cut : (js : List (StoppedShard T)) (fs : List (Finished T)) (resolved : Bool) (placed : ℕ) (damage : Option TailFault) (o : Outcome) → fs ≡ map finished_of js → (resolved ≡ false → HasCut js) → (resolved ≡ true → o ≡ end_of placed damage)
+  pub lists_cut : (js : List (StoppedShard T)) (fs : List (Finished T)) (resolution : Resolution) (placed : ℕ) (damage : Option TailFault) (o : Outcome) → fs ≡ map finished_of js → (resolution ≡ NotAll → HasCut js) → (resolution ≡ All → o ≡ end_of placed damage)
       → IsAbandoned o → ListsCut fs
-  lists_cut js fs true placed damage o is cut whole left = absurd (ends_apart placed damage (subst IsAbandoned (whole refl) left))
-  lists_cut js fs false placed damage o is cut whole left =
+  lists_cut js fs All placed damage o is cut whole left = absurd (ends_apart placed damage (subst IsAbandoned (whole refl) left))
+  lists_cut js fs NotAll placed damage o is cut whole left =
       let c = cut refl in
       subst ListsCut (sym is) (c.0, c.1.finished, at_finished js c.0 c.1 c.2, c.3)

@@ -14,6 +14,8 @@ use Rattle.rw_fleet.specs.Fleets.{Shards, AreAll, EndBy}
 use Rattle.rw_fleet.specs.Loads.{window_of}
 use Rattle.rw_fleet.specs.declared.joined.StoppedShard.{StoppedShard}
 use Rattle.rw_fleet.specs.declared.joined.Finished.{Finished}
+use Rattle.rw_fleet.specs.declared.joined.Resolution.{Resolution}
+use Rattle.rw_fleet.specs.declared.joined.Resolution.TheVariants.{All, NotAll}
 use Rattle.rw_shipper.specs.declared.lists.Lists.{Lists}
 
 abbrev pub part_of : {T : Type 0} → StoppedShard T → Named
@@ -47,7 +49,7 @@ abbrev pub IsRoomFor : {T : Type 0} → Shards T → Lists T → Type 0
 IsRoomFor s lists = HasSpace (length s.ended + length s.current) (length (abandoned_in s.ended) + length s.current * window_of s.config) lists
 
 -- All shards have ended, those at work by this End, and are listed behind one part more.
-pub record HasListed {T : Type 0} (tells : T → Type 0) (seen : T → List Exchange) (is_for : ℕ → ℕ → T → Type 0) (s : Shards T) (part : Named) (lists : Lists T) (kind : Kind) (resolved : Bool) : Type 0 where
+pub record HasListed {T : Type 0} (tells : T → Type 0) (seen : T → List Exchange) (is_for : ℕ → ℕ → T → Type 0) (s : Shards T) (part : Named) (lists : Lists T) (kind : Kind) (resolution : Resolution) : Type 0 where
   pub joined : List (StoppedShard T)
   pub all : AreAll s joined
   pub worked : AreWorked tells seen is_for joined
@@ -55,8 +57,8 @@ pub record HasListed {T : Type 0} (tells : T → Type 0) (seen : T → List Exch
   pub parts : lists.parts.items ≡ part ∷ map part_of joined
   pub workers : lists.workers.items ≡ map finished_of joined
   pub samples : lists.samples.items ≡ abandoned_in joined
-  pub is_resolved : resolved ≡ true → AreResolved joined
-  pub cut : is_hard kind ≡ false → resolved ≡ false → HasCut joined
+  pub resolved : resolution ≡ All → AreResolved joined
+  pub cut : is_hard kind ≡ false → resolution ≡ NotAll → HasCut joined
   pub ended : EndBy kind s lists.workers.items
 
 -- by which End the shards are ended

@@ -5,7 +5,7 @@ ghost use Rattle.rw_fleet.specs.ShardHistories.{AreFresh};
 ghost use Rattle.rw_fleet.specs.Work.{AreResolved};
 ghost use Rattle.rw_shipper.specs.Reports.{HasListed, HasRoom, HasSpace, IsRoomFor, ListsAfter};
 
-use rw_fleet::{Connect, Finished, ShardSet, StoppedShard};
+use rw_fleet::{Connect, Finished, Resolution, ShardSet, StoppedShard};
 use rw_ledger::Ledger;
 use rw_shard_channel::Kind;
 use rw_worker::Transport;
@@ -106,18 +106,19 @@ pub(crate) fn open_listed<C: Connect + Drop, R: Threads + Wait + Copy + Send + '
     fleet.open(rt, shards)
 }
 
-/// Ends all shards at work and waits for their workers, which are told to stop where the end is hard. It lists what the shards did behind a part of the ledger, and answers whether all that was put in all epochs is resolved.
+/// Ends all shards at work and waits for their workers, which are told to stop where the end is hard. It lists what the shards did behind a part
+/// of the ledger.
 pub(crate) fn finish_listed<C: Connect + Drop, R: Threads + Wait>(
     rt: &R,
     fleet: ShardSet<C>,
     mut lists: Lists<C::T>,
     kind: Kind,
     part: Ledger,
-) -> (Lists<C::T>, bool)
+) -> (Lists<C::T>, Resolution)
     requires { IsRoomFor fleet lists }
     ensures { HasListed C.T.tells C.T.seen C.T.is_for fleet part result.0 kind result.1 }
 {
-    let (joined, is_resolved) = fleet.finish(rt, kind);
+    let (joined, resolution) = fleet.finish(rt, kind);
     lists.parts.push_reserved(part);
-    (list_all(joined, lists), is_resolved)
+    (list_all(joined, lists), resolution)
 }

@@ -20,7 +20,7 @@ use crate::place::place_all;
 use crate::report::Report;
 use rw_batch_bytes::Cuts;
 use rw_feeder::Feeder;
-use rw_fleet::{Connect, Fault, Load, ShardSet};
+use rw_fleet::{Connect, Fault, Load, Resolution, ShardSet};
 use rw_ledger::Ledger;
 use rw_relabel::{Choice, Rules};
 use rw_shard_channel::Kind;
@@ -75,16 +75,17 @@ fn kind_of(is_hard: bool) -> Kind
 /// How the work has ended: hard, or with samples that are not resolved, or else with all that the log has.
 fn outcome_of(
     is_hard: bool,
-    is_resolved: bool,
+    resolution: Resolution,
     placed: u64,
     damage: Option<TailFault>,
     samples: Vec<u64>,
 ) -> Outcome
     ensures hard { is_hard ≡ true → IsAbandonedAt placed samples.items result }
-    ensures apart { is_resolved ≡ false → IsAbandonedAt placed samples.items result }
-    ensures whole { is_hard ≡ false → is_resolved ≡ true → result ≡ end_of placed damage }
+    ensures apart { resolution ≡ Resolution.NotAll → IsAbandonedAt placed samples.items result }
+    ensures whole { is_hard ≡ false → resolution ≡ Resolution.All
+        → result ≡ end_of placed damage }
 {
-    if is_hard || !is_resolved {
+    if is_hard || resolution == Resolution::NotAll {
         return Outcome::Abandoned { placed, samples };
     }
     match damage {
@@ -334,10 +335,10 @@ impl<C: Connect + Drop> Shipper<C> {
             self.fault = Some(Fault::OutOfMemory);
             return Err(FeedFault::OutOfMemory);
         }
-        if !self.fleet.close(rt) {
+        let Resolution::All = self.fleet.close(rt) else {
             self.fault = Some(Fault::Gone);
             return Err(FeedFault::Gone);
-        }
+        };
         if open_listed(rt, &mut self.fleet, &mut self.lists, shards).is_err() {
             self.fault = Some(Fault::OutOfMemory);
             return Err(FeedFault::OutOfMemory);
@@ -397,14 +398,14 @@ impl<C: Connect + Drop> Shipper<C> {
         } = self;
         let (part, filtered) = feeder.finish();
         let kind = kind_of(is_hard);
-        let (lists, is_resolved) = finish_listed(rt, fleet, lists, kind, part);
+        let (lists, resolution) = finish_listed(rt, fleet, lists, kind, part);
         let Lists {
             room: _,
             parts,
             workers,
             samples,
         } = lists;
-        let outcome = outcome_of(is_hard, is_resolved, placed, damage, samples);
+        let outcome = outcome_of(is_hard, resolution, placed, damage, samples);
         Report {
             outcome,
             parts,

@@ -3,8 +3,8 @@ use Rattle.rw_shipper.proofs.ListingLemmas.{room_closed}
 use Rattle.rw_shipper.proofs.ShippingLemmas.{places_shut, places_opened, ready_next, reckoned_fresh, on_ok}
 use Rattle.rw_shipper.proofs.shipper.Shipper.reshard.Goals as goal
 
-pub invariant_of-self-then-not-close : goal.invariant_of-self-then-not-close
-invariant_of-self-then-not-close g c =
+pub invariant_of-self-in_default-close : goal.invariant_of-self-in_default-close
+invariant_of-self-in_default-close g c =
     let e = c.close.ensures in
     (places_shut c.self.inside.feeder c.self.inside.fleet c.close.new.self c.self.invariant.0 e.closed, tt, tt, tt, room_closed g.C.T.Transport.tells g.C.T.Transport.seen g.C.T.Transport.is_for c.self.inside.fleet c.close.new.self c.self.inside.lists c.self.invariant.4 e.closed e.worked e.setup)
 
@@ -31,8 +31,8 @@ invariant_of-self-2 g c =
       opened.room,
     )
 
-pub returns-then-not-close-clause-placed : goal.returns-then-not-close-clause-placed
-returns-then-not-close-clause-placed g c = places_shut c.self.inside.feeder c.self.inside.fleet c.close.new.self c.self.invariant.0 c.close.ensures.closed
+pub returns-in_default-close-clause-placed : goal.returns-in_default-close-clause-placed
+returns-in_default-close-clause-placed g c = places_shut c.self.inside.feeder c.self.inside.fleet c.close.new.self c.self.invariant.0 c.close.ensures.closed
 
 pub returns-then-is_err-clause-placed : goal.returns-then-is_err-clause-placed
 returns-then-is_err-clause-placed g c =

@@ -22,7 +22,7 @@ returns-clause-stopped g c =
       all = l.all;
       names = c.finish-part.ensures.names;
       filter_count = c.finish-part.ensures.filtered;
-      ends = ends_so (record { log = c.self.inside.feeder; fleet = c.self.inside.fleet; fault = c.self.inside.fault; limit = c.self.inside.cuts.limit }) l.joined c.args.is_hard c.finish_listed-lists.result.1 c.args.placed c.self.inside.damage _ _ (c.requires.placed ∙ ap (λ (s : Shipping _). length s.log.placed) (sym view)) l.samples l.is_resolved
+      ends = ends_so (record { log = c.self.inside.feeder; fleet = c.self.inside.fleet; fault = c.self.inside.fault; limit = c.self.inside.cuts.limit }) l.joined c.args.is_hard c.finish_listed-lists.result.1 c.args.placed c.self.inside.damage _ _ (c.requires.placed ∙ ap (λ (s : Shipping _). length s.log.placed) (sym view)) l.samples l.resolved
           (λ soft. read_of c.self.inside.feeder c.self.inside.fault c.self.inside.damage c.self.invariant.2 (ap (λ (s : Shipping _). s.fault) view ∙ c.requires.ready soft)) o.hard o.apart o.whole;
     })
 
