@@ -2,6 +2,7 @@
 use Rattle.std.proofs.Common.{◌≡◌, ℕ, zero, suc, ◌+◌, ◌≤◌, List, [], ◌∷◌, ◌++◌, length, map, refl, sym, ap, ◌∙◌, subst, append_assoc, append-nil, length-append, arith}
 use Rattle.std.specs.Prelude.{◌*◌, ◌==◌, ◌&&◌, vec_len, vec_capacity, Bool, true, false, Some, None, Result, Ok, Err, OnErr, is_ok, if◌then◌else◌}
 use Rattle.std.proofs.Math.Nat.{suc-mul, zero-mul, mul-le-mul_right}
+use Rattle.std.proofs.lemmas.List.{length-map, map-append, nil_from_length}
 use Rattle.std.proofs.lemmas.Bool.Decides.{nat_tests}
 use Rattle.rw_shard_core.specs.declared.config.ConfigFields.{ConfigFields}
 use Rattle.rw_worker.specs.Transcript.{Exchange}
@@ -15,33 +16,18 @@ use Rattle.rw_fleet.specs.declared.joined.StoppedShard.{StoppedShard}
 use Rattle.rw_fleet.specs.declared.joined.Resolution.{Resolution}
 use Rattle.rw_fleet.specs.declared.joined.Resolution.TheVariants.{All, NotAll}
 use Rattle.rw_fleet.specs.Loads.{window_of}
+use Rattle.rw_fleet.proofs.LaneLemmas.{same_length}
 use Rattle.rw_shipper.specs.Reports.{part_of, abandoned_in, HasListed, HasRoom, HasSpace, ListsAfter, IsRoomFor}
 use Rattle.rw_shipper.specs.declared.lists.Lists.{Lists}
-use Rattle.rw_shipper.proofs.PlacementLemmas.{same_length}
 
 module _ {A : Type 0} where
-  pub nil_of : (xs : List A) → length xs ≡ 0 → xs ≡ []
-  nil_of [] e = refl
-  nil_of (x ∷ xs) e = absurd (omega arith)
-
-  pub moved : (all done rest later : List A) (x : A) → all ≡ done ++ rest → rest ≡ x ∷ later → all ≡ (done ++ x ∷ []) ++ later
-  moved all done rest later x is first = is ∙ ap (λ l. done ++ l) first ∙ sym (append_assoc done (x ∷ []) later)
-
   pub none_left : (all done rest : List A) → all ≡ done ++ rest → rest ≡ [] → all ≡ done
   none_left all done rest is none = is ∙ ap (λ l. done ++ l) none ∙ append-nil done
 
 module _ {T : Type 0} where
-  pub lanes_append : (xs ys : List (StoppedShard T)) → map lane_of (xs ++ ys) ≡ map lane_of xs ++ map lane_of ys
-  lanes_append [] ys = refl
-  lanes_append (x ∷ xs) ys = ap (λ l. lane_of x ∷ l) (lanes_append xs ys)
-
-  lanes_length : (js : List (StoppedShard T)) → length (map lane_of js) ≡ length js
-  lanes_length [] = refl
-  lanes_length (j ∷ js) = ap suc (lanes_length js)
-
   all_length : (s : Shards T) (js : List (StoppedShard T)) → AreAll s js → length js ≡ length s.ended + length s.current
   all_length s js all =
-      ap length all.1 ∙ length-append s.ended all.0 ∙ ap (λ n. length s.ended + n) (sym (lanes_length all.0) ∙ same_length s.current (map lane_of all.0) all.2)
+      ap length all.1 ∙ length-append s.ended all.0 ∙ ap (λ n. length s.ended + n) (sym (length-map all.0 lane_of) ∙ same_length s.current (map lane_of all.0) all.2)
 
   pub abandoned_append : (xs ys : List (StoppedShard T)) → abandoned_in (xs ++ ys) ≡ abandoned_in xs ++ abandoned_in ys
   abandoned_append [] ys = refl
@@ -73,7 +59,7 @@ module _ {T : Type 0} where
   all_left tells seen is_for s js all worked setup =
       let more = all.0 in
       let few = few_in tells seen is_for s.config more (worked_behind tells seen is_for s.ended more (subst (AreWorked tells seen is_for) all.1 worked)) (set_up_behind s.config s.ended more (subst (λ (l : List (StoppedShard T)). AreSetUp s.config (map lane_of l)) all.1 setup)) in
-      let same : length more * window_of s.config ≡ length s.current * window_of s.config = ap (λ n. n * window_of s.config) (sym (lanes_length more) ∙ same_length s.current (map lane_of more) all.2) in
+      let same : length more * window_of s.config ≡ length s.current * window_of s.config = ap (λ n. n * window_of s.config) (sym (length-map more lane_of) ∙ same_length s.current (map lane_of more) all.2) in
       let len = ap (λ (l : List (StoppedShard T)). length (abandoned_in l)) all.1 ∙ ap length (abandoned_append s.ended more) in
       let sum = length-append (abandoned_in s.ended) (abandoned_in more) in
       omega arith
@@ -227,10 +213,6 @@ module _ {T : Type 0} where
       let s = h.2 in
       (omega arith, omega arith, omega arith)
 
-  map_append : {B : Type 0} (f : StoppedShard T → B) (xs ys : List (StoppedShard T)) → map f (xs ++ ys) ≡ map f xs ++ map f ys
-  map_append f [] ys = refl
-  map_append f (x ∷ xs) ys = ap (λ l. f x ∷ l) (map_append f xs ys)
-
   pub lists_none : (a : Lists T) → ListsAfter a [] a
   lists_none a = (sym (append-nil a.parts.items), sym (append-nil a.workers.items), sym (append-nil a.samples.items))
 
@@ -239,15 +221,15 @@ module _ {T : Type 0} where
       → b.parts.items ≡ a.parts.items ++ part ∷ [] → b.workers.items ≡ a.workers.items → b.samples.items ≡ a.samples.items → ListsAfter b js c
       → AreAll s js → AreWorked tells seen is_for js → AreSetUp s.config (map lane_of js) → (r ≡ All → AreResolved js) → (is_hard kind ≡ false → r ≡ NotAll → HasCut js) → EndBy kind s (map finished_of js) → HasListed tells seen is_for s part c kind r
   listed_all tells seen is_for s part a b c kind r js np nw ns bp bw bs after all worked setup resolved cut ended =
-      let workers : c.workers.items ≡ map finished_of js = after.1 ∙ ap (λ l. l ++ map finished_of js) (bw ∙ nil_of a.workers.items nw) in
+      let workers : c.workers.items ≡ map finished_of js = after.1 ∙ ap (λ l. l ++ map finished_of js) (bw ∙ nil_from_length a.workers.items nw) in
       record {
         joined = js;
         all = all;
         worked = worked;
         setup = setup;
-        parts = after.0 ∙ ap (λ l. l ++ map part_of js) (bp ∙ ap (λ l. l ++ part ∷ []) (nil_of a.parts.items np));
+        parts = after.0 ∙ ap (λ l. l ++ map part_of js) (bp ∙ ap (λ l. l ++ part ∷ []) (nil_from_length a.parts.items np));
         workers = workers;
-        samples = after.2 ∙ ap (λ l. l ++ abandoned_in js) (bs ∙ nil_of a.samples.items ns);
+        samples = after.2 ∙ ap (λ l. l ++ abandoned_in js) (bs ∙ nil_from_length a.samples.items ns);
         resolved = resolved;
         cut = cut;
         ended = subst (EndBy kind s) (sym workers) ended;
@@ -256,8 +238,8 @@ module _ {T : Type 0} where
   -- what is listed, and then more
   pub lists_more : (a b c : Lists T) (xs ys : List (StoppedShard T)) → ListsAfter a xs b → ListsAfter b ys c → ListsAfter a (xs ++ ys) c
   lists_more a b c xs ys h g = (
-    g.0 ∙ ap (λ l. l ++ map part_of ys) h.0 ∙ append_assoc a.parts.items (map part_of xs) (map part_of ys) ∙ ap (λ l. a.parts.items ++ l) (sym (map_append part_of xs ys)),
-    g.1 ∙ ap (λ l. l ++ map finished_of ys) h.1 ∙ append_assoc a.workers.items (map finished_of xs) (map finished_of ys) ∙ ap (λ l. a.workers.items ++ l) (sym (map_append finished_of xs ys)),
+    g.0 ∙ ap (λ l. l ++ map part_of ys) h.0 ∙ append_assoc a.parts.items (map part_of xs) (map part_of ys) ∙ ap (λ l. a.parts.items ++ l) (sym (map-append part_of xs ys)),
+    g.1 ∙ ap (λ l. l ++ map finished_of ys) h.1 ∙ append_assoc a.workers.items (map finished_of xs) (map finished_of ys) ∙ ap (λ l. a.workers.items ++ l) (sym (map-append finished_of xs ys)),
     g.2 ∙ ap (λ l. l ++ abandoned_in ys) h.2 ∙ append_assoc a.samples.items (abandoned_in xs) (abandoned_in ys) ∙ ap (λ l. a.samples.items ++ l) (sym (abandoned_append xs ys)),
   )
 

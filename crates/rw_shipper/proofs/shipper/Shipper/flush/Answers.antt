@@ -1,4 +1,4 @@
-use Rattle.rw_shipper.proofs.PlacementLemmas.{same_self}
+use Rattle.rw_fleet.proofs.LaneLemmas.{same_self}
 use Rattle.rw_shipper.proofs.ListingLemmas.{room_same}
 use Rattle.rw_shipper.proofs.ShippingLemmas.{places_same, ready_same, reckoned_marked}
 use Rattle.rw_shipper.proofs.shipper.Shipper.flush.Goals as goal
