@@ -1,11 +1,12 @@
 -- Shards that have ended.
 use Rattle.std.proofs.Common.{◌≡◌, ℕ, ◌+◌, List, [], ◌∷◌, ◌++◌, length, map, sym, ap, ◌∙◌, subst, arith}
+use Rattle.std.proofs.lemmas.List.{length-map, map-append}
 use Rattle.rw_shard_core.specs.declared.config.ConfigFields.{ConfigFields}
 use Rattle.rw_worker.specs.Transcript.{Exchange}
 use Rattle.rw_fleet.specs.declared.joined.StoppedShard.{StoppedShard}
 use Rattle.rw_fleet.specs.ShardHistories.{ShardHistory, AreSame, AreSetUp}
 use Rattle.rw_fleet.specs.Work.{IsWorked, AreWorked, lane_of}
-use Rattle.rw_fleet.proofs.ListLemmas.{map_append, map_length, more_length}
+use Rattle.rw_fleet.proofs.ListLemmas.{more_length}
 use Rattle.rw_fleet.proofs.LaneLemmas.{set_up_append, set_up_same}
 
 module _ {T : Type 0} (tells : T → Type 0) (seen : T → List Exchange) (is_for : ℕ → ℕ → T → Type 0) where
@@ -20,12 +21,12 @@ module _ {T : Type 0} where
   all_done now was more done all n_now n_was n_all left is same a b c sum none =
       let m = more_length now was more is in
       let n = ap length (sym same) in
-      let k = map_length lane_of more in
+      let k = length-map more lane_of in
       omega arith
 
   -- each shard of the epoch got its End, and each worker ended
   pub set_up_closed : (config : ConfigFields) (was now more : List (StoppedShard T)) (current ending : List ShardHistory) → AreSetUp config (map lane_of was) → AreSetUp config current → AreSame current ending → now ≡ was ++ more → map lane_of more ≡ ending
       → AreSetUp config (map lane_of now)
   set_up_closed config was now more current ending a b same is lanes =
-      subst (λ ls. AreSetUp config ls) (sym (ap (map lane_of) is ∙ map_append lane_of was more))
+      subst (λ ls. AreSetUp config ls) (sym (ap (map lane_of) is ∙ map-append lane_of was more))
       (set_up_append config (map lane_of was) (map lane_of more) a (subst (AreSetUp config) (sym lanes) (set_up_same config current ending same b)))

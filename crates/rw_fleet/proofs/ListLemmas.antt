@@ -1,15 +1,12 @@
 -- Lists that a loop takes from the front, and lists with one element more or another.
-use Rattle.std.proofs.Common.{◌≡◌, ◌⊎◌, inl, inr, ℕ, zero, suc, ◌+◌, ◌<◌, List, [], ◌∷◌, ◌++◌, length, map, Some, refl, sym, ap, ◌∙◌, append_assoc, append-nil, length-append, arith}
+use Rattle.std.proofs.Common.{◌≡◌, ◌⊎◌, inl, inr, ℕ, zero, suc, ◌+◌, ◌<◌, List, [], ◌∷◌, ◌++◌, length, Some, refl, sym, ap, ◌∙◌, append_assoc, append-nil, length-append, arith}
 use Rattle.std.specs.Prelude.{slice_get, get_or}
+use Rattle.std.proofs.lemmas.List.{nil_from_length}
 use Rattle.std.proofs.lemmas.Option.{slice_get-get_or}
 
 module _ {A : Type 0} where
-  nil_of : (xs : List A) → length xs ≡ 0 → xs ≡ []
-  nil_of [] e = refl
-  nil_of (x ∷ xs) e = absurd (omega arith)
-
   pub none_left : (all done rest : List A) → all ≡ done ++ rest → length all ≡ length done → all ≡ done
-  none_left all done rest is len = is ∙ ap (λ l. done ++ l) (nil_of rest (let e = ap length is in omega (arith, length-append done rest))) ∙ append-nil done
+  none_left all done rest is len = is ∙ ap (λ l. done ++ l) (nil_from_length rest (let e = ap length is in omega (arith, length-append done rest))) ∙ append-nil done
 
   -- the first of the rest joins what is done
   pub moved : (all done rest later : List A) (x : A) → all ≡ done ++ rest → rest ≡ x ∷ later → all ≡ (done ++ x ∷ []) ++ later
@@ -30,16 +27,3 @@ module _ {A : Type 0} where
   -- the element that an index gives
   pub get_at : (xs : List A) (x : A) (k : ℕ) → k < length xs → x ≡ get_or xs k x → slice_get xs k ≡ Some x
   get_at xs x k below is = slice_get-get_or xs k x below ∙ ap (λ y. Some y) (sym is)
-
-module _ {A B : Type 0} (f : A → B) where
-  pub map_push : (xs : List A) (x : A) → map f (xs ++ x ∷ []) ≡ map f xs ++ f x ∷ []
-  map_push [] x = refl
-  map_push (y ∷ ys) x = ap (λ l. f y ∷ l) (map_push ys x)
-
-  pub map_append : (xs ys : List A) → map f (xs ++ ys) ≡ map f xs ++ map f ys
-  map_append [] ys = refl
-  map_append (x ∷ xs) ys = ap (λ l. f x ∷ l) (map_append xs ys)
-
-  pub map_length : (xs : List A) → length (map f xs) ≡ length xs
-  map_length [] = refl
-  map_length (x ∷ xs) = ap suc (map_length xs)

@@ -1,6 +1,7 @@
 -- The last item of a queue, and what it says of the worker.
 use Rattle.std.proofs.Common.{◌≡◌, ◌⊎◌, inl, inr, ℕ, zero, suc, ◌+◌, ◌<◌, below_more, Bool, true, false, List, [], ◌∷◌, ◌++◌, length, map, Option, Some, None, refl, sym, ap, ◌∙◌, subst, drop, length-drop, arith, eq-eqb}
 use Rattle.std.specs.Prelude.{slice_get, ◌==◌, ◌&&◌, IsSome}
+use Rattle.std.proofs.lemmas.List.{map-append}
 use Rattle.rw_plain_queue.specs.Items.{samples_in, is_end}
 use Rattle.rw_plain_queue.specs.declared.item.Item.{Item}
 use Rattle.rw_plain_queue.specs.declared.item.Item.TheVariants as item
@@ -18,7 +19,6 @@ use Rattle.rw_fleet.specs.declared.ends.Ends.TheVariants.{Compared, Apart}
 use Rattle.rw_fleet.specs.declared.joined.StoppedShard.{StoppedShard}
 use Rattle.rw_fleet.specs.ShardHistories.{ShardHistory, put_into}
 use Rattle.rw_fleet.specs.Work.{put_of, taken_of, positions_in, lane_of, is_compared, is_resolved, put_by, finished_of, IsSoft, AreSoft, IsUnended, IsEndedBy, AreEndedBy, IsEndTaken, IsWorked, AreWorked, HasCut, HasUnresolved}
-use Rattle.rw_fleet.proofs.ListLemmas.{map_append, map_push}
 
 abbrev last_of : Item → List Item → Item
 last_of x [] = x
@@ -63,7 +63,7 @@ ended_append kind [] ys h a = a
 ended_append kind (x ∷ xs) ys h a = (h.0, ended_append kind xs ys h.1 a)
 
 pub ended_more : (kind : Kind) (ls after : List ShardHistory) (l : ShardHistory) → after ≡ ls ++ l ∷ [] → AreEndedBy kind (map put_into ls) → IsEndedBy kind l.put → AreEndedBy kind (map put_into after)
-ended_more kind ls after l is h a = subst (AreEndedBy kind) (sym (ap (map put_into) is ∙ map_push put_into ls l)) (ended_append kind (map put_into ls) (l.put ∷ []) h (a, tt))
+ended_more kind ls after l is h a = subst (AreEndedBy kind) (sym (ap (map put_into) is ∙ map-append put_into ls (l ∷ []))) (ended_append kind (map put_into ls) (l.put ∷ []) h (a, tt))
 
 pub ended_nil : (kind : Kind) (ls : List ShardHistory) → ls ≡ [] → AreEndedBy kind (map put_into ls)
 ended_nil kind ls is = subst (λ l. AreEndedBy kind (map put_into l)) (sym is) tt
@@ -111,7 +111,7 @@ cut_cases true None resolved apart h e = let all : resolved ≡ true = h refl re
 module _ {T : Type 0} where
   pub soft_closed : (was now more : List (StoppedShard T)) (ending : List ShardHistory) → AreSoft (map lane_of was) → AreSoft ending → now ≡ was ++ more → map lane_of more ≡ ending → AreSoft (map lane_of now)
   soft_closed was now more ending a b is lanes =
-      subst AreSoft (sym (ap (map lane_of) is ∙ map_append lane_of was more)) (soft_append (map lane_of was) (map lane_of more) a (subst AreSoft (sym lanes) b))
+      subst AreSoft (sym (ap (map lane_of) is ∙ map-append lane_of was more)) (soft_append (map lane_of was) (map lane_of more) a (subst AreSoft (sym lanes) b))
 
   ended_lanes : (js : List (StoppedShard T)) → map put_by (map finished_of js) ≡ map put_into (map lane_of js)
   ended_lanes [] = refl

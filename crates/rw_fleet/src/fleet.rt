@@ -1,6 +1,6 @@
 //! The shards of all epochs.
 
-ghost use Rattle.std.specs.Prelude.{◌≡◌, ◌+◌, ◌<◌, ◌≤◌, ◌^◌, ℕ, List, [], ◌∷◌, ◌++◌, length, map, MatchResult, IfOk, IfErr, OnOk, OnErr, Some, Err, true, false, slice_get};
+ghost use Rattle.std.specs.Prelude.{◌≡◌, ◌+◌, ◌<◌, ◌≤◌, ◌^◌, ℕ, List, [], ◌∷◌, ◌++◌, length, map, MatchResult, IfOk, IfErr, OnOk, OnErr, Some, Err, false, slice_get};
 ghost use Rattle.rw_types.specs.declared.place.Place.{Place};
 ghost use Rattle.rw_plain_queue.specs.Items.{places_in};
 ghost use Rattle.rw_fleet.specs.ShardHistories.{ShardHistory, AreFresh, AreSame, AreSetUp, IsMarked, IsPut, IsUsedUp, marked};
@@ -10,9 +10,10 @@ ghost use Rattle.rw_fleet.specs.Fleets.{AreAll, EndBy, HasClosed};
 ghost use Rattle.rw_fleet.specs.Loads.{window_of, IsLoad};
 
 use crate::connect::Connect;
-use crate::joined::StoppedShard;
+use crate::joined::{Resolution, StoppedShard};
 use crate::lists::{
-    all_resolved, end_all, hand_over_all, join_all, load_at_work, load_of_ended, mark_all, open_all,
+    end_all, hand_over_all, join_all, load_at_work, load_of_ended, mark_all, open_all,
+    resolution_of,
 };
 use crate::load::Load;
 use crate::running::{Fault, RunningShard, StoppingShard};
@@ -139,7 +140,7 @@ impl<C: Connect + Drop> ShardSet<C> {
             none.destroy_empty();
             return Err(refused);
         }
-        let (running, all) = open_all(
+        let (running, opened) = open_all(
             rt,
             self.alloc,
             &self.config,
@@ -150,7 +151,7 @@ impl<C: Connect + Drop> ShardSet<C> {
             none,
         );
         replace(&mut self.running, running).destroy_empty();
-        if all { Ok(()) } else { Err(AllocError) }
+        opened
     }
 
     /// Puts a sample into the queue of shard number `shard`. It may wait for room. An `Err` changes nothing.
@@ -204,13 +205,13 @@ impl<C: Connect + Drop> ShardSet<C> {
 
     /// Ends all shards at work once all that was put is resolved, and waits for their workers; the next epoch has no shard yet. Returns whether
     /// all that was put in all epochs is resolved.
-    pub fn close<R: Threads + Wait>(&mut self, rt: &R) -> bool
+    pub fn close<R: Threads + Wait>(&mut self, rt: &R) -> Resolution
         requires { self.old.epoch + 1 < 2 ^ 64 }
         ensures closed { HasClosed self.old self.new }
         ensures worked { AreWorked C.T.tells C.T.seen C.T.is_for self.new.ended }
         ensures setup { AreSetUp self.new.config (map lane_of self.new.ended) }
-        ensures resolved { result ≡ true → AreResolved self.new.ended }
-        ensures cut { result ≡ false → HasCut self.new.ended }
+        ensures resolved { result ≡ Resolution.All → AreResolved self.new.ended }
+        ensures cut { result ≡ Resolution.NotAll → HasCut self.new.ended }
     {
         let running = replace(&mut self.running, Vec::new(self.alloc));
         let ending = replace(&mut self.ending, Vec::new(self.alloc));
@@ -218,18 +219,23 @@ impl<C: Connect + Drop> ShardSet<C> {
         let ending = end_all(rt, running, ending, Kind::Reshard);
         self.joined = join_all(rt, ending, joined);
         self.epoch += 1;
-        all_resolved(&self.joined)
+        resolution_of(&self.joined)
     }
 
     /// Ends all shards at work, and waits for their workers, which are told to stop where `kind` is `Hard`. Returns the shards of all epochs, and
     /// whether all that was put into them is resolved.
-    pub fn finish<R: Threads + Wait>(self, rt: &R, kind: Kind) -> (Vec<StoppedShard<C::T>>, bool)
+    pub fn finish<R: Threads + Wait>(
+        self,
+        rt: &R,
+        kind: Kind,
+    ) -> (Vec<StoppedShard<C::T>>, Resolution)
         ensures all { AreAll self result.0.items }
         ensures worked { AreWorked C.T.tells C.T.seen C.T.is_for result.0.items }
         ensures setup { AreSetUp self.config (map lane_of result.0.items) }
         ensures ended { EndBy kind self (map finished_of result.0.items) }
-        ensures resolved { result.1 ≡ true → AreResolved result.0.items }
-        ensures cut { is_hard kind ≡ false → result.1 ≡ false → HasCut result.0.items }
+        ensures resolved { result.1 ≡ Resolution.All → AreResolved result.0.items }
+        ensures cut { is_hard kind ≡ false → result.1 ≡ Resolution.NotAll
+            → HasCut result.0.items }
     {
         let ShardSet {
             running,
@@ -246,7 +252,7 @@ impl<C: Connect + Drop> ShardSet<C> {
         }
         let ending = end_all(rt, running, ending, kind);
         let joined = join_all(rt, ending, joined);
-        let resolved = all_resolved(&joined);
-        (joined, resolved)
+        let resolution = resolution_of(&joined);
+        (joined, resolution)
     }
 }

@@ -8,6 +8,15 @@ use rw_ledger::Ledger;
 use rw_worker::{Stopped, Transport, Worker};
 use std::snapshot::Snapshot;
 
+/// Whether all samples that were put into the queues of some shards are resolved.
+#[derive(Clone, Copy, Debug, PartialEq, Eq)]
+pub enum Resolution {
+    /// The receiver has each of them, or has refused it.
+    All,
+    /// One of them was not taken, or its worker does not say that it is resolved.
+    NotAll,
+}
+
 /// The queue of a shard whose worker has ended, and how far that has come.
 #[derive(Drop)]
 pub struct Finished<T> {

@@ -14,6 +14,6 @@ mod window;
 pub use connect::Connect;
 pub use ends::{Ends, Fed};
 pub use fleet::ShardSet;
-pub use joined::{Finished, StoppedShard};
+pub use joined::{Finished, Resolution, StoppedShard};
 pub use load::Load;
 pub use running::Fault;

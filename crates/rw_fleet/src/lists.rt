@@ -1,23 +1,23 @@
 //! Calls for all shards of an epoch.
 
-ghost use Rattle.std.specs.Prelude.{◌≡◌, ◌+◌, ◌≤◌, ℕ, List, [], ◌++◌, map, OnOk, Err, true, false, vec_len, vec_capacity};
+ghost use Rattle.std.specs.Prelude.{◌≡◌, ◌+◌, ◌≤◌, ℕ, List, [], ◌++◌, map, OnOk, Err, vec_len, vec_capacity};
 ghost use Rattle.std.specs.List.{sum_by};
 ghost use Rattle.rw_fleet.specs.ShardHistories.{AreFresh, AreSame, AreSetUp, marked, put_into};
 ghost use Rattle.rw_fleet.specs.Loads.{load_of, resolved_in, left_in, IsAdvised};
 ghost use Rattle.rw_fleet.specs.Work.{AreResolved, HasUnresolved, AreEndedBy, AreWorked, lane_of};
 
 use crate::connect::Connect;
-use crate::joined::StoppedShard;
+use crate::joined::{Resolution, StoppedShard};
 use crate::load::Load;
 use crate::running::{Fault, RunningShard, StoppingShard};
 use rw_shard_channel::Kind;
 use rw_shard_core::Config;
 use rw_worker::{StopFlag, Transport};
-use std::alloc::Global;
+use std::alloc::{AllocError, Global};
 use std::sync::Wait;
 use std::thread::Threads;
 
-/// Opens the queues of an epoch, and starts their workers. The result is false where one could not be had.
+/// Opens the queues of an epoch, and starts their workers, until one cannot be had.
 pub(crate) fn open_all<C: Connect, R: Threads + Wait + Copy + Send + 'static>(
     rt: &R,
     alloc: Global,
@@ -27,28 +27,28 @@ pub(crate) fn open_all<C: Connect, R: Threads + Wait + Copy + Send + 'static>(
     connect: &mut C,
     stop: &StopFlag,
     mut running: Vec<RunningShard<C::T>>,
-) -> (Vec<RunningShard<C::T>>, bool)
+) -> (Vec<RunningShard<C::T>>, Result<(), AllocError>)
     requires none { running.items ≡ [] }
     requires room { shards ≤ vec_capacity running }
     ensures fresh { AreFresh epoch result.0.items }
     ensures setup { AreSetUp config.now result.0.items }
     ensures len { vec_len result.0 ≤ shards }
-    ensures all { result.1 ≡ true → vec_len result.0 ≡ shards }
+    ensures all { OnOk result.1 (vec_len result.0 ≡ shards) }
 {
     for shard in 0..shards {
         let Ok(flag) = stop.share() else {
-            return (running, false);
+            return (running, Err(AllocError));
         };
         let Ok((transport, pause)) = connect.transport(epoch, shard) else {
-            return (running, false);
+            return (running, Err(AllocError));
         };
         let Ok(opened) = RunningShard::open(rt, alloc, config, epoch, shard, transport, pause, flag)
         else {
-            return (running, false);
+            return (running, Err(AllocError));
         };
         running.push_reserved(opened);
     }
-    (running, true)
+    (running, Ok(()))
 }
 
 /// Puts a Flush into each queue, as far as the workers still take.
@@ -126,16 +126,16 @@ pub(crate) fn join_all<T: Transport + Send + Drop + 'static, R: Threads>(
 }
 
 /// Whether all that was put into these queues is resolved.
-pub(crate) fn all_resolved<T: Transport>(joined: &Vec<StoppedShard<T>>) -> bool
-    ensures all { result ≡ true → AreResolved joined.now.items }
-    ensures not_all { result ≡ false → HasUnresolved joined.now.items }
+pub(crate) fn resolution_of<T: Transport>(joined: &Vec<StoppedShard<T>>) -> Resolution
+    ensures all { result ≡ Resolution.All → AreResolved joined.now.items }
+    ensures not_all { result ≡ Resolution.NotAll → HasUnresolved joined.now.items }
 {
     for shard in joined.iter() {
         if !shard.is_resolved() {
-            return false;
+            return Resolution::NotAll;
         }
     }
-    true
+    Resolution::All
 }
 
 /// How far the samples of shards that have ended have come.

@@ -16,6 +16,8 @@ use rw_shard_core::Config;
 use rw_types::Place;
 use rw_worker::{Begun, Pause, StopFlag, Tally, Transport, Worker, WorkerReport, spawn};
 use std::alloc::{AllocError, Global};
+use std::error::Error;
+use std::fmt;
 use std::marker::Model;
 use std::snapshot::Snapshot;
 use std::sync::Wait;
@@ -29,6 +31,17 @@ pub enum Fault {
     /// The worker of the shard has gone.
     Gone,
 }
+
+impl fmt::Display for Fault {
+    fn fmt<W: fmt::Write>(&self, f: &mut fmt::Formatter<W>) -> fmt::Result {
+        f.write_str(match self {
+            Fault::OutOfMemory => "out of memory",
+            Fault::Gone => "the worker has gone",
+        })
+    }
+}
+
+impl Error for Fault {}
 
 /// A shard at work, which has to be ended and joined. Contracts see what its worker is set up with, and what was put into its queue.
 pub(crate) struct RunningShard<T: Transport + Send + Drop + 'static> {

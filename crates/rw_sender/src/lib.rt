@@ -2,7 +2,7 @@
 //! the crates of the sender have.
 #![tactic(auto)]
 
-pub use rw_fleet::{Connect, Ends, Fault, Fed, Finished, Load, ShardSet, StoppedShard};
+pub use rw_fleet::{Connect, Ends, Fault, Fed, Finished, Load, Resolution, ShardSet, StoppedShard};
 pub use rw_shard_core::{
     Attempt, Config, ConfigFields, MAX_FIELDS, MAX_HEAD_BYTES, Outcome, ReplyRead, ShardCore,
     Target, read_reply, request_bytes,

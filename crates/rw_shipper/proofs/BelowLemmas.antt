@@ -12,6 +12,7 @@ use Rattle.rw_fleet.specs.ShardHistories.{ShardHistory}
 use Rattle.rw_router.specs.Fates.{Fate, Drops, Filters, Sends, fate}
 use Rattle.rw_feeder.specs.Logs.{Sent, gather_from, sent_by_fate, sent_of, sent}
 use Rattle.rw_shipper.specs.Placement.{as_sent, shard_of, IsPlacing}
+use Rattle.rw_shipper.proofs.PlacementLemmas.{some_is}
 
 -- below a position
 abbrev pub AllBelow : ℕ → List Sent → Type 0
@@ -61,9 +62,6 @@ sent_below choice es = subst (λ n. AllBelow n (sent choice es)) (zero-add (leng
 below_place : (n : ℕ) (xs : List Item) (k : ℕ) (o : Place) → AllBelow n (map as_sent (samples_in xs)) → slice_get (places_in xs) k ≡ Some o → o.pos < n
 below_place n [] k o h at = absurd (let at' : None ≡ Some o = at in cc)
 below_place n (item.Sample p t w l ∷ xs) zero o h at = subst (λ (q : Place). q.pos < n) (some_is p o at) h.0
-  where
-    some_is : (a b : Place) → Some a ≡ Some b → a ≡ b
-    some_is a b e = cc
 below_place n (item.Sample p t w l ∷ xs) (suc k) o h at = below_place n xs k o h.1 at
 below_place n (item.Flush ∷ xs) k o h at = below_place n xs k o h at
 below_place n (item.End kind ∷ xs) k o h at = below_place n xs k o h at

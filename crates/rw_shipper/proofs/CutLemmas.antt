@@ -1,6 +1,8 @@
 -- Queues that are cut by a limit, and what is counted of them.
 use Rattle.std.proofs.Common.{◌≡◌, ◌≢◌, inl, inr, ℕ, ℤ, zero, suc, ◌+◌, ◌-◌, ◌<◌, ◌≤◌, List, [], ◌∷◌, ◌++◌, length, map, Bool, true, false, Some, None, refl, sym, ap, ◌∙◌, subst, append_assoc, append-nil, zero-add, arith}
 use Rattle.std.specs.Prelude.{Option, set, slice_get, slice_index}
+use Rattle.std.proofs.lemmas.List.{length-set, length-map}
+use Rattle.std.proofs.lemmas.Option.{slice_get_within}
 use Rattle.std.proofs.lemmas.Bool.Decides.{nat_tests}
 use Rattle.std.specs.Arc.{arc_value}
 use Rattle.rw_types.specs.declared.place.Place.{Place}
@@ -15,7 +17,7 @@ use Rattle.rw_router.specs.declared.sample.RoutedSample.{RoutedSample}
 use Rattle.rw_fleet.specs.ShardHistories.{ShardHistory, AreFresh, AreSame, IsPut, item_as, marked}
 use Rattle.rw_shipper.specs.Placement.{AreKept}
 use Rattle.rw_shipper.specs.Cutting.{IsCutBy, AreCutBy, AreCounted, GoesCut, IsCutAt, HasRoomMade}
-use Rattle.rw_shipper.proofs.PlacementLemmas.{get_set, set_length}
+use Rattle.rw_shipper.proofs.PlacementLemmas.{get_set, some_is}
 
 bytes_append : (n : ℕ) (xs ys : List Item) → bytes_after n (xs ++ ys) ≡ bytes_after (bytes_after n xs) ys
 bytes_append n [] ys = refl
@@ -72,9 +74,6 @@ cut_on limit [] (q ∷ qs) rs h g = absurd h
 cut_on limit (p ∷ ps) [] rs h g = absurd h
 cut_on limit (p ∷ ps) (q ∷ qs) [] h g = absurd g
 cut_on limit (p ∷ ps) (q ∷ qs) (r ∷ rs) h g = (cut_both limit p q r h.0 g.0, cut_on limit ps qs rs h.1 g.1)
-
-some_is : (a b : ShardHistory) → Some a ≡ Some b → a ≡ b
-some_is a b e = cc
 
 cut_set : (limit : Option ℕ) (ps : List ShardHistory) (k : ℕ) (was now : ShardHistory) → slice_get ps k ≡ Some was → IsCutBy limit was now → AreCutBy limit ps (set ps k now)
 cut_set limit [] k was now at h = tt
@@ -149,7 +148,7 @@ counted_put : (limit : Option ℕ) (over : Bool) (k b : ℕ) (p : Place) (t : �
     → Counts limit k b rooms after over → AreCounted limit rooms old → AreCounted limit after new
 counted_put None over k b p t w l lane rooms after old new size at put counts h = tt
 counted_put (Some limit) over k b p t w l lane rooms after old new size at put counts h = record {
-  few = let len = ap length put.is ∙ set_length old k put.now in let few = h.few in omega arith;
+  few = let len = ap length put.is ∙ length-set old k put.now in let few = h.few in omega arith;
   rooms_are = λ j r there. elim (get_set old k j put.now r (ap (λ qs. slice_get qs j) (sym put.is) ∙ there)) [
     | inl here ↦
         ap (slice_index after) here.0 ∙ room_next limit (open_bytes lane.put) 0 b over rooms after k (h.rooms_are k lane at) counts
@@ -180,23 +179,13 @@ over_of (Some limit) k b rooms after false lane lanes h at counts = fits_so limi
 pub room_made : (a b : Counting) (k n : ℕ) (over : Bool) (lane : ShardHistory) (was now : List ShardHistory) → AreCounted a.limit a.rooms was → slice_get was k ≡ Some lane → Counts a.limit k n a.rooms b.rooms over → IsCutAt over k lane was now → HasRoomMade k n a b was now
 room_made a b k n over lane was now h at counts cut = record { lane = lane; at = at; over = over; over_is = over_of a.limit k n a.rooms b.rooms over lane was h at counts; cut = cut; counts = counts }
 
-pub get_some : (ps : List ShardHistory) (k : ℕ) → k < length ps → (p : ShardHistory) × (slice_get ps k ≡ Some p)
-get_some [] k lt = absurd (omega arith)
-get_some (p ∷ ps) zero lt = (p, refl)
-get_some (p ∷ ps) (suc k) lt = get_some ps k (omega arith)
-
-get_below : (ps : List ShardHistory) (k : ℕ) (p : ShardHistory) → slice_get ps k ≡ Some p → k < length ps
-get_below [] k p at = absurd (let none : None ≡ Some p = at in cc)
-get_below (q ∷ ps) zero p at = omega arith
-get_below (q ∷ ps) (suc k) p at = let lt = get_below ps k p at in omega arith
-
 -- nothing is counted of fresh shards, nor behind a mark in each
 pub counted_fresh : (limit : Option ℕ) (rooms : List ℕ) (epoch n : ℕ) (ls : List ShardHistory) → AreFull limit rooms → length ls ≡ n → n ≤ 1000 → AreFresh epoch ls → AreCounted limit rooms ls
 counted_fresh None rooms epoch n ls full len few fresh = tt
 counted_fresh (Some limit) rooms epoch n ls full len few fresh = record {
   few = omega arith;
   rooms_are = λ k l at.
-      let lt = get_below ls k l at in
+      let lt = slice_get_within ls k l at in
       let none : open_bytes l.put ≡ 0 = ap open_bytes (fresh k l at).2 in
       let is = full k (omega arith) in
       omega arith;
@@ -207,19 +196,15 @@ get_marked [] k l at = absurd (let none : None ≡ Some l = at in cc)
 get_marked (p ∷ ps) zero l at = (p, sym (some_is (marked p) l at))
 get_marked (p ∷ ps) (suc k) l at = get_marked ps k l at
 
-marked_length : (ls : List ShardHistory) → length (map marked ls) ≡ length ls
-marked_length [] = refl
-marked_length (l ∷ ls) = ap suc (marked_length ls)
-
 pub counted_marked : (limit : Option ℕ) (rooms after : List ℕ) (ls now : List ShardHistory) → AreCounted limit rooms ls → AreFull limit after → now ≡ map marked ls → AreCounted limit after now
 counted_marked None rooms after ls now h full is = tt
 counted_marked (Some limit) rooms after ls now h full is =
-    let few : length now ≤ 1000 = let len = ap length is ∙ marked_length ls in let was = h.few in omega arith in record {
+    let few : length now ≤ 1000 = let len = ap length is ∙ length-map ls marked in let was = h.few in omega arith in record {
       few = few;
       rooms_are = λ k l at.
           let p = get_marked ls k l (ap (λ qs. slice_get qs k) (sym is) ∙ at) in
           let none : open_bytes l.put ≡ 0 = ap (λ (q : ShardHistory). open_bytes q.put) p.1 ∙ bytes_append 0 p.0.put (item.Flush ∷ []) in
-          let lt = get_below now k l at in
+          let lt = slice_get_within now k l at in
           let r = full k (omega arith) in
           omega arith;
     }

@@ -1,52 +1,33 @@
 -- How many samples of shards are not resolved, and the room for what is listed of them.
 use Rattle.std.proofs.Common.{◌≡◌, ℕ, zero, suc, ◌+◌, ◌≤◌, List, [], ◌∷◌, ◌++◌, length, map, refl, sym, ap, ◌∙◌, subst, append_assoc, append-nil, length-append, arith}
-use Rattle.std.specs.Prelude.{◌*◌, ◌==◌, ◌&&◌, vec_len, vec_capacity, Bool, true, false, Result, Ok, is_ok, if◌then◌else◌}
-use Rattle.std.proofs.Math.Nat.{suc-mul, zero-mul, mul_comm, mul-le-mul_right}
+use Rattle.std.specs.Prelude.{◌*◌, ◌==◌, ◌&&◌, vec_len, vec_capacity, Bool, true, false, Some, None, Result, Ok, Err, OnErr, is_ok, if◌then◌else◌}
+use Rattle.std.proofs.Math.Nat.{suc-mul, zero-mul, mul-le-mul_right}
+use Rattle.std.proofs.lemmas.List.{length-map, map-append, nil_from_length}
 use Rattle.std.proofs.lemmas.Bool.Decides.{nat_tests}
 use Rattle.rw_shard_core.specs.declared.config.ConfigFields.{ConfigFields}
 use Rattle.rw_worker.specs.Transcript.{Exchange}
 use Rattle.rw_ledger.specs.Names.{Named}
-use Rattle.rw_fleet.specs.ShardHistories.{AreSame, AreSetUp, IsPut}
+use Rattle.rw_fleet.specs.ShardHistories.{AreSame, AreSetUp}
 use Rattle.rw_plain_queue.specs.declared.item.Kind.{Kind}
 use Rattle.rw_worker.specs.Report.{is_hard}
 use Rattle.rw_fleet.specs.Work.{lane_of, finished_of, is_compared, is_resolved, AreResolved, AreWorked, HasCut}
 use Rattle.rw_fleet.specs.Fleets.{Shards, AreAll, EndBy, HasClosed}
 use Rattle.rw_fleet.specs.declared.joined.StoppedShard.{StoppedShard}
-use Rattle.rw_router.specs.declared.sample.RoutedSample.{RoutedSample}
+use Rattle.rw_fleet.specs.declared.joined.Resolution.{Resolution}
+use Rattle.rw_fleet.specs.declared.joined.Resolution.TheVariants.{All, NotAll}
 use Rattle.rw_fleet.specs.Loads.{window_of}
-use Rattle.rw_shipper.specs.Reports.{part_of, abandoned_in, HasListed, HasRoom, IsGrown, ListsAfter, IsRoomFor}
+use Rattle.rw_fleet.proofs.LaneLemmas.{same_length}
+use Rattle.rw_shipper.specs.Reports.{part_of, abandoned_in, HasListed, HasRoom, HasSpace, ListsAfter, IsRoomFor}
 use Rattle.rw_shipper.specs.declared.lists.Lists.{Lists}
-use Rattle.rw_shipper.proofs.PlacementLemmas.{same_length, set_length}
-
-within : (a b c : ℕ) → a ≤ b → b ≤ c → a ≤ c
-within a b c h g = omega arith
-
-behind : (a b c : ℕ) → a + b ≤ c → b ≤ c
-behind a b c h = omega arith
 
 module _ {A : Type 0} where
-  pub nil_of : (xs : List A) → length xs ≡ 0 → xs ≡ []
-  nil_of [] e = refl
-  nil_of (x ∷ xs) e = absurd (omega arith)
-
-  pub moved : (all done rest later : List A) (x : A) → all ≡ done ++ rest → rest ≡ x ∷ later → all ≡ (done ++ x ∷ []) ++ later
-  moved all done rest later x is first = is ∙ ap (λ l. done ++ l) first ∙ sym (append_assoc done (x ∷ []) later)
-
   pub none_left : (all done rest : List A) → all ≡ done ++ rest → rest ≡ [] → all ≡ done
   none_left all done rest is none = is ∙ ap (λ l. done ++ l) none ∙ append-nil done
 
 module _ {T : Type 0} where
-  pub lanes_append : (xs ys : List (StoppedShard T)) → map lane_of (xs ++ ys) ≡ map lane_of xs ++ map lane_of ys
-  lanes_append [] ys = refl
-  lanes_append (x ∷ xs) ys = ap (λ l. lane_of x ∷ l) (lanes_append xs ys)
-
-  lanes_length : (js : List (StoppedShard T)) → length (map lane_of js) ≡ length js
-  lanes_length [] = refl
-  lanes_length (j ∷ js) = ap suc (lanes_length js)
-
   all_length : (s : Shards T) (js : List (StoppedShard T)) → AreAll s js → length js ≡ length s.ended + length s.current
   all_length s js all =
-      ap length all.1 ∙ length-append s.ended all.0 ∙ ap (λ n. length s.ended + n) (sym (lanes_length all.0) ∙ same_length s.current (map lane_of all.0) all.2)
+      ap length all.1 ∙ length-append s.ended all.0 ∙ ap (λ n. length s.ended + n) (sym (length-map all.0 lane_of) ∙ same_length s.current (map lane_of all.0) all.2)
 
   pub abandoned_append : (xs ys : List (StoppedShard T)) → abandoned_in (xs ++ ys) ≡ abandoned_in xs ++ abandoned_in ys
   abandoned_append [] ys = refl
@@ -78,7 +59,7 @@ module _ {T : Type 0} where
   all_left tells seen is_for s js all worked setup =
       let more = all.0 in
       let few = few_in tells seen is_for s.config more (worked_behind tells seen is_for s.ended more (subst (AreWorked tells seen is_for) all.1 worked)) (set_up_behind s.config s.ended more (subst (λ (l : List (StoppedShard T)). AreSetUp s.config (map lane_of l)) all.1 setup)) in
-      let same : length more * window_of s.config ≡ length s.current * window_of s.config = ap (λ n. n * window_of s.config) (sym (lanes_length more) ∙ same_length s.current (map lane_of more) all.2) in
+      let same : length more * window_of s.config ≡ length s.current * window_of s.config = ap (λ n. n * window_of s.config) (sym (length-map more lane_of) ∙ same_length s.current (map lane_of more) all.2) in
       let len = ap (λ (l : List (StoppedShard T)). length (abandoned_in l)) all.1 ∙ ap length (abandoned_append s.ended more) in
       let sum = length-append (abandoned_in s.ended) (abandoned_in more) in
       omega arith
@@ -98,113 +79,106 @@ module _ {T : Type 0} where
       let all = length-append j.abandoned.items (abandoned_in js) in
       omega arith
 
-  -- more room leaves enough, for as many shards
-  pub room_grown : (was now : Shards T) (a b : Lists T) (p n : ℕ) → IsRoomFor was a p n → now ≡ record was { current = now.current } → length now.current ≡ length was.current → IsGrown a b → IsRoomFor now b p n
-  room_grown was now a b p n h is same g =
-      let ended : length now.ended ≡ length was.ended = ap (λ (s : Shards T). length s.ended) is in
-      let left : length (abandoned_in now.ended) ≡ length (abandoned_in was.ended) = ap (λ (s : Shards T). length (abandoned_in s.ended)) is in
-      let windows : length now.current * window_of now.config ≡ length was.current * window_of was.config = λ i. same i * window_of (is i).config in
-      let shards = h.shards_within in
-      let most = h.left_within in record {
-        no_parts = g.0 ∙ h.no_parts;
-        no_workers = g.1 ∙ h.no_workers;
-        no_samples = g.2 ∙ h.no_samples;
-        shards_within = omega arith;
-        parts_within = within p _ _ h.parts_within g.3;
-        workers_within = within p _ _ h.workers_within g.4;
-        left_within = omega arith;
-        samples_within = within n _ _ h.samples_within g.5;
-      }
+  pub resolved_none : (js : List (StoppedShard T)) → js ≡ [] → AreResolved js
+  resolved_none js is = subst (λ (xs : List (StoppedShard T)). AreResolved xs) (sym is) (λ k j at. absurd (let none : None ≡ Some j = at in cc))
 
-  grown_none : (a : Lists T) → IsGrown a a
-  grown_none a = (refl, refl, refl, omega arith, omega arith, omega arith)
-
-  pub grown_twice : (a b c : Lists T) → IsGrown a b → IsGrown b c → IsGrown a c
-  grown_twice a b c g h = (h.0 ∙ g.0, h.1 ∙ g.1, h.2 ∙ g.2, within _ _ _ g.3 h.3, within _ _ _ g.4 h.4, within _ _ _ g.5 h.5)
-
-  -- no shard is at work, and there is room for one part
-  pub room_begun : (s : Shards T) (a b : Lists T) → s.ended ≡ [] → s.current ≡ [] → (vec_len a.parts ≡ 0) × (vec_len a.workers ≡ 0) × (vec_len a.samples ≡ 0) → IsGrown a b
-      → vec_len b.parts + 1 ≤ vec_capacity b.parts → vec_len b.workers + 1 ≤ vec_capacity b.workers → IsRoomFor s b 1 0
-  room_begun s a b ended current none g ca cb =
-      let e : length s.ended ≡ 0 = ap length ended in
-      let c : length s.current ≡ 0 = ap length current in
-      let f : length (abandoned_in s.ended) ≡ 0 = ap (λ (js : List (StoppedShard T)). length (abandoned_in js)) ended in
-      let d : length s.current * window_of s.config ≡ 0 = ap (λ n. n * window_of s.config) c ∙ zero-mul (window_of s.config) in
-      let x = g.0 in
-      let y = g.1 in
-      let z = none.0 in
-      let w = none.1 in record {
-        no_parts = g.0 ∙ none.0;
-        no_workers = g.1 ∙ none.1;
-        no_samples = g.2 ∙ none.2;
+  -- there may be more room
+  pub space_grown : (n m : ℕ) (a b : Lists T) → HasSpace n m a → b.room ≡ a.room → vec_len b.parts ≡ vec_len a.parts → vec_len b.workers ≡ vec_len a.workers → vec_len b.samples ≡ vec_len a.samples
+      → vec_capacity a.parts ≤ vec_capacity b.parts → vec_capacity a.workers ≤ vec_capacity b.workers → vec_capacity a.samples ≤ vec_capacity b.samples → HasSpace n m b
+  space_grown n m a b h room pl wl sl pc wc sc =
+      let s = h.shards_within in
+      let p = h.parts_within in
+      let w = h.workers_within in
+      let u = h.samples_within in record {
+        no_parts = pl ∙ h.no_parts;
+        no_workers = wl ∙ h.no_workers;
+        no_samples = sl ∙ h.no_samples;
         shards_within = omega arith;
         parts_within = omega arith;
         workers_within = omega arith;
-        left_within = omega arith;
         samples_within = omega arith;
       }
 
-  -- the shards of the next epoch
-  pub room_opened : (was now : Shards T) (a d b : Lists T) (p q n m shards : ℕ) → IsRoomFor was a p n → now ≡ record was { current = now.current } → was.current ≡ [] → length now.current ≤ shards → q ≡ p + shards → m ≡ n + window_of was.config * shards
-      → IsGrown a d → vec_len d.parts + q ≤ vec_capacity d.parts → vec_len d.workers + q ≤ vec_capacity d.workers → IsGrown d b → vec_len b.samples + m ≤ vec_capacity b.samples → IsRoomFor now b q m
-  room_opened was now a d b p q n m shards h is none most up more g ca cb e cs =
-      let ended : length now.ended ≡ length was.ended = ap (λ (s : Shards T). length s.ended) is in
-      let left : length (abandoned_in now.ended) ≡ length (abandoned_in was.ended) = ap (λ (s : Shards T). length (abandoned_in s.ended)) is in
-      let windows : length now.current * window_of now.config ≡ length now.current * window_of was.config = ap (λ (s : Shards T). length now.current * window_of s.config) is in
-      let wide : length now.current * window_of was.config ≤ shards * window_of was.config = mul-le-mul_right (window_of was.config) most in
-      let turned = mul_comm shards (window_of was.config) in
-      let w = h.shards_within in
-      let l = h.left_within in record {
-        no_parts = e.0 ∙ g.0 ∙ h.no_parts;
-        no_workers = e.1 ∙ g.1 ∙ h.no_workers;
-        no_samples = e.2 ∙ g.2 ∙ h.no_samples;
-        shards_within = let first = ap length none in omega arith;
-        parts_within = within q _ _ (behind _ q _ ca) e.3;
-        workers_within = within q _ _ (behind _ q _ cb) e.4;
-        left_within = omega arith;
-        samples_within = behind _ m _ cs;
+  -- so many shards more
+  pub space_more : (n m k window : ℕ) (a b : Lists T) → HasSpace n m a → b.room ≡ a.room + k → vec_len b.parts ≡ vec_len a.parts → vec_len b.workers ≡ vec_len a.workers → vec_len b.samples ≡ vec_len a.samples
+      → vec_len a.parts + b.room ≤ vec_capacity b.parts → vec_len a.workers + b.room ≤ vec_capacity b.workers → vec_len a.samples + k * window ≤ vec_capacity b.samples → HasSpace (n + k) (k * window) b
+  space_more n m k window a b h room pl wl sl pc wc sc =
+      let s = h.shards_within in record {
+        no_parts = pl ∙ h.no_parts;
+        no_workers = wl ∙ h.no_workers;
+        no_samples = sl ∙ h.no_samples;
+        shards_within = omega arith;
+        parts_within = omega arith;
+        workers_within = omega arith;
+        samples_within = omega arith;
       }
 
-  -- one shard was put a sample, or none was
-  pub room_put : (was now : Shards T) (a : Lists T) (p n k : ℕ) (l : RoutedSample) → IsRoomFor was a p n → now ≡ record was { current = now.current } → IsPut k l was.current now.current → IsRoomFor now a p n
-  room_put was now a p n k l h is put = room_grown was now a a p n h is (ap length put.is ∙ set_length was.current k put.now) (grown_none a)
-
-  pub room_kept : (was now : Shards T) (a : Lists T) (p n : ℕ) → IsRoomFor was a p n → now ≡ was → IsRoomFor now a p n
-  room_kept was now a p n h is = subst (λ (s : Shards T). IsRoomFor s a p n) (sym is) h
-
-  -- the same shards, each with the same samples
-  pub room_same : (was now : Shards T) (a : Lists T) (p n : ℕ) → IsRoomFor was a p n → now ≡ record was { current = now.current } → AreSame was.current now.current → IsRoomFor now a p n
-  room_same was now a p n h is same = room_grown was now a a p n h is (same_length was.current now.current same) (grown_none a)
-
-  -- all shards have ended
-  pub room_closed : (was now : Shards T) (a : Lists T) (p n m : ℕ) → IsRoomFor was a p n → HasClosed was now → length (abandoned_in now.ended) ≤ m → m ≤ n → IsRoomFor now a p m
-  room_closed was now a p n m h shut left fewer =
-      let none : length now.current ≡ 0 = ap length shut.2 in
-      let windows : length now.current * window_of now.config ≡ 0 = ap (λ k. k * window_of now.config) none ∙ zero-mul (window_of now.config) in
-      let len = all_length was now.ended shut.3 in
-      let w = h.shards_within in record {
+  space_fewer : (n m k l : ℕ) (a : Lists T) → HasSpace n m a → k ≤ n → l ≤ m → HasSpace k l a
+  space_fewer n m k l a h few less =
+      let s = h.shards_within in
+      let u = h.samples_within in record {
         no_parts = h.no_parts;
         no_workers = h.no_workers;
         no_samples = h.no_samples;
         shards_within = omega arith;
         parts_within = h.parts_within;
         workers_within = h.workers_within;
-        left_within = omega arith;
-        samples_within = within m n _ fewer h.samples_within;
+        samples_within = omega arith;
       }
 
-  pub left_closed : (tells : T → Type 0) (seen : T → List Exchange) (is_for : ℕ → ℕ → T → Type 0) (was now : Shards T) (a : Lists T) (p n : ℕ) → IsRoomFor was a p n → HasClosed was now → AreWorked tells seen is_for now.ended → AreSetUp now.config (map lane_of now.ended) → length (abandoned_in now.ended) ≤ n
-  left_closed tells seen is_for was now a p n h shut worked setup =
-      within _ _ n (all_left tells seen is_for was now.ended shut.3 worked (subst (λ (c : ConfigFields). AreSetUp c (map lane_of now.ended)) shut.0 setup)) h.left_within
+  -- no shard is at work
+  pub room_begun : (s : Shards T) (a : Lists T) → s.ended ≡ [] → s.current ≡ [] → HasSpace 0 0 a → IsRoomFor s a
+  room_begun s a ended current h =
+      let e : length s.ended ≡ 0 = ap length ended in
+      let c : length s.current ≡ 0 = ap length current in
+      let f : length (abandoned_in s.ended) ≡ 0 = ap (λ (js : List (StoppedShard T)). length (abandoned_in js)) ended in
+      let d : length s.current * window_of s.config ≡ 0 = ap (λ n. n * window_of s.config) c ∙ zero-mul (window_of s.config) in
+      space_fewer 0 0 _ _ a h (omega arith) (omega arith)
+
+  -- the shards of the next epoch
+  pub room_opened : (was now : Shards T) (a b : Lists T) (shards : ℕ) → IsRoomFor was a → now ≡ record was { current = now.current } → was.current ≡ [] → AreResolved was.ended → length now.current ≤ shards
+      → ((n left : ℕ) → HasSpace n left a → HasSpace (n + shards) (shards * window_of was.config) b) → IsRoomFor now b
+  room_opened was now a b shards h is none resolved most more =
+      let first : length was.current ≡ 0 = ap length none in
+      let ended : length now.ended ≡ length was.ended = ap (λ (s : Shards T). length s.ended) is in
+      let left : length (abandoned_in now.ended) ≡ length (abandoned_in was.ended) = ap (λ (s : Shards T). length (abandoned_in s.ended)) is in
+      let all = resolved_left was.ended resolved in
+      let windows : length now.current * window_of now.config ≡ length now.current * window_of was.config = ap (λ (s : Shards T). length now.current * window_of s.config) is in
+      let wide : length now.current * window_of was.config ≤ shards * window_of was.config = mul-le-mul_right (window_of was.config) most in
+      space_fewer _ _ _ _ b (more _ _ h) (omega arith) (omega arith)
+
+  -- as many shards are at work
+  pub room_still : (was now : Shards T) (a : Lists T) → IsRoomFor was a → now ≡ record was { current = now.current } → length now.current ≡ length was.current → IsRoomFor now a
+  room_still was now a h is same =
+      let ended : length now.ended ≡ length was.ended = ap (λ (s : Shards T). length s.ended) is in
+      let left : length (abandoned_in now.ended) ≡ length (abandoned_in was.ended) = ap (λ (s : Shards T). length (abandoned_in s.ended)) is in
+      let windows : length now.current * window_of now.config ≡ length was.current * window_of was.config = λ i. same i * window_of (is i).config in
+      space_fewer _ _ _ _ a h (omega arith) (omega arith)
+
+  pub room_same : (was now : Shards T) (a : Lists T) → IsRoomFor was a → now ≡ record was { current = now.current } → AreSame was.current now.current → IsRoomFor now a
+  room_same was now a h is same = room_still was now a h is (same_length was.current now.current same)
+
+  -- and what was put is handed over
+  pub room_handed : (was now new : Shards T) (a : Lists T) → IsRoomFor was a → new ≡ now → now ≡ record was { current = now.current } → length now.current ≡ length was.current → IsRoomFor new a
+  room_handed was now new a h e is same = subst (λ (s : Shards T). IsRoomFor s a) (sym e) (room_still was now a h is same)
+
+  -- all shards have ended
+  pub room_closed : (tells : T → Type 0) (seen : T → List Exchange) (is_for : ℕ → ℕ → T → Type 0) (was now : Shards T) (a : Lists T) → IsRoomFor was a → HasClosed was now → AreWorked tells seen is_for now.ended → AreSetUp now.config (map lane_of now.ended) → IsRoomFor now a
+  room_closed tells seen is_for was now a h shut worked setup =
+      let none : length now.current ≡ 0 = ap length shut.2 in
+      let windows : length now.current * window_of now.config ≡ 0 = ap (λ k. k * window_of now.config) none ∙ zero-mul (window_of now.config) in
+      let len = all_length was now.ended shut.3 in
+      let left = all_left tells seen is_for was now.ended shut.3 worked (subst (λ (c : ConfigFields). AreSetUp c (map lane_of now.ended)) shut.0 setup) in
+      space_fewer _ _ _ _ a h (omega arith) (omega arith)
 
   -- for a part there is room, and then for the shards
-  pub room_first : (s : Shards T) (a : Lists T) (p n : ℕ) → IsRoomFor s a p n → vec_len a.parts + 1 ≤ vec_capacity a.parts
-  room_first s a p n h = let w = h.shards_within in let l = h.no_parts in let c = h.parts_within in omega arith
+  pub room_first : (n m : ℕ) (a : Lists T) → HasSpace n m a → vec_len a.parts + 1 ≤ vec_capacity a.parts
+  room_first n m a h = let w = h.shards_within in let l = h.no_parts in let c = h.parts_within in omega arith
 
-  pub room_all : (tells : T → Type 0) (seen : T → List Exchange) (is_for : ℕ → ℕ → T → Type 0) (s : Shards T) (a b : Lists T) (p n : ℕ) (js : List (StoppedShard T)) → IsRoomFor s a p n → AreAll s js → AreWorked tells seen is_for js → AreSetUp s.config (map lane_of js)
+  pub room_all : (tells : T → Type 0) (seen : T → List Exchange) (is_for : ℕ → ℕ → T → Type 0) (s : Shards T) (a b : Lists T) (js : List (StoppedShard T)) → IsRoomFor s a → AreAll s js → AreWorked tells seen is_for js → AreSetUp s.config (map lane_of js)
       → vec_len b.parts ≡ vec_len a.parts + 1 → vec_capacity b.parts ≡ vec_capacity a.parts → vec_len b.workers ≡ vec_len a.workers → vec_capacity b.workers ≡ vec_capacity a.workers
       → vec_len b.samples ≡ vec_len a.samples → vec_capacity b.samples ≡ vec_capacity a.samples → HasRoom b js
-  room_all tells seen is_for s a b p n js h all worked setup la ca lb cb lc cc' =
+  room_all tells seen is_for s a b js h all worked setup la ca lb cb lc cc' =
       let len = all_length s js all in
       let left = all_left tells seen is_for s js all worked setup in
       let pl = h.no_parts in
@@ -213,7 +187,6 @@ module _ {T : Type 0} where
       let sw = h.shards_within in
       let pw = h.parts_within in
       let ww = h.workers_within in
-      let uw = h.left_within in
       let vw = h.samples_within in
       (omega arith, omega arith, omega arith)
 
@@ -240,28 +213,24 @@ module _ {T : Type 0} where
       let s = h.2 in
       (omega arith, omega arith, omega arith)
 
-  map_append : {B : Type 0} (f : StoppedShard T → B) (xs ys : List (StoppedShard T)) → map f (xs ++ ys) ≡ map f xs ++ map f ys
-  map_append f [] ys = refl
-  map_append f (x ∷ xs) ys = ap (λ l. f x ∷ l) (map_append f xs ys)
-
   pub lists_none : (a : Lists T) → ListsAfter a [] a
   lists_none a = (sym (append-nil a.parts.items), sym (append-nil a.workers.items), sym (append-nil a.samples.items))
 
   -- all is listed behind one part
-  pub listed_all : (tells : T → Type 0) (seen : T → List Exchange) (is_for : ℕ → ℕ → T → Type 0) (s : Shards T) (part : Named) (a b c : Lists T) (kind : Kind) (r : Bool) (js : List (StoppedShard T)) → length a.parts.items ≡ 0 → length a.workers.items ≡ 0 → length a.samples.items ≡ 0
+  pub listed_all : (tells : T → Type 0) (seen : T → List Exchange) (is_for : ℕ → ℕ → T → Type 0) (s : Shards T) (part : Named) (a b c : Lists T) (kind : Kind) (r : Resolution) (js : List (StoppedShard T)) → length a.parts.items ≡ 0 → length a.workers.items ≡ 0 → length a.samples.items ≡ 0
       → b.parts.items ≡ a.parts.items ++ part ∷ [] → b.workers.items ≡ a.workers.items → b.samples.items ≡ a.samples.items → ListsAfter b js c
-      → AreAll s js → AreWorked tells seen is_for js → AreSetUp s.config (map lane_of js) → (r ≡ true → AreResolved js) → (is_hard kind ≡ false → r ≡ false → HasCut js) → EndBy kind s (map finished_of js) → HasListed tells seen is_for s part c kind r
+      → AreAll s js → AreWorked tells seen is_for js → AreSetUp s.config (map lane_of js) → (r ≡ All → AreResolved js) → (is_hard kind ≡ false → r ≡ NotAll → HasCut js) → EndBy kind s (map finished_of js) → HasListed tells seen is_for s part c kind r
   listed_all tells seen is_for s part a b c kind r js np nw ns bp bw bs after all worked setup resolved cut ended =
-      let workers : c.workers.items ≡ map finished_of js = after.1 ∙ ap (λ l. l ++ map finished_of js) (bw ∙ nil_of a.workers.items nw) in
+      let workers : c.workers.items ≡ map finished_of js = after.1 ∙ ap (λ l. l ++ map finished_of js) (bw ∙ nil_from_length a.workers.items nw) in
       record {
         joined = js;
         all = all;
         worked = worked;
         setup = setup;
-        parts = after.0 ∙ ap (λ l. l ++ map part_of js) (bp ∙ ap (λ l. l ++ part ∷ []) (nil_of a.parts.items np));
+        parts = after.0 ∙ ap (λ l. l ++ map part_of js) (bp ∙ ap (λ l. l ++ part ∷ []) (nil_from_length a.parts.items np));
         workers = workers;
-        samples = after.2 ∙ ap (λ l. l ++ abandoned_in js) (bs ∙ nil_of a.samples.items ns);
-        is_resolved = resolved;
+        samples = after.2 ∙ ap (λ l. l ++ abandoned_in js) (bs ∙ nil_from_length a.samples.items ns);
+        resolved = resolved;
         cut = cut;
         ended = subst (EndBy kind s) (sym workers) ended;
       }
@@ -269,12 +238,16 @@ module _ {T : Type 0} where
   -- what is listed, and then more
   pub lists_more : (a b c : Lists T) (xs ys : List (StoppedShard T)) → ListsAfter a xs b → ListsAfter b ys c → ListsAfter a (xs ++ ys) c
   lists_more a b c xs ys h g = (
-    g.0 ∙ ap (λ l. l ++ map part_of ys) h.0 ∙ append_assoc a.parts.items (map part_of xs) (map part_of ys) ∙ ap (λ l. a.parts.items ++ l) (sym (map_append part_of xs ys)),
-    g.1 ∙ ap (λ l. l ++ map finished_of ys) h.1 ∙ append_assoc a.workers.items (map finished_of xs) (map finished_of ys) ∙ ap (λ l. a.workers.items ++ l) (sym (map_append finished_of xs ys)),
+    g.0 ∙ ap (λ l. l ++ map part_of ys) h.0 ∙ append_assoc a.parts.items (map part_of xs) (map part_of ys) ∙ ap (λ l. a.parts.items ++ l) (sym (map-append part_of xs ys)),
+    g.1 ∙ ap (λ l. l ++ map finished_of ys) h.1 ∙ append_assoc a.workers.items (map finished_of xs) (map finished_of ys) ∙ ap (λ l. a.workers.items ++ l) (sym (map-append finished_of xs ys)),
     g.2 ∙ ap (λ l. l ++ abandoned_in ys) h.2 ∙ append_assoc a.samples.items (abandoned_in xs) (abandoned_in ys) ∙ ap (λ l. a.samples.items ++ l) (sym (abandoned_append xs ys)),
   )
 
 module _ {A E : Type 0} where
+  pub on_err : (r : Result A E) (P : Type 0) → P → OnErr r P
+  on_err (Ok x) P h = tt
+  on_err (Err e) P h = h
+
   -- what a call that went well appended
   pub appended : (r : Result A E) (u : A) (new old other xs : List ℕ) → r ≡ Ok u → new ≡ (if is_ok r then old ++ other else old) → other ≡ xs → new ≡ old ++ (xs ++ [])
   appended r u new old other xs is n o = n ∙ ap (λ (x : Result A E). if is_ok x then old ++ other else old) is ∙ ap (λ l. old ++ l) (o ∙ sym (append-nil xs))

@@ -1,23 +1,19 @@
 -- Placements with one sample or one epoch more.
-use Rattle.std.proofs.Common.{◌≡◌, ◌≢◌, ◌⊎◌, inl, inr, ℕ, zero, suc, ◌+◌, Bool, true, false, List, [], ◌∷◌, ◌++◌, length, map, Some, None, cond, refl, sym, ap, ◌∙◌, subst, append_assoc, append-nil, length-append, add-zero, zero-add, arith}
+use Rattle.std.proofs.Common.{◌≡◌, ◌≢◌, ◌⊎◌, inl, inr, ℕ, zero, suc, ◌+◌, ◌<◌, Bool, true, false, List, [], ◌∷◌, ◌++◌, length, map, Some, None, cond, refl, sym, ap, ◌∙◌, subst, append_assoc, append-nil, length-append, add-zero, zero-add, arith}
 use Rattle.std.specs.Prelude.{◌==◌, set, slice_get}
+use Rattle.std.proofs.lemmas.List.{length-set}
 use Rattle.std.proofs.lemmas.List.Elements.{filter-append}
 use Rattle.std.proofs.lemmas.Bool.{eq-eqb, eqb-true}
 use Rattle.rw_worker.specs.Setups.{Setup}
 use Rattle.rw_plain_queue.specs.Items.{Placed, samples_in}
 use Rattle.rw_fleet.specs.ShardHistories.{ShardHistory, AreSame, AreFresh, IsPut, put_as}
 use Rattle.rw_router.specs.declared.sample.RoutedSample.{RoutedSample}
+use Rattle.rw_fleet.proofs.LaneLemmas.{same_length}
 use Rattle.rw_feeder.specs.Feeders.{sent_by}
 use Rattle.rw_feeder.specs.Logs.{Sent}
 use Rattle.rw_shipper.specs.Placement.{as_sent, put_in, shard_of, of_shard, IsKept, AreKept, IsDealt, Places, joined, IsPlacing, ArePlaced}
 
-pub same_length : (ps qs : List ShardHistory) → AreSame ps qs → length qs ≡ length ps
-same_length [] [] h = refl
-same_length [] (y ∷ ys) h = absurd h
-same_length (x ∷ xs) [] h = absurd h
-same_length (x ∷ xs) (y ∷ ys) h = ap suc (same_length xs ys h.2)
-
-some_is : (a b : ShardHistory) → Some a ≡ Some b → a ≡ b
+pub some_is : {A : Type 0} (a b : A) → Some a ≡ Some b → a ≡ b
 some_is a b e = cc
 
 same_get : (ps qs : List ShardHistory) (k : ℕ) (q : ShardHistory) → AreSame ps qs → slice_get qs k ≡ Some q → (p : ShardHistory) × (slice_get ps k ≡ Some p) × (q.setup ≡ p.setup) × (put_in q ≡ put_in p)
@@ -27,10 +23,6 @@ same_get (x ∷ xs) [] k q h e = absurd h
 same_get (x ∷ xs) (y ∷ ys) zero q h e =
     let is : y ≡ q = some_is y q e in (x, refl, ap (λ (f : ShardHistory). f.setup) (sym is) ∙ h.0, ap (λ (f : ShardHistory). put_in f) (sym is) ∙ ap (map as_sent) h.1)
 same_get (x ∷ xs) (y ∷ ys) (suc k) q h e = same_get xs ys k q h.2 e
-
-pub same_self : (qs : List ShardHistory) → AreSame qs qs
-same_self [] = tt
-same_self (q ∷ qs) = (refl, refl, same_self qs)
 
 kept_one : (q : ShardHistory) → IsKept q q
 kept_one q = (refl, [], sym (append-nil (samples_in q.put)))
@@ -125,10 +117,10 @@ module _ {A : Type 0} where
   get_set (x ∷ xs) (suc k) zero y r e = inr ((λ h. absurd (omega arith)), e)
   get_set (x ∷ xs) (suc k) (suc j) y r e = elim (get_set xs k j y r e) [ inl h ↦ inl (ap suc h.0, h.1) | inr h ↦ inr ((λ e'. h.0 (omega arith)), h.1) ]
 
-  pub set_length : (xs : List A) (k : ℕ) (y : A) → length (set xs k y) ≡ length xs
-  set_length [] k y = refl
-  set_length (x ∷ xs) zero y = refl
-  set_length (x ∷ xs) (suc k) y = ap suc (set_length xs k y)
+  pub get_some : (xs : List A) (k : ℕ) → k < length xs → (x : A) × (slice_get xs k ≡ Some x)
+  get_some [] k lt = absurd (omega arith)
+  get_some (x ∷ xs) zero lt = (x, refl)
+  get_some (x ∷ xs) (suc k) lt = get_some xs k (omega arith)
 
   set_some : (xs : List A) (k : ℕ) (y x : A) → slice_get xs k ≡ Some x → set xs k y ≡ [] → ⊥
   set_some [] k y x at e = let at' : None ≡ Some x = at in absurd cc
@@ -148,14 +140,11 @@ shard_mine m j s x is = filter-append (λ y. shard_of m y.series == j) s (x ∷ 
 shard_other : (m j : ℕ) (s : List Sent) (x : Sent) → shard_of m x.series ≢ j → of_shard m j (s ++ x ∷ []) ≡ of_shard m j s
 shard_other m j s x not = filter-append (λ y. shard_of m y.series == j) s (x ∷ []) ∙ ap (λ b. of_shard m j s ++ cond b (x ∷ []) []) (not_eqb (shard_of m x.series) j not) ∙ append-nil (of_shard m j s)
 
-suc_of : (m n : ℕ) → m ≡ n + 1 → m ≡ suc n
-suc_of m n e = omega arith
-
 -- one sample more, in its shard's queue
 pub dealt_put : (e k : ℕ) (qs : List ShardHistory) (s : List Sent) (q q' : ShardHistory) (x : Sent) → IsDealt e qs s → slice_get qs k ≡ Some q → k ≡ shard_of (length qs) x.series → q'.setup ≡ q.setup
     → put_in q' ≡ put_in q ++ x ∷ [] → IsDealt e (set qs k q') (s ++ x ∷ [])
 dealt_put e k qs s q q' x d at here same put =
-    let len = set_length qs k q' in record {
+    let len = length-set qs k q' in record {
       each = λ j r there. elim (get_set qs k j q' r there) [
         | inl h ↦
             let was = d.each k q at in

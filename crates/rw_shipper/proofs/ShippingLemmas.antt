@@ -1,6 +1,7 @@
 -- What a shipper keeps, with one entry more.
 use Rattle.std.proofs.Common.{◌≡◌, inl, inr, ℕ, ℤ, zero, suc, ◌+◌, ◌<◌, ◌≤◌, List, [], ◌∷◌, ◌++◌, length, map, Some, None, refl, sym, ap, ◌∙◌, subst, append_assoc, append-nil, arith}
 use Rattle.std.specs.Prelude.{◌%◌, Bool, true, false, set, slice_get, Option, Result, Ok, Err, OnOk, IfSome, is_err, is_some}
+use Rattle.std.proofs.lemmas.List.{length-set, map-append}
 use Rattle.rw_worker.specs.Transcript.{Exchange}
 use Rattle.rw_shipper.specs.declared.report.Report.{Report}
 use Rattle.rw_types.specs.declared.entry.Entry.{Entry}
@@ -15,6 +16,9 @@ use Rattle.rw_fleet.specs.declared.running.Fault.{Fault}
 use Rattle.rw_fleet.specs.Fleets.{Shards, AreAll, EndBy, HasClosed}
 use Rattle.rw_fleet.specs.declared.joined.Finished.{Finished}
 use Rattle.rw_fleet.specs.declared.joined.StoppedShard.{StoppedShard}
+use Rattle.rw_fleet.specs.declared.joined.Resolution.{Resolution}
+use Rattle.rw_fleet.specs.declared.joined.Resolution.TheVariants.{All, NotAll}
+use Rattle.rw_fleet.proofs.LaneLemmas.{same_length}
 use Rattle.rw_router.specs.declared.sample.RoutedSample.{RoutedSample}
 use Rattle.rw_feeder.specs.Feeders.{Sorting, HasPlaced, HasRead, sent_by}
 use Rattle.rw_router.specs.Fates.{Fate, Drops, Filters, Sends, fate}
@@ -29,10 +33,9 @@ use Rattle.rw_shipper.specs.Reports.{abandoned_in, end_of, IsAbandoned, IsAbando
 use Rattle.rw_shipper.specs.Shipping.{Shipping, PlacesAll, IsReady, IsReckoned, IsRead, GoesOn, HasCompared, Ends, HasStopped}
 use Rattle.rw_batch_bytes.specs.Rooms.{Counting, AreFull}
 use Rattle.rw_shipper.specs.Cutting.{AreCounted}
-use Rattle.rw_shipper.proofs.PlacementLemmas.{same_length, placing_put, placing_closed, placing_whole, placing_opened, placing_begun, placing_same, set_length, kept_self, kept_on, kept_put}
+use Rattle.rw_shipper.proofs.PlacementLemmas.{some_is, placing_put, placing_closed, placing_whole, placing_opened, placing_begun, placing_same, kept_self, kept_on, kept_put}
 use Rattle.rw_shipper.proofs.CutLemmas.{kept_same, counted_fresh, counted_marked}
 use Rattle.rw_shipper.proofs.BelowLemmas.{placing_below}
-use Rattle.rw_shipper.proofs.ListingLemmas.{lanes_append}
 
 module _ {A : Type 0} (f : List Entry → Entry → List A) where
   from_push : (before es : List Entry) (e : Entry) → gather_from f before (es ++ e ∷ []) ≡ gather_from f before es ++ f (before ++ es) e
@@ -123,13 +126,10 @@ module _ {T : Type 0} where
 marks_set : (qs : List ShardHistory) (k : ℕ) (was now : ShardHistory) → slice_get qs k ≡ Some was → marks_of now ≡ marks_of was → map marks_of (set qs k now) ≡ map marks_of qs
 marks_set [] k was now at same = refl
 marks_set (q ∷ qs) zero was now at same = ap (λ ms. ms ∷ map marks_of qs) (same ∙ ap marks_of (sym (some_is q was at)))
-  where
-    some_is : (a b : ShardHistory) → Some a ≡ Some b → a ≡ b
-    some_is a b e = cc
 marks_set (q ∷ qs) (suc k) was now at same = ap (λ ms. marks_of q ∷ ms) (marks_set qs k was now at same)
 
 put_length : (k : ℕ) (l : RoutedSample) (old new : List ShardHistory) → IsPut k l old new → length new ≡ length old
-put_length k l old new put = ap length put.is ∙ set_length old k put.now
+put_length k l old new put = ap length put.is ∙ length-set old k put.now
 
 module _ {T : Type 0} where
   pub put_len : (k : ℕ) (l : RoutedSample) (was now : Shards T) → IsPut k l was.current now.current → length now.current ≡ length was.current
@@ -187,7 +187,7 @@ module _ {T : Type 0} where
   -- all shards at work have ended
   pub places_closed : (log : Sorting) (was : Shards T) (more : ℕ) (all : List (StoppedShard T)) → PlacesAll log was → AreAll was all → more ≡ was.epoch + 1 → IsPlacing more (map lane_of all) [] (sent log.choice log.placed)
   places_closed log was more all h ended next =
-      placing_closed was.epoch more (map lane_of was.ended) was.current (map lane_of ended.0) (map lane_of all) (sent log.choice log.placed) h ended.2 (ap (map lane_of) ended.1 ∙ lanes_append was.ended ended.0) next
+      placing_closed was.epoch more (map lane_of was.ended) was.current (map lane_of ended.0) (map lane_of all) (sent log.choice log.placed) h ended.2 (ap (map lane_of) ended.1 ∙ map-append lane_of was.ended ended.0) next
 
   pub places_whole : (log : Sorting) (was : Shards T) (all : List (StoppedShard T)) → PlacesAll log was → AreAll was all → ArePlaced (map lane_of all) (sent log.choice log.placed)
   places_whole log was all h ended = placing_whole (was.epoch + 1) (map lane_of all) (sent log.choice log.placed) (places_closed log was (was.epoch + 1) all h ended refl)
@@ -283,12 +283,12 @@ module _ {T : Type 0} where
   ends_whole s js placed None a read resolved = (a, read, resolved)
   ends_whole s js placed (Some f) a read resolved = (read, resolved)
 
-  pub ends_so : (s : Shipping T) (js : List (StoppedShard T)) (is_hard is_resolved : Bool) (placed : ℕ) (damage : Option TailFault) (samples : List ℕ) (o : Outcome) → placed ≡ length s.log.placed → samples ≡ abandoned_in js
-      → (is_resolved ≡ true → AreResolved js) → (is_hard ≡ false → HasRead s.log.pieces s.log.placed damage)
-      → (is_hard ≡ true → IsAbandonedAt placed samples o) → (is_resolved ≡ false → IsAbandonedAt placed samples o) → (is_hard ≡ false → is_resolved ≡ true → o ≡ end_of placed damage) → Ends s js o
-  ends_so s js true is_resolved placed damage samples o a b resolved read hard apart whole = abandons s js placed samples o (hard refl) a b
-  ends_so s js false false placed damage samples o a b resolved read hard apart whole = abandons s js placed samples o (apart refl) a b
-  ends_so s js false true placed damage samples o a b resolved read hard apart whole =
+  pub ends_so : (s : Shipping T) (js : List (StoppedShard T)) (is_hard : Bool) (resolution : Resolution) (placed : ℕ) (damage : Option TailFault) (samples : List ℕ) (o : Outcome) → placed ≡ length s.log.placed → samples ≡ abandoned_in js
+      → (resolution ≡ All → AreResolved js) → (is_hard ≡ false → HasRead s.log.pieces s.log.placed damage)
+      → (is_hard ≡ true → IsAbandonedAt placed samples o) → (resolution ≡ NotAll → IsAbandonedAt placed samples o) → (is_hard ≡ false → resolution ≡ All → o ≡ end_of placed damage) → Ends s js o
+  ends_so s js true resolution placed damage samples o a b resolved read hard apart whole = abandons s js placed samples o (hard refl) a b
+  ends_so s js false NotAll placed damage samples o a b resolved read hard apart whole = abandons s js placed samples o (apart refl) a b
+  ends_so s js false All placed damage samples o a b resolved read hard apart whole =
       subst (Ends s js) (sym (whole refl refl)) (ends_whole s js placed damage a (read refl) (resolved refl))
 
 pub is_abandoned : (placed : ℕ) (samples : List ℕ) (o : Outcome) → IsAbandonedAt placed samples o → IsAbandoned o
@@ -309,18 +309,15 @@ ends_apart placed None h = h
 ends_apart placed (Some f) h = h
 
 module _ {T : Type 0} where
-  joined_is : (a b : StoppedShard T) → Some a ≡ Some b → a ≡ b
-  joined_is a b e = cc
-
   at_finished : (js : List (StoppedShard T)) (k : ℕ) (j : StoppedShard T) → slice_get js k ≡ Some j → slice_get (map finished_of js) k ≡ Some j.finished
   at_finished [] k j at = absurd (let at' : None ≡ Some j = at in cc)
-  at_finished (x ∷ xs) zero j at = ap (λ (y : StoppedShard T). Some y.finished) (joined_is x j at)
+  at_finished (x ∷ xs) zero j at = ap (λ (y : StoppedShard T). Some y.finished) (some_is x j at)
   at_finished (x ∷ xs) (suc k) j at = at_finished xs k j at
 
   -- the work that was to end with all, and was abandoned, has a queue that was cut
-  pub lists_cut : (js : List (StoppedShard T)) (fs : List (Finished T)) (resolved : Bool) (placed : ℕ) (damage : Option TailFault) (o : Outcome) → fs ≡ map finished_of js → (resolved ≡ false → HasCut js) → (resolved ≡ true → o ≡ end_of placed damage)
+  pub lists_cut : (js : List (StoppedShard T)) (fs : List (Finished T)) (resolution : Resolution) (placed : ℕ) (damage : Option TailFault) (o : Outcome) → fs ≡ map finished_of js → (resolution ≡ NotAll → HasCut js) → (resolution ≡ All → o ≡ end_of placed damage)
       → IsAbandoned o → ListsCut fs
-  lists_cut js fs true placed damage o is cut whole left = absurd (ends_apart placed damage (subst IsAbandoned (whole refl) left))
-  lists_cut js fs false placed damage o is cut whole left =
+  lists_cut js fs All placed damage o is cut whole left = absurd (ends_apart placed damage (subst IsAbandoned (whole refl) left))
+  lists_cut js fs NotAll placed damage o is cut whole left =
       let c = cut refl in
       subst ListsCut (sym is) (c.0, c.1.finished, at_finished js c.0 c.1 c.2, c.3)

@@ -10,6 +10,7 @@ use Rattle.rw_router.specs.Fates.{Fate, Drops, Filters, Sends, fate}
 use Rattle.rw_feeder.specs.Logs.{Sent, gather_from, sent_by_fate, sent_of, sent}
 use Rattle.rw_shipper.specs.Placement.{put_in, shard_of, IsDealt, Places, joined, ArePlaced}
 use Rattle.rw_shipper.specs.Spread.{IsOneOf, AllAbove, Rise, IsShard, IsSpread}
+use Rattle.rw_shipper.proofs.PlacementLemmas.{get_some, some_is}
 
 one_left : (x : Sent) (xs ys : List Sent) → IsOneOf x xs → IsOneOf x (xs ++ ys)
 one_left x [] ys h = absurd h
@@ -104,14 +105,6 @@ rise_same (z ∷ zs) x y r (inl a) (inr g) e = let lt = above_one z.pos y zs r.0
 rise_same (z ∷ zs) x y r (inr h) (inl b) e = let lt = above_one z.pos x zs r.0 h in let is : y.pos ≡ z.pos = ap (λ (w : Sent). w.pos) b in absurd (omega arith)
 rise_same (z ∷ zs) x y r (inr h) (inr g) e = rise_same zs x y r.1 h g e
 
-lane_at : (xs : List ShardHistory) (k : ℕ) → k < length xs → (l : ShardHistory) × (slice_get xs k ≡ Some l)
-lane_at [] k lt = absurd (omega arith)
-lane_at (x ∷ xs) zero lt = (x, refl)
-lane_at (x ∷ xs) (suc k) lt = lane_at xs k (omega arith)
-
-lanes_is : (a b : List ShardHistory) → Some a ≡ Some b → a ≡ b
-lanes_is a b e = cc
-
 -- what the shards of one epoch were put, out of all
 record HasPart (e : ℕ) (lanes : List ShardHistory) (samples : List Sent) : Type 0 where
   number : ℕ
@@ -127,7 +120,7 @@ part_of b zero (x ∷ xs) lanes samples h at = record {
   number = b;
   number_is = omega arith;
   part = h.0;
-  dealt = subst (λ ls. IsDealt b ls h.0) (lanes_is x lanes at) h.3;
+  dealt = subst (λ ls. IsDealt b ls h.0) (some_is x lanes at) h.3;
   among = λ y one. subst (IsOneOf y) (sym h.2) (one_left y h.0 h.1 one);
   rises = λ r. rise_left h.0 h.1 (subst Rise h.2 r);
 }
@@ -147,7 +140,7 @@ dealt_one : (n : ℕ) (lanes : List ShardHistory) (part : List Sent) (x : Sent) 
 dealt_one n [] part x d one = absurd (subst (IsOneOf x) (d.none refl) one)
 dealt_one n (a ∷ ls) part x d one =
     let k = shard_of (length (a ∷ ls)) x.series in
-    let at = lane_at (a ∷ ls) k (omega arith) in
+    let at = get_some (a ∷ ls) k (omega arith) in
     (k, at.0, at.1, subst (IsOneOf x) (sym (d.each k at.0 at.1).2) (one_passes (λ s. shard_of (length (a ∷ ls)) s.series == k) x part one (eq-eqb k k refl)))
 
 each_one : (b : ℕ) (es : List (List ShardHistory)) (samples : List Sent) (x : Sent) → Places b es samples → IsOneOf x samples → (e : ℕ) × (k : ℕ) × (lanes : List ShardHistory) × (l : ShardHistory) × IsShard es e k lanes l × IsOneOf x (put_in l)
@@ -168,7 +161,7 @@ later_one : (b e f j k : ℕ) (es : List (List ShardHistory)) (samples : List Se
 later_one b e f j k [] samples lanes others l m x y h r s t one two lt = absurd (let at : None ≡ Some lanes = s.0 in cc)
 later_one b e zero j k (z ∷ zs) samples lanes others l m x y h r s t one two lt = absurd (omega arith)
 later_one b zero (suc f) j k (z ∷ zs) samples lanes others l m x y h r s t one two lt =
-    let d = subst (λ ls. IsDealt b ls h.0) (lanes_is z lanes s.0) h.3 in
+    let d = subst (λ ls. IsDealt b ls h.0) (some_is z lanes s.0) h.3 in
     let p = part_of (suc b) f zs others h.1 h.4 t.0 in
     rise_across h.0 h.1 x y (subst Rise h.2 r) (shard_one b j lanes h.0 l x d s.1 one).0 (p.among y (shard_one p.number k others p.part m y p.dealt t.1 two).0)
 later_one b (suc e) (suc f) j k (z ∷ zs) samples lanes others l m x y h r s t one two lt =

@@ -3,15 +3,14 @@ use Rattle.std.proofs.Common.{◌≡◌, ◌⊎◌, inl, inr, ℕ, zero, suc, �
 use Rattle.std.specs.Prelude.{slice_get, nat_le, fold}
 use Rattle.std.specs.List.{sum_by}
 use Rattle.std.proofs.lemmas.List.Sums.{sum_by-cons}
-use Rattle.rw_types.specs.Labels.{Labels}
 use Rattle.rw_plain_queue.specs.Items.{Placed}
 use Rattle.rw_plain_queue.specs.declared.item.Item.{Item}
 use Rattle.rw_plain_queue.specs.declared.item.Item.TheVariants as item
-use Rattle.rw_write_request.specs.Canon.{canon, series_field}
-use Rattle.rw_write_request.specs.Message.{Sample}
+use Rattle.rw_write_request.specs.Canon.{canon}
 use Rattle.rw_batch.specs.Grouping.{LabelledSample, message}
 use Rattle.rw_batch_bytes.specs.Sizes.{bytes_of, bytes_alone}
 use Rattle.rw_batch_bytes.specs.Cutting.{AreSamples, WithinFrom, IsWithin, open_bytes, with_cuts}
+use Rattle.rw_batch_bytes.proofs.SizeLemmas.{bytes_some}
 use Rattle.rw_shard_core.specs.Shard.{placed, labelled, body_of}
 use Rattle.rw_worker.specs.Cut.{Cutting, cutting, one_of, close, close_if_full, cut_by, cut}
 use Rattle.rw_fleet.specs.ShardHistories.{ShardHistory, marked}
@@ -32,10 +31,6 @@ module _ (keeps : (limit : ℕ) (items : List Item) → IsWithin limit items →
   pub within_marked : (limit : ℕ) (ps : List ShardHistory) → AreWithin limit ps → AreWithin limit (map marked ps)
   within_marked limit [] h = tt
   within_marked limit (p ∷ ps) h = (keeps limit p.put h.0, within_marked limit ps h.1)
-
-bytes_some : (l : Labels) (s : Sample) → 1 ≤ bytes_of l s
-unfolding bytes_of series_field
-bytes_some l s = omega arith
 
 -- what samples count together
 abbrev counted : List Placed → ℕ

@@ -14,6 +14,8 @@ use Rattle.rw_fleet.specs.Fleets.{Shards, AreAll, EndBy}
 use Rattle.rw_fleet.specs.Loads.{window_of}
 use Rattle.rw_fleet.specs.declared.joined.StoppedShard.{StoppedShard}
 use Rattle.rw_fleet.specs.declared.joined.Finished.{Finished}
+use Rattle.rw_fleet.specs.declared.joined.Resolution.{Resolution}
+use Rattle.rw_fleet.specs.declared.joined.Resolution.TheVariants.{All, NotAll}
 use Rattle.rw_shipper.specs.declared.lists.Lists.{Lists}
 
 abbrev pub part_of : {T : Type 0} → StoppedShard T → Named
@@ -28,29 +30,26 @@ abandoned_in (j ∷ js) = j.abandoned.items ++ abandoned_in js
 abbrev pub HasRoom : {T : Type 0} → Lists T → List (StoppedShard T) → Type 0
 HasRoom lists js = (vec_len lists.parts + length js ≤ vec_capacity lists.parts) × (vec_len lists.workers + length js ≤ vec_capacity lists.workers) × (vec_len lists.samples + length (abandoned_in js) ≤ vec_capacity lists.samples)
 
--- there may be more room
-abbrev pub IsGrown : {T : Type 0} → Lists T → Lists T → Type 0
-IsGrown old new =
-    (vec_len new.parts ≡ vec_len old.parts) × (vec_len new.workers ≡ vec_len old.workers) × (vec_len new.samples ≡ vec_len old.samples)
-    × (vec_capacity old.parts ≤ vec_capacity new.parts) × (vec_capacity old.workers ≤ vec_capacity new.workers) × (vec_capacity old.samples ≤ vec_capacity new.samples)
-
 -- these shards are listed behind what stood there
 abbrev pub ListsAfter : {T : Type 0} → Lists T → List (StoppedShard T) → Lists T → Type 0
 ListsAfter old js new = (new.parts.items ≡ old.parts.items ++ map part_of js) × (new.workers.items ≡ old.workers.items ++ map finished_of js) × (new.samples.items ≡ old.samples.items ++ abandoned_in js)
 
--- nothing is listed, and there is room for the shards, one part more, and all samples that are not resolved
-pub record IsRoomFor {T : Type 0} (s : Shards T) (lists : Lists T) (parts samples : ℕ) : Type 0 where
+-- nothing is listed, and there is room for so many shards, one part more, and so many samples
+pub record HasSpace {T : Type 0} (shards samples : ℕ) (lists : Lists T) : Type 0 where
   pub no_parts : vec_len lists.parts ≡ 0
   pub no_workers : vec_len lists.workers ≡ 0
   pub no_samples : vec_len lists.samples ≡ 0
-  pub shards_within : length s.ended + length s.current + 1 ≤ parts
-  pub parts_within : parts ≤ vec_capacity lists.parts
-  pub workers_within : parts ≤ vec_capacity lists.workers
-  pub left_within : length (abandoned_in s.ended) + length s.current * window_of s.config ≤ samples
+  pub shards_within : shards + 1 ≤ lists.room
+  pub parts_within : lists.room ≤ vec_capacity lists.parts
+  pub workers_within : lists.room ≤ vec_capacity lists.workers
   pub samples_within : samples ≤ vec_capacity lists.samples
 
+-- there is room for the shards, and for all samples that are not resolved
+abbrev pub IsRoomFor : {T : Type 0} → Shards T → Lists T → Type 0
+IsRoomFor s lists = HasSpace (length s.ended + length s.current) (length (abandoned_in s.ended) + length s.current * window_of s.config) lists
+
 -- All shards have ended, those at work by this End, and are listed behind one part more.
-pub record HasListed {T : Type 0} (tells : T → Type 0) (seen : T → List Exchange) (is_for : ℕ → ℕ → T → Type 0) (s : Shards T) (part : Named) (lists : Lists T) (kind : Kind) (resolved : Bool) : Type 0 where
+pub record HasListed {T : Type 0} (tells : T → Type 0) (seen : T → List Exchange) (is_for : ℕ → ℕ → T → Type 0) (s : Shards T) (part : Named) (lists : Lists T) (kind : Kind) (resolution : Resolution) : Type 0 where
   pub joined : List (StoppedShard T)
   pub all : AreAll s joined
   pub worked : AreWorked tells seen is_for joined
@@ -58,8 +57,8 @@ pub record HasListed {T : Type 0} (tells : T → Type 0) (seen : T → List Exch
   pub parts : lists.parts.items ≡ part ∷ map part_of joined
   pub workers : lists.workers.items ≡ map finished_of joined
   pub samples : lists.samples.items ≡ abandoned_in joined
-  pub is_resolved : resolved ≡ true → AreResolved joined
-  pub cut : is_hard kind ≡ false → resolved ≡ false → HasCut joined
+  pub resolved : resolution ≡ All → AreResolved joined
+  pub cut : is_hard kind ≡ false → resolution ≡ NotAll → HasCut joined
   pub ended : EndBy kind s lists.workers.items
 
 -- by which End the shards are ended

@@ -2,7 +2,6 @@
 #![tactic(auto)]
 
 mod laws;
-mod listed_fleet;
 mod lists;
 mod place;
 mod report;

@@ -8,10 +8,9 @@ ghost use Rattle.rw_fleet.specs.ShardHistories.{AreSame};
 ghost use Rattle.rw_shipper.specs.Cutting.{AreCounted, GoesCut, HasRoomMade};
 ghost use Rattle.rw_shipper.specs.Shipping.{GoesOn, PlacesAll, Steps};
 
-use crate::listed_fleet::ListedFleet;
 use rw_batch_bytes::Cuts;
 use rw_feeder::{Feeder, Next};
-use rw_fleet::{Connect, Fault};
+use rw_fleet::{Connect, Fault, ShardSet};
 use rw_router::RoutedSample;
 use rw_types::Entry;
 use rw_wal_tail::TailFault;
@@ -31,7 +30,7 @@ pub(crate) enum Progress {
 /// take what is counted since the last mark above the limit. It may wait for room.
 fn make_room<C: Connect + Drop, R: Wait>(
     rt: &R,
-    fleet: &mut ListedFleet<C>,
+    fleet: &mut ShardSet<C>,
     cuts: &mut Cuts,
     shard: usize,
     sample: &RoutedSample,
@@ -58,7 +57,7 @@ fn make_room<C: Connect + Drop, R: Wait>(
 fn place_entry<C: Connect + Drop, R: Wait>(
     rt: &R,
     feeder: &mut Feeder,
-    fleet: &mut ListedFleet<C>,
+    fleet: &mut ShardSet<C>,
     cuts: &mut Cuts,
     entry: Entry,
 ) -> Result<(), Fault>
@@ -92,7 +91,7 @@ fn place_entry<C: Connect + Drop, R: Wait>(
 fn place_next<C: Connect + Drop, R: Wait>(
     rt: &R,
     feeder: &mut Feeder,
-    fleet: &mut ListedFleet<C>,
+    fleet: &mut ShardSet<C>,
     cuts: &mut Cuts,
 ) -> Result<Progress, Fault>
     requires hand { feeder.old.hand ≡ [] }
@@ -122,7 +121,7 @@ fn place_next<C: Connect + Drop, R: Wait>(
 pub(crate) fn place_all<C: Connect + Drop, R: Wait>(
     rt: &R,
     feeder: &mut Feeder,
-    fleet: &mut ListedFleet<C>,
+    fleet: &mut ShardSet<C>,
     cuts: &mut Cuts,
 ) -> Result<Option<TailFault>, Fault>
     requires hand { feeder.old.hand ≡ [] }

@@ -15,13 +15,12 @@ ghost use Rattle.rw_shipper.specs.Placement.{AreKept};
 ghost use Rattle.rw_shipper.specs.Reports.{IsAbandoned, IsAbandonedAt, ListsCut, end_of, kind_of};
 ghost use Rattle.rw_shipper.specs.Shipping.{answer_to, FailsBy, Feeds, Joins, HasCompared, HasStopped, PlacesAll};
 
-use crate::listed_fleet::ListedFleet;
-use crate::lists::Lists;
+use crate::lists::{Lists, finish_listed, open_listed};
 use crate::place::place_all;
 use crate::report::Report;
 use rw_batch_bytes::Cuts;
 use rw_feeder::Feeder;
-use rw_fleet::{Connect, Fault, Load};
+use rw_fleet::{Connect, Fault, Load, Resolution, ShardSet};
 use rw_ledger::Ledger;
 use rw_relabel::{Choice, Rules};
 use rw_shard_channel::Kind;
@@ -76,16 +75,17 @@ fn kind_of(is_hard: bool) -> Kind
 /// How the work has ended: hard, or with samples that are not resolved, or else with all that the log has.
 fn outcome_of(
     is_hard: bool,
-    is_resolved: bool,
+    resolution: Resolution,
     placed: u64,
     damage: Option<TailFault>,
     samples: Vec<u64>,
 ) -> Outcome
     ensures hard { is_hard ≡ true → IsAbandonedAt placed samples.items result }
-    ensures apart { is_resolved ≡ false → IsAbandonedAt placed samples.items result }
-    ensures whole { is_hard ≡ false → is_resolved ≡ true → result ≡ end_of placed damage }
+    ensures apart { resolution ≡ Resolution.NotAll → IsAbandonedAt placed samples.items result }
+    ensures whole { is_hard ≡ false → resolution ≡ Resolution.All
+        → result ≡ end_of placed damage }
 {
-    if is_hard || !is_resolved {
+    if is_hard || resolution == Resolution::NotAll {
         return Outcome::Abandoned { placed, samples };
     }
     match damage {
@@ -139,7 +139,8 @@ fn split_choice(alloc: Global, config: Config) -> (Config, Choice)
 /// stopped.
 pub struct Shipper<C: Connect + Drop> {
     feeder: Feeder,
-    fleet: ListedFleet<C>,
+    fleet: ShardSet<C>,
+    lists: Lists<C::T>,
     cuts: Cuts,
     /// By which it has failed.
     fault: Option<Fault>,
@@ -150,6 +151,7 @@ pub struct Shipper<C: Connect + Drop> {
 impl<C: Connect + Drop> Model for Shipper<C> {
     ghost use Rattle.std.specs.Coded.{codes};
     ghost use Rattle.std.specs.FinMap as names;
+    ghost use Rattle.rw_shipper.specs.Reports.{IsRoomFor};
     ghost use Rattle.rw_shipper.specs.Shipping.{Shipping, PlacesAll, IsReady, IsRead, IsReckoned};
 
     ghost Value = { Shipping C.T };
@@ -166,7 +168,8 @@ impl<C: Connect + Drop> Model for Shipper<C> {
     ghost invariant = { λ s. PlacesAll s.feeder s.fleet
         × IsReady s.feeder s.fleet s.fault
         × IsRead s.feeder s.fault s.damage
-        × IsReckoned s.cuts s.fleet s.fault };
+        × IsReckoned s.cuts s.fleet s.fault
+        × IsRoomFor s.fleet s.lists };
 }
 
 impl<C: Connect + Drop> Shipper<C> {
@@ -188,10 +191,10 @@ impl<C: Connect + Drop> Shipper<C> {
         Shipper::start_within(rt, alloc, config, connect, None)
     }
 
-    /// The same, where batches may have a limit in bytes: no body takes more, but that of a single
-    /// sample that does. A sample counts as many bytes as a message of it alone takes, so that batches
-    /// of several samples of a series end below the limit. It opens epoch 0 as `start` does. Where
-    /// memory or a thread is refused the workers that were started are stopped and joined.
+    /// Opens epoch 0 as `start` does, for batches that may have a limit in bytes: no body takes more, but
+    /// that of a single sample that does. A sample counts as many bytes as a message of it alone takes,
+    /// so that batches of several samples of a series end below the limit. Where memory or a thread is
+    /// refused the workers that were started are stopped and joined.
     pub fn start_within<R: Threads + Wait + Copy + Send + 'static>(
         rt: &R,
         alloc: Global,
@@ -210,14 +213,16 @@ impl<C: Connect + Drop> Shipper<C> {
         let shards = config.fields().shards.get() as u32;
         let (config, choice) = split_choice(alloc, config);
         let cuts = Cuts::within(alloc, limit)?;
-        let mut fleet = ListedFleet::new(alloc, config, connect)?;
-        if fleet.open(rt, shards).is_err() {
-            let _ = fleet.finish(rt, Kind::Hard, Ledger::new(alloc));
+        let mut lists = Lists::new(alloc)?;
+        let mut fleet = ShardSet::new(alloc, config, connect)?;
+        if open_listed(rt, &mut fleet, &mut lists, shards).is_err() {
+            let _ = fleet.finish(rt, Kind::Hard);
             return Err(AllocError);
         }
         Ok(Shipper {
             feeder: Feeder::new(alloc, choice),
             fleet,
+            lists,
             cuts,
             fault: None,
             damage: None,
@@ -330,11 +335,11 @@ impl<C: Connect + Drop> Shipper<C> {
             self.fault = Some(Fault::OutOfMemory);
             return Err(FeedFault::OutOfMemory);
         }
-        if !self.fleet.close(rt) {
+        let Resolution::All = self.fleet.close(rt) else {
             self.fault = Some(Fault::Gone);
             return Err(FeedFault::Gone);
-        }
-        if self.fleet.open(rt, shards).is_err() {
+        };
+        if open_listed(rt, &mut self.fleet, &mut self.lists, shards).is_err() {
             self.fault = Some(Fault::OutOfMemory);
             return Err(FeedFault::OutOfMemory);
         }
@@ -386,19 +391,21 @@ impl<C: Connect + Drop> Shipper<C> {
         let Shipper {
             feeder,
             fleet,
+            lists,
             cuts: _,
             fault: _,
             damage,
         } = self;
         let (part, filtered) = feeder.finish();
         let kind = kind_of(is_hard);
-        let (lists, is_resolved) = fleet.finish(rt, kind, part);
+        let (lists, resolution) = finish_listed(rt, fleet, lists, kind, part);
         let Lists {
+            room: _,
             parts,
             workers,
             samples,
         } = lists;
-        let outcome = outcome_of(is_hard, is_resolved, placed, damage, samples);
+        let outcome = outcome_of(is_hard, resolution, placed, damage, samples);
         Report {
             outcome,
             parts,

@@ -1,7 +1,8 @@
 use Rattle.std.proofs.Common.{◌+◌, List, ◌∷◌, ◌++◌, [], vec_len, refl, sym, ap, ◌∙◌, subst, append-nil, arith}
+use Rattle.std.proofs.lemmas.List.{map-append}
 use Rattle.rw_fleet.specs.ShardHistories.{ShardHistory}
 use Rattle.rw_fleet.specs.Work.{AreWorked, lane_of}
-use Rattle.rw_fleet.proofs.ListLemmas.{moved, pushed, none_left, map_push}
+use Rattle.rw_fleet.proofs.ListLemmas.{moved, pushed, none_left}
 use Rattle.rw_fleet.proofs.JoinedLemmas.{all_done, worked_push}
 use Rattle.rw_fleet.proofs.lists.join_all.Goals as goal
 
@@ -26,7 +27,7 @@ loop-shard-preserved g c =
         i.3.1 ++ c.in-Some.shard ∷ [],
         pushed _ _ _ _ _ p.items i.3.2,
         moved _ _ _ _ _ i.3.3 step.0,
-        map_push lane_of i.3.0 c.join.result ∙ ap (λ (l : List ShardHistory). l ++ lane_of c.join.result ∷ []) i.3.4 ∙ ap (λ (l : ShardHistory). i.3.1 ++ l ∷ []) c.join.ensures.lane,
+        map-append lane_of i.3.0 (c.join.result ∷ []) ∙ ap (λ (l : List ShardHistory). l ++ lane_of c.join.result ∷ []) i.3.4 ∙ ap (λ (l : ShardHistory). i.3.1 ++ l ∷ []) c.join.ensures.lane,
       ),
     )
 

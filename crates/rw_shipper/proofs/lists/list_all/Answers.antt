@@ -1,6 +1,8 @@
 use Rattle.std.proofs.Common.{◌∷◌, ◌++◌, [], length, sym, ap, ◌∙◌, subst, arith}
+use Rattle.std.proofs.lemmas.List.{nil_from_length}
+use Rattle.rw_fleet.proofs.ListLemmas.{moved}
 use Rattle.rw_shipper.specs.Reports.{HasRoom, ListsAfter}
-use Rattle.rw_shipper.proofs.ListingLemmas.{room_next, lists_none, lists_more, moved, none_left, nil_of}
+use Rattle.rw_shipper.proofs.ListingLemmas.{room_next, lists_none, lists_more, none_left}
 use Rattle.rw_shipper.proofs.lists.list_all.Goals as goal
 
 pub loop-shard-init : goal.loop-shard-init
@@ -27,7 +29,7 @@ pub returns : goal.returns
 returns g c =
     let i = c.loop-shard.invariant in
     let step = c.in-None.ensures.steps in
-    subst (λ js. ListsAfter c.args.lists js c.loop-shard.lists) (sym (none_left _ _ _ i.2.1 (nil_of _ (sym i.0 ∙ step.0)))) i.2.2
+    subst (λ js. ListsAfter c.args.lists js c.loop-shard.lists) (sym (none_left _ _ _ i.2.1 (nil_from_length _ (sym i.0 ∙ step.0)))) i.2.2
 
 pub add-requires : goal.add-requires
 add-requires g c = room_next c.loop-shard.lists c.in-Some.shard _ (subst (HasRoom c.loop-shard.lists) c.in-Some.ensures.steps.0 c.loop-shard.invariant.1)

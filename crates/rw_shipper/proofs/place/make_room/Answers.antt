@@ -6,8 +6,9 @@ use Rattle.std.specs.Prelude.{Option, Result, Ok, Err, OnOk, None}
 use Rattle.rw_types.specs.Labels.{Labels}
 use Rattle.rw_batch_bytes.specs.Sizes.{bytes_of}
 use Rattle.rw_batch_bytes.specs.Rooms.{Counts}
-use Rattle.rw_shipper.proofs.PlacementLemmas.{same_self, same_length}
-use Rattle.rw_shipper.proofs.CutLemmas.{room_made, get_some}
+use Rattle.rw_fleet.proofs.LaneLemmas.{same_self, same_length}
+use Rattle.rw_shipper.proofs.PlacementLemmas.{get_some}
+use Rattle.rw_shipper.proofs.CutLemmas.{room_made}
 use Rattle.rw_shipper.proofs.place.make_room.Goals as goal
 
 on_ok_map : {A E : Type 0} (r : Result A E) (P Q : Type 0) → (P → Q) → OnOk r P → OnOk r Q

@@ -61,4 +61,4 @@ pub returns-clause-cut : goal.returns-clause-cut
 returns-clause-cut g c = λ unresolved.
     let j = c.join_all.ensures.same in
     let was = c.replace-joined.ensures.value in
-    has_cut g.C.T.Transport.tells g.C.T.Transport.seen g.C.T.Transport.is_for _ c.join_all.ensures.worked (soft_closed _ _ _ _ c.self.invariant.7 (soft_all _ _ refl c.end_all-ending.ensures.ended) (j.1 ∙ ap (λ v. vec_items v ++ j.0) was) j.2) (c.all_resolved.ensures.not_all unresolved)
+    has_cut g.C.T.Transport.tells g.C.T.Transport.seen g.C.T.Transport.is_for _ c.join_all.ensures.worked (soft_closed _ _ _ _ c.self.invariant.7 (soft_all _ _ refl c.end_all-ending.ensures.ended) (j.1 ∙ ap (λ v. vec_items v ++ j.0) was) j.2) (c.resolution_of.ensures.not_all unresolved)

@@ -24,7 +24,7 @@ pub returns-clause-cut : goal.returns-clause-cut
 returns-clause-cut g c = λ soft unresolved.
     let j = c.join_all-joined.ensures.same in
     let i = c.self.invariant in
-    has_cut g.C.T.Transport.tells g.C.T.Transport.seen g.C.T.Transport.is_for _ c.join_all-joined.ensures.worked (soft_closed _ _ _ _ i.7 (soft_all _ _ soft c.end_all-ending.ensures.ended) j.1 j.2) (c.all_resolved-resolved.ensures.not_all unresolved)
+    has_cut g.C.T.Transport.tells g.C.T.Transport.seen g.C.T.Transport.is_for _ c.join_all-joined.ensures.worked (soft_closed _ _ _ _ i.7 (soft_all _ _ soft c.end_all-ending.ensures.ended) j.1 j.2) (c.resolution_of-resolution.ensures.not_all unresolved)
 
 pub returns-clause-ended : goal.returns-clause-ended
 returns-clause-ended g c =

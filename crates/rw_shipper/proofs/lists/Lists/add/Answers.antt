@@ -13,4 +13,4 @@ returns-clause-listed g c =
 
 pub returns-clause-room : goal.returns-clause-room
 returns-clause-room g c = λ js room.
-    room_added c.args.self.now (record { parts = c.push_reserved.new.self; workers = c.push_reserved-2.new.self; samples = c.extend_from_slice.new.self }) c.args.shard js room c.push_reserved.ensures.len c.push_reserved.ensures.capacity c.push_reserved-2.ensures.len c.push_reserved-2.ensures.capacity (longer _ _ _ _ _ _ c.unwrap.ensures c.extend_from_slice.ensures.len c.as_slice.ensures.value) c.extend_from_slice.ensures.capacity
+    room_added c.args.self.now (record { room = c.args.self.now.room; parts = c.push_reserved.new.self; workers = c.push_reserved-2.new.self; samples = c.extend_from_slice.new.self }) c.args.shard js room c.push_reserved.ensures.len c.push_reserved.ensures.capacity c.push_reserved-2.ensures.len c.push_reserved-2.ensures.capacity (longer _ _ _ _ _ _ c.unwrap.ensures c.extend_from_slice.ensures.len c.as_slice.ensures.value) c.extend_from_slice.ensures.capacity

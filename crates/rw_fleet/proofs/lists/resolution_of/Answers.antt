@@ -3,7 +3,7 @@ use Rattle.std.specs.Prelude.{slice_get}
 use Rattle.std.proofs.lemmas.Option.{slice_get_within}
 use Rattle.rw_fleet.proofs.ListLemmas.{get_at}
 use Rattle.rw_fleet.proofs.SoftLemmas.{resolved_more}
-use Rattle.rw_fleet.proofs.lists.all_resolved.Goals as goal
+use Rattle.rw_fleet.proofs.lists.resolution_of.Goals as goal
 
 pub returns-then-not-is_resolved-clause-not_all : goal.returns-then-not-is_resolved-clause-not_all
 returns-then-not-is_resolved-clause-not_all g c = λ left.
