@@ -1,8 +1,8 @@
 use Rattle.std.proofs.Common.{◌≡◌, true, None}
-use Rattle.rw_send.specs.Segments.{AreShort}
-use Rattle.rw_send.specs.Steps.{StaysOpen}
-use Rattle.rw_send.proofs.SegmentLemmas.{IsFeeding}
-use Rattle.rw_send.proofs.shipping.ship_segment.Given as goal
+use Rattle.rw_log_shipping.specs.Segments.{AreShort}
+use Rattle.rw_log_shipping.specs.Steps.{StaysOpen}
+use Rattle.rw_log_shipping.proofs.SegmentLemmas.{IsFeeding}
+use Rattle.rw_log_shipping.proofs.shipping.ship_segment.Given as goal
 
 abbrev pub invariant-loop : goal.invariant-loop
 invariant-loop g l = record {

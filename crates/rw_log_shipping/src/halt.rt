@@ -7,7 +7,7 @@ use std::alloc::AllocError;
 
 /// Why the reading of a log ends before the end of its last segment.
 #[derive(Clone, Copy, Debug, PartialEq, Eq)]
-pub(crate) enum Halt {
+pub enum Halt {
     /// The log has this fault.
     Damaged(TailFault),
     /// Memory was refused, or a worker has gone.
@@ -18,7 +18,7 @@ pub(crate) enum Halt {
 
 impl From<FeedFault> for Halt {
     ghost use Rattle.std.specs.Prelude.{◌≡◌};
-    ghost use Rattle.rw_send.specs.Sending.{halt_of};
+    ghost use Rattle.rw_log_shipping.specs.Halting.{halt_of};
 
     ghost from_gives = { λ f h. h ≡ halt_of f };
 
@@ -32,7 +32,7 @@ impl From<FeedFault> for Halt {
 
 impl From<AllocError> for Halt {
     ghost use Rattle.std.specs.Prelude.{◌≡◌};
-    ghost use Rattle.rw_send.specs.declared.halt.Halt.TheVariants.{Failed};
+    ghost use Rattle.rw_log_shipping.specs.declared.halt.Halt.TheVariants.{Failed};
 
     ghost from_gives = { λ _ h. h ≡ Failed };
 
@@ -43,7 +43,7 @@ impl From<AllocError> for Halt {
 
 impl From<Failed> for Halt {
     ghost use Rattle.std.specs.Prelude.{◌≡◌};
-    ghost use Rattle.rw_send.specs.declared.halt.Halt.TheVariants.{Unreadable};
+    ghost use Rattle.rw_log_shipping.specs.declared.halt.Halt.TheVariants.{Unreadable};
 
     ghost from_gives = { λ _ h. h ≡ Unreadable };
 

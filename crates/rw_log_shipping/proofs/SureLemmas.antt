@@ -1,6 +1,6 @@
 -- Readers whose reads do not fail.
 use Rattle.std.proofs.Common.{◌≡◌, Bool, true, List, ◌∷◌, map, subst}
-use Rattle.rw_send.specs.Sending.{AreSure}
+use Rattle.rw_log_shipping.specs.Segments.{AreSure}
 
 -- the readers behind the first one are sure
 pub sure_rest : {S : Type 0} (sure : S → Bool) (all items rest : List S) (x : S) → items ≡ x ∷ rest → (AreSure (map sure all) → AreSure (map sure items)) → AreSure (map sure all) → AreSure (map sure rest)

@@ -1,8 +1,8 @@
 use Rattle.std.proofs.Common.{Ok, ap}
-use Rattle.rw_send.proofs.PartLemmas.{also_on_err, part_halted}
-use Rattle.rw_send.proofs.SegmentLemmas.{feeding_none, feeding_more}
-use Rattle.rw_send.proofs.StepLemmas.{stays, stays_on}
-use Rattle.rw_send.proofs.shipping.ship_segment.Goals as goal
+use Rattle.rw_log_shipping.proofs.PartLemmas.{also_on_err, part_halted}
+use Rattle.rw_log_shipping.proofs.SegmentLemmas.{feeding_none, feeding_more}
+use Rattle.rw_log_shipping.proofs.StepLemmas.{stays, stays_on}
+use Rattle.rw_log_shipping.proofs.shipping.ship_segment.Goals as goal
 
 pub loop-init : goal.loop-init
 loop-init g c = record { stays = stays _; short = λ h. h; feeding = feeding_none _ _; sound = c.requires; sure = λ h. h }

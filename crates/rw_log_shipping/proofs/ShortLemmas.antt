@@ -4,8 +4,8 @@ use Rattle.rw_wal_format.specs.Pieces.{Piece}
 use Rattle.rw_feeder.specs.Feeders.{Sorting}
 use Rattle.rw_shipper.specs.Shipping.{Joins}
 use Rattle.rw_shipper.specs.declared.shipper.FeedFault.{FeedFault}
-use Rattle.rw_send.specs.Segments.{IsShort, AreShort}
-use Rattle.rw_send.proofs.PartLemmas.{joins_or_not}
+use Rattle.rw_log_shipping.specs.Segments.{IsShort, AreShort}
+use Rattle.rw_log_shipping.proofs.PartLemmas.{joins_or_not}
 
 short_behind : (ps : List Piece) (p : Piece) → AreShort ps → IsShort p → AreShort (ps ++ p ∷ [])
 short_behind [] p h s = (s, tt)

@@ -6,8 +6,8 @@ use Rattle.rw_feeder.specs.Feeders.{Sorting}
 use Rattle.rw_shipper.specs.Shipping.{Joins}
 use Rattle.rw_shipper.specs.declared.shipper.FeedFault.{FeedFault}
 use Rattle.rw_shipper.specs.declared.shipper.FeedFault.TheVariants as feed
-use Rattle.rw_send.specs.Segments.{IsAllOf, IsLogOf, IsBeginningOf, Begins, IsFed, IsFedPart, IsFedMore}
-use Rattle.rw_send.proofs.SegmentLemmas.{IsFeeding, IsGoing, more_none, more_bytes, feeding_more, going_more, going_to_end}
+use Rattle.rw_log_shipping.specs.Segments.{IsAllOf, IsLogOf, IsBeginningOf, Begins, IsFed, IsFedPart, IsFedMore}
+use Rattle.rw_log_shipping.proofs.SegmentLemmas.{IsFeeding, IsGoing, more_none, more_bytes, feeding_more, going_more, going_to_end}
 
 -- ---- a segment
 

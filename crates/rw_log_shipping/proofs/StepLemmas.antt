@@ -8,11 +8,10 @@ use Rattle.rw_fleet.specs.Loads.{IsLoad}
 use Rattle.rw_fleet.specs.Work.{AreResolved}
 use Rattle.rw_fleet.specs.declared.load.Load.{Load}
 use Rattle.rw_shipper.specs.Shipping.{Shipping, HasCompared}
-use Rattle.rw_send.specs.Segments.{Begins, IsAllOf, IsFed, IsFedPart}
-use Rattle.rw_send.specs.Sending.{IsKept}
-use Rattle.rw_send.specs.Steps.{AreShipped, AreShippedPart, HasHalted, HasPutAll, IsNextEpoch, IsSet, IsShipped, StaysOpen, is_some_more, wanted_under}
-use Rattle.rw_send.proofs.PartLemmas.{part_of}
-use Rattle.rw_send.proofs.SegmentLemmas.{feeding_none}
+use Rattle.rw_log_shipping.specs.Segments.{Begins, IsAllOf, IsFed, IsFedPart}
+use Rattle.rw_log_shipping.specs.Steps.{AreShipped, AreShippedPart, HasHalted, HasPutAll, IsKept, IsNextEpoch, IsSet, IsShipped, StaysOpen, is_some_more, wanted_under}
+use Rattle.rw_log_shipping.proofs.PartLemmas.{part_of}
+use Rattle.rw_log_shipping.proofs.SegmentLemmas.{feeding_none}
 
 pub stays : {T : Type 0} (s : Shipping T) → StaysOpen s s
 stays s = record { choice = refl; fleet = refl; shards = refl }

@@ -1,13 +1,13 @@
 use Rattle.std.proofs.Common.{◌≡◌, ◌-◌, ◌∷◌, Bool, nat_lt, length, map, sym, ap, ◌∙◌, subst, arith}
 use Rattle.std.specs.Vec.Iter.{into_iter_items}
 use Rattle.rw_feeder.specs.Feeders.{Sorting}
-use Rattle.rw_send.specs.Segments.{AreShort}
-use Rattle.rw_send.specs.Steps.{IsSet, is_some_more}
-use Rattle.rw_send.proofs.PartLemmas.{begins_on, halted_at_begin, halted_within}
-use Rattle.rw_send.proofs.SegmentLemmas.{going_step}
-use Rattle.rw_send.proofs.StepLemmas.{between, halts_at_begin, halts_behind, halts_within, is_shipped, part_first, part_halts, ships_first, some_more, stays_kept, stays_on}
-use Rattle.rw_send.proofs.SureLemmas.{sure_rest}
-use Rattle.rw_send.proofs.shipping.ship_all.Goals as goal
+use Rattle.rw_log_shipping.specs.Segments.{AreShort}
+use Rattle.rw_log_shipping.specs.Steps.{IsSet, is_some_more}
+use Rattle.rw_log_shipping.proofs.PartLemmas.{begins_on, halted_at_begin, halted_within}
+use Rattle.rw_log_shipping.proofs.SegmentLemmas.{going_step}
+use Rattle.rw_log_shipping.proofs.StepLemmas.{between, halts_at_begin, halts_behind, halts_within, is_shipped, part_first, part_halts, ships_first, some_more, stays_kept, stays_on}
+use Rattle.rw_log_shipping.proofs.SureLemmas.{sure_rest}
+use Rattle.rw_log_shipping.proofs.shipping.ship_all.Goals as goal
 
 pub loop-segment-preserved : goal.loop-segment-preserved
 loop-segment-preserved g c =

@@ -9,13 +9,17 @@ use Rattle.rw_fleet.specs.declared.load.Load.{Load}
 use Rattle.rw_reshard.specs.Wanted.{wanted}
 use Rattle.rw_shard_core.specs.declared.config.ConfigFields.{ConfigFields}
 use Rattle.rw_shipper.specs.Shipping.{Shipping, HasCompared, PlacesAll}
-use Rattle.rw_send.specs.Segments.{Begins, IsFed, IsFedPart}
+use Rattle.rw_log_shipping.specs.Segments.{Begins, IsFed, IsFedPart}
 
 -- more may have been put to the same shards
 pub record StaysOpen {T : Type 0} (old new : Shipping T) : Type 0 where
   pub choice : new.log.choice ≡ old.log.choice
   pub fleet : new.fleet ≡ record old.fleet { current = new.fleet.current }
   pub shards : length new.fleet.current ≡ length old.fleet.current
+
+-- which series are sent and the configuration stay
+abbrev pub IsKept : {T : Type 0} → Shipping T → Shipping T → Type 0
+IsKept old new = (new.log.choice ≡ old.log.choice) × (new.fleet.config ≡ old.fleet.config)
 
 -- how many shards are wanted where there are n, under this load
 abbrev pub wanted_under : (fewest most n : ℕ) → Load → ℕ

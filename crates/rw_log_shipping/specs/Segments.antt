@@ -73,3 +73,8 @@ pub record IsFedMore (left_before left_after : Option (List ℕ)) (old new : Lis
   pub text : List ℕ
   pub consumed : Consumes left_before left_after text
   pub pieces : new ≡ old ++ bytes text ∷ []
+
+-- no read of these readers can fail
+abbrev pub AreSure : List Bool → Type 0
+AreSure [] = ⊤
+AreSure (sure ∷ sures) = (sure ≡ true) × AreSure sures

@@ -3,7 +3,7 @@ use Rattle.std.proofs.Common.{◌≡◌, ℕ, Bool, true, false, List, [], ◌�
 use Rattle.std.specs.Io.KnownBytes.{Consumes, IsAtEnd}
 use Rattle.rw_wal_format.specs.Pieces.{Piece, bytes, next_segment}
 use Rattle.rw_types.proofs.KnownLemmas.{consumes_consumes, consumes-none}
-use Rattle.rw_send.specs.Segments.{texts_after, texts, IsAllOf, AreAllOf, IsLogOf, Begins, IsMore, IsFed, IsFedMore}
+use Rattle.rw_log_shipping.specs.Segments.{texts_after, texts, IsAllOf, AreAllOf, IsLogOf, Begins, IsMore, IsFed, IsFedMore}
 
 -- ---- one segment
 

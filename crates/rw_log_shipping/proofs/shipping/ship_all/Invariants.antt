@@ -1,11 +1,10 @@
 use Rattle.std.proofs.Common.{◌≡◌, None, true, map, length}
 use Rattle.std.specs.Vec.Iter.{into_iter_items, into_iter_len}
-use Rattle.rw_send.specs.Segments.{AreShort}
-use Rattle.rw_send.specs.Sending.{IsKept, AreSure}
-use Rattle.rw_send.specs.Steps.{AreShipped, AreShippedPart}
+use Rattle.rw_log_shipping.specs.Segments.{AreShort, AreSure}
+use Rattle.rw_log_shipping.specs.Steps.{AreShipped, AreShippedPart, IsKept}
 use Rattle.rw_shipper.specs.Shipping.{Shipping}
-use Rattle.rw_send.proofs.SegmentLemmas.{IsGoing}
-use Rattle.rw_send.proofs.shipping.ship_all.Given as goal
+use Rattle.rw_log_shipping.proofs.SegmentLemmas.{IsGoing}
+use Rattle.rw_log_shipping.proofs.shipping.ship_all.Given as goal
 
 abbrev pub invariant-loop-segment : goal.invariant-loop-segment
 invariant-loop-segment g l = record {

@@ -5,7 +5,7 @@ ghost use Rattle.rw_reshard.specs.Wanted.{wanted};
 ghost use Rattle.rw_shipper.specs.Shipping.{HasCompared};
 ghost use Rattle.rw_fleet.specs.Loads.{IsLoad};
 ghost use Rattle.rw_fleet.specs.declared.load.Load.{Load};
-ghost use Rattle.rw_send.specs.Steps.{HasPutAll, IsSet, wanted_since};
+ghost use Rattle.rw_log_shipping.specs.Steps.{HasPutAll, IsSet, wanted_since};
 
 use crate::halt::Halt;
 use rw_reshard::want;
@@ -17,13 +17,14 @@ use std::time::{Clock, Duration};
 
 /// How many shards there are, and the fewest and the most that there may be.
 #[derive(Clone, Copy, Debug)]
-pub(crate) struct Sharding {
-    pub(crate) shards: u32,
-    pub(crate) fewest: u32,
-    pub(crate) most: u32,
-    /// What had been placed and resolved as the clock asked last.
-    placed: u64,
-    resolved: u64,
+pub struct Sharding {
+    pub shards: u32,
+    pub fewest: u32,
+    pub most: u32,
+    /// How many samples had been placed as the clock asked last.
+    pub placed: u64,
+    /// How many had been resolved then.
+    pub resolved: u64,
     ghost some: { 1 ≤ shards },
     ghost range: { (1 ≤ fewest) × (fewest ≤ most) × (most ≤ 1000) },
 }
@@ -32,7 +33,7 @@ impl Sharding {
     ghost use Rattle.std.specs.Prelude.{◌≡◌};
 
     /// As a sender is configured.
-    pub(crate) fn of(config: &Config) -> Sharding
+    pub fn of(config: &Config) -> Sharding
         ensures shards { result.shards ≡ config.now.shards }
         ensures fewest { result.fewest ≡ config.now.min_shards }
         ensures most { result.most ≡ config.now.max_shards }
@@ -115,7 +116,7 @@ fn let_catch_up<R: Clock, C: Connect + Drop>(rt: &R, shipper: &Shipper<C>) {
 }
 
 /// Changes the number of shards to what is wanted under the load, where that is another one and more is to come.
-pub(crate) fn resharded<R: Threads + Wait + Clock + Copy + Send + 'static, C: Connect + Drop>(
+pub fn resharded<R: Threads + Wait + Clock + Copy + Send + 'static, C: Connect + Drop>(
     rt: &R,
     shipper: &mut Shipper<C>,
     sharding: Sharding,
@@ -148,7 +149,7 @@ pub(crate) fn resharded<R: Threads + Wait + Clock + Copy + Send + 'static, C: Co
 }
 
 /// Changes the number of shards to what is wanted under what was placed and resolved since the clock asked last, where it asks and that is another one.
-pub(crate) fn retuned<R: Threads + Wait + Clock + Copy + Send + 'static, C: Connect + Drop>(
+pub fn retuned<R: Threads + Wait + Clock + Copy + Send + 'static, C: Connect + Drop>(
     rt: &R,
     shipper: &mut Shipper<C>,
     sharding: Sharding,

@@ -2,10 +2,10 @@
 
 ghost use Rattle.std.specs.Prelude.{◌≡◌, ◌≤◌, ◌⊎◌, [], length, map, true, false, None, Ok, Err, IfOk, IfErr, OnOk, OnErr, vec_len};
 ghost use Rattle.std.specs.Io.KnownBytes.{Consumes, IsAtEnd};
-ghost use Rattle.rw_send.specs.Segments.{AreShort, Begins, IsBeginningOf, IsFed, IsFedMore, IsFedPart, IsLogOf};
-ghost use Rattle.rw_send.specs.Sending.{AreSure, IsHalted, IsKept};
-ghost use Rattle.rw_send.specs.Steps.{AreShipped, AreShippedPart, StaysOpen};
-ghost use Rattle.rw_send.specs.declared.halt.Halt.TheVariants.{Unreadable};
+ghost use Rattle.rw_log_shipping.specs.Segments.{AreShort, AreSure, Begins, IsBeginningOf, IsFed, IsFedMore, IsFedPart, IsLogOf};
+ghost use Rattle.rw_log_shipping.specs.Halting.{IsHalted};
+ghost use Rattle.rw_log_shipping.specs.Steps.{AreShipped, AreShippedPart, IsKept, StaysOpen};
+ghost use Rattle.rw_log_shipping.specs.declared.halt.Halt.TheVariants.{Unreadable};
 
 use crate::halt::Halt;
 use crate::sharding::{Sharding, resharded};
@@ -19,9 +19,10 @@ use std::thread::Threads;
 use std::time::Clock;
 
 /// The most bytes of a piece.
-const PIECE_BYTES: usize = 65_536;
+pub const PIECE_BYTES: usize = 65_536;
 
-pub(crate) fn zeros(alloc: Global) -> Result<Vec<u8>, AllocError>
+/// Room for a piece.
+pub fn zeros(alloc: Global) -> Result<Vec<u8>, AllocError>
     ensures { IfOk result (λ v. vec_len v ≡ PIECE_BYTES) }
 {
     vec![in alloc; 0; PIECE_BYTES]
@@ -105,7 +106,7 @@ fn ship_segment<R: Wait, S: Source + Drop, C: Connect + Drop>(
 }
 
 /// Tells that the next segment begins, where it is not the first one.
-pub(crate) fn begin_segment<R: Wait, C: Connect + Drop>(
+pub fn begin_segment<R: Wait, C: Connect + Drop>(
     rt: &R,
     shipper: &mut Shipper<C>,
     is_first: bool,
@@ -128,7 +129,7 @@ pub(crate) fn begin_segment<R: Wait, C: Connect + Drop>(
 }
 
 /// Feeds the segments of a log one after the other. Between two of them the number of shards is changed to what is wanted under the load.
-pub(crate) fn ship_all<
+pub fn ship_all<
     R: Threads + Wait + Clock + Copy + Send + 'static,
     S: Source + Drop,
     C: Connect + Drop,
