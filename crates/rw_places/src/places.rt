@@ -2,8 +2,7 @@
 
 ghost use Rattle.std.specs.Prelude.{◌≡◌, ◌<◌, IfOk, vec_len};
 
-use crate::door::next_connection;
-use crate::serving::{Post, served};
+use rw_serving::{Post, next_connection, served};
 use rw_shared_head::{Seat, SharedHead};
 use rw_stop::Wish;
 use std::alloc::{AllocError, Global};
@@ -38,7 +37,7 @@ enum Begun<L: Ledger> {
 
 /// Seats, each free or with a connection. Contracts see how many there are.
 #[derive(Drop)]
-pub(crate) struct Places<L: Ledger> {
+pub struct Places<L: Ledger> {
     free: Vec<Seat<L>>,
     busy: Vec<Busy<L>>,
 }
@@ -82,7 +81,7 @@ fn begin<'s, E, L: Ledger + Send + Sync + 's, R: Wait + Clock + Sync>(
 
 impl<L: Ledger> Places<L> {
     /// Seats that are all free.
-    pub(crate) fn new(alloc: Global, seats: Vec<Seat<L>>) -> Result<Places<L>, AllocError>
+    pub fn new(alloc: Global, seats: Vec<Seat<L>>) -> Result<Places<L>, AllocError>
         ensures { IfOk result (λ places. places ≡ vec_len seats) }
     {
         let busy = Vec::with_capacity(alloc, seats.len())?;
@@ -108,7 +107,7 @@ impl<L: Ledger> Places<L> {
     }
 
     /// Waits for the connections, and gives all seats back.
-    pub(crate) fn into_seats<R: Threads>(self, rt: &R) -> Vec<Seat<L>>
+    pub fn into_seats<R: Threads>(self, rt: &R) -> Vec<Seat<L>>
         ensures { vec_len result ≡ self }
     {
         let Places { free, busy } = self;
@@ -147,7 +146,7 @@ fn serve_next<'s, E, L: Ledger + Send + Sync + 's, R: Threads + Wait + Clock + S
 }
 
 /// Serves connection after connection until the sign is set.
-pub(crate) fn serve_on<'s, E, L: Ledger + Send + Sync + 's, R: Threads + Wait + Clock + Sync>(
+pub fn serve_on<'s, E, L: Ledger + Send + Sync + 's, R: Threads + Wait + Clock + Sync>(
     places: &mut Places<L>,
     scope: &Scope<'s, E>,
     rt: &'s R,

@@ -10,7 +10,7 @@ use std::time::{Clock, Duration};
 
 /// Has each `accept` of the listener give up after a tick. The option stands at the socket, so another handle of it, as that of a stream, sets it for
 /// the listener too.
-pub(crate) fn accept_in_ticks(listener: &TcpListener) -> io::Result<()> {
+pub fn accept_in_ticks(listener: &TcpListener) -> io::Result<()> {
     let same = TcpStream::from(listener.as_fd().try_clone_to_owned()?);
     same.set_read_timeout(Some(Duration::from_millis(TICK_MS)))
 }
@@ -27,7 +27,7 @@ fn is_passing(error: &io::Error) -> bool {
 }
 
 /// The next connection, where one comes within a tick. An accept that fails, as for want of descriptors, is counted, and naps for a tick.
-pub(crate) fn next_connection<C: Clock>(
+pub fn next_connection<C: Clock>(
     clock: &C,
     listener: &TcpListener,
     counters: &ReceiveCounters,

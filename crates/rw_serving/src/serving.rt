@@ -18,16 +18,21 @@ use std::time::Clock;
 
 /// What all connections have in common.
 #[derive(Clone, Copy, Drop)]
-pub(crate) struct Post<'a> {
-    pub(crate) alloc: Global,
-    pub(crate) limits: &'a Limits,
-    pub(crate) sign: &'a Sign,
-    pub(crate) idle_ms: Bounded<10, 3_600_000>,
-    pub(crate) counters: &'a ReceiveCounters,
+pub struct Post<'a> {
+    /// Where memory is taken for a connection.
+    pub alloc: Global,
+    /// Those of the head.
+    pub limits: &'a Limits,
+    /// Once it is set, connections end.
+    pub sign: &'a Sign,
+    /// For how many milliseconds a connection may be silent.
+    pub idle_ms: Bounded<10, 3_600_000>,
+    /// They are told of each connection and each answer of the head. Nothing is claimed of them.
+    pub counters: &'a ReceiveCounters,
 }
 
 /// Serves a connection to its end, however it ends, parts from the client, and gives the seat back. It is counted as long.
-pub(crate) fn served<L: Ledger, R: Wait + Clock>(
+pub fn served<L: Ledger, R: Wait + Clock>(
     rt: &R,
     post: &Post<'_>,
     shared: &SharedHead<L>,
