@@ -2,7 +2,7 @@
 use Rattle.std.proofs.Common.{◌≡◌, List, [], ◌∷◌, ◌++◌, sym, ◌∙◌, ap, append_assoc}
 use Rattle.std.proofs.lemmas.List.{append-nil}
 use Rattle.rw_types.specs.declared.entry.Entry.{Entry}
-use Rattle.rw_log_commands.specs.Body.{labelled, labelled_after, labelled_of}
+use Rattle.rw_labelling.specs.Labelled.{labelled, labelled_after, labelled_of}
 
 labelled_after-push : (before es : List Entry) (e : Entry) → labelled_after before (es ++ e ∷ []) ≡ labelled_after before es ++ labelled_of (before ++ es) e
 labelled_after-push before [] e = append-nil (labelled_of before e) ∙ ap (λ b. labelled_of b e) (sym (append-nil before))

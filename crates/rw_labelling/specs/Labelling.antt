@@ -9,7 +9,7 @@ use Rattle.rw_series_cache.specs.Cached.{Taken}
 use Rattle.rw_series_cache.specs.Known.{definitions_of}
 use Rattle.rw_series_cache.specs.Numbers.{series_of, HasNumber}
 use Rattle.rw_relabel.specs.Choices.{legacy}
-use Rattle.rw_log_commands.specs.Body.{labelled}
+use Rattle.rw_labelling.specs.Labelled.{labelled}
 
 -- the labels of a number
 abbrev pub labels_at : List Labels → ℕ → Labels

@@ -1,10 +1,9 @@
 //! The samples of a log, grouped by label set as its entries come.
 
-ghost use Rattle.std.specs.Prelude.{◌≡◌, []};
+ghost use Rattle.std.specs.Prelude.{◌≡◌, ◌∷◌, ◌++◌, [], OnOk};
 ghost use Rattle.rw_batch.specs.Grouping.{message};
-ghost use Rattle.rw_log_commands.specs.Body.{labelled};
+ghost use Rattle.rw_labelling.specs.Labelled.{labelled};
 
-use crate::reading::Taker;
 use rw_batch::Grouping;
 use rw_history::History;
 use rw_relabel::Choice;
@@ -16,7 +15,7 @@ use std::marker::Model;
 
 /// The samples of the entries so far, as a message, and the label set of each reference. Contracts see the entries.
 #[derive(Drop)]
-pub(crate) struct Labelling {
+pub struct Labelling {
     taken: History<Entry>,
     /// It has no rules, and so keeps every label set with legacy names.
     cache: Cache,
@@ -26,7 +25,7 @@ pub(crate) struct Labelling {
 impl Model for Labelling {
     ghost use Rattle.std.specs.Prelude.{List};
     ghost use Rattle.rw_types.specs.declared.entry.Entry.{Entry};
-    ghost use Rattle.rw_log_commands.specs.Labelling.{IsLabelling};
+    ghost use Rattle.rw_labelling.specs.Labelling.{IsLabelling};
 
     ghost Value = { List Entry };
 
@@ -37,7 +36,7 @@ impl Model for Labelling {
 
 impl Labelling {
     /// Before the first entry.
-    pub(crate) fn new(alloc: Global) -> Labelling
+    pub fn new(alloc: Global) -> Labelling
         ensures { result ≡ [] }
     {
         Labelling {
@@ -48,7 +47,7 @@ impl Labelling {
     }
 
     /// The message of the samples that have a label set.
-    pub(crate) fn into_message(self) -> Message
+    pub fn into_message(self) -> Message
         ensures { result ≡ message (labelled self) }
     {
         let Labelling {
@@ -58,16 +57,11 @@ impl Labelling {
         } = self;
         grouping.into_message()
     }
-}
 
-impl Taker for Labelling {
-    ghost use Rattle.rw_relabel.specs.Choices.{legacy};
-
-    ghost taken = { λ l. l };
-
-    ghost choice = { λ _. legacy };
-
-    fn take_next(&mut self, entry: Entry) -> Result<(), AllocError> {
+    /// Takes the next entry.
+    pub fn take(&mut self, entry: Entry) -> Result<(), AllocError>
+        ensures { OnOk result (self.new ≡ self.old ++ entry ∷ []) }
+    {
         let mut taken = self.taken.again();
         taken.push(&entry);
         match entry {

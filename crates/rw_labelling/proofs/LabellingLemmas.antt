@@ -25,9 +25,9 @@ use Rattle.rw_series_cache.specs.declared.known.Known.{Known}
 use Rattle.rw_series_cache.specs.declared.known.Known.TheVariants as found
 use Rattle.rw_series_cache.proofs.KnownLemmas.{definitions_of-definition, definitions_of-sample}
 use Rattle.rw_series_cache.proofs.SeriesLemmas.{number_stays_on}
-use Rattle.rw_log_commands.specs.Body.{labelled, labelled_by, label_set_of, if_label_set, unless_faulty}
-use Rattle.rw_log_commands.specs.Labelling.{labels_at, IsNumber, IsNumbered, IsLabelling}
-use Rattle.rw_log_commands.proofs.LabelledLemmas.{labelled-push}
+use Rattle.rw_labelling.specs.Labelled.{labelled, labelled_by, label_set_of, if_label_set, unless_faulty}
+use Rattle.rw_labelling.specs.Labelling.{labels_at, IsNumber, IsNumbered, IsLabelling}
+use Rattle.rw_labelling.proofs.LabelledLemmas.{labelled-push}
 use Rattle.rw_relabel.specs.Choices.{legacy}
 use Rattle.rw_types.specs.declared.names.Names.TheVariants.{Legacy}
 

@@ -1,8 +1,8 @@
 use Rattle.std.proofs.Common.{rules, ◌∙◌, ap, sym, Some, ℤ, FitsSigned, w64, to_z-of_z}
 use Rattle.rw_batch.specs.Grouping.{with_sample}
-use Rattle.rw_log_commands.proofs.LabellingLemmas.{definition_taken, sample_left_out, sample_taken, number_stands, kept_in, not_kept}
-use Rattle.rw_log_commands.proofs.labelling.LabellingTaker.take_next.Goals.{in-Def+in_ok-define-in-Def, in-Sample+in-Kept+in_ok-add-in-Sample, in-Sample+in_default}
-use Rattle.rw_log_commands.proofs.labelling.LabellingTaker.take_next.Goals as goal
+use Rattle.rw_labelling.proofs.LabellingLemmas.{definition_taken, sample_left_out, sample_taken, number_stands, kept_in, not_kept}
+use Rattle.rw_labelling.proofs.labelling.Labelling.take.Goals.{in-Def+in_ok-define-in-Def, in-Sample+in-Kept+in_ok-add-in-Sample, in-Sample+in_default}
+use Rattle.rw_labelling.proofs.labelling.Labelling.take.Goals as goal
 
 pub add-requires : goal.add-requires
 add-requires c = number_stands _ _ _ _ _ _ _ c.look.ensures.log (ap kept_in c.in-Kept.is ∙ ap (λ l. Some (c.in-Kept.number, l)) (sym c.deref.ensures)) c.self.invariant
