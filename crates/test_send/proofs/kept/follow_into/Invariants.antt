@@ -1,6 +1,6 @@
 use Rattle.std.proofs.Common.{◌≡◌, ◌<◌, length, true}
 use Rattle.rw_follow.specs.Growth.{IsFollowed, Known}
-use Rattle.test_follow.proofs.kept.follow_into.Given as goal
+use Rattle.test_send.proofs.kept.follow_into.Given as goal
 
 abbrev pub invariant-loop : goal.invariant-loop
 invariant-loop g l = record {

@@ -140,7 +140,9 @@ fn are_told(alloc: Global) -> Result<bool, AllocError> {
             && drops.as_slice()
                 == b"dropped 3 noseries 1 badlabels 0 notrising 1 status_400 1".as_slice()
             && line.as_slice()
-                == b"entries 1234 placed 1200 resolved 1100 dropped 3 filtered 0 waiting 200 shards 4 attempts 1 failed 2 last status_503 segment 7 bytes 456 percent 45".as_slice(),
+                == b"entries 1234 placed 1200 resolved 1100 dropped 3 filtered 0 waiting 200 shards 4 \
+                    attempts 1 failed 2 last status_503 segment 7 bytes 456 percent 45"
+                    .as_slice(),
     )
 }
 

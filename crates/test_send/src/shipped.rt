@@ -4,13 +4,13 @@ ghost use Rattle.std.specs.Prelude.{IfOk};
 ghost use Rattle.rw_send.specs.Following.{IsUnread};
 
 use crate::countdown::Countdown;
+use crate::logs::{UP, segment};
 use crate::receivers::Receivers;
 use crate::rows::none_is_wrong;
 use Part::{Cut, Gap, More, Next, Padded, Quiet, Rest};
 use http::StatusCode;
 use rw_fault::ToolFault;
 use rw_follow::{Event, Listed, Timed, Wish};
-use rw_log_commands::run_log;
 use rw_metrics::SendCounters;
 use rw_send::{Counted, FollowFault, run_follow};
 use rw_settings::{Settings, read_settings};
@@ -40,23 +40,10 @@ enum Part<'a> {
     Gap(u64),
 }
 
-/// One sample, the value 1 at 1000 of `{__name__="up"}`.
-const UP: &[u8] = b"series 1 {__name__=\"up\"}\nsample 1 1000 1\n";
-
-/// A later one.
+/// A sample later than that of `UP`.
 const LATER: &[u8] = b"sample 1 2000 2\n";
 
 const PAGE_BYTES: usize = 32_768;
-
-/// The segment of log text.
-fn segment(alloc: Global, text: &[u8]) -> Result<Vec<u8>, AllocError> {
-    let mut reader = text;
-    let mut writer = Room::new(alloc, PAGE_BYTES)?;
-    match run_log(alloc, &mut reader, &mut writer, false, 1) {
-        Ok(()) => Ok(writer.into_bytes()),
-        Err(_) => Err(AllocError),
-    }
-}
 
 fn padded(alloc: Global, text: &[u8]) -> Result<Vec<u8>, AllocError> {
     let mut bytes = segment(alloc, text)?;
@@ -116,6 +103,16 @@ fn settings_of(alloc: Global) -> Result<Settings, AllocError> {
     }
 }
 
+/// Receivers that answer by this status at once.
+fn receivers_of<R: Copy>(clock: &R, status: StatusCode) -> Receivers<R> {
+    Receivers {
+        clock: *clock,
+        status,
+        takes: Duration::ZERO,
+        epochs: u64::MAX,
+    }
+}
+
 /// What happens, after how many looks it is to stop, by which wish; the answer, and what is printed.
 type Row<'a> = (&'a [Part<'a>], u32, Wish, Result<(), FollowFault>, &'a [u8]);
 
@@ -138,9 +135,7 @@ fn does<R: Threads + Wait + Clock + Copy + Send + 'static>(
     };
     let counters = SendCounters::new(alloc)?;
     let line = Counted {
-        connect: Receivers {
-            status: StatusCode::NO_CONTENT,
-        },
+        connect: receivers_of(rt, StatusCode::NO_CONTENT),
         counters: &counters,
         max_batch_bytes: None,
     };
@@ -268,9 +263,7 @@ fn flushed<R: Threads + Wait + Clock + Copy + Send + 'static>(
     let mut watch = Timed::new(*rt, sign, poll, patience, patience);
     let counters = SendCounters::new(alloc)?;
     let line = Counted {
-        connect: Receivers {
-            status: StatusCode::BAD_REQUEST,
-        },
+        connect: receivers_of(rt, StatusCode::BAD_REQUEST),
         counters: &counters,
         max_batch_bytes: None,
     };

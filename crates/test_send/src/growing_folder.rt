@@ -1,11 +1,13 @@
 //! A folder that is followed while files come and grow.
 
+use crate::folder::new_folder;
 use crate::kept::{Kept, follow_into};
 use Change::{Goes, Grows, Nothing};
 use rw_follow::{Broken, Sign, Timed, Wish};
 use rw_metrics::SendCounters;
 use rw_send::Folder;
 use std::alloc::{AllocError, Global};
+use std::fs;
 use std::fs::{File, OpenOptions};
 use std::io::Write;
 use std::path::{Path, PathBuf};
@@ -13,7 +15,6 @@ use std::rt::Files;
 use std::sync::{Arc, Wait};
 use std::test::Fail;
 use std::time::Duration;
-use std::{env, fs};
 
 /// What happens to a folder.
 #[derive(Clone, Copy)]
@@ -70,15 +71,6 @@ impl<R: Files<File = File> + AllocGlobal> Sign for Writer<R> {
             Wish::Hard
         }
     }
-}
-
-/// A new folder of this name.
-fn new_folder(rt: &HostRuntime, name: &str) -> Result<PathBuf, Fail> {
-    let temp = env::temp_dir(rt)?;
-    let dir = temp.as_path().join(rt.alloc(), name)?;
-    let _ = fs::remove_dir_all(rt, dir.as_path());
-    fs::create_dir(rt, dir.as_path())?;
-    Ok(dir)
 }
 
 /// What was given, a bar behind each segment that is over, and at the end the number that is missing or a point.
