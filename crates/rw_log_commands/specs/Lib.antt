@@ -1,6 +1,5 @@
 pub mod Body
 pub mod Filling
-pub mod Labelling
 pub mod Logging
 pub mod LogText
 pub mod Planning

@@ -2,7 +2,6 @@
 #![tactic(auto)]
 
 mod filling;
-mod labelling;
 mod log;
 mod log_text;
 mod plan;

@@ -8,12 +8,24 @@ ghost use Rattle.rw_log_commands.specs.Body.{body_of};
 ghost use Rattle.rw_log_commands.specs.Taking.{ReadsSegment, StopsReading};
 ghost use Rattle.rw_log_commands.specs.Running.{output_of, ReadsInput, WritesBody, WritesPart, ReadsFault, ReadsLine, StopsInput};
 
-use crate::labelling::Labelling;
-use crate::reading::read_segment;
+use crate::reading::{Taker, read_segment};
 use rw_fault::ToolFault;
-use rw_types::{Sink, Source, read_to_end, write_all};
+use rw_labelling::Labelling;
+use rw_types::{Entry, Sink, Source, read_to_end, write_all};
 use rw_write_request::encode;
 use std::alloc::{AllocError, Global};
+
+impl Taker for Labelling {
+    ghost use Rattle.rw_relabel.specs.Choices.{legacy};
+
+    ghost taken = { λ l. l };
+
+    ghost choice = { λ _. legacy };
+
+    fn take_next(&mut self, entry: Entry) -> Result<(), AllocError> {
+        self.take(entry)
+    }
+}
 
 /// Reads to the end.
 pub(crate) fn read_input<R: Source>(alloc: Global, reader: &mut R) -> Result<Vec<u8>, ToolFault>

@@ -4,9 +4,9 @@ ghost use Rattle.std.specs.Prelude.{◌≡◌, ◌+◌, ◌<◌, ◌⊎◌, IfOk
 ghost use Rattle.rw_head.specs.Growth.{EachRises};
 ghost use Rattle.rw_fault.specs.declared.tool_fault.ToolFault.TheVariants.{OutOfMemory, Device};
 
-use crate::serving::{Post, served};
 use rw_fault::ToolFault;
 use rw_head::Head;
+use rw_serving::{Post, served};
 use rw_shared_head::{Seat, SharedHead};
 use std::alloc::{AllocError, Global};
 use std::net::{TcpListener, TcpStream};

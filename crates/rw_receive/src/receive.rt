@@ -8,10 +8,10 @@ ghost use Rattle.rw_fault.specs.declared.tool_fault.ToolFault.TheVariants.{OutOf
 
 use crate::connections::receive_all;
 use crate::service::receive_until;
-use crate::serving::Post;
 use rw_fault::ToolFault;
 use rw_head::Head;
 use rw_metrics::ReceiveCounters;
+use rw_serving::Post;
 use rw_settings::Settings;
 use rw_state_text::push_store;
 use rw_stop::Sign;

@@ -5,11 +5,10 @@ ghost use Rattle.rw_head.specs.Store.{total};
 ghost use Rattle.rw_head.specs.Growth.{EachRises};
 ghost use Rattle.rw_fault.specs.declared.tool_fault.ToolFault.TheVariants.{OutOfMemory, Device};
 
-use crate::door::accept_in_ticks;
-use crate::places::{Places, serve_on};
-use crate::serving::Post;
 use rw_fault::ToolFault;
 use rw_head::Head;
+use rw_places::{Places, serve_on};
+use rw_serving::{Post, accept_in_ticks};
 use rw_shared_head::{Seat, SharedHead};
 use std::alloc::AllocError;
 use std::net::TcpListener;

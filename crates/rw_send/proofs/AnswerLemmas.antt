@@ -7,9 +7,10 @@ use Rattle.rw_shipper.specs.Reports.{IsAbandoned}
 use Rattle.rw_shipper.specs.Shipping.{Shipping, Ends}
 use Rattle.rw_fault.specs.declared.tool_fault.ToolFault.{ToolFault}
 use Rattle.rw_fault.specs.declared.tool_fault.ToolFault.TheVariants as fault
-use Rattle.rw_send.specs.declared.halt.Halt.{Halt}
-use Rattle.rw_send.specs.declared.halt.Halt.TheVariants as halt
-use Rattle.rw_send.specs.Sending.{answer_to, hard_fault, Answers, IsHalted}
+use Rattle.rw_log_shipping.specs.declared.halt.Halt.{Halt}
+use Rattle.rw_log_shipping.specs.declared.halt.Halt.TheVariants as halt
+use Rattle.rw_log_shipping.specs.Halting.{IsHalted}
+use Rattle.rw_send.specs.Sending.{answer_to, hard_fault, Answers}
 
 some_is_not_none : {A B : Type 0} (found : Option A) (x : A) → found ≡ Some x → found ≡ None → B
 some_is_not_none found x some none = let no : ⊥ = cc in absurd no

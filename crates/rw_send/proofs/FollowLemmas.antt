@@ -25,13 +25,14 @@ use Rattle.rw_fault.specs.declared.tool_fault.ToolFault.TheVariants as tool
 use Rattle.rw_types.specs.declared.transfer.ReadFault.TheVariants as read
 use Rattle.rw_send.specs.declared.follow_fault.FollowFault.{FollowFault}
 use Rattle.rw_send.specs.declared.follow_fault.FollowFault.TheVariants as fault
-use Rattle.rw_send.specs.declared.halt.Halt.{Halt}
-use Rattle.rw_send.specs.declared.halt.Halt.TheVariants as halt
+use Rattle.rw_log_shipping.specs.declared.halt.Halt.{Halt}
+use Rattle.rw_log_shipping.specs.declared.halt.Halt.TheVariants as halt
 use Rattle.rw_send.specs.declared.live.Cut.{Cut}
 use Rattle.rw_send.specs.declared.live.Cut.TheVariants as cut
 use Rattle.rw_send.specs.Following.{FollowAnswers, HasRead, IsCut, IsFollowPrinted, IsFollowPrintedPart, IsFollowed, IsUnread, answer_by, meal_after, meal_of, no_meal, shipped_by, told}
 use Rattle.rw_send.specs.ReportText.{IsTextOf, WritesPart}
-use Rattle.rw_send.specs.Sending.{Answers, IsHalted, hard_fault}
+use Rattle.rw_log_shipping.specs.Halting.{IsHalted}
+use Rattle.rw_send.specs.Sending.{Answers, hard_fault}
 use Rattle.rw_send.proofs.AnswerLemmas.{answers_too}
 use Rattle.rw_send.proofs.PrintLemmas.{failed}
 

@@ -19,13 +19,14 @@ use Rattle.rw_fault.specs.declared.tool_fault.ToolFault.{ToolFault}
 use Rattle.rw_types.specs.declared.transfer.ReadFault.TheVariants as read
 use Rattle.rw_send.specs.declared.follow_fault.FollowFault.{FollowFault}
 use Rattle.rw_send.specs.declared.follow_fault.FollowFault.TheVariants as fault
-use Rattle.rw_send.specs.declared.halt.Halt.{Halt}
-use Rattle.rw_send.specs.declared.halt.Halt.TheVariants as halt
+use Rattle.rw_log_shipping.specs.declared.halt.Halt.{Halt}
+use Rattle.rw_log_shipping.specs.declared.halt.Halt.TheVariants as halt
 use Rattle.rw_send.specs.declared.live.Cut.{Cut}
 use Rattle.rw_send.specs.declared.live.Cut.TheVariants as cut
 use Rattle.rw_send.specs.ReportText.{IsTextOf, WritesPart}
-use Rattle.rw_send.specs.Segments.{AreShort}
-use Rattle.rw_send.specs.Sending.{Answers, IsHalted, IsReportOf}
+use Rattle.rw_log_shipping.specs.Segments.{AreShort}
+use Rattle.rw_log_shipping.specs.Halting.{IsHalted}
+use Rattle.rw_send.specs.Sending.{Answers, IsReportOf}
 
 -- nothing was given of the log, of which no segment is over
 pub record IsUnread (m : Moment) : Type 0 where

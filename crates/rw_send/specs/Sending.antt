@@ -1,8 +1,7 @@
 -- What a run of the command `send` does.
-use Rattle.std.specs.Prelude.{◌≡◌, ℕ, Bool, true, List, [], ◌∷◌, Option, None, Some, Result, Ok, Err, ⊤}
+use Rattle.std.specs.Prelude.{◌≡◌, ℕ, Bool, true, List, [], Option, None, Some, Result, Ok, Err, ⊤}
 use Rattle.std.specs.Io.KnownBytes.{Appends}
 use Rattle.rw_wal_format.specs.Pieces.{Piece}
-use Rattle.rw_feeder.specs.Feeders.{HasRead}
 use Rattle.rw_shard_core.specs.Configs.{choice_of}
 use Rattle.rw_shard_core.specs.declared.config.ConfigFields.{ConfigFields}
 use Rattle.rw_shard_core.specs.declared.outcome.Outcome.{Outcome}
@@ -11,15 +10,13 @@ use Rattle.rw_worker.specs.Transcript.{Exchange}
 use Rattle.rw_shipper.specs.Reports.{IsAbandoned}
 use Rattle.rw_shipper.specs.Shipping.{Shipping, HasStopped}
 use Rattle.rw_shipper.specs.declared.report.Report.{Report}
-use Rattle.rw_shipper.specs.declared.shipper.FeedFault.{FeedFault}
-use Rattle.rw_shipper.specs.declared.shipper.FeedFault.TheVariants as feed
 use Rattle.rw_fault.specs.declared.tool_fault.ToolFault.{ToolFault}
 use Rattle.rw_fault.specs.declared.tool_fault.ToolFault.TheVariants as fault
-use Rattle.rw_send.specs.declared.halt.Halt.{Halt}
-use Rattle.rw_send.specs.declared.halt.Halt.TheVariants as halt
+use Rattle.rw_log_shipping.specs.declared.halt.Halt.{Halt}
+use Rattle.rw_log_shipping.specs.declared.halt.Halt.TheVariants as halt
 use Rattle.rw_send.specs.ReportText.{IsTextOf, WritesPart}
-use Rattle.rw_send.specs.Segments.{AreShort, IsBeginningOf, IsLogOf}
-use Rattle.rw_send.specs.Steps.{AreShipped, AreShippedPart, HasStarted}
+use Rattle.rw_log_shipping.specs.Segments.{AreShort, AreSure, IsBeginningOf, IsLogOf}
+use Rattle.rw_log_shipping.specs.Steps.{AreShipped, AreShippedPart, HasStarted}
 
 -- a shipper that was configured so was fed these pieces, and this is the report of its stop
 pub record IsReportOf {T : Type 0} (tells : T → Type 0) (seen : T → List Exchange) (is_for : ℕ → ℕ → T → Type 0) (c : ConfigFields) (pieces : List Piece) (r : Report T) : Type 0 where
@@ -50,11 +47,6 @@ Answers whole unsure o (Err fault.Device) = IsAbandoned o × unsure
 Answers whole unsure o (Err (fault.Line n)) = ⊥
 Answers whole unsure o (Err fault.SegmentFull) = ⊥
 
--- no read of these readers can fail
-abbrev pub AreSure : List Bool → Type 0
-AreSure [] = ⊤
-AreSure (sure ∷ sures) = (sure ≡ true) × AreSure sures
-
 -- A beginning of the segments that readers had left, which are sure or not, was shipped in short pieces, and after each segment the number of shards was
 -- set; with this report and this answer.
 pub record IsSent {T : Type 0} (tells : T → Type 0) (seen : T → List Exchange) (is_for : ℕ → ℕ → T → Type 0) (c : ConfigFields) (lefts : List (Option (List ℕ))) (sures : List Bool) (r : Report T) (answer : Result (Unit {0}) ToolFault) : Type 0 where
@@ -82,25 +74,9 @@ pub record IsPrintedPart {T : Type 0} (tells : T → Type 0) (seen : T → List 
   pub sent : IsSent tells seen is_for c lefts sures report answer
   pub part : WritesPart report before after
 
--- which series are sent and the configuration stay
-abbrev pub IsKept : {T : Type 0} → Shipping T → Shipping T → Type 0
-IsKept old new = (new.log.choice ≡ old.log.choice) × (new.fleet.config ≡ old.fleet.config)
-
--- why reading ends
-abbrev pub halt_of : FeedFault → Halt
-halt_of feed.OutOfMemory = halt.Failed
-halt_of (feed.Damaged f) = halt.Damaged f
-halt_of feed.Gone = halt.Failed
-
 -- for this fault the work is stopped at once; a damaged log is shipped as far as it goes
 abbrev pub hard_fault : Result (Unit {0}) Halt → Option ToolFault
 hard_fault (Ok u) = None
 hard_fault (Err (halt.Damaged f)) = None
 hard_fault (Err halt.Failed) = Some fault.OutOfMemory
 hard_fault (Err halt.Unreadable) = Some fault.Device
-
--- the log has the fault for which reading ends, and the shipper goes on
-abbrev pub IsHalted : {T : Type 0} → Shipping T → Halt → Type 0
-IsHalted s (halt.Damaged f) = HasRead s.log.pieces s.log.placed (Some f) × (s.fault ≡ None)
-IsHalted s halt.Failed = ⊤
-IsHalted s halt.Unreadable = ⊤

@@ -8,15 +8,13 @@ ghost use Rattle.rw_send.specs.Following.{IsFollowPrinted, IsFollowPrintedPart, 
 ghost use Rattle.rw_send.specs.declared.follow_fault.FollowFault.TheVariants.{Tool, Missing, Stopped};
 
 use crate::follow_fault::FollowFault;
-use crate::halt::Halt;
 use crate::live::{Cut, ship_live};
 use crate::printing::print_report;
 use crate::send::{Sent, stopped};
-use crate::sharding::Sharding;
-use crate::shipping::zeros;
-use crate::telling::{Counted, Means, tell, tell_report};
+use crate::telling::{Counted, tell_report};
 use rw_fault::ToolFault;
 use rw_follow::{Broken, Segments, Stop, Watch};
+use rw_log_shipping::{Halt, Means, Sharding, tell, zeros};
 use rw_settings::Settings;
 use rw_shard_core::Config;
 use rw_shipper::{Connect, Report, Shipper};

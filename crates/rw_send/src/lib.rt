@@ -6,13 +6,10 @@ mod files;
 mod folder;
 mod follow_fault;
 mod following;
-mod halt;
 mod live;
 mod opened;
 mod printing;
 mod send;
-mod sharding;
-mod shipping;
 mod telling;
 
 pub use connect::TcpConnect;

@@ -6,14 +6,12 @@ ghost use Rattle.rw_follow.specs.Growth.{HadAll, IsBeginning, Known, with_next, 
 ghost use Rattle.rw_follow.specs.Turns.{IsWithin, given_by, wish_of};
 ghost use Rattle.rw_follow.specs.declared.follower.Stop.TheVariants as Stop;
 ghost use Rattle.rw_send.specs.Following.{IsCut, IsUnread, meal_of};
-ghost use Rattle.rw_send.specs.Segments.{AreShort};
-ghost use Rattle.rw_send.specs.Sending.{IsHalted, IsKept};
+ghost use Rattle.rw_log_shipping.specs.Segments.{AreShort};
+ghost use Rattle.rw_log_shipping.specs.Halting.{IsHalted};
+ghost use Rattle.rw_log_shipping.specs.Steps.{IsKept};
 
-use crate::halt::Halt;
-use crate::sharding::{Sharding, resharded, retuned};
-use crate::shipping::begin_segment;
-use crate::telling::{Means, tell};
 use rw_follow::{Broken, Follower, Segments, Stop, Turn, Watch};
+use rw_log_shipping::{Halt, Means, Sharding, begin_segment, resharded, retuned, tell};
 use rw_shipper::{Connect, Shipper};
 use rw_wal_tail::Piece;
 use std::alloc::Global;

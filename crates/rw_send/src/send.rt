@@ -6,14 +6,13 @@ ghost use Rattle.rw_shipper.specs.Reports.{IsAbandoned, ListsCut};
 ghost use Rattle.rw_shipper.specs.Shipping.{HasStopped};
 ghost use Rattle.rw_fault.specs.declared.tool_fault.ToolFault.{ToolFault};
 ghost use Rattle.rw_fault.specs.declared.tool_fault.ToolFault.TheVariants.{OutOfMemory, Log, Line, SegmentFull, Device};
-ghost use Rattle.rw_send.specs.Sending.{answer_to, hard_fault, Answers, IsHalted, IsPrinted, IsPrintedPart, IsSent};
+ghost use Rattle.rw_log_shipping.specs.Halting.{IsHalted};
+ghost use Rattle.rw_send.specs.Sending.{answer_to, hard_fault, Answers, IsPrinted, IsPrintedPart, IsSent};
 
-use crate::halt::Halt;
 use crate::printing::print_report;
-use crate::sharding::Sharding;
-use crate::shipping::ship_all;
-use crate::telling::{Counted, Means, tell, tell_report};
+use crate::telling::{Counted, tell_report};
 use rw_fault::ToolFault;
+use rw_log_shipping::{Halt, Means, Sharding, ship_all, tell};
 use rw_settings::Settings;
 use rw_shard_core::Config;
 use rw_shipper::{Connect, Outcome, Report, Shipper};

@@ -1,9 +1,8 @@
-//! Counters are told what a shipper does.
+//! Counters are told what a shipper did that has stopped.
 
 use rw_ledger::{Ledger, Reason};
 use rw_metrics::SendCounters;
-use rw_shipper::{Connect, Report, Shipper};
-use std::alloc::Global;
+use rw_shipper::Report;
 
 /// What connects to a receiver, what counts the work, and how many bytes the body of a batch may
 /// take. Nothing is claimed of the counters, nor of the limit.
@@ -13,22 +12,6 @@ pub struct Counted<'a, C> {
     pub counters: &'a SendCounters,
     /// None for no limit.
     pub max_batch_bytes: Option<u64>,
-}
-
-/// What a log is fed with, beside its shipper.
-#[derive(Clone, Copy)]
-pub(crate) struct Means<'a> {
-    pub(crate) alloc: Global,
-    pub(crate) counters: &'a SendCounters,
-}
-
-/// Tells how far a shipper has come, and what it has dropped and filtered of the log so far.
-pub(crate) fn tell<C: Connect + Drop>(counters: &SendCounters, shipper: &Shipper<C>) {
-    let load = shipper.load();
-    counters.set_entries(shipper.entries_read());
-    counters.set_load(load.placed, load.resolved, load.backlog);
-    counters.set_filtered(shipper.filtered());
-    counters.drop_unsent(shipper.dropped().iter().as_slice());
 }
 
 /// Tells what a worker has dropped that has stopped: the samples of the batches that were refused.

@@ -1,9 +1,10 @@
 pub use Rattle.rw_fault.specs.Faults
 pub use Rattle.rw_fault.specs.Printed
+pub use Rattle.rw_labelling.specs.Labelled
+pub use Rattle.rw_labelling.specs.Labelling
 pub use Rattle.rw_log_commands.specs.Body
 pub use Rattle.rw_fault.specs.Faults
 pub use Rattle.rw_log_commands.specs.Filling
-pub use Rattle.rw_log_commands.specs.Labelling
 pub use Rattle.rw_log_commands.specs.Logging
 pub use Rattle.rw_log_commands.specs.LogText
 pub use Rattle.rw_log_commands.specs.Planning
@@ -13,11 +14,12 @@ pub use Rattle.rw_log_commands.specs.Taking
 pub use Rattle.rw_replay.specs.Played
 pub use Rattle.rw_replay.specs.Runs
 pub use Rattle.rw_replay.specs.Writing
+pub use Rattle.rw_log_shipping.specs.Halting
+pub use Rattle.rw_log_shipping.specs.Segments
+pub use Rattle.rw_log_shipping.specs.Steps
 pub use Rattle.rw_send.specs.Folders
 pub use Rattle.rw_send.specs.Following
 pub use Rattle.rw_send.specs.Opening
 pub use Rattle.rw_send.specs.ReportText
-pub use Rattle.rw_send.specs.Segments
 pub use Rattle.rw_send.specs.Sending
-pub use Rattle.rw_send.specs.Steps
 pub use Rattle.rw_receive.specs.Receiving

@@ -39,7 +39,8 @@ fn up(alloc: Global) -> Result<Arc<LabelSet>, LabelFault> {
 
 /// The sample of this number, of the queue of shard 0 in epoch 0.
 fn sample(seq: u64, t: i64, labels: Arc<LabelSet>) -> Item
-    ensures { result ≡ item.Sample (record { epoch = 0; shard = 0; seq = seq; pos = seq; series = 0 }) t 1 labels }
+    ensures { result ≡ item.Sample
+        (record { epoch = 0; shard = 0; seq = seq; pos = seq; series = 0 }) t 1 labels }
 {
     let place = Place {
         epoch: 0,

@@ -32,7 +32,7 @@ fn holds(rt: &HostRuntime, dir: &str, wanted: &[u8]) -> Result<bool, AllocError>
 }
 
 /// A new folder of this name.
-fn new_folder(rt: &HostRuntime, name: &str) -> Result<PathBuf, Fail> {
+pub(crate) fn new_folder(rt: &HostRuntime, name: &str) -> Result<PathBuf, Fail> {
     let temp = env::temp_dir(rt)?;
     let dir = temp.as_path().join(rt.alloc(), name)?;
     let _ = fs::remove_dir_all(rt, dir.as_path());

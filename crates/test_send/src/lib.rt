@@ -1,12 +1,23 @@
-//! Tests of requests over TCP, of the receiver that takes them, and of the command `send`, over memory and over the loopback interface.
+//! Tests of the commands `send` and `receive` and of what they stand on: requests over TCP, a log that is followed while it grows, the receiver as a service, its
+//! sign to stop and its counters; over memory, over a folder and over the loopback interface.
 #![tactic(auto)]
 
 #[cfg(test)]
 mod asks;
 #[cfg(test)]
+mod clients;
+#[cfg(test)]
 mod connections;
 #[cfg(test)]
+mod countdown;
+#[cfg(test)]
 mod folder;
+#[cfg(test)]
+mod growing;
+#[cfg(test)]
+mod growing_folder;
+#[cfg(test)]
+mod kept;
 #[cfg(test)]
 mod logs;
 #[cfg(test)]
@@ -14,6 +25,14 @@ mod loopback;
 #[cfg(test)]
 mod memory;
 #[cfg(test)]
+mod metrics;
+#[cfg(test)]
 mod receivers;
 #[cfg(test)]
 mod rows;
+#[cfg(test)]
+mod service;
+#[cfg(test)]
+mod shipped;
+#[cfg(test)]
+mod stops;

@@ -3,14 +3,13 @@
 
 ghost use Rattle.std.specs.Prelude.{◌<◌, ◌≤◌};
 
-use crate::rows::none_is_wrong;
+use crate::rows::{holds, none_is_wrong};
 use crate::samples::{Row, sample};
 use rw_batch::{Batch, BatchId, Builder};
 use rw_ledger::Ledger;
 use rw_plain_queue::{Item, Kind};
 use rw_types::LabelFault;
 use std::alloc::{AllocError, Global};
-use std::test::Fail;
 
 /// The sample numbered `seq`, at the position of that number.
 fn item(alloc: Global, seq: u64, row: Row) -> Result<Item, LabelFault> {
@@ -36,25 +35,32 @@ fn take(builder: &mut Builder, item: Item) -> bool {
     true
 }
 
+/// Takes the sample of this number, if there is one.
+fn take_row(alloc: Global, builder: &mut Builder, seq: u64, row: Row) -> bool {
+    match item(alloc, seq, row) {
+        Ok(item) => take(builder, item),
+        Err(_) => false,
+    }
+}
+
 /// Takes these samples, the first one with the number 7, up to one that it cannot take.
-fn take_all(alloc: Global, builder: &mut Builder, rows: &[Row]) -> Result<(), LabelFault> {
+fn take_all(alloc: Global, builder: &mut Builder, rows: &[Row]) {
     let mut seq = 7;
     for row in rows {
-        if !take(builder, item(alloc, seq, *row)?) {
-            return Ok(());
+        if !take_row(alloc, builder, seq, *row) {
+            return;
         }
         seq = seq.saturating_add(1);
     }
-    Ok(())
 }
 
 /// A builder with room for so many samples that took these.
-fn built(alloc: Global, batch: usize, rows: &[Row]) -> Result<Builder, LabelFault>
+fn built(alloc: Global, batch: usize, rows: &[Row]) -> Result<Builder, AllocError>
     requires some { 0 < batch }
     requires most { batch ≤ 10000 }
 {
     let mut builder = builder_of(alloc, batch)?;
-    take_all(alloc, &mut builder, rows)?;
+    take_all(alloc, &mut builder, rows);
     Ok(builder)
 }
 
@@ -71,14 +77,22 @@ static BODIES: [(&[Row], &[u8]); 2] = [
     ),
 ];
 
-/// Whether the builder's batch would have this body.
-fn has_body(builder: &Builder, body: &[u8]) -> Result<bool, AllocError> {
+/// The body of the builder's batch, asked for again where memory was refused.
+fn body_of(builder: &Builder) -> Result<Vec<u8>, AllocError> {
     if builder.is_empty() {
-        return Ok(false);
+        return Err(AllocError);
     }
     match builder.body() {
-        Ok(found) => Ok(found.as_slice() == body),
-        Err(_) => Ok(builder.body()?.as_slice() == body),
+        Err(_) => builder.body(),
+        body => body,
+    }
+}
+
+/// Whether the builder's batch would have this body.
+fn has_body(builder: &Builder, body: &[u8]) -> bool {
+    match body_of(builder) {
+        Ok(found) => found.as_slice() == body,
+        Err(_) => false,
     }
 }
 
@@ -123,40 +137,38 @@ fn is_batch(batch: &Batch, samples: usize, body: &[u8]) -> bool {
 }
 
 /// Whether a builder makes a batch of so many samples with this body, and room for them in the ledger.
-fn makes_batch(
-    alloc: Global,
-    builder: Builder,
-    samples: usize,
-    body: &[u8],
-) -> Result<bool, AllocError> {
+fn makes_batch(alloc: Global, builder: Builder, samples: usize, body: &[u8]) -> bool {
     let mut ledger = Ledger::new(alloc);
-    let batch = frozen(builder, &mut ledger)?;
-    let is_right = is_batch(&batch, samples, body);
-    Ok(is_right && ledger.left() == samples && ledger.total() == 0)
+    match frozen(builder, &mut ledger) {
+        Ok(batch) => {
+            is_batch(&batch, samples, body) && ledger.left() == samples && ledger.total() == 0
+        }
+        Err(_) => false,
+    }
 }
 
 /// Whether these samples make this body, and a batch with it.
-fn make_body(alloc: Global, samples: &[Row], body: &[u8]) -> Result<bool, LabelFault> {
-    let builder = built(alloc, 3, samples)?;
-    if !has_body(&builder, body)? {
-        return Ok(false);
+fn make_body(alloc: Global, samples: &[Row], body: &[u8]) -> bool {
+    match built(alloc, 3, samples) {
+        Ok(builder) => {
+            has_body(&builder, body) && makes_batch(alloc, builder, samples.len(), body)
+        }
+        Err(_) => false,
     }
-    Ok(makes_batch(alloc, builder, samples.len(), body)?)
 }
 
-fn wrong_body(alloc: Global) -> Result<Option<usize>, LabelFault> {
+fn wrong_body(alloc: Global) -> Option<usize> {
     for (i, (samples, body)) in BODIES.iter().enumerate() {
-        if !make_body(alloc, samples, body)? {
-            return Ok(Some(i));
+        if !make_body(alloc, samples, body) {
+            return Some(i);
         }
     }
-    Ok(None)
+    None
 }
 
 #[test]
-fn bodies_group_by_labels(rt: HostRuntime) -> Result<(), Fail> {
-    none_is_wrong(&rt, wrong_body(rt.alloc())?);
-    Ok(())
+fn bodies_group_by_labels(rt: HostRuntime) {
+    none_is_wrong(&rt, wrong_body(rt.alloc()));
 }
 
 const TWO: &[Row] = &[("a", 0, 1), ("b", 0, 2)];
@@ -180,25 +192,33 @@ fn has_taken(builder: &Builder, count: usize) -> bool {
 }
 
 /// Whether a builder of three that took these samples can take the next one, or not.
-fn takes(alloc: Global, samples: &[Row], next: &Item, can: bool) -> Result<bool, LabelFault> {
-    let builder = built(alloc, 3, samples)?;
-    Ok(has_taken(&builder, samples.len()) && builder.can_take(next) == can)
+fn takes(alloc: Global, samples: &[Row], next: &Item, can: bool) -> bool {
+    match built(alloc, 3, samples) {
+        Ok(builder) => has_taken(&builder, samples.len()) && builder.can_take(next) == can,
+        Err(_) => false,
+    }
 }
 
-fn wrong_next(alloc: Global) -> Result<Option<usize>, LabelFault> {
+/// The same of the sample of this number.
+fn takes_row(alloc: Global, samples: &[Row], seq: u64, row: Row, can: bool) -> bool {
+    match item(alloc, seq, row) {
+        Ok(next) => takes(alloc, samples, &next, can),
+        Err(_) => false,
+    }
+}
+
+fn wrong_next(alloc: Global) -> Option<usize> {
     for (i, (samples, seq, row, can)) in NEXT.iter().enumerate() {
-        let next = item(alloc, *seq, *row)?;
-        if !takes(alloc, samples, &next, *can)? {
-            return Ok(Some(i));
+        if !takes_row(alloc, samples, *seq, *row, *can) {
+            return Some(i);
         }
     }
-    Ok(None)
+    None
 }
 
 #[test]
-fn only_the_next_sample_is_taken(rt: HostRuntime) -> Result<(), Fail> {
-    none_is_wrong(&rt, wrong_next(rt.alloc())?);
-    Ok(())
+fn only_the_next_sample_is_taken(rt: HostRuntime) {
+    none_is_wrong(&rt, wrong_next(rt.alloc()));
 }
 
 /// Whether a builder has ten samples, each with this field.
@@ -212,14 +232,15 @@ fn has_fields(builder: &Builder, field: &[u8]) -> bool {
 }
 
 /// Whether ten samples of the word 3 at -1 ms have this field each.
-fn have_field(alloc: Global, field: &[u8]) -> Result<bool, LabelFault> {
-    let builder = built(alloc, 10, &[("up", 0x4008_0000_0000_0000, -1); 10])?;
-    Ok(has_fields(&builder, field))
+fn have_field(alloc: Global, field: &[u8]) -> bool {
+    match built(alloc, 10, &[("up", 0x4008_0000_0000_0000, -1); 10]) {
+        Ok(builder) => has_fields(&builder, field),
+        Err(_) => false,
+    }
 }
 
 #[test]
-fn fields_are_lent(rt: HostRuntime) -> Result<(), Fail> {
+fn fields_are_lent(rt: HostRuntime) {
     let field = b"\x12\x14\x09\0\0\0\0\0\0\x08\x40\x10\xff\xff\xff\xff\xff\xff\xff\xff\xff\x01";
-    assert!(rt; have_field(rt.alloc(), field)?);
-    Ok(())
+    holds(&rt, have_field(rt.alloc(), field));
 }

@@ -5,12 +5,12 @@ ghost use Rattle.std.specs.Prelude.{◌≡◌, ◌∷◌, [], codes, OnOk};
 ghost use Rattle.rw_batch.specs.Grouping.{with_sample};
 ghost use Rattle.rw_batch.specs.Groups.{StandsFor, with_number};
 
+use crate::rows::holds;
 use crate::samples::metric;
 use rw_batch::Grouping;
 use rw_types::{LabelFault, Word};
 use rw_write_request::{Message, Series};
 use std::alloc::Global;
-use std::test::Fail;
 
 /// Groups one more sample of a metric, whose word is 0.
 fn add(
@@ -49,12 +49,6 @@ fn add_all(alloc: Global, grouping: &mut Grouping) -> Result<(), LabelFault>
     add(alloc, grouping, 4, "a", 3)
 }
 
-fn grouped(alloc: Global) -> Result<Grouping, LabelFault> {
-    let mut grouping = Grouping::new(alloc);
-    add_all(alloc, &mut grouping)?;
-    Ok(grouping)
-}
-
 /// Whether a message has the two series.
 fn has_both(message: &Message) -> bool {
     message.series.len() == 2
@@ -62,17 +56,21 @@ fn has_both(message: &Message) -> bool {
         && shows(&message.series[1], "b", &[(Word(0), 2)])
 }
 
-#[test]
-fn samples_are_grouped_by_labels(rt: HostRuntime) -> Result<(), Fail> {
-    let grouping = grouped(rt.alloc())?;
-    assert!(rt; grouping.len() == 2 && !grouping.is_empty());
-    assert!(rt; has_both(&grouping.into_message()));
-    Ok(())
+fn are_grouped(alloc: Global) -> bool {
+    let mut grouping = Grouping::new(alloc);
+    add_all(alloc, &mut grouping).is_ok()
+        && grouping.len() == 2
+        && !grouping.is_empty()
+        && has_both(&grouping.into_message())
+}
+
+fn is_no_message(alloc: Global) -> bool {
+    let grouping = Grouping::new(alloc);
+    grouping.is_empty() && grouping.len() == 0 && grouping.into_message().series.is_empty()
 }
 
 #[test]
-fn no_samples_are_no_message(rt: HostRuntime) {
-    let grouping = Grouping::new(rt.alloc());
-    assert!(rt; grouping.is_empty() && grouping.len() == 0);
-    assert!(rt; grouping.into_message().series.is_empty());
+fn samples_are_grouped_by_labels(rt: HostRuntime) {
+    holds(&rt, are_grouped(rt.alloc()));
+    holds(&rt, is_no_message(rt.alloc()));
 }

@@ -1,9 +1,8 @@
 //! Dropped samples. The calls that take memory are made again where it is refused, so each test can be run with each
 //! allocation refused in turn: the refused call changes nothing.
 
+use crate::rows::holds;
 use rw_ledger::{Ledger, Reason};
-use std::alloc::AllocError;
-use std::test::Fail;
 
 /// A position, and why its sample was dropped.
 type Name = (u64, Reason);
@@ -25,14 +24,10 @@ static SORTED: [Name; 4] = [
 ];
 
 /// Adds room for so many names, and answers whether a refused call, if there was one, changed nothing.
-fn add_room(ledger: &mut Ledger, n: usize) -> Result<bool, AllocError> {
+fn add_room(ledger: &mut Ledger, n: usize) -> bool {
     let (left, total) = (ledger.left(), ledger.total());
-    if ledger.room(n).is_ok() {
-        return Ok(true);
-    }
-    let is_same = ledger.left() == left && ledger.total() == total;
-    ledger.room(n)?;
-    Ok(is_same)
+    ledger.room(n).is_ok()
+        || (ledger.left() == left && ledger.total() == total && ledger.room(n).is_ok())
 }
 
 /// Names a position, where there is room for it and it has no name.
@@ -78,14 +73,15 @@ fn has_names(ledger: &Ledger) -> bool {
 }
 
 /// Whether names can be made in room for five, and one of the five given back.
-fn names_stand(ledger: &mut Ledger) -> Result<bool, AllocError> {
-    let is_same = add_room(ledger, 3)? && add_room(ledger, 2)?;
-    Ok(is_same && add_names(ledger) && give_back(ledger, 1) && has_names(ledger))
+fn names_stand(ledger: &mut Ledger) -> bool {
+    add_room(ledger, 3)
+        && add_room(ledger, 2)
+        && add_names(ledger)
+        && give_back(ledger, 1)
+        && has_names(ledger)
 }
 
 #[test]
-fn names_stand_by_position(rt: HostRuntime) -> Result<(), Fail> {
-    let mut ledger = Ledger::new(rt.alloc());
-    assert!(rt; names_stand(&mut ledger)?);
-    Ok(())
+fn names_stand_by_position(rt: HostRuntime) {
+    holds(&rt, names_stand(&mut Ledger::new(rt.alloc())));
 }

@@ -4,7 +4,6 @@
 use crate::rows::none_is_wrong;
 use rw_plain_queue::{Item, Kind, PlainQueue, PutFault};
 use std::alloc::{AllocError, Global};
-use std::test::Fail;
 
 /// What is done with a queue, and what is then seen.
 #[derive(Clone, Copy)]
@@ -73,13 +72,25 @@ fn does(queue: &mut PlainQueue, step: Step) -> bool {
     }
 }
 
-/// The first of these steps with a queue of this capacity that goes otherwise.
-fn wrong_step(alloc: Global, capacity: usize, steps: &[Step]) -> Result<Option<usize>, AllocError> {
-    let mut queue = queue_of(alloc, capacity)?;
-    Ok(steps.iter().position(|step| !does(&mut queue, *step)))
+/// The first of these steps that goes otherwise.
+fn wrong_step(queue: &mut PlainQueue, steps: &[Step]) -> Option<usize> {
+    for (i, step) in steps.iter().enumerate() {
+        if !does(queue, *step) {
+            return Some(i);
+        }
+    }
+    None
 }
 
-static IN_ORDER: &[Step] = &[
+/// The same with a new queue of this capacity.
+fn wrong_step_of(alloc: Global, capacity: usize, steps: &[Step]) -> Option<usize> {
+    match queue_of(alloc, capacity) {
+        Ok(mut queue) => wrong_step(&mut queue, steps),
+        Err(_) => Some(0),
+    }
+}
+
+const IN_ORDER: &[Step] = &[
     Step::Len(0),
     Step::Put(Kind::Orderly, 0),
     Step::Put(Kind::Reshard, 0),
@@ -92,13 +103,7 @@ static IN_ORDER: &[Step] = &[
     Step::Take(None),
 ];
 
-#[test]
-fn items_come_in_order(rt: HostRuntime) -> Result<(), Fail> {
-    none_is_wrong(&rt, wrong_step(rt.alloc(), 2, IN_ORDER)?);
-    Ok(())
-}
-
-static CLOSED: &[Step] = &[
+const CLOSED: &[Step] = &[
     Step::Put(Kind::Orderly, 0),
     Step::Refusal(PutFault::Full),
     Step::Close,
@@ -107,21 +112,14 @@ static CLOSED: &[Step] = &[
     Step::Put(Kind::Hard, 2),
 ];
 
-static KILLED_EMPTY: &[Step] = &[
+const KILLED_EMPTY: &[Step] = &[
     Step::Refusal(PutFault::Full),
     Step::Kill,
     Step::Put(Kind::Hard, 2),
     Step::Take(None),
 ];
 
-#[test]
-fn closed_and_killed_queues(rt: HostRuntime) -> Result<(), Fail> {
-    none_is_wrong(&rt, wrong_step(rt.alloc(), 1, CLOSED)?);
-    none_is_wrong(&rt, wrong_step(rt.alloc(), 0, KILLED_EMPTY)?);
-    Ok(())
-}
-
-static KILLED_WITH_A_FLUSH: &[Step] = &[
+const KILLED_WITH_A_FLUSH: &[Step] = &[
     Step::PutFlush,
     Step::Kill,
     Step::Len(1),
@@ -130,8 +128,30 @@ static KILLED_WITH_A_FLUSH: &[Step] = &[
     Step::Put(Kind::Orderly, 2),
 ];
 
+/// The capacity of a queue, and what is done with it.
+type Schedule = (usize, &'static [Step]);
+
+static SCHEDULES: [Schedule; 4] = [
+    (2, IN_ORDER),
+    (1, CLOSED),
+    (0, KILLED_EMPTY),
+    (3, KILLED_WITH_A_FLUSH),
+];
+
+fn schedules() -> &'static [Schedule] {
+    &SCHEDULES
+}
+
+fn wrong_schedule(alloc: Global, schedules: &[Schedule]) -> Option<usize> {
+    for (i, (capacity, steps)) in schedules.iter().enumerate() {
+        if wrong_step_of(alloc, *capacity, steps).is_some() {
+            return Some(i);
+        }
+    }
+    None
+}
+
 #[test]
-fn a_killed_queue_gives_nothing(rt: HostRuntime) -> Result<(), Fail> {
-    none_is_wrong(&rt, wrong_step(rt.alloc(), 3, KILLED_WITH_A_FLUSH)?);
-    Ok(())
+fn items_come_in_order_until_it_is_killed(rt: HostRuntime) {
+    none_is_wrong(&rt, wrong_schedule(rt.alloc(), schedules()));
 }

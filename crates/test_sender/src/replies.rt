@@ -1,72 +1,13 @@
 //! What the bytes of replies say.
 
-use crate::rows::none_is_wrong;
+use crate::rows::{holds, none_is_wrong};
+use Row::{Begun, Headed, Parts};
 use rw_shard_core::{MAX_FIELDS, MAX_HEAD_BYTES, ReplyRead, read_reply};
 use std::alloc::{AllocError, Global};
-use std::test::Fail;
 
 const NO_CONTENT: &[u8] = b"HTTP/1.1 204 No Content\r\nConnection: close\r\n\r\n";
 
 const CONTINUE: &[u8] = b"HTTP/1.1 100 Continue\r\n\r\n";
-
-/// Two parts of a reply, one after the other, and what they say.
-static STATUSES: [(&[u8], &[u8], ReplyRead); 14] = [
-    (NO_CONTENT, b"", ReplyRead::Status(204)),
-    (
-        NO_CONTENT,
-        b"HTTP/1.1 500 X\r\n\r\n",
-        ReplyRead::Status(204),
-    ),
-    (CONTINUE, b"", ReplyRead::Partial),
-    (CONTINUE, NO_CONTENT, ReplyRead::Status(204)),
-    (CONTINUE, CONTINUE, ReplyRead::Partial),
-    (
-        CONTINUE,
-        b"HTTP/1.1 103 Hints\r\n\r\nHTTP/1.1 429 X\r\n\r\n",
-        ReplyRead::Status(429),
-    ),
-    (CONTINUE, b"no head", ReplyRead::Bad),
-    (b"HTTP/1.1 199 X\r\n\r\n", b"", ReplyRead::Partial),
-    (b"HTTP/1.1 200 X\r\n\r\n", b"", ReplyRead::Status(200)),
-    (b"HTTP/1.1 099 X\r\n\r\n", b"", ReplyRead::Bad),
-    (b"HTTP/1.1 999 X\r\n\r\n", b"", ReplyRead::Status(999)),
-    (b"\r\nHTTP/1.0 503\n\n", b"", ReplyRead::Status(503)),
-    (b"HTTP/2 200 OK\r\n\r\n", b"", ReplyRead::Bad),
-    (b"HTTP/1.1 2000 OK\r\n\r\n", b"", ReplyRead::Bad),
-];
-
-fn read_both(alloc: Global, front: &[u8], rest: &[u8]) -> Result<ReplyRead, AllocError> {
-    let mut text = front.to_vec(alloc)?;
-    text.extend_from_slice(rest)?;
-    Ok(read_reply(&text))
-}
-
-/// The first row of the statuses that reads otherwise.
-fn wrong_status(alloc: Global) -> Result<Option<usize>, AllocError> {
-    for (i, (front, rest, read)) in STATUSES.iter().enumerate() {
-        if read_both(alloc, front, rest)? != *read {
-            return Ok(Some(i));
-        }
-    }
-    Ok(None)
-}
-
-/// How much of a text has to be there until it says something.
-fn decisive(text: &[u8]) -> usize {
-    for len in 0..text.len() {
-        if read_reply(&text[..len]) != ReplyRead::Partial {
-            return len;
-        }
-    }
-    text.len()
-}
-
-#[test]
-fn statuses(rt: HostRuntime) -> Result<(), Fail> {
-    assert!(rt; decisive(NO_CONTENT) == NO_CONTENT.len());
-    none_is_wrong(&rt, wrong_status(rt.alloc())?);
-    Ok(())
-}
 
 /// A status, so many fields, and how many bytes the first of them has as its value.
 type Head = (&'static [u8], usize, usize);
@@ -90,101 +31,133 @@ fn push_head(text: &mut Vec<u8>, head: Head) -> Result<(), AllocError> {
     text.extend_from_slice(b"\r\n\r\n")
 }
 
-fn head_of(alloc: Global, head: Head) -> Result<Vec<u8>, AllocError> {
-    let mut text = Vec::new(alloc);
-    push_head(&mut text, head)?;
-    Ok(text)
-}
-
 /// The bytes of such a head beside its first value, where it has that field alone.
 const AROUND_VALUE: usize = 21;
 
 /// The most bytes of such a value.
 const MOST: usize = MAX_HEAD_BYTES - AROUND_VALUE;
 
-/// Heads, what follows each, and what both say.
-static LIMITS: [(Head, &[u8], ReplyRead); 6] = [
-    ((b"204 ", MAX_FIELDS, 1), b"", ReplyRead::Status(204)),
-    ((b"204 ", MAX_FIELDS + 1, 1), b"", ReplyRead::Bad),
-    ((b"204 ", 1, MOST), b"", ReplyRead::Status(204)),
-    ((b"204 ", 1, MOST + 1), b"", ReplyRead::Bad),
-    (
+/// What a row says.
+enum Row {
+    /// Two parts of a reply, one after the other, and what they say.
+    Parts(&'static [u8], &'static [u8], ReplyRead),
+    /// A head, what follows it, and what both say.
+    Headed(Head, &'static [u8], ReplyRead),
+    /// A head, its last bytes, and what it says without them.
+    Begun(Head, &'static [u8], ReplyRead),
+}
+
+static ROWS: [Row; 24] = [
+    Parts(NO_CONTENT, b"", ReplyRead::Status(204)),
+    Parts(
+        NO_CONTENT,
+        b"HTTP/1.1 500 X\r\n\r\n",
+        ReplyRead::Status(204),
+    ),
+    Parts(CONTINUE, b"", ReplyRead::Partial),
+    Parts(CONTINUE, NO_CONTENT, ReplyRead::Status(204)),
+    Parts(CONTINUE, CONTINUE, ReplyRead::Partial),
+    Parts(
+        CONTINUE,
+        b"HTTP/1.1 103 Hints\r\n\r\nHTTP/1.1 429 X\r\n\r\n",
+        ReplyRead::Status(429),
+    ),
+    Parts(CONTINUE, b"no head", ReplyRead::Bad),
+    Parts(b"HTTP/1.1 199 X\r\n\r\n", b"", ReplyRead::Partial),
+    Parts(b"HTTP/1.1 200 X\r\n\r\n", b"", ReplyRead::Status(200)),
+    Parts(b"HTTP/1.1 099 X\r\n\r\n", b"", ReplyRead::Bad),
+    Parts(b"HTTP/1.1 999 X\r\n\r\n", b"", ReplyRead::Status(999)),
+    Parts(b"\r\nHTTP/1.0 503\n\n", b"", ReplyRead::Status(503)),
+    Parts(b"HTTP/2 200 OK\r\n\r\n", b"", ReplyRead::Bad),
+    Parts(b"HTTP/1.1 2000 OK\r\n\r\n", b"", ReplyRead::Bad),
+    // heads at their limits
+    Headed((b"204 ", MAX_FIELDS, 1), b"", ReplyRead::Status(204)),
+    Headed((b"204 ", MAX_FIELDS + 1, 1), b"", ReplyRead::Bad),
+    Headed((b"204 ", 1, MOST), b"", ReplyRead::Status(204)),
+    Headed((b"204 ", 1, MOST + 1), b"", ReplyRead::Bad),
+    Headed(
         (b"100 ", 1, MOST - NO_CONTENT.len()),
         NO_CONTENT,
         ReplyRead::Status(204),
     ),
-    (
+    Headed(
         (b"100 ", 1, MOST - NO_CONTENT.len() + 1),
         NO_CONTENT,
         ReplyRead::Bad,
     ),
+    // a head that is a byte too long
+    Begun((b"204 ", 1, MOST + 1), b"\r\n", ReplyRead::Partial),
+    Begun((b"204 ", 1, MOST + 1), b"\n", ReplyRead::Bad),
+    // a field too many is found before its head ends
+    Begun((b"204 ", MAX_FIELDS, 1), b"\r\n", ReplyRead::Partial),
+    Begun((b"204 ", MAX_FIELDS + 1, 1), b"\r\n", ReplyRead::Bad),
 ];
 
-/// Whether a head and what follows it say this.
-fn says(alloc: Global, head: Head, rest: &[u8], read: ReplyRead) -> Result<bool, AllocError> {
-    let head = head_of(alloc, head)?;
-    Ok(read_both(alloc, &head, rest)? == read)
+fn says_of_parts(alloc: Global, front: &[u8], rest: &[u8], read: ReplyRead) -> bool {
+    let mut text = Vec::new(alloc);
+    text.extend_from_slice(front).is_ok()
+        && text.extend_from_slice(rest).is_ok()
+        && read_reply(&text) == read
 }
 
-/// The first row of the limits that reads otherwise.
-fn wrong_limit(alloc: Global) -> Result<Option<usize>, AllocError> {
-    for (i, (head, rest, read)) in LIMITS.iter().enumerate() {
-        if !says(alloc, *head, rest, *read)? {
-            return Ok(Some(i));
-        }
+fn says(alloc: Global, head: Head, rest: &[u8], read: ReplyRead) -> bool {
+    let mut text = Vec::new(alloc);
+    push_head(&mut text, head).is_ok()
+        && text.extend_from_slice(rest).is_ok()
+        && read_reply(&text) == read
+}
+
+fn says_begun(alloc: Global, head: Head, end: &[u8], read: ReplyRead) -> bool {
+    let mut text = Vec::new(alloc);
+    if push_head(&mut text, head).is_err() {
+        return false;
     }
-    Ok(None)
-}
-
-/// A head, its last bytes, and what it says without them.
-type Beginning = (Head, &'static [u8], ReplyRead);
-
-fn says_begun(alloc: Global, beginning: Beginning) -> Result<bool, AllocError> {
-    let (head, end, read) = beginning;
-    let head = head_of(alloc, head)?;
-    match head.strip_suffix(end) {
-        Some(begun) => Ok(read_reply(begun) == read),
-        None => Ok(false),
+    match text.strip_suffix(end) {
+        Some(begun) => read_reply(begun) == read,
+        None => false,
     }
 }
 
-/// The first of these beginnings that reads otherwise.
-fn wrong_beginning(alloc: Global, rows: &[Beginning]) -> Result<Option<usize>, AllocError> {
+fn is_so(alloc: Global, row: &Row) -> bool {
+    match row {
+        Parts(front, rest, read) => says_of_parts(alloc, front, rest, *read),
+        Headed(head, rest, read) => says(alloc, *head, rest, *read),
+        Begun(head, end, read) => says_begun(alloc, *head, end, *read),
+    }
+}
+
+fn rows() -> &'static [Row] {
+    &ROWS
+}
+
+/// The first row that reads otherwise.
+fn wrong_row(alloc: Global, rows: &[Row]) -> Option<usize> {
     for (i, row) in rows.iter().enumerate() {
-        if !says_begun(alloc, *row)? {
-            return Ok(Some(i));
+        if !is_so(alloc, row) {
+            return Some(i);
         }
     }
-    Ok(None)
+    None
 }
 
-/// Beginnings of a head that is a byte too long.
-static TOO_LONG: [Beginning; 2] = [
-    ((b"204 ", 1, MOST + 1), b"\r\n", ReplyRead::Partial),
-    ((b"204 ", 1, MOST + 1), b"\n", ReplyRead::Bad),
-];
+/// How much of a text has to be there until it says something.
+fn decisive(text: &[u8]) -> usize {
+    for len in 0..text.len() {
+        if read_reply(&text[..len]) != ReplyRead::Partial {
+            return len;
+        }
+    }
+    text.len()
+}
 
-fn is_too_long(alloc: Global) -> Result<bool, AllocError> {
-    let head = head_of(alloc, (b"204 ", 1, MOST + 1))?;
-    Ok(head.len() == MAX_HEAD_BYTES + 1)
+fn is_too_long(alloc: Global) -> bool {
+    let mut head = Vec::new(alloc);
+    push_head(&mut head, (b"204 ", 1, MOST + 1)).is_ok() && head.len() == MAX_HEAD_BYTES + 1
 }
 
 #[test]
-fn limits(rt: HostRuntime) -> Result<(), Fail> {
-    none_is_wrong(&rt, wrong_limit(rt.alloc())?);
-    assert!(rt; is_too_long(rt.alloc())?);
-    none_is_wrong(&rt, wrong_beginning(rt.alloc(), &TOO_LONG)?);
-    Ok(())
-}
-
-static TOO_MANY: [Beginning; 2] = [
-    ((b"204 ", MAX_FIELDS, 1), b"\r\n", ReplyRead::Partial),
-    ((b"204 ", MAX_FIELDS + 1, 1), b"\r\n", ReplyRead::Bad),
-];
-
-/// A field too many is found before its head ends.
-#[test]
-fn a_field_too_many_decides(rt: HostRuntime) -> Result<(), Fail> {
-    none_is_wrong(&rt, wrong_beginning(rt.alloc(), &TOO_MANY)?);
-    Ok(())
+fn statuses_and_limits(rt: HostRuntime) {
+    none_is_wrong(&rt, wrong_row(rt.alloc(), rows()));
+    holds(&rt, decisive(NO_CONTENT) == NO_CONTENT.len());
+    holds(&rt, is_too_long(rt.alloc()));
 }

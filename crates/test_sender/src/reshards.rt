@@ -1,5 +1,6 @@
 //! How many shards are wanted, and the way from one epoch to the next.
 
+use crate::rows::holds;
 use rw_reshard::{Fleet, Make, NextFault, Running, Shard, want};
 use std::alloc::{AllocError, Global};
 
@@ -44,14 +45,13 @@ impl Make for Maker {
     }
 }
 
-#[test]
-fn wanted_shards(rt: HostRuntime) {
-    assert_eq!(rt; want(2, 100, 50, 0, 1, 50), 4);
-    assert_eq!(rt; want(10, 110, 100, 0, 1, 50), 10);
-    assert_eq!(rt; want(4, 0, 0, 9, 1, 50), 4);
-    assert_eq!(rt; want(4, 10, 40, 0, 1, 50), 1);
-    assert_eq!(rt; want(60, 0, 0, 0, 1, 50), 50);
-    assert_eq!(rt; want(1, 0, 1, u64::MAX, 1, 1000), 1000);
+fn are_wanted() -> bool {
+    want(2, 100, 50, 0, 1, 50) == 4
+        && want(10, 110, 100, 0, 1, 50) == 10
+        && want(4, 0, 0, 9, 1, 50) == 4
+        && want(4, 10, 40, 0, 1, 50) == 1
+        && want(60, 0, 0, 0, 1, 50) == 50
+        && want(1, 0, 1, u64::MAX, 1, 1000) == 1000
 }
 
 /// The shards of the second epoch, where `next` came once before the old ones were drained and once ran out of memory.
@@ -88,10 +88,15 @@ fn are_second(fleet: Fleet<Part, Running>) -> bool {
     made.len() == 0 && all.eq([(1, 0), (1, 1), (1, 2)])
 }
 
-#[test]
-fn next_epoch(rt: HostRuntime) {
-    match second_epoch(rt.alloc()) {
-        Some(fleet) => assert!(rt; are_second(fleet)),
-        None => panic!(rt; "another answer"),
+fn is_second_epoch(alloc: Global) -> bool {
+    match second_epoch(alloc) {
+        Some(fleet) => are_second(fleet),
+        None => false,
     }
+}
+
+#[test]
+fn wanted_shards_and_next_epoch(rt: HostRuntime) {
+    holds(&rt, are_wanted());
+    holds(&rt, is_second_epoch(rt.alloc()));
 }

@@ -1,10 +1,10 @@
 //! What becomes of a batch after a status, and how long it waits.
 
+use crate::rows::none_is_wrong;
 use http::StatusCode;
 use rw_retry::{Judgement, delay, judge};
 
-/// Statuses, and what becomes of a batch after one of them.
-static JUDGEMENTS: [(&[u16], Judgement); 3] = [
+static JUDGEMENTS: [Judged; 3] = [
     (&[200, 204, 299], Judgement::Done),
     (&[429, 500, 503, 599], Judgement::Again),
     (
@@ -20,13 +20,30 @@ fn is_judged(number: u16, judgement: Judgement) -> bool {
     }
 }
 
-#[test]
-fn judgements(rt: HostRuntime) {
-    for (numbers, judgement) in JUDGEMENTS {
-        for number in numbers {
-            assert!(rt; is_judged(*number, judgement), "{number}");
+/// The first of these numbers after which something else becomes of a batch.
+fn wrong_number(numbers: &[u16], judgement: Judgement) -> Option<u16> {
+    for number in numbers {
+        if !is_judged(*number, judgement) {
+            return Some(*number);
         }
     }
+    None
+}
+
+/// Statuses, and what becomes of a batch after one of them.
+type Judged = (&'static [u16], Judgement);
+
+fn judged() -> &'static [Judged] {
+    &JUDGEMENTS
+}
+
+fn wrong_judgement(rows: &[Judged]) -> Option<usize> {
+    for (i, (numbers, judgement)) in rows.iter().enumerate() {
+        if wrong_number(numbers, *judgement).is_some() {
+            return Some(i);
+        }
+    }
+    None
 }
 
 /// The least and the longest wait, the number of the retry, and the wait before it.
@@ -43,12 +60,17 @@ static DELAYS: [(u64, u64, u64, u64); 10] = [
     (2, u64::MAX, 63, u64::MAX),
 ];
 
-#[test]
-fn delays(rt: HostRuntime) {
-    for (least, most, retry, wait) in DELAYS {
-        assert!(rt;
-            least <= most && delay(least, most, retry) == wait,
-            "{retry}"
-        );
+fn wrong_delay() -> Option<usize> {
+    for (i, (least, most, retry, wait)) in DELAYS.iter().enumerate() {
+        if least > most || delay(*least, *most, *retry) != *wait {
+            return Some(i);
+        }
     }
+    None
+}
+
+#[test]
+fn judgements_and_delays(rt: HostRuntime) {
+    none_is_wrong(&rt, wrong_judgement(judged()));
+    none_is_wrong(&rt, wrong_delay());
 }

@@ -1,8 +1,13 @@
-//! The assertion behind each table.
+//! The assertions of all tests.
 
 use std::process::Abort;
 
 /// Stops at the first row of a table that is wrong, if there is one.
 pub(crate) fn none_is_wrong(rt: &impl Abort, row: Option<usize>) {
     assert_eq!(rt; row, None);
+}
+
+/// Stops where something does not hold.
+pub(crate) fn holds(rt: &impl Abort, is_so: bool) {
+    assert!(rt; is_so);
 }

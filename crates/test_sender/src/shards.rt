@@ -1,7 +1,7 @@
 //! A shard behind its queue: what it takes, sends and resolves. The calls that take memory are made again where it is refused, so
 //! each test can be run with each allocation refused in turn: the refused call changes nothing.
 
-use crate::rows::none_is_wrong;
+use crate::rows::{holds, none_is_wrong};
 use crate::samples::sample;
 use http::StatusCode;
 use rw_batch::BatchId;
@@ -11,7 +11,6 @@ use rw_retry::Judgement;
 use rw_shard_core::{Attempt, ShardCore, Target, request_bytes};
 use rw_types::LabelFault;
 use std::alloc::{AllocError, Global};
-use std::test::Fail;
 
 /// The message of the sample 1 at 1000 ms of the series `up`.
 const UP: &[u8] = &[
@@ -98,23 +97,27 @@ fn take(core: &mut ShardCore, item: Item) -> bool {
     true
 }
 
-fn take_sample(alloc: Global, shard: &mut Shard) -> Result<bool, LabelFault> {
-    let item = up(alloc, shard.seq)?;
-    shard.seq = shard.seq.saturating_add(1);
-    Ok(take(&mut shard.core, item))
+fn take_sample(alloc: Global, shard: &mut Shard) -> bool {
+    match up(alloc, shard.seq) {
+        Ok(item) => {
+            shard.seq = shard.seq.saturating_add(1);
+            take(&mut shard.core, item)
+        }
+        Err(_) => false,
+    }
 }
 
 /// Whether freezing answers this. Where memory is refused nothing is changed, and it freezes again.
-fn freezes(core: &mut ShardCore, ledger: &mut Ledger, done: bool) -> Result<bool, AllocError> {
+fn freezes(core: &mut ShardCore, ledger: &mut Ledger, done: bool) -> bool {
     let (due, left, pending) = (core.due(), ledger.left(), core.pending_places().len());
     if let Ok(answer) = core.freeze(ledger) {
-        return Ok(answer == done);
+        return answer == done;
     }
-    let is_same = core.due() == due
+    core.due() == due
         && core.batch_id().is_none()
         && core.pending_places().len() == pending
-        && ledger.left() == left;
-    Ok(core.freeze(ledger)? == done && is_same)
+        && ledger.left() == left
+        && core.freeze(ledger) == Ok(done)
 }
 
 /// Whether two attempts have the same bytes, if they are of one batch.
@@ -140,14 +143,16 @@ fn note_attempt(last: &mut Option<Attempt>, attempt: Option<Attempt>, seq: Optio
 }
 
 /// Attempts. Where memory is refused nothing is changed, and it attempts again.
-fn sends(shard: &mut Shard, seq: Option<u64>) -> Result<bool, AllocError> {
+fn sends(shard: &mut Shard, seq: Option<u64>) -> bool {
     let id = shard.core.batch_id();
     if let Ok(attempt) = shard.core.attempt() {
-        return Ok(note_attempt(&mut shard.last, attempt, seq));
+        return note_attempt(&mut shard.last, attempt, seq);
     }
     let is_same = !shard.core.is_waiting() && shard.core.batch_id() == id;
-    let attempt = shard.core.attempt()?;
-    Ok(note_attempt(&mut shard.last, attempt, seq) && is_same)
+    match shard.core.attempt() {
+        Ok(attempt) => note_attempt(&mut shard.last, attempt, seq) && is_same,
+        Err(_) => false,
+    }
 }
 
 /// Whether a reply of this status to the batch whose first sample has the number `seq` is judged so.
@@ -192,54 +197,60 @@ fn sees(shard: &Shard, step: Step) -> bool {
     }
 }
 
-/// Whether a step goes as it says.
-fn does(alloc: Global, shard: &mut Shard, step: Step) -> Result<bool, LabelFault> {
-    match step {
-        Step::Sample => take_sample(alloc, shard),
-        Step::Flush => Ok(take(&mut shard.core, Item::Flush)),
-        Step::End(kind) => Ok(take(&mut shard.core, Item::End(kind))),
-        Step::Freeze(done) => Ok(freezes(&mut shard.core, &mut shard.ledger, done)?),
-        Step::Send(seq) => Ok(sends(shard, seq)?),
-        Step::Reply(seq, status, answer) => Ok(judges(shard, seq, status, answer)),
-        Step::Lost(lost) => Ok(shard.core.lost() == lost),
-        Step::Kill => {
-            shard.core.kill();
-            Ok(true)
-        }
-        Step::NotTaken(seq) => {
-            let item = up(alloc, seq)?;
-            Ok(!shard.core.may_take(&item))
-        }
-        _ => Ok(sees(shard, step)),
+/// Whether the sample of this number cannot be taken.
+fn is_not_taken(alloc: Global, core: &ShardCore, seq: u64) -> bool {
+    match up(alloc, seq) {
+        Ok(item) => !core.may_take(&item),
+        Err(_) => false,
     }
 }
 
-fn shard_of(alloc: Global) -> Result<Shard, AllocError> {
-    Ok(Shard {
-        core: core_of(alloc)?,
-        ledger: Ledger::new(alloc),
-        seq: 0,
-        last: None,
-    })
+/// Whether a step goes as it says.
+fn does(alloc: Global, shard: &mut Shard, step: Step) -> bool {
+    match step {
+        Step::Sample => take_sample(alloc, shard),
+        Step::Flush => take(&mut shard.core, Item::Flush),
+        Step::End(kind) => take(&mut shard.core, Item::End(kind)),
+        Step::Freeze(done) => freezes(&mut shard.core, &mut shard.ledger, done),
+        Step::Send(seq) => sends(shard, seq),
+        Step::Reply(seq, status, answer) => judges(shard, seq, status, answer),
+        Step::Lost(lost) => shard.core.lost() == lost,
+        Step::Kill => {
+            shard.core.kill();
+            true
+        }
+        Step::NotTaken(seq) => is_not_taken(alloc, &shard.core, seq),
+        _ => sees(shard, step),
+    }
 }
 
 /// The first of these steps that goes otherwise.
-fn play(alloc: Global, shard: &mut Shard, steps: &[Step]) -> Result<Option<usize>, LabelFault> {
+fn wrong_step(alloc: Global, shard: &mut Shard, steps: &[Step]) -> Option<usize> {
     for (i, step) in steps.iter().enumerate() {
-        if !does(alloc, shard, *step)? {
-            return Ok(Some(i));
+        if !does(alloc, shard, *step) {
+            return Some(i);
         }
     }
-    Ok(None)
+    None
 }
 
-/// The first of these steps with a new shard that goes otherwise.
-fn wrong_step(alloc: Global, steps: &[Step]) -> Result<Option<usize>, LabelFault> {
-    let mut shard = shard_of(alloc)?;
-    play(alloc, &mut shard, steps)
+/// The same with a new shard.
+fn wrong_step_of(alloc: Global, steps: &[Step]) -> Option<usize> {
+    match core_of(alloc) {
+        Ok(core) => {
+            let mut shard = Shard {
+                core,
+                ledger: Ledger::new(alloc),
+                seq: 0,
+                last: None,
+            };
+            wrong_step(alloc, &mut shard, steps)
+        }
+        Err(_) => Some(0),
+    }
 }
 
-static TRIED_TWICE: &[Step] = &[
+const TRIED_TWICE: &[Step] = &[
     Step::Sample,
     Step::CanTake(true),
     Step::Sample,
@@ -271,7 +282,7 @@ static TRIED_TWICE: &[Step] = &[
     Step::Names(&[]),
 ];
 
-static REFUSED_TWICE: &[Step] = &[
+const REFUSED_TWICE: &[Step] = &[
     Step::Sample,
     Step::Flush,
     Step::Due(true),
@@ -290,7 +301,7 @@ static REFUSED_TWICE: &[Step] = &[
     Step::Names(&[(10, Reason::Status(400)), (11, Reason::Status(404))]),
 ];
 
-static MARKED_EMPTY: &[Step] = &[
+const MARKED_EMPTY: &[Step] = &[
     Step::Flush,
     Step::Due(false),
     Step::CanTake(true),
@@ -301,7 +312,7 @@ static MARKED_EMPTY: &[Step] = &[
     Step::Names(&[]),
 ];
 
-static KILLED: &[Step] = &[
+const KILLED: &[Step] = &[
     Step::Sample,
     Step::Sample,
     Step::Freeze(true),
@@ -315,15 +326,7 @@ static KILLED: &[Step] = &[
     Step::Names(&[]),
 ];
 
-#[test]
-fn steps(rt: HostRuntime) -> Result<(), Fail> {
-    for steps in [TRIED_TWICE, REFUSED_TWICE, MARKED_EMPTY, KILLED] {
-        none_is_wrong(&rt, wrong_step(rt.alloc(), steps)?);
-    }
-    Ok(())
-}
-
-static ONE_SAMPLE: &[Step] = &[
+const ONE_SAMPLE: &[Step] = &[
     Step::Sample,
     Step::Pending(1),
     Step::Freeze(true),
@@ -338,23 +341,49 @@ static ONE_SAMPLE: &[Step] = &[
     Step::NotTaken(2),
 ];
 
-fn request(alloc: Global) -> Result<Vec<u8>, AllocError> {
-    let target = target(alloc)?;
-    request_bytes(alloc, &target, UP)
+static SCHEDULES: [&[Step]; 5] = [TRIED_TWICE, REFUSED_TWICE, MARKED_EMPTY, KILLED, ONE_SAMPLE];
+
+fn schedules() -> &'static [&'static [Step]] {
+    &SCHEDULES
 }
 
-/// Whether the request that carries the message has that head.
-fn is_requested(alloc: Global) -> Result<bool, AllocError> {
-    let request = match request(alloc) {
-        Ok(request) => request,
-        Err(_) => request(alloc)?,
-    };
-    Ok(request.strip_prefix(UP_REQUEST) == Some(UP))
+fn wrong_schedule(alloc: Global, schedules: &[&[Step]]) -> Option<usize> {
+    for (i, steps) in schedules.iter().enumerate() {
+        if wrong_step_of(alloc, steps).is_some() {
+            return Some(i);
+        }
+    }
+    None
 }
 
 #[test]
-fn one_sample(rt: HostRuntime) -> Result<(), Fail> {
-    assert!(rt; is_requested(rt.alloc())?);
-    none_is_wrong(&rt, wrong_step(rt.alloc(), ONE_SAMPLE)?);
-    Ok(())
+fn steps(rt: HostRuntime) {
+    none_is_wrong(&rt, wrong_schedule(rt.alloc(), schedules()));
+}
+
+fn request(alloc: Global, target: &Target) -> Result<Vec<u8>, AllocError> {
+    match request_bytes(alloc, target, UP) {
+        Err(_) => request_bytes(alloc, target, UP),
+        request => request,
+    }
+}
+
+/// Whether the request to a target that carries the message has that head.
+fn is_requested_of(alloc: Global, target: &Target) -> bool {
+    match request(alloc, target) {
+        Ok(request) => request.strip_prefix(UP_REQUEST) == Some(UP),
+        Err(_) => false,
+    }
+}
+
+fn is_requested(alloc: Global) -> bool {
+    match target(alloc) {
+        Ok(target) => is_requested_of(alloc, &target),
+        Err(_) => false,
+    }
+}
+
+#[test]
+fn requests_have_a_head(rt: HostRuntime) {
+    holds(&rt, is_requested(rt.alloc()));
 }

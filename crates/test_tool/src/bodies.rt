@@ -1,13 +1,13 @@
 //! The command `body`. Segments and bodies are written out in hexadecimal; they were made by another program.
 
 use crate::rows::none_is_wrong;
+use Row::{Body, Bytes, Fault, Spaced};
 use rw_fault::ToolFault;
 use rw_hex::read_digits;
 use rw_log_commands::run_body;
 use rw_types::Room;
 use rw_wal_format::TailFault;
-use std::alloc::{AllocError, Global};
-use std::test::Fail;
+use std::alloc::Global;
 
 /// One series `up` with one sample at 1000 of the value 1.
 const UP_SEGMENT: &str =
@@ -43,96 +43,92 @@ fn writes(
     hex: bool,
     outcome: Result<(), ToolFault>,
     output: &[u8],
-) -> Result<bool, AllocError> {
+) -> bool {
+    let Ok(mut writer) = Room::new(alloc, 4096) else {
+        return false;
+    };
     let mut reader = input;
-    let mut writer = Room::new(alloc, 4096)?;
     let ended = run_body(alloc, &mut reader, &mut writer, hex);
-    Ok(ended == outcome && writer.as_slice() == output)
+    ended == outcome && writer.as_slice() == output
 }
 
-/// Segments, and the body of the samples of each.
-static BODIES: [(&str, &str); 6] = [
-    (UP_SEGMENT, UP),
-    (A_AND_B_SEGMENT, A_AND_B),
-    (REDEFINED_SEGMENT, A_AND_B),
-    (LEFT_OUT_SEGMENT, ONE_OF_A),
-    ("010001b34623a602", ""),
-    ("", ""),
+/// What a row says.
+enum Row {
+    /// A segment, and the body of its samples.
+    Body(&'static str, &'static str),
+    /// A text, and its fault.
+    Fault(&'static str, ToolFault),
+    /// A segment whose bytes have this fault.
+    Bytes(&'static str, ToolFault),
+    /// The text of a segment without samples.
+    Spaced(&'static str),
+}
+
+static ROWS: [Row; 17] = [
+    Body(UP_SEGMENT, UP),
+    Body(A_AND_B_SEGMENT, A_AND_B),
+    Body(REDEFINED_SEGMENT, A_AND_B),
+    Body(LEFT_OUT_SEGMENT, ONE_OF_A),
+    Body("010001b34623a602", ""),
+    Body("", ""),
+    Spaced(" 01\t0001\r\nb3 4623\n\na602\n"),
+    Fault(CHANGED_SEGMENT, ToolFault::Log(TailFault::BadCrc)),
+    Fault("ff", ToolFault::Log(TailFault::BadType)),
+    Fault("08", ToolFault::Log(TailFault::Compressed)),
+    Fault("0g", ToolFault::Line(1)),
+    Fault("0A", ToolFault::Line(1)),
+    Fault("ff\n\n0 x", ToolFault::Line(3)),
+    Fault("0\r0\n0\n", ToolFault::Line(2)),
+    Fault("0\n\n \n", ToolFault::Line(1)),
+    Fault("0\n\n,", ToolFault::Line(3)),
+    Bytes(CHANGED_SEGMENT, ToolFault::Log(TailFault::BadCrc)),
 ];
 
 /// Whether the text of a segment gives the text of the body, and a newline.
-fn writes_text(alloc: Global, segment: &str, body: &str) -> Result<bool, AllocError> {
-    let line = format!(in alloc; "{body}\n")?;
-    writes(alloc, segment.as_bytes(), true, Ok(()), line.as_bytes())
-}
-
-/// Whether the bytes of a segment give the bytes of the body.
-fn writes_bytes(alloc: Global, segment: &str, body: &str) -> Result<bool, AllocError> {
-    let Some(segment) = read_digits(alloc, segment.as_bytes())? else {
-        return Ok(false);
-    };
-    match read_digits(alloc, body.as_bytes())? {
-        Some(body) => writes(alloc, &segment, false, Ok(()), &body),
-        None => Ok(false),
+fn writes_text(alloc: Global, segment: &str, body: &str) -> bool {
+    match format!(in alloc; "{body}\n") {
+        Ok(line) => writes(alloc, segment.as_bytes(), true, Ok(()), line.as_bytes()),
+        Err(_) => false,
     }
 }
 
-fn wrong_body(alloc: Global) -> Result<Option<usize>, AllocError> {
-    for (i, (segment, body)) in BODIES.iter().enumerate() {
-        if !writes_text(alloc, segment, body)? || !writes_bytes(alloc, segment, body)? {
-            return Ok(Some(i));
+/// Whether the bytes of a segment have this outcome, and give the bytes of the body.
+fn writes_bytes(alloc: Global, segment: &str, outcome: Result<(), ToolFault>, body: &[u8]) -> bool {
+    match read_digits(alloc, segment.as_bytes()) {
+        Ok(Some(segment)) => writes(alloc, &segment, false, outcome, body),
+        _ => false,
+    }
+}
+
+/// Whether they give the bytes of this text of a body.
+fn writes_bytes_of(alloc: Global, segment: &str, body: &str) -> bool {
+    match read_digits(alloc, body.as_bytes()) {
+        Ok(Some(body)) => writes_bytes(alloc, segment, Ok(()), &body),
+        _ => false,
+    }
+}
+
+fn is_so(alloc: Global, row: &Row) -> bool {
+    match row {
+        Body(segment, body) => {
+            writes_text(alloc, segment, body) && writes_bytes_of(alloc, segment, body)
+        }
+        Fault(text, fault) => writes(alloc, text.as_bytes(), true, Err(*fault), b""),
+        Bytes(segment, fault) => writes_bytes(alloc, segment, Err(*fault), b""),
+        Spaced(text) => writes(alloc, text.as_bytes(), true, Ok(()), b"\n"),
+    }
+}
+
+fn wrong_row(alloc: Global) -> Option<usize> {
+    for (i, row) in ROWS.iter().enumerate() {
+        if !is_so(alloc, row) {
+            return Some(i);
         }
     }
-    Ok(None)
+    None
 }
 
 #[test]
-fn bodies(rt: HostRuntime) -> Result<(), Fail> {
-    none_is_wrong(&rt, wrong_body(rt.alloc())?);
-    Ok(())
-}
-
-#[test]
-fn white_space(rt: HostRuntime) -> Result<(), Fail> {
-    let text = b" 01\t0001\r\nb3 4623\n\na602\n";
-    assert!(rt; writes(rt.alloc(), text, true, Ok(()), b"\n")?);
-    Ok(())
-}
-
-/// Texts, and the fault of each.
-static FAULTS: [(&str, ToolFault); 9] = [
-    (CHANGED_SEGMENT, ToolFault::Log(TailFault::BadCrc)),
-    ("ff", ToolFault::Log(TailFault::BadType)),
-    ("08", ToolFault::Log(TailFault::Compressed)),
-    ("0g", ToolFault::Line(1)),
-    ("0A", ToolFault::Line(1)),
-    ("ff\n\n0 x", ToolFault::Line(3)),
-    ("0\r0\n0\n", ToolFault::Line(2)),
-    ("0\n\n \n", ToolFault::Line(1)),
-    ("0\n\n,", ToolFault::Line(3)),
-];
-
-fn wrong_fault(alloc: Global) -> Result<Option<usize>, AllocError> {
-    for (i, (text, fault)) in FAULTS.iter().enumerate() {
-        if !writes(alloc, text.as_bytes(), true, Err(*fault), b"")? {
-            return Ok(Some(i));
-        }
-    }
-    Ok(None)
-}
-
-/// Whether the bytes of the changed segment have a fault, and nothing is written.
-fn refuses_bytes(alloc: Global) -> Result<bool, AllocError> {
-    let bad_crc = Err(ToolFault::Log(TailFault::BadCrc));
-    match read_digits(alloc, CHANGED_SEGMENT.as_bytes())? {
-        Some(segment) => writes(alloc, &segment, false, bad_crc, b""),
-        None => Ok(false),
-    }
-}
-
-#[test]
-fn faults(rt: HostRuntime) -> Result<(), Fail> {
-    none_is_wrong(&rt, wrong_fault(rt.alloc())?);
-    assert!(rt; refuses_bytes(rt.alloc())?);
-    Ok(())
+fn bodies_and_faults(rt: HostRuntime) {
+    none_is_wrong(&rt, wrong_row(rt.alloc()));
 }

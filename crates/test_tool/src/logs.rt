@@ -1,6 +1,7 @@
 //! The command `log`. Records are written out in hexadecimal, field by field.
 
 use crate::rows::none_is_wrong;
+use Row::{Bad, Good, Segment};
 use rw_fault::ToolFault;
 use rw_log_commands::{run_log, run_log_dir};
 use rw_types::{Failed, Room, Sink};
@@ -9,65 +10,132 @@ use std::path::PathBuf;
 use std::test::Fail;
 use std::{env, fs, process};
 
-/// What a run over log text writes, and its fault.
-fn written(
+/// The room of what a run writes.
+const ROOM: usize = 1 << 17;
+
+/// The fault of a run over log text.
+fn fault(
     alloc: Global,
     text: &[u8],
+    writer: &mut Room,
     hex: bool,
     pages: usize,
-) -> Result<(Room, Option<ToolFault>), AllocError> {
+) -> Option<ToolFault> {
     let mut reader = text;
-    let mut writer = Room::new(alloc, 1 << 17)?;
-    let ended = run_log(alloc, &mut reader, &mut writer, hex, pages.clamp(1, 4096));
-    Ok((writer, ended.err()))
+    run_log(alloc, &mut reader, writer, hex, pages.clamp(1, 4096)).err()
 }
 
-/// Lines of log text, and the records that they stand for.
-static GOOD: [(&str, &str); 14] = [
-    (
+const FULL: Option<ToolFault> = Some(ToolFault::SegmentFull);
+
+/// What a row says.
+enum Row {
+    /// A line of log text, and the record that it stands for.
+    Good(&'static str, &'static str),
+    /// A line that is no log text.
+    Bad(&'static [u8]),
+    /// The lengths of `raw` lines, what follows them, the pages of a segment, the fault, and how many bytes are written.
+    Segment(&'static [usize], &'static str, usize, Option<ToolFault>, usize),
+}
+
+static ROWS: [Row; 68] = [
+    Good(
         r#"series 1 {__name__="up"}"#,
         "01 0000000000000001 01 08 5f5f6e616d655f5f 02 7570",
     ),
-    ("series 2 {}", "01 0000000000000002 00"),
-    (
+    Good("series 2 {}", "01 0000000000000002 00"),
+    Good(
         r#"series 18446744073709551615 {"a-b"="x\\y\"z\n",a:b=""}"#,
         "01 ffffffffffffffff 02 03 612d62 06 785c79227a0a 03 613a62 00",
     ),
-    (r#"series 4 {""=""}"#, "01 0000000000000004 01 00 00"),
-    (
+    Good(r#"series 4 {""=""}"#, "01 0000000000000004 01 00 00"),
+    Good(
         r#"series 5 {b="{ä= ,}",a="1",a="1"}"#,
         "01 0000000000000005 03 01 62 07 7bc3a43d202c7d 01 61 01 31 01 61 01 31",
     ),
-    (
+    Good(
         r#"series 6 {"9\"\\\n"="1",__name__="http.rate","säge"="2"}"#,
         "01 0000000000000006 03 04 39225c0a 01 31 08 5f5f6e616d655f5f 09 687474702e72617465 05 73c3a46765 01 32",
     ),
-    (
+    Good(
         "sample 1 1000 1",
         "02 0000000000000001 00000000000003e8 00 00 3ff0000000000000",
     ),
-    (
+    Good(
         "sample 007 -0 -0",
         "02 0000000000000007 0000000000000000 00 00 0000000000000000",
     ),
-    (
+    Good(
         "sample 18446744073709551615 -9223372036854775808 9007199254740992",
         "02 ffffffffffffffff 8000000000000000 00 00 4340000000000000",
     ),
-    (
+    Good(
         "sample 0 9223372036854775807 -09007199254740992",
         "02 0000000000000000 7fffffffffffffff 00 00 c340000000000000",
     ),
-    (
+    Good(
         "sample 1 -1 0x8000000000000000",
         "02 0000000000000001 ffffffffffffffff 00 00 8000000000000000",
     ),
-    (
+    Good(
         "sample 1 0 0x00000000000000ff",
         "02 0000000000000001 0000000000000000 00 00 00000000000000ff",
     ),
-    ("raw 03", "03"),
-    ("raw 01000000ff", "01 00 00 00 ff"),
+    Good("raw 03", "03"),
+    Good("raw 01000000ff", "01 00 00 00 ff"),
+    Bad(b" sample 1 1 1"),
+    Bad(b"sample  1 1 1"),
+    Bad(b"sample 1  1 1"),
+    Bad(b"sample 1 1  1"),
+    Bad(b"sample 1 1 1 "),
+    Bad(b"sample 1 1 1\r"),
+    Bad(b"sample\t1 1 1"),
+    Bad(b"sample 1 1"),
+    Bad(b"sample 1 1 1 1"),
+    Bad(b"Sample 1 1 1"),
+    Bad(b"sample +1 1 1"),
+    Bad(b"sample -1 1 1"),
+    Bad(b"sample 18446744073709551616 1 1"),
+    Bad(b"sample 1 +1 1"),
+    Bad(b"sample 1 - 1"),
+    Bad(b"sample 1 9223372036854775808 1"),
+    Bad(b"sample 1 -9223372036854775809 1"),
+    Bad(b"sample 1 1 +1"),
+    Bad(b"sample 1 1 9007199254740993"),
+    Bad(b"sample 1 1 -9007199254740993"),
+    Bad(b"sample 1 1 1.5"),
+    Bad(b"sample 1 1 1e3"),
+    Bad(b"sample 1 1 0x3FF0000000000000"),
+    Bad(b"sample 1 1 0X3ff0000000000000"),
+    Bad(b"sample 1 1 0x3ff000000000000"),
+    Bad(b"sample 1 1 0x3ff00000000000000"),
+    Bad(b"sample 1 1 -0x3ff0000000000000"),
+    Bad(b"raw"),
+    Bad(b"raw "),
+    Bad(b"raw 0"),
+    Bad(b"raw 0A"),
+    Bad(b"raw 0a 0b"),
+    Bad(b"raw 0x0a"),
+    Bad(b"series 1"),
+    Bad(b"series 1 {"),
+    Bad(b"series 1 {}}"),
+    Bad(b"series 1 {a=\"1\""),
+    Bad(b"series 1 {a=\"1\",}"),
+    Bad(b"series 1 {a=\"1\", b=\"2\"}"),
+    Bad(b"series 1 {a=1}"),
+    Bad(b"series 1 {a=\"\\t\"}"),
+    Bad(b"series 1 {a=\"\\\"}"),
+    Bad(b"series 1 {\"a\"=\"1\"}"),
+    Bad(b"series 1 {a-b=\"1\"}"),
+    Bad(b"series 1 {=\"1\"}"),
+    Bad(b"series 1 {a=\"\xff\"}"),
+    Segment(&[], "", 1, None, 0),
+    Segment(&[], "\n\n", 1, None, 0),
+    Segment(&[32_761], "", 1, None, 32_768),
+    Segment(&[32_754], "raw 02", 2, None, 32_776),
+    Segment(&[32_762], "", 1, FULL, 0),
+    Segment(&[32_762], "raw 0\n", 1, Some(ToolFault::Line(2)), 0),
+    Segment(&[65_522], "", 2, None, 65_536),
+    Segment(&[65_523], "", 2, FULL, 0),
 ];
 
 /// What is written of one record: the text of a fragment, with its type, length and CRC, and a newline. The CRC is not compared.
@@ -80,104 +148,40 @@ fn is_fragment_of(output: &[u8], rec: &str) -> bool {
 }
 
 /// Whether a line stands for this record.
-fn stands_for(alloc: Global, line: &str, rec: &str) -> Result<bool, AllocError> {
-    let (output, fault) = written(alloc, line.as_bytes(), true, 1)?;
-    Ok(fault == None && is_fragment_of(output.as_slice(), rec))
+fn stands_for(alloc: Global, line: &str, rec: &str) -> bool {
+    let Ok(mut output) = Room::new(alloc, ROOM) else {
+        return false;
+    };
+    fault(alloc, line.as_bytes(), &mut output, true, 1) == None
+        && is_fragment_of(output.as_slice(), rec)
 }
-
-fn wrong_line(alloc: Global) -> Result<Option<usize>, AllocError> {
-    for (i, (line, rec)) in GOOD.iter().enumerate() {
-        if !stands_for(alloc, line, rec)? {
-            return Ok(Some(i));
-        }
-    }
-    Ok(None)
-}
-
-#[test]
-fn good_lines(rt: HostRuntime) -> Result<(), Fail> {
-    none_is_wrong(&rt, wrong_line(rt.alloc())?);
-    Ok(())
-}
-
-/// Lines that are no log text.
-static BAD: [&[u8]; 46] = [
-    b" sample 1 1 1",
-    b"sample  1 1 1",
-    b"sample 1  1 1",
-    b"sample 1 1  1",
-    b"sample 1 1 1 ",
-    b"sample 1 1 1\r",
-    b"sample\t1 1 1",
-    b"sample 1 1",
-    b"sample 1 1 1 1",
-    b"Sample 1 1 1",
-    b"sample +1 1 1",
-    b"sample -1 1 1",
-    b"sample 18446744073709551616 1 1",
-    b"sample 1 +1 1",
-    b"sample 1 - 1",
-    b"sample 1 9223372036854775808 1",
-    b"sample 1 -9223372036854775809 1",
-    b"sample 1 1 +1",
-    b"sample 1 1 9007199254740993",
-    b"sample 1 1 -9007199254740993",
-    b"sample 1 1 1.5",
-    b"sample 1 1 1e3",
-    b"sample 1 1 0x3FF0000000000000",
-    b"sample 1 1 0X3ff0000000000000",
-    b"sample 1 1 0x3ff000000000000",
-    b"sample 1 1 0x3ff00000000000000",
-    b"sample 1 1 -0x3ff0000000000000",
-    b"raw",
-    b"raw ",
-    b"raw 0",
-    b"raw 0A",
-    b"raw 0a 0b",
-    b"raw 0x0a",
-    b"series 1",
-    b"series 1 {",
-    b"series 1 {}}",
-    b"series 1 {a=\"1\"",
-    b"series 1 {a=\"1\",}",
-    b"series 1 {a=\"1\", b=\"2\"}",
-    b"series 1 {a=1}",
-    b"series 1 {a=\"\\t\"}",
-    b"series 1 {a=\"\\\"}",
-    b"series 1 {\"a\"=\"1\"}",
-    b"series 1 {a-b=\"1\"}",
-    b"series 1 {=\"1\"}",
-    b"series 1 {a=\"\xff\"}",
-];
 
 /// Log text whose fourth line is this one.
-fn with_line(alloc: Global, line: &[u8]) -> Result<Vec<u8>, AllocError> {
-    let mut text = b"\n\nraw 03\n".to_vec(alloc)?;
+fn put_line(text: &mut Vec<u8>, line: &[u8]) -> Result<(), AllocError> {
+    text.extend_from_slice(b"\n\nraw 03\n")?;
     text.extend_from_slice(line)?;
-    text.extend_from_slice(b"\nraw\n")?;
-    Ok(text)
+    text.extend_from_slice(b"\nraw\n")
+}
+
+/// Whether a run has this fault or none, and writes so many bytes.
+fn fills(
+    alloc: Global,
+    text: &[u8],
+    hex: bool,
+    pages: usize,
+    wanted: Option<ToolFault>,
+    len: usize,
+) -> bool {
+    let Ok(mut output) = Room::new(alloc, ROOM) else {
+        return false;
+    };
+    fault(alloc, text, &mut output, hex, pages) == wanted && output.as_slice().len() == len
 }
 
 /// Whether a fault is found in the fourth line, which is this one, and nothing is written.
-fn is_refused(alloc: Global, line: &[u8]) -> Result<bool, AllocError> {
-    let text = with_line(alloc, line)?;
-    let (output, fault) = written(alloc, &text, true, 1)?;
-    Ok(fault == Some(ToolFault::Line(4)) && output.as_slice().is_empty())
-}
-
-fn accepted_line(alloc: Global) -> Result<Option<usize>, AllocError> {
-    for (i, line) in BAD.iter().enumerate() {
-        if !is_refused(alloc, line)? {
-            return Ok(Some(i));
-        }
-    }
-    Ok(None)
-}
-
-#[test]
-fn bad_lines(rt: HostRuntime) -> Result<(), Fail> {
-    none_is_wrong(&rt, accepted_line(rt.alloc())?);
-    Ok(())
+fn is_refused(alloc: Global, line: &[u8]) -> bool {
+    let mut text = Vec::new(alloc);
+    put_line(&mut text, line).is_ok() && fills(alloc, &text, true, 1, Some(ToolFault::Line(4)), 0)
 }
 
 /// A `raw` line of so many times byte 3, and its LF.
@@ -190,55 +194,48 @@ fn push_run(text: &mut Vec<u8>, len: usize) -> Result<(), AllocError> {
 }
 
 /// `raw` lines of these lengths, and what follows them.
-fn runs(alloc: Global, lens: &[usize], last: &str) -> Result<Vec<u8>, AllocError> {
-    let mut text = Vec::new(alloc);
+fn put_runs(text: &mut Vec<u8>, lens: &[usize], last: &str) -> Result<(), AllocError> {
     for len in lens {
-        push_run(&mut text, *len)?;
+        push_run(text, *len)?;
     }
-    text.extend_from_slice(last.as_bytes())?;
-    Ok(text)
+    text.extend_from_slice(last.as_bytes())
 }
 
-const FULL: Option<ToolFault> = Some(ToolFault::SegmentFull);
-
-/// Lengths of `raw` lines, what follows them, the pages of a segment, the fault, and how many bytes are written.
-static SEGMENTS: [(&[usize], &str, usize, Option<ToolFault>, usize); 8] = [
-    (&[], "", 1, None, 0),
-    (&[], "\n\n", 1, None, 0),
-    (&[32_761], "", 1, None, 32_768),
-    (&[32_754], "raw 02", 2, None, 32_776),
-    (&[32_762], "", 1, FULL, 0),
-    (&[32_762], "raw 0\n", 1, Some(ToolFault::Line(2)), 0),
-    (&[65_522], "", 2, None, 65_536),
-    (&[65_523], "", 2, FULL, 0),
-];
-
-/// Whether a run over log text has this fault or none, and writes so many bytes.
-fn fills(
+/// Whether a run over `raw` lines of these lengths, and what follows them, has this fault or none, and writes so many bytes.
+fn is_segment(
     alloc: Global,
-    text: &[u8],
+    lens: &[usize],
+    last: &str,
     pages: usize,
-    fault: Option<ToolFault>,
+    wanted: Option<ToolFault>,
     len: usize,
-) -> Result<bool, AllocError> {
-    let (output, found) = written(alloc, text, false, pages)?;
-    Ok(found == fault && output.as_slice().len() == len)
+) -> bool {
+    let mut text = Vec::new(alloc);
+    put_runs(&mut text, lens, last).is_ok() && fills(alloc, &text, false, pages, wanted, len)
 }
 
-fn wrong_segment(alloc: Global) -> Result<Option<usize>, AllocError> {
-    for (i, (lens, last, pages, fault, len)) in SEGMENTS.iter().enumerate() {
-        let text = runs(alloc, lens, last)?;
-        if !fills(alloc, &text, *pages, *fault, *len)? {
-            return Ok(Some(i));
+fn is_so(alloc: Global, row: &Row) -> bool {
+    match row {
+        Good(line, rec) => stands_for(alloc, line, rec),
+        Bad(line) => is_refused(alloc, line),
+        Segment(lens, last, pages, wanted, len) => {
+            is_segment(alloc, lens, last, *pages, *wanted, *len)
         }
     }
-    Ok(None)
+}
+
+fn wrong_row(alloc: Global) -> Option<usize> {
+    for (i, row) in ROWS.iter().enumerate() {
+        if !is_so(alloc, row) {
+            return Some(i);
+        }
+    }
+    None
 }
 
 #[test]
-fn full_segments(rt: HostRuntime) -> Result<(), Fail> {
-    none_is_wrong(&rt, wrong_segment(rt.alloc())?);
-    Ok(())
+fn lines_and_segments(rt: HostRuntime) {
+    none_is_wrong(&rt, wrong_row(rt.alloc()));
 }
 
 /// Takes a byte at each write, and fails at one of them and then for good.
@@ -291,33 +288,50 @@ fn fails_after(alloc: Global, left: usize) -> bool {
         && whole.as_slice().starts_with(&writer.taken)
 }
 
+/// The number of bytes after which a writer does otherwise.
+fn wrong_writer(alloc: Global) -> Option<usize> {
+    for left in 0..34 {
+        if !fails_after(alloc, left) {
+            return Some(left);
+        }
+    }
+    None
+}
+
 #[test]
 fn fails_with_its_writer(rt: HostRuntime) {
-    for left in 0..34 {
-        assert!(rt; fails_after(rt.alloc(), left), "{left}");
+    none_is_wrong(&rt, wrong_writer(rt.alloc()));
+}
+
+/// The length of a file, if there is one.
+fn len_of(rt: &HostRuntime, path: &str) -> Option<usize> {
+    match fs::read(rt, path) {
+        Ok(bytes) => Some(bytes.len()),
+        Err(_) => None,
     }
 }
 
-/// The length of the file of a folder with this number, if there is one.
-fn file_len(rt: &HostRuntime, dir: &str, number: u32) -> Result<Option<usize>, AllocError> {
-    let name = format!(in rt.alloc(); "{dir}/{number:08}")?;
-    match fs::read(rt, name.as_str()) {
-        Ok(bytes) => Ok(Some(bytes.len())),
-        Err(_) => Ok(None),
+/// Whether the file of a folder with this number has this length, or is not there.
+fn has_file(rt: &HostRuntime, dir: &str, number: u32, len: Option<usize>) -> bool {
+    match format!(in rt.alloc(); "{dir}/{number:08}") {
+        Ok(path) => len_of(rt, path.as_str()) == len,
+        Err(_) => false,
     }
 }
 
-/// Logs `raw` lines of these lengths into a folder.
-fn log_into(
+/// Whether `raw` lines of these lengths are logged into a folder with this fault, or none.
+fn logs_into(
     rt: &HostRuntime,
     dir: &str,
     lens: &[usize],
     pages: usize,
-) -> Result<Option<ToolFault>, AllocError> {
-    let text = runs(rt.alloc(), lens, "")?;
+    wanted: Option<ToolFault>,
+) -> bool {
+    let mut text = Vec::new(rt.alloc());
+    let is_put = put_runs(&mut text, lens, "").is_ok();
     let mut reader = text.as_slice();
     let pages = pages.clamp(1, 4096);
-    Ok(run_log_dir(rt, rt.alloc(), &mut reader, dir, pages).err())
+    is_put && run_log_dir(rt, rt.alloc(), &mut reader, dir, pages).err() == wanted
 }
 
 /// Lengths of `raw` lines, the pages of a segment, the fault, and then the lengths of the first three files of the folder.
@@ -339,23 +353,18 @@ static FOLDERS: [(&[usize], usize, Option<ToolFault>, [Option<usize>; 3]); 4] = 
 ];
 
 /// Whether the first three files of a folder have these lengths.
-fn has_files(rt: &HostRuntime, dir: &str, lens: [Option<usize>; 3]) -> Result<bool, AllocError> {
-    for (number, len) in (0..3).zip(lens) {
-        if file_len(rt, dir, number)? != len {
-            return Ok(false);
-        }
-    }
-    Ok(true)
+fn has_files(rt: &HostRuntime, dir: &str, lens: [Option<usize>; 3]) -> bool {
+    has_file(rt, dir, 0, lens[0]) && has_file(rt, dir, 1, lens[1]) && has_file(rt, dir, 2, lens[2])
 }
 
 /// The first row after which the folder has other files, or another fault.
-fn wrong_folder(rt: &HostRuntime, dir: &str) -> Result<Option<usize>, AllocError> {
-    for (i, (lens, pages, fault, files)) in FOLDERS.iter().enumerate() {
-        if log_into(rt, dir, lens, *pages)? != *fault || !has_files(rt, dir, *files)? {
-            return Ok(Some(i));
+fn wrong_folder(rt: &HostRuntime, dir: &str) -> Option<usize> {
+    for (i, (lens, pages, wanted, files)) in FOLDERS.iter().enumerate() {
+        if !logs_into(rt, dir, lens, *pages, *wanted) || !has_files(rt, dir, *files) {
+            return Some(i);
         }
     }
-    Ok(None)
+    None
 }
 
 /// A folder of this test alone, which is not there yet.
@@ -365,14 +374,22 @@ fn new_folder(rt: &HostRuntime) -> Result<PathBuf, Fail> {
     Ok(temp.join(rt.alloc(), name.as_str())?)
 }
 
+/// Nothing can be logged into a folder that is not there. The folder is made then, and removed.
+fn wrong_in_new(rt: &HostRuntime, dir: &str) -> Option<usize> {
+    let is_missing = logs_into(rt, dir, &[1], 1, Some(ToolFault::Device));
+    let is_made = fs::create_dir(rt, dir).is_ok();
+    let wrong = wrong_folder(rt, dir);
+    let is_removed = fs::remove_dir_all(rt, dir).is_ok();
+    if is_missing && is_made && is_removed {
+        wrong
+    } else {
+        Some(FOLDERS.len())
+    }
+}
+
 #[test]
 fn folders(rt: HostRuntime) -> Result<(), Fail> {
     let folder = new_folder(&rt)?;
-    let dir = folder.as_str();
-    assert!(rt; log_into(&rt, dir, &[1], 1)? == Some(ToolFault::Device));
-    fs::create_dir(&rt, dir)?;
-    let wrong = wrong_folder(&rt, dir);
-    fs::remove_dir_all(&rt, dir)?;
-    none_is_wrong(&rt, wrong?);
+    none_is_wrong(&rt, wrong_in_new(&rt, folder.as_str()));
     Ok(())
 }

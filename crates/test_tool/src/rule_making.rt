@@ -1,43 +1,82 @@
 //! Rules and labels from texts.
 
 use rw_relabel::{Action, Rule, RuleFault, Rules};
-use rw_types::{LabelFault, LabelSet, RawLabels};
+use rw_types::{LabelFault, LabelSet, Names, RawLabels};
 use std::alloc::{AllocError, Global};
 
 /// Source labels, separator and pattern.
 pub(crate) type Config<'a> = (&'a [&'a str], &'a str, &'a str);
 
+fn put_texts(alloc: Global, out: &mut Vec<String>, texts: &[&str]) -> Result<(), AllocError> {
+    for text in texts {
+        out.push(String::from_str(alloc, text)?)?;
+    }
+    Ok(())
+}
+
 pub(crate) fn rule(alloc: Global, action: Action, config: Config<'_>) -> Result<Rule, RuleFault> {
     let (names, separator, pattern) = config;
-    let mut source_labels = Vec::with_capacity(alloc, names.len())?;
-    for name in names {
-        source_labels
-            .push(String::from_str(alloc, name)?)
-            .map_err(AllocError::from)?;
-    }
     let separator = String::from_str(alloc, separator)?;
     let pattern = String::from_str(alloc, pattern)?;
+    let mut source_labels = Vec::new(alloc);
+    put_texts(alloc, &mut source_labels, names)?;
     Rule::build(alloc, action, source_labels, separator, pattern)
+}
+
+fn put_rules(
+    alloc: Global,
+    rules: &mut Vec<Rule>,
+    configs: &[(Action, Config<'_>)],
+) -> Result<(), RuleFault> {
+    for (action, config) in configs {
+        if rules.push(rule(alloc, *action, *config)?).is_err() {
+            return Err(RuleFault::OutOfMemory);
+        }
+    }
+    Ok(())
 }
 
 pub(crate) fn rules(alloc: Global, configs: &[(Action, Config<'_>)]) -> Result<Rules, RuleFault> {
     let mut rules = Vec::new(alloc);
-    for (action, config) in configs {
-        rules
-            .push(rule(alloc, *action, *config)?)
-            .map_err(AllocError::from)?;
+    match put_rules(alloc, &mut rules, configs) {
+        Ok(()) => Ok(Rules::new(rules)),
+        Err(fault) => Err(fault),
     }
-    Ok(Rules::new(rules))
+}
+
+/// Adds labels.
+pub(crate) fn put_labels(raw: &mut RawLabels, labels: &[(&str, &str)]) -> Result<(), AllocError> {
+    for (name, value) in labels {
+        raw.push(name.as_bytes(), value.as_bytes())?;
+    }
+    Ok(())
 }
 
 pub(crate) fn raw_labels(alloc: Global, labels: &[(&str, &str)]) -> Result<RawLabels, AllocError> {
     let mut raw = RawLabels::new(alloc);
-    for (name, value) in labels {
-        raw.push(name.as_bytes(), value.as_bytes())?;
+    match put_labels(&mut raw, labels) {
+        Ok(()) => Ok(raw),
+        Err(refused) => Err(refused),
     }
-    Ok(raw)
+}
+
+/// The label set of these labels, with names of this kind.
+pub(crate) fn label_set_as(
+    alloc: Global,
+    names: Names,
+    labels: &[(&str, &str)],
+) -> Result<LabelSet, LabelFault> {
+    let mut raw = RawLabels::new(alloc);
+    match put_labels(&mut raw, labels) {
+        Ok(()) => LabelSet::check_as(alloc, names, &raw),
+        Err(_) => Err(LabelFault::OutOfMemory),
+    }
 }
 
 pub(crate) fn label_set(alloc: Global, labels: &[(&str, &str)]) -> Result<LabelSet, LabelFault> {
-    LabelSet::check(alloc, &raw_labels(alloc, labels)?)
+    let mut raw = RawLabels::new(alloc);
+    match put_labels(&mut raw, labels) {
+        Ok(()) => LabelSet::check(alloc, &raw),
+        Err(_) => Err(LabelFault::OutOfMemory),
+    }
 }

@@ -1,152 +1,145 @@
 //! Which rules there can be, and which label sets they keep.
 
-use crate::rows::none_is_wrong;
+use crate::rows::{holds, none_is_wrong};
 use crate::rule_making::{Config, label_set, rule, rules};
+use Row::{Match, Refusal, Several};
 use rw_relabel::{Action, DEFAULT_PATTERN, DEFAULT_SEPARATOR, RuleFault};
+use rw_types::LabelSet;
 use std::alloc::Global;
-use std::test::Fail;
 
-/// The fault of a rule. Want of memory is none of them and ends the test.
-fn fault(alloc: Global, config: Config<'_>) -> Result<Option<RuleFault>, Fail> {
-    match rule(alloc, Action::Keep, config) {
-        Ok(_) => Ok(None),
-        Err(RuleFault::OutOfMemory) => Err(Fail::from(RuleFault::OutOfMemory)),
-        Err(fault) => Ok(Some(fault)),
-    }
+type Labels = &'static [(&'static str, &'static str)];
+
+/// What a row says.
+enum Row {
+    /// A rule, and its fault.
+    Refusal(Config<'static>, Option<RuleFault>),
+    /// A rule, labels, and whether the rule matches them.
+    Match(Config<'static>, Labels, bool),
+    /// Labels, whether they are kept where both rules match, and where the first matches and the second does not.
+    Several(Labels, bool, bool),
 }
 
-/// Rules and their faults.
-static REFUSALS: [(Config<'static>, Option<RuleFault>); 9] = [
-    ((&["job"], DEFAULT_SEPARATOR, DEFAULT_PATTERN), None),
-    ((&["job"], "", ""), None),
+static ROWS: [Row; 27] = [
+    Refusal((&["job"], DEFAULT_SEPARATOR, DEFAULT_PATTERN), None),
+    Refusal((&["job"], "", ""), None),
     // readable only with something around it, or only without
-    ((&["job"], ";", "a)(b"), Some(RuleFault::BadPattern)),
-    ((&["job"], ";", "^(?s:a)(b)$"), None),
-    ((&["job"], ";", "(?x)a#"), Some(RuleFault::BadPattern)),
+    Refusal((&["job"], ";", "a)(b"), Some(RuleFault::BadPattern)),
+    Refusal((&["job"], ";", "^(?s:a)(b)$"), None),
+    Refusal((&["job"], ";", "(?x)a#"), Some(RuleFault::BadPattern)),
     // readable, and too big
-    ((&["job"], ";", "a{20000000}"), Some(RuleFault::BadPattern)),
-    ((&[], ";", "a"), Some(RuleFault::NoSource)),
-    ((&[], ";", "a)(b"), Some(RuleFault::BadPattern)),
-    ((&[], ";", "("), Some(RuleFault::BadPattern)),
-];
-
-fn wrong_refusal(alloc: Global) -> Result<Option<usize>, Fail> {
-    for (i, (config, wanted)) in REFUSALS.iter().enumerate() {
-        if fault(alloc, *config)? != *wanted {
-            return Ok(Some(i));
-        }
-    }
-    Ok(None)
-}
-
-#[test]
-fn refusals(rt: HostRuntime) -> Result<(), Fail> {
-    none_is_wrong(&rt, wrong_refusal(rt.alloc())?);
-    assert!(rt; RuleFault::OutOfMemory as u8 == 0);
-    assert!(rt; RuleFault::BadPattern as u8 == 1);
-    assert!(rt; RuleFault::NoSource as u8 == 2);
-    Ok(())
-}
-
-/// Rules, labels, and whether the rule matches them.
-static MATCHES: [(Config<'static>, &[(&str, &str)], bool); 14] = [
+    Refusal((&["job"], ";", "a{20000000}"), Some(RuleFault::BadPattern)),
+    Refusal((&[], ";", "a"), Some(RuleFault::NoSource)),
+    Refusal((&[], ";", "a)(b"), Some(RuleFault::BadPattern)),
+    Refusal((&[], ";", "("), Some(RuleFault::BadPattern)),
     // a missing label counts as empty, and its separator stays
-    ((&["job", "env"], ";", "a;"), &[("job", "a")], true),
-    ((&["job", "env"], ";", "a"), &[("job", "a")], false),
-    ((&["env"], ";", ""), &[("job", "a")], true),
-    ((&["env"], ";", ".+"), &[], false),
+    Match((&["job", "env"], ";", "a;"), &[("job", "a")], true),
+    Match((&["job", "env"], ";", "a"), &[("job", "a")], false),
+    Match((&["env"], ";", ""), &[("job", "a")], true),
+    Match((&["env"], ";", ".+"), &[], false),
     // the order is that of the rule
-    (
+    Match(
         (&["job", "env"], "--", "a--b"),
         &[("env", "b"), ("job", "a")],
         true,
     ),
-    ((&["job", "job"], "", "aa"), &[("job", "a")], true),
+    Match((&["job", "job"], "", "aa"), &[("job", "a")], true),
     // a newline is a character like others
-    (
+    Match(
         (&["job"], DEFAULT_SEPARATOR, DEFAULT_PATTERN),
         &[("job", "a\nb")],
         true,
     ),
-    ((&["job"], ";", "a"), &[("job", "a\n")], false),
+    Match((&["job"], ";", "a"), &[("job", "a\n")], false),
     // the whole text, with each alternative
-    ((&["job"], ";", "a|ab"), &[("job", "ab")], true),
-    ((&["job"], ";", "a|ab"), &[("job", "abc")], false),
-    ((&["job"], ";", "b"), &[("job", "abc")], false),
-    ((&["job"], ";", "bc|b"), &[("job", "abc")], false),
+    Match((&["job"], ";", "a|ab"), &[("job", "ab")], true),
+    Match((&["job"], ";", "a|ab"), &[("job", "abc")], false),
+    Match((&["job"], ";", "b"), &[("job", "abc")], false),
+    Match((&["job"], ";", "bc|b"), &[("job", "abc")], false),
     // characters and not bytes
-    ((&["job"], ";", "s.ge"), &[("job", "säge")], true),
-    ((&["Job"], ";", "a"), &[("job", "a")], false),
+    Match((&["job"], ";", "s.ge"), &[("job", "säge")], true),
+    Match((&["Job"], ";", "a"), &[("job", "a")], false),
+    Several(&[("env", "x"), ("job", "a")], true, false),
+    Several(&[("env", "y"), ("job", "b")], false, true),
+    Several(&[("env", "x"), ("job", "c")], false, false),
+    Several(&[], false, false),
 ];
 
-/// Whether rules keep labels.
-fn keeps(
+/// The fault of a rule. Want of memory is one too, and none of those that are wanted.
+fn fault(alloc: Global, config: Config<'_>) -> Option<RuleFault> {
+    rule(alloc, Action::Keep, config).err()
+}
+
+/// Whether rules keep a label set, or not, as is said here.
+fn are_rules_of(
     alloc: Global,
     configs: &[(Action, Config<'_>)],
-    labels: &[(&str, &str)],
-) -> Result<bool, Fail> {
-    let labels = label_set(alloc, labels)?;
-    let rules = rules(alloc, configs)?;
-    Ok(rules.keeps(&labels)?)
-}
-
-/// Whether a rule matches labels, or not: one that keeps what it matches keeps them, or one that drops it does.
-fn is_match(
-    alloc: Global,
-    config: Config<'_>,
-    labels: &[(&str, &str)],
-    matches: bool,
-) -> Result<bool, Fail> {
-    let is_kept = keeps(alloc, &[(Action::Keep, config)], labels)?;
-    let is_not_dropped = keeps(alloc, &[(Action::Drop, config)], labels)?;
-    Ok(is_kept == matches && is_not_dropped != matches)
-}
-
-fn wrong_match(alloc: Global) -> Result<Option<usize>, Fail> {
-    for (i, (config, labels, matches)) in MATCHES.iter().enumerate() {
-        if !is_match(alloc, *config, labels, *matches)? {
-            return Ok(Some(i));
-        }
+    labels: &LabelSet,
+    is_kept: bool,
+) -> bool {
+    match rules(alloc, configs) {
+        Ok(rules) => rules.keeps(labels) == Ok(is_kept),
+        Err(_) => false,
     }
-    Ok(None)
 }
 
-#[test]
-fn one_rule(rt: HostRuntime) -> Result<(), Fail> {
-    none_is_wrong(&rt, wrong_match(rt.alloc())?);
-    Ok(())
+/// Whether a rule matches a label set, or not: one that keeps what it matches keeps it, or one that drops it does.
+fn is_set_matched(alloc: Global, config: Config<'_>, labels: &LabelSet, matches: bool) -> bool {
+    are_rules_of(alloc, &[(Action::Keep, config)], labels, matches)
+        && are_rules_of(alloc, &[(Action::Drop, config)], labels, !matches)
+}
+
+/// The same of labels.
+fn is_match(alloc: Global, config: Config<'_>, labels: &[(&str, &str)], matches: bool) -> bool {
+    match label_set(alloc, labels) {
+        Ok(labels) => is_set_matched(alloc, config, &labels, matches),
+        Err(_) => false,
+    }
 }
 
 const JOB: Config<'static> = (&["job"], ";", "a|b");
 
 const ENV: Config<'static> = (&["env"], ";", "x");
 
-/// Labels, whether they are kept where both match, and where the first matches and the second does not.
-static SEVERAL: [(&[(&str, &str)], bool, bool); 4] = [
-    (&[("env", "x"), ("job", "a")], true, false),
-    (&[("env", "y"), ("job", "b")], false, true),
-    (&[("env", "x"), ("job", "c")], false, false),
-    (&[], false, false),
-];
-
 static BOTH: &[(Action, Config<'static>)] = &[(Action::Keep, JOB), (Action::Keep, ENV)];
 
 static WITHOUT: &[(Action, Config<'static>)] = &[(Action::Keep, JOB), (Action::Drop, ENV)];
 
-fn wrong_of_several(alloc: Global) -> Result<Option<usize>, Fail> {
-    for (i, (labels, by_both, by_without)) in SEVERAL.iter().enumerate() {
-        if keeps(alloc, BOTH, labels)? != *by_both
-            || keeps(alloc, WITHOUT, labels)? != *by_without
-            || !keeps(alloc, &[], labels)?
-        {
-            return Ok(Some(i));
+/// Whether labels are kept so by both rules and by the first without the second, and are kept where there is no rule.
+fn is_judged(alloc: Global, labels: &[(&str, &str)], by_both: bool, by_without: bool) -> bool {
+    match label_set(alloc, labels) {
+        Ok(labels) => {
+            are_rules_of(alloc, BOTH, &labels, by_both)
+                && are_rules_of(alloc, WITHOUT, &labels, by_without)
+                && are_rules_of(alloc, &[], &labels, true)
+        }
+        Err(_) => false,
+    }
+}
+
+fn is_so(alloc: Global, row: &Row) -> bool {
+    match row {
+        Refusal(config, wanted) => fault(alloc, *config) == *wanted,
+        Match(config, labels, matches) => is_match(alloc, *config, labels, *matches),
+        Several(labels, by_both, by_without) => is_judged(alloc, labels, *by_both, *by_without),
+    }
+}
+
+fn wrong_row(alloc: Global) -> Option<usize> {
+    for (i, row) in ROWS.iter().enumerate() {
+        if !is_so(alloc, row) {
+            return Some(i);
         }
     }
-    Ok(None)
+    None
 }
 
 #[test]
-fn several_rules(rt: HostRuntime) -> Result<(), Fail> {
-    none_is_wrong(&rt, wrong_of_several(rt.alloc())?);
-    Ok(())
+fn refusals_and_matches(rt: HostRuntime) {
+    none_is_wrong(&rt, wrong_row(rt.alloc()));
+    holds(
+        &rt,
+        RuleFault::OutOfMemory as u8 == 0
+            && RuleFault::BadPattern as u8 == 1
+            && RuleFault::NoSource as u8 == 2,
+    );
 }

@@ -1,13 +1,12 @@
 //! What a cache knows of references. The calls that take memory are made again where it is refused, so the test can be run
 //! with each allocation refused in turn: the refused call changes no answer.
 
-use crate::rows::none_is_wrong;
+use crate::rows::{holds, none_is_wrong};
 use crate::rule_making::{Config, raw_labels, rules};
 use rw_relabel::{Action, Choice, RuleFault, Rules};
 use rw_series_cache::{Cache, Known};
 use rw_types::{LabelFault, Names, RawLabels};
 use std::alloc::{AllocError, Global};
-use std::test::Fail;
 
 type Labels<'a> = &'a [(&'a str, &'a str)];
 
@@ -71,23 +70,20 @@ fn rules_again(alloc: Global, configs: &[(Action, Config<'_>)]) -> Result<Rules,
     }
 }
 
-/// Defines a reference, and answers whether a refused call, if there was one, changed no answer.
-fn define(
-    alloc: Global,
-    cache: &mut Cache,
-    reference: u64,
-    labels: Labels<'_>,
-) -> Result<bool, AllocError> {
-    let before = shapes(cache);
-    if cache
-        .define(reference, raw_labels_again(alloc, labels)?)
-        .is_ok()
-    {
-        return Ok(true);
+/// Whether a reference is defined, where labels are there.
+fn is_defined(cache: &mut Cache, reference: u64, labels: Result<RawLabels, AllocError>) -> bool {
+    match labels {
+        Ok(labels) => cache.define(reference, labels).is_ok(),
+        Err(_) => false,
     }
-    let same = shapes(cache) == before;
-    cache.define(reference, raw_labels_again(alloc, labels)?)?;
-    Ok(same)
+}
+
+/// Defines a reference. Whether a refused call, if there was one, changed no answer, and the next one is not refused.
+fn defines(alloc: Global, cache: &mut Cache, reference: u64, labels: Labels<'_>) -> bool {
+    let before = shapes(cache);
+    is_defined(cache, reference, raw_labels_again(alloc, labels))
+        || (shapes(cache) == before
+            && is_defined(cache, reference, raw_labels_again(alloc, labels)))
 }
 
 /// Definitions, one after the other, and what is then known of the reference.
@@ -121,20 +117,10 @@ static KNOWN: [Shape; 6] = [
     Shape::Filtered,
 ];
 
-fn cache_of_rules(alloc: Global) -> Result<Cache, RuleFault> {
-    let configs: [(Action, Config<'_>); 2] = [
-        (Action::Keep, (&["job"], ";", "a|b|c")),
-        (Action::Drop, (&["env"], ";", "x")),
-    ];
-    let rules = rules_again(alloc, &configs)?;
-    Ok(Cache::new(
-        alloc,
-        Choice {
-            names: Names::Legacy,
-            rules,
-        },
-    ))
-}
+static RULES: [(Action, Config<'static>); 2] = [
+    (Action::Keep, (&["job"], ";", "a|b|c")),
+    (Action::Drop, (&["env"], ";", "x")),
+];
 
 /// Whether the cache knows what it should after the definitions.
 fn is_as_defined(cache: &Cache) -> bool {
@@ -146,48 +132,68 @@ fn is_as_defined(cache: &Cache) -> bool {
 }
 
 /// Makes the definitions, and answers the first after which something else is known than should be, or the number of them where that shows at the end.
-fn wrong_in(alloc: Global, cache: &mut Cache) -> Result<Option<usize>, AllocError> {
+fn wrong_in(alloc: Global, cache: &mut Cache) -> Option<usize> {
     for (i, (reference, labels, wanted)) in DEFINITIONS.iter().enumerate() {
-        if !define(alloc, cache, *reference, labels)? || shape_of(cache, *reference) != *wanted {
-            return Ok(Some(i));
+        if !defines(alloc, cache, *reference, labels) || shape_of(cache, *reference) != *wanted {
+            return Some(i);
         }
     }
     if is_as_defined(cache) {
-        Ok(None)
+        None
     } else {
-        Ok(Some(DEFINITIONS.len()))
+        Some(DEFINITIONS.len())
     }
 }
 
-fn wrong_definition(alloc: Global) -> Result<Option<usize>, RuleFault> {
-    let mut cache = cache_of_rules(alloc)?;
-    Ok(wrong_in(alloc, &mut cache)?)
+fn cache_of(alloc: Global, names: Names, rules: Rules) -> Cache {
+    Cache::new(alloc, Choice { names, rules })
+}
+
+fn wrong_definition(alloc: Global) -> Option<usize> {
+    match rules_again(alloc, &RULES) {
+        Ok(rules) => wrong_in(alloc, &mut cache_of(alloc, Names::Legacy, rules)),
+        Err(_) => Some(0),
+    }
 }
 
 #[test]
-fn last_definitions(rt: HostRuntime) -> Result<(), Fail> {
-    none_is_wrong(&rt, wrong_definition(rt.alloc())?);
-    Ok(())
+fn last_definitions(rt: HostRuntime) {
+    none_is_wrong(&rt, wrong_definition(rt.alloc()));
+}
+
+/// Whether this is known of a reference behind its definition by a cache with no rules and such names.
+fn is_known_as(
+    alloc: Global,
+    names: Names,
+    labels: Result<RawLabels, AllocError>,
+    wanted: Shape,
+) -> bool {
+    let mut cache = cache_of(alloc, names, Rules::new(Vec::new(alloc)));
+    is_defined(&mut cache, 1, labels) && shape_of(&cache, 1) == wanted
+}
+
+/// Whether a cache with such names knows this of a label set that is no legacy one.
+fn takes_names(alloc: Global, names: Names, wanted: Shape) -> bool {
+    is_known_as(
+        alloc,
+        names,
+        raw_labels(alloc, &[("http.rate", "1")]),
+        wanted,
+    )
+}
+
+#[test]
+fn names_by_choice(rt: HostRuntime) {
+    holds(&rt, takes_names(rt.alloc(), Names::Utf8, Shape::Kept(0)));
+    holds(
+        &rt,
+        takes_names(rt.alloc(), Names::Legacy, Shape::Bad(LabelFault::BadName)),
+    );
 }
 
 /// A cache that keeps each label set.
 fn cache_of_no_rules(alloc: Global) -> Cache {
     Cache::new(alloc, Choice::legacy(alloc))
-}
-
-/// Whether a cache that takes any name keeps a label set that another one calls a bad name.
-fn takes_names(alloc: Global, names: Names, wanted: Shape) -> Result<bool, AllocError> {
-    let rules = Rules::new(Vec::new(alloc));
-    let mut cache = Cache::new(alloc, Choice { names, rules });
-    cache.define(1, raw_labels(alloc, &[("http.rate", "1")])?)?;
-    Ok(shape_of(&cache, 1) == wanted)
-}
-
-#[test]
-fn names_by_choice(rt: HostRuntime) -> Result<(), Fail> {
-    assert!(rt; takes_names(rt.alloc(), Names::Utf8, Shape::Kept(0))?);
-    assert!(rt; takes_names(rt.alloc(), Names::Legacy, Shape::Bad(LabelFault::BadName))?);
-    Ok(())
 }
 
 /// A label set with this number as its only value.
@@ -196,12 +202,14 @@ fn numbered(alloc: Global, number: u64) -> Result<RawLabels, AllocError> {
     raw_labels(alloc, &[("job", value.as_str())])
 }
 
-/// Defines so many references, each with a label set of its own.
-fn define_many(alloc: Global, cache: &mut Cache, count: u64) -> Result<(), AllocError> {
+/// Whether so many references are defined, each with a label set of its own.
+fn defines_many(alloc: Global, cache: &mut Cache, count: u64) -> bool {
     for reference in 0..count {
-        cache.define(reference, numbered(alloc, reference)?)?;
+        if !is_defined(cache, reference, numbered(alloc, reference)) {
+            return false;
+        }
     }
-    Ok(())
+    true
 }
 
 /// Whether 70,000 series are there, and have their numbers.
@@ -214,36 +222,42 @@ fn are_numbered(cache: &Cache) -> bool {
     cache.series_count() == 70_000
 }
 
-fn numbers_many(alloc: Global) -> Result<bool, AllocError> {
+fn numbers_many(alloc: Global) -> bool {
     let mut cache = cache_of_no_rules(alloc);
-    define_many(alloc, &mut cache, 70_000)?;
-    Ok(are_numbered(&cache))
+    defines_many(alloc, &mut cache, 70_000) && are_numbered(&cache)
 }
 
 #[test]
-fn many_series_are_numbered(rt: HostRuntime) -> Result<(), Fail> {
-    assert!(rt; numbers_many(rt.alloc())?);
+fn many_series_are_numbered(rt: HostRuntime) {
+    holds(&rt, numbers_many(rt.alloc()));
+}
+
+fn put_label(alloc: Global, labels: &mut RawLabels, number: u32) -> Result<(), AllocError> {
+    labels.push(format!(in alloc; "l{number}")?.as_bytes(), b"1")
+}
+
+fn put_sixty_five(alloc: Global, labels: &mut RawLabels) -> Result<(), AllocError> {
+    for i in 10..75u32 {
+        put_label(alloc, labels, i)?;
+    }
     Ok(())
 }
 
 fn sixty_five_labels(alloc: Global) -> Result<RawLabels, AllocError> {
     let mut labels = RawLabels::new(alloc);
-    for i in 10..75u32 {
-        labels.push(format!(in alloc; "l{i}")?.as_bytes(), b"1")?;
+    match put_sixty_five(alloc, &mut labels) {
+        Ok(()) => Ok(labels),
+        Err(refused) => Err(refused),
     }
-    Ok(labels)
-}
-
-fn shape_of_too_many(alloc: Global) -> Result<Shape, AllocError> {
-    let labels = sixty_five_labels(alloc)?;
-    let mut cache = cache_of_no_rules(alloc);
-    cache.define(1, labels)?;
-    Ok(shape_of(&cache, 1))
 }
 
 /// Labels of which there are too many are no want of memory.
 #[test]
-fn sixty_five_labels_are_too_many(rt: HostRuntime) -> Result<(), Fail> {
-    assert!(rt; shape_of_too_many(rt.alloc())? == Shape::Bad(LabelFault::TooMany));
-    Ok(())
+fn sixty_five_labels_are_too_many(rt: HostRuntime) {
+    let labels = sixty_five_labels(rt.alloc());
+    let too_many = Shape::Bad(LabelFault::TooMany);
+    holds(
+        &rt,
+        is_known_as(rt.alloc(), Names::Legacy, labels, too_many),
+    );
 }

@@ -3,143 +3,131 @@
 use crate::rows::none_is_wrong;
 use crate::rule_making::label_set;
 use rw_settings::{Settings, SettingsFault, read_settings};
-use rw_types::Names;
+use rw_types::{LabelSet, Names};
 use std::alloc::Global;
-use std::test::Fail;
 
-/// The number of a text's fault, or 9 where it has none. Want of memory ends the test.
-pub(crate) fn fault(alloc: Global, text: &[u8]) -> Result<u8, Fail> {
+/// The number of a text's fault, or 9 where it has none. That of want of memory is none that a row has.
+pub(crate) fn fault(alloc: Global, text: &[u8]) -> u8 {
     match read_settings(alloc, text) {
-        Ok(_) => Ok(9),
-        Err(SettingsFault::OutOfMemory) => Err(Fail::from(SettingsFault::OutOfMemory)),
-        Err(fault) => Ok(fault.number()),
+        Ok(_) => 9,
+        Err(SettingsFault::OutOfMemory) => u8::MAX,
+        Err(fault) => fault.number(),
     }
 }
 
-/// Texts with one of the faults 1 to 3, and the number of it, or 9.
-static PLAIN_FAULTS: [(&str, u8); 30] = [
-    ("", 9),
-    ("# nothing\n\n", 9),
-    ("rule = []\n[send]\n[receive]\n", 9),
+/// Texts with no fault or with one, and then with two at once, and the number that is answered, or 9.
+static FAULTS: [(&[u8], u8); 68] = [
+    (b"", 9),
+    (b"# nothing\n\n", 9),
+    (b"rule = []\n[send]\n[receive]\n", 9),
     // no TOML
-    ("send", 1),
-    ("[send]\nshards = 1\nshards = 1", 1),
-    ("[send]\nshards = 9223372036854775808", 1),
-    ("[send]\nshards = -9223372036854775809", 1),
+    (b"send", 1),
+    (b"[send]\nshards = 1\nshards = 1", 1),
+    (b"[send]\nshards = 9223372036854775808", 1),
+    (b"[send]\nshards = -9223372036854775809", 1),
     // unknown keys
-    ("sned = 1", 2),
-    ("[send]\nshard = 1", 2),
-    ("[send.receive]\npath = '/'", 2),
-    ("[receive]\nshards = 1", 2),
+    (b"sned = 1", 2),
+    (b"[send]\nshard = 1", 2),
+    (b"[send.receive]\npath = '/'", 2),
+    (b"[receive]\nshards = 1", 2),
     (
-        "[[rule]]\naction = 'keep'\nsource_labels = ['a']\ntarget_label = 'b'",
+        b"[[rule]]\naction = 'keep'\nsource_labels = ['a']\ntarget_label = 'b'",
         2,
     ),
     // values of another type
-    ("send = 1", 3),
-    ("[[send]]\nshards = 1", 3),
-    ("receive = 'a'", 3),
-    ("[[receive]]\npath = '/'", 3),
-    ("rule = 1", 3),
-    ("rule = [1]", 3),
-    ("[rule]\naction = 'keep'\nsource_labels = ['a']", 3),
-    ("[send]\nhost = 1", 3),
-    ("[send.host]\na = 1", 3),
-    ("[send]\npath = true", 3),
-    ("[send]\nshards = '1'", 3),
-    ("[send]\nbatch = 2.0", 3),
-    ("[receive]\nbusy_first = false", 3),
-    ("[[rule]]\naction = 1\nsource_labels = ['a']", 3),
-    ("[[rule]]\naction = 'keep'\nsource_labels = 'a'", 3),
-    ("[[rule]]\naction = 'keep'\nsource_labels = ['a', 1]", 3),
+    (b"send = 1", 3),
+    (b"[[send]]\nshards = 1", 3),
+    (b"receive = 'a'", 3),
+    (b"[[receive]]\npath = '/'", 3),
+    (b"rule = 1", 3),
+    (b"rule = [1]", 3),
+    (b"[rule]\naction = 'keep'\nsource_labels = ['a']", 3),
+    (b"[send]\nhost = 1", 3),
+    (b"[send.host]\na = 1", 3),
+    (b"[send]\npath = true", 3),
+    (b"[send]\nshards = '1'", 3),
+    (b"[send]\nbatch = 2.0", 3),
+    (b"[receive]\nbusy_first = false", 3),
+    (b"[[rule]]\naction = 1\nsource_labels = ['a']", 3),
+    (b"[[rule]]\naction = 'keep'\nsource_labels = 'a'", 3),
+    (b"[[rule]]\naction = 'keep'\nsource_labels = ['a', 1]", 3),
     (
-        "[[rule]]\naction = 'keep'\nsource_labels = ['a']\nseparator = 1",
+        b"[[rule]]\naction = 'keep'\nsource_labels = ['a']\nseparator = 1",
         3,
     ),
     (
-        "[[rule]]\naction = 'keep'\nsource_labels = ['a']\nregex = ['a']",
+        b"[[rule]]\naction = 'keep'\nsource_labels = ['a']\nregex = ['a']",
         3,
     ),
-];
-
-/// The first text whose fault is another.
-fn wrong_fault(alloc: Global, rows: &[(&str, u8)]) -> Result<Option<usize>, Fail> {
-    for (i, (text, want)) in rows.iter().enumerate() {
-        if fault(alloc, text.as_bytes())? != *want {
-            return Ok(Some(i));
-        }
-    }
-    Ok(None)
-}
-
-#[test]
-fn single_faults(rt: HostRuntime) -> Result<(), Fail> {
-    none_is_wrong(&rt, wrong_fault(rt.alloc(), &PLAIN_FAULTS)?);
-    assert!(rt; fault(rt.alloc(), b"# \xff")? == 1);
-    Ok(())
-}
-
-/// Texts with the faults 4 and 5 or with two at once, and the number that is answered, or 9.
-static LATER_FAULTS: [(&str, u8); 37] = [
+    (b"# \xff", 1),
     // numbers that are not between their bounds, with the defaults filled in
-    ("[send]\nmin_shards = 5\nmax_shards = 4", 4),
-    ("[send]\nmin_shards = 5", 4),
-    ("[send]\nmin_shards = 5\nshards = 5", 9),
-    ("[send]\nshards = 51", 4),
-    ("[send]\nshards = 51\nmax_shards = 51", 9),
-    ("[send]\nmin_backoff_ms = 5001", 4),
-    ("[send]\nmin_backoff_ms = 5000", 9),
-    ("[send]\nmax_backoff_ms = 29", 4),
-    ("[send]\nmax_backoff_ms = 30", 9),
+    (b"[send]\nmin_shards = 5\nmax_shards = 4", 4),
+    (b"[send]\nmin_shards = 5", 4),
+    (b"[send]\nmin_shards = 5\nshards = 5", 9),
+    (b"[send]\nshards = 51", 4),
+    (b"[send]\nshards = 51\nmax_shards = 51", 9),
+    (b"[send]\nmin_backoff_ms = 5001", 4),
+    (b"[send]\nmin_backoff_ms = 5000", 9),
+    (b"[send]\nmax_backoff_ms = 29", 4),
+    (b"[send]\nmax_backoff_ms = 30", 9),
     // rules
-    ("[[rule]]\naction = 'keep'\nsource_labels = []", 4),
-    ("[[rule]]\nsource_labels = ['a']", 5),
-    ("[[rule]]\naction = 'drop'", 5),
-    ("[[rule]]\naction = 'replace'\nsource_labels = ['a']", 5),
-    ("[[rule]]\naction = 'Keep'\nsource_labels = ['a']", 5),
+    (b"[[rule]]\naction = 'keep'\nsource_labels = []", 4),
+    (b"[[rule]]\nsource_labels = ['a']", 5),
+    (b"[[rule]]\naction = 'drop'", 5),
+    (b"[[rule]]\naction = 'replace'\nsource_labels = ['a']", 5),
+    (b"[[rule]]\naction = 'Keep'\nsource_labels = ['a']", 5),
     (
-        "[[rule]]\naction = 'keep'\nsource_labels = ['a']\nregex = 'a)(b'",
+        b"[[rule]]\naction = 'keep'\nsource_labels = ['a']\nregex = 'a)(b'",
         5,
     ),
     (
-        "[[rule]]\naction = 'keep'\nsource_labels = ['a']\nregex = 'a{20000000}'",
+        b"[[rule]]\naction = 'keep'\nsource_labels = ['a']\nregex = 'a{20000000}'",
         5,
     ),
-    ("rule = [{ action = 'keep', source_labels = [''] }]", 9),
+    (b"rule = [{ action = 'keep', source_labels = [''] }]", 9),
     // names
-    ("[send]\nnames = 'legacy'\n[receive]\nnames = 'utf8'", 9),
-    ("[send]\nnames = 'utf8'\n[receive]\nnames = 'legacy'", 9),
-    ("[send]\nnames = 'UTF8'", 4),
-    ("[receive]\nnames = ''", 4),
-    ("[send]\nnames = true", 3),
-    ("[receive]\nnames = ['utf8']", 3),
-    ("names = 'utf8'", 2),
+    (b"[send]\nnames = 'legacy'\n[receive]\nnames = 'utf8'", 9),
+    (b"[send]\nnames = 'utf8'\n[receive]\nnames = 'legacy'", 9),
+    (b"[send]\nnames = 'UTF8'", 4),
+    (b"[receive]\nnames = ''", 4),
+    (b"[send]\nnames = true", 3),
+    (b"[receive]\nnames = ['utf8']", 3),
+    (b"names = 'utf8'", 2),
     // two at once, in either order
-    ("[send]\nshards = 0\n[receive]\nlabels = 1", 2),
-    ("[receive]\nlabels = 1\n[send]\nshards = 0", 2),
-    ("[send]\nshards = 0\nbatch = 'a'", 3),
-    ("[send]\nbatch = 'a'\nshards = 0", 3),
-    ("[receive]\nbusy_first = -1\n[send]\nhost = 1", 3),
-    ("[[rule]]\n[send]\nbatch = 0", 4),
+    (b"[send]\nshards = 0\n[receive]\nlabels = 1", 2),
+    (b"[receive]\nlabels = 1\n[send]\nshards = 0", 2),
+    (b"[send]\nshards = 0\nbatch = 'a'", 3),
+    (b"[send]\nbatch = 'a'\nshards = 0", 3),
+    (b"[receive]\nbusy_first = -1\n[send]\nhost = 1", 3),
+    (b"[[rule]]\n[send]\nbatch = 0", 4),
     (
-        "[[rule]]\naction = 'keep'\nsource_labels = ['a']\nregex = '('\n[send]\nbatch = 0",
+        b"[[rule]]\naction = 'keep'\nsource_labels = ['a']\nregex = '('\n[send]\nbatch = 0",
         4,
     ),
     (
-        "[[rule]]\naction = 'keep'\nsource_labels = ['a']\nregex = '('\n[[rule]]\nlabels = 1",
+        b"[[rule]]\naction = 'keep'\nsource_labels = ['a']\nregex = '('\n[[rule]]\nlabels = 1",
         2,
     ),
-    ("[[rule]]\naction = 'no'\nsource_labels = []", 4),
-    ("[[rule]]\naction = 'no'\nsource_labels = [1]", 3),
-    ("[send]\nmin_shards = 5\nmax_shards = 4\nhost = 1", 3),
-    ("[send]\nmin_shards = 5\nmax_shards = 4\n[[rule]]", 4),
-    ("sned = 1\n[send", 1),
+    (b"[[rule]]\naction = 'no'\nsource_labels = []", 4),
+    (b"[[rule]]\naction = 'no'\nsource_labels = [1]", 3),
+    (b"[send]\nmin_shards = 5\nmax_shards = 4\nhost = 1", 3),
+    (b"[send]\nmin_shards = 5\nmax_shards = 4\n[[rule]]", 4),
+    (b"sned = 1\n[send", 1),
 ];
 
+/// The first text whose fault is another.
+fn wrong_fault(alloc: Global) -> Option<usize> {
+    for (i, (text, want)) in FAULTS.iter().enumerate() {
+        if fault(alloc, text) != *want {
+            return Some(i);
+        }
+    }
+    None
+}
+
 #[test]
-fn later_faults(rt: HostRuntime) -> Result<(), Fail> {
-    none_is_wrong(&rt, wrong_fault(rt.alloc(), &LATER_FAULTS)?);
-    Ok(())
+fn faults(rt: HostRuntime) {
+    none_is_wrong(&rt, wrong_fault(rt.alloc()));
 }
 
 fn sending(s: &Settings) -> [u64; 8] {
@@ -183,44 +171,21 @@ fn names(s: &Settings) -> [Names; 2] {
 /// What a text sets.
 type Read = ([u64; 8], [u64; 4], [&'static str; 3], [Names; 2]);
 
-fn reads_as(alloc: Global, text: &[u8], want: Read) -> Result<bool, Fail> {
-    let s = read_settings(alloc, text)?;
-    Ok(
-        sending(&s) == want.0
-            && receiving(&s) == want.1
-            && texts(&s) == want.2
-            && names(&s) == want.3,
-    )
+fn sets(s: &Settings, want: &Read) -> bool {
+    sending(s) == want.0 && receiving(s) == want.1 && texts(s) == want.2 && names(s) == want.3
 }
 
-#[test]
-fn defaults(rt: HostRuntime) -> Result<(), Fail> {
-    let want = (
-        [1, 1, 50, 10_000, 2_000, 30, 5_000, 30_000],
-        [16_777_216, 64, 16_384, 0],
-        ["localhost:9090", "/api/v1/write", "/api/v1/write"],
-        [Names::Legacy, Names::Legacy],
-    );
-    assert!(rt; reads_as(rt.alloc(), b"", want)?);
-    Ok(())
+fn reads_as(alloc: Global, text: &[u8], want: &Read) -> bool {
+    match read_settings(alloc, text) {
+        Ok(s) => sets(&s, want),
+        Err(_) => false,
+    }
 }
 
 const EVERY_KEY: &[u8] =
     b"[send]\nhost = 'a'\npath = '/b'\nshards = 2\nmin_shards = 1\nmax_shards = 3\ncapacity = 4\nbatch = 5\n
           min_backoff_ms = 6\nmax_backoff_ms = 7\ntimeout_ms = 8\nnames = 'utf8'\n
           [receive]\npath = '/c'\nmax_body_bytes = 9\nmax_labels = 10\nmax_label_bytes = 11\nbusy_first = 12\nnames = 'utf8'";
-
-#[test]
-fn every_key(rt: HostRuntime) -> Result<(), Fail> {
-    let want = (
-        [2, 1, 3, 4, 5, 6, 7, 8],
-        [9, 10, 11, 12],
-        ["a", "/b", "/c"],
-        [Names::Utf8, Names::Utf8],
-    );
-    assert!(rt; reads_as(rt.alloc(), EVERY_KEY, want)?);
-    Ok(())
-}
 
 /// The example of docs/SETTINGS.md.
 const EXAMPLE: &[u8] = b"# Ship to the receiver at metrics.example, with up to eight shards.
@@ -251,6 +216,47 @@ separator = \"/\"
 regex = \"test/.*\"
 ";
 
+/// Texts, and what they set.
+static READ: [(&[u8], Read); 3] = [
+    (
+        b"",
+        (
+            [1, 1, 50, 10_000, 2_000, 30, 5_000, 30_000],
+            [16_777_216, 64, 16_384, 0],
+            ["localhost:9090", "/api/v1/write", "/api/v1/write"],
+            [Names::Legacy, Names::Legacy],
+        ),
+    ),
+    (
+        EVERY_KEY,
+        (
+            [2, 1, 3, 4, 5, 6, 7, 8],
+            [9, 10, 11, 12],
+            ["a", "/b", "/c"],
+            [Names::Utf8, Names::Utf8],
+        ),
+    ),
+    (
+        EXAMPLE,
+        (
+            [2, 1, 8, 10_000, 500, 100, 10_000, 30_000],
+            [1_048_576, 64, 16_384, 0],
+            ["metrics.example:9090", "/api/v1/write", "/api/v1/write"],
+            [Names::Legacy, Names::Legacy],
+        ),
+    ),
+];
+
+/// The first text that sets something else.
+fn wrong_reading(alloc: Global) -> Option<usize> {
+    for (i, (text, want)) in READ.iter().enumerate() {
+        if !reads_as(alloc, text, want) {
+            return Some(i);
+        }
+    }
+    None
+}
+
 /// Labels, and whether the example's rules keep them.
 static KEPT: [(&[(&str, &str)], bool); 5] = [
     (&[("job", "node")], true),
@@ -263,35 +269,38 @@ static KEPT: [(&[(&str, &str)], bool); 5] = [
     ),
 ];
 
-fn is_kept(alloc: Global, s: &Settings, labels: &[(&str, &str)]) -> Result<bool, Fail> {
-    let set = label_set(alloc, labels)?;
-    Ok(s.config.fields().rules.keeps(&set)?)
+/// Whether rules keep a set, or not, as is said here.
+fn keeps(s: &Settings, set: &LabelSet, want: bool) -> bool {
+    s.config.fields().rules.keeps(set) == Ok(want)
+}
+
+/// The same of labels.
+fn is_kept(alloc: Global, s: &Settings, labels: &[(&str, &str)], want: bool) -> bool {
+    match label_set(alloc, labels) {
+        Ok(set) => keeps(s, &set, want),
+        Err(_) => false,
+    }
 }
 
 /// The first of these labels that the rules keep and should not, or the other way round.
-fn wrongly_kept_by(alloc: Global, s: &Settings) -> Result<Option<usize>, Fail> {
+fn wrongly_kept_by(alloc: Global, s: &Settings) -> Option<usize> {
     for (i, (labels, want)) in KEPT.iter().enumerate() {
-        if is_kept(alloc, s, labels)? != *want {
-            return Ok(Some(i));
+        if !is_kept(alloc, s, labels, *want) {
+            return Some(i);
         }
     }
-    Ok(None)
+    None
 }
 
-fn wrongly_kept(alloc: Global) -> Result<Option<usize>, Fail> {
-    let s = read_settings(alloc, EXAMPLE)?;
-    wrongly_kept_by(alloc, &s)
+fn wrongly_kept(alloc: Global) -> Option<usize> {
+    match read_settings(alloc, EXAMPLE) {
+        Ok(s) => wrongly_kept_by(alloc, &s),
+        Err(_) => Some(0),
+    }
 }
 
 #[test]
-fn example(rt: HostRuntime) -> Result<(), Fail> {
-    let want = (
-        [2, 1, 8, 10_000, 500, 100, 10_000, 30_000],
-        [1_048_576, 64, 16_384, 0],
-        ["metrics.example:9090", "/api/v1/write", "/api/v1/write"],
-        [Names::Legacy, Names::Legacy],
-    );
-    assert!(rt; reads_as(rt.alloc(), EXAMPLE, want)?);
-    none_is_wrong(&rt, wrongly_kept(rt.alloc())?);
-    Ok(())
+fn defaults_every_key_and_example(rt: HostRuntime) {
+    none_is_wrong(&rt, wrong_reading(rt.alloc()));
+    none_is_wrong(&rt, wrongly_kept(rt.alloc()));
 }

@@ -3,7 +3,6 @@
 use crate::rows::none_is_wrong;
 use crate::settings_documents::fault;
 use std::alloc::{AllocError, Global};
-use std::test::Fail;
 
 /// A key with its table, its least and its most number, and other lines of the table.
 type Range = (&'static str, &'static str, i64, i64, &'static str);
@@ -40,43 +39,37 @@ fn with_number(alloc: Global, range: Range, number: i64) -> Result<String, Alloc
     format!(in alloc; "[{table}]\n{lines}\n{key} = {number}\n")
 }
 
-fn fault_at(alloc: Global, range: Range, number: i64) -> Result<u8, Fail> {
-    let text = with_number(alloc, range, number)?;
-    fault(alloc, text.as_bytes())
+/// Whether a number has the fault of this number, or none.
+fn is_fault_at(alloc: Global, range: Range, number: i64, want: u8) -> bool {
+    match with_number(alloc, range, number) {
+        Ok(text) => fault(alloc, text.as_bytes()) == want,
+        Err(_) => false,
+    }
 }
 
 /// Whether the numbers at both borders, beside them and far away have the faults that they should have, or none.
-fn is_range(alloc: Global, range: Range) -> Result<bool, Fail> {
+fn is_range(alloc: Global, range: Range) -> bool {
     let (_, _, low, high, _) = range;
-    let rows = [
-        (low.saturating_sub(1), 4),
-        (low, 9),
-        (high, 9),
-        (high.saturating_add(1), 4),
-        (i64::MIN, 4),
-        (i64::MAX, 4),
-    ];
-    for (number, want) in rows {
-        if fault_at(alloc, range, number)? != want {
-            return Ok(false);
-        }
-    }
-    Ok(true)
+    is_fault_at(alloc, range, low.saturating_sub(1), 4)
+        && is_fault_at(alloc, range, low, 9)
+        && is_fault_at(alloc, range, high, 9)
+        && is_fault_at(alloc, range, high.saturating_add(1), 4)
+        && is_fault_at(alloc, range, i64::MIN, 4)
+        && is_fault_at(alloc, range, i64::MAX, 4)
 }
 
-fn wrong_range(alloc: Global) -> Result<Option<usize>, Fail> {
+fn wrong_range(alloc: Global) -> Option<usize> {
     for (i, range) in RANGES.iter().enumerate() {
-        if !is_range(alloc, *range)? {
-            return Ok(Some(i));
+        if !is_range(alloc, *range) {
+            return Some(i);
         }
     }
-    Ok(None)
+    None
 }
 
 #[test]
-fn numbers(rt: HostRuntime) -> Result<(), Fail> {
-    none_is_wrong(&rt, wrong_range(rt.alloc())?);
-    Ok(())
+fn numbers(rt: HostRuntime) {
+    none_is_wrong(&rt, wrong_range(rt.alloc()));
 }
 
 /// A text of this beginning and so many letters.
@@ -88,57 +81,60 @@ fn with_letters(alloc: Global, front: &str, letters: usize) -> Result<String, Al
     Ok(text)
 }
 
-fn text_fault(alloc: Global, key: &str, value: &str) -> Result<u8, Fail> {
-    let text = format!(in alloc; "{key} = '{value}'\n")?;
-    fault(alloc, text.as_bytes())
+/// Whether a key with a text has the fault of this number, or none.
+fn is_text_fault(alloc: Global, key: &str, value: &str, want: u8) -> bool {
+    match format!(in alloc; "{key} = '{value}'\n") {
+        Ok(text) => fault(alloc, text.as_bytes()) == want,
+        Err(_) => false,
+    }
 }
 
-/// Keys with texts, and the number of the fault, or 9.
-static TEXTS: [(&str, &str, u8); 17] = [
-    ("send.host", "", 4),
-    ("send.host", "!", 9),
-    ("send.host", "~", 9),
-    ("send.host", "a b", 4),
-    ("send.host", "\u{e9}", 4),
-    ("send.path", "", 4),
-    ("send.path", "a", 4),
-    ("send.path", "/", 9),
-    ("send.path", "/azAZ09/-._~%?=&", 9),
-    ("send.path", "/a b", 4),
-    ("send.path", "/a,b", 4),
-    ("send.path", "/a@", 4),
-    ("send.path", "/[", 4),
-    ("receive.path", "", 4),
-    ("receive.path", "/", 9),
-    ("receive.path", "?", 4),
-    ("receive.path", "/a:", 4),
+/// Keys with texts, which so many letters follow, and the number of the fault, or 9.
+static TEXTS: [(&str, &str, usize, u8); 23] = [
+    ("send.host", "", 0, 4),
+    ("send.host", "!", 0, 9),
+    ("send.host", "~", 0, 9),
+    ("send.host", "a b", 0, 4),
+    ("send.host", "\u{e9}", 0, 4),
+    ("send.path", "", 0, 4),
+    ("send.path", "a", 0, 4),
+    ("send.path", "/", 0, 9),
+    ("send.path", "/azAZ09/-._~%?=&", 0, 9),
+    ("send.path", "/a b", 0, 4),
+    ("send.path", "/a,b", 0, 4),
+    ("send.path", "/a@", 0, 4),
+    ("send.path", "/[", 0, 4),
+    ("receive.path", "", 0, 4),
+    ("receive.path", "/", 0, 9),
+    ("receive.path", "?", 0, 4),
+    ("receive.path", "/a:", 0, 4),
+    // lengths
+    ("send.host", "a", 254, 9),
+    ("send.host", "a", 255, 4),
+    ("send.path", "/", 254, 9),
+    ("send.path", "/", 255, 4),
+    ("receive.path", "/", 254, 9),
+    ("receive.path", "/", 255, 4),
 ];
 
-fn wrong_text(alloc: Global) -> Result<Option<usize>, Fail> {
-    for (i, (key, value, want)) in TEXTS.iter().enumerate() {
-        if text_fault(alloc, key, value)? != *want {
-            return Ok(Some(i));
-        }
+/// The same of a text of this beginning and so many letters.
+fn is_fault_of_letters(alloc: Global, key: &str, front: &str, letters: usize, want: u8) -> bool {
+    match with_letters(alloc, front, letters) {
+        Ok(text) => is_text_fault(alloc, key, text.as_str(), want),
+        Err(_) => false,
     }
-    Ok(None)
 }
 
-/// The fault of a text of this beginning and so many letters.
-fn fault_of_letters(alloc: Global, key: &str, front: &str, letters: usize) -> Result<u8, Fail> {
-    let text = with_letters(alloc, front, letters)?;
-    text_fault(alloc, key, text.as_str())
+fn wrong_text(alloc: Global) -> Option<usize> {
+    for (i, (key, front, letters, want)) in TEXTS.iter().enumerate() {
+        if !is_fault_of_letters(alloc, key, front, *letters, *want) {
+            return Some(i);
+        }
+    }
+    None
 }
 
 #[test]
-fn texts(rt: HostRuntime) -> Result<(), Fail> {
-    none_is_wrong(&rt, wrong_text(rt.alloc())?);
-    for (key, front) in [
-        ("send.host", "a"),
-        ("send.path", "/"),
-        ("receive.path", "/"),
-    ] {
-        assert!(rt; fault_of_letters(rt.alloc(), key, front, 254)? == 9);
-        assert!(rt; fault_of_letters(rt.alloc(), key, front, 255)? == 4);
-    }
-    Ok(())
+fn texts(rt: HostRuntime) {
+    none_is_wrong(&rt, wrong_text(rt.alloc()));
 }

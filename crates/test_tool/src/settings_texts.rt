@@ -1,10 +1,10 @@
 //! Settings as text, and what is told of their faults.
 
-use crate::rows::none_is_wrong;
-use rw_settings::{SettingsFault, explain_settings};
+use crate::rows::{holds, none_is_wrong};
+use Row::{Pattern, Printed, Told};
+use rw_settings::{SettingsNote, explain_settings};
 use rw_settings_text::print_settings;
 use std::alloc::{AllocError, Global};
-use std::test::Fail;
 
 /// What is printed where nothing is set.
 const DEFAULTS: &str = "\
@@ -90,11 +90,21 @@ busy_first = 0
 names = \"legacy\"
 ";
 
-/// Settings in another spelling, and how they are printed.
-static PRINTED: [(&str, &str); 4] = [
-    ("", DEFAULTS),
-    (DEFAULTS, DEFAULTS),
-    (
+/// What a row says.
+enum Row {
+    /// Settings, and how they are printed.
+    Printed(&'static str, &'static str),
+    /// A pattern as a file may have it, and the last line that is printed.
+    Pattern(&'static str, &'static str),
+    /// A text, and what is told of it.
+    Told(&'static str, &'static str),
+}
+
+static ROWS: [Row; 26] = [
+    // settings in another spelling
+    Printed("", DEFAULTS),
+    Printed(DEFAULTS, DEFAULTS),
+    Printed(
         "rule = [{ regex = 'node|api', source_labels = ['job'], action = 'keep' },
                  { action = 'drop', source_labels = ['env', 'region'], separator = '/' }]
          receive.path = '/'
@@ -115,105 +125,51 @@ static PRINTED: [(&str, &str); 4] = [
          host = 'metrics.example'",
         GREATEST,
     ),
-    (LEAST, LEAST),
-];
-
-/// The first text that is printed otherwise.
-fn wrong_text(alloc: Global) -> Result<Option<usize>, SettingsFault> {
-    for (i, (text, want)) in PRINTED.iter().enumerate() {
-        let printed = print_settings(alloc, text.as_bytes())?;
-        if printed.as_str() != *want {
-            return Ok(Some(i));
-        }
-    }
-    Ok(None)
-}
-
-#[test]
-fn tables(rt: HostRuntime) -> Result<(), Fail> {
-    none_is_wrong(&rt, wrong_text(rt.alloc())?);
-    Ok(())
-}
-
-/// A pattern as a file may have it, and the last line that is printed.
-static PATTERNS: [(&str, &str); 8] = [
-    ("'it is'", "\nregex = \"it is\"\n"),
-    ("\"it's\"", "\nregex = \"it's\"\n"),
-    ("'a\"b'", "\nregex = 'a\"b'\n"),
-    ("\"\\\\d+\"", "\nregex = '\\d+'\n"),
-    ("\"\\\\d'\"", "\nregex = '''\\d''''\n"),
-    ("\"\\u0001\\t\"", "\nregex = \"\\u0001\\t\"\n"),
-    ("\"a\\nb\"", "\nregex = \"\"\"\na\nb\"\"\"\n"),
-    ("'\u{e9}\u{1f600}'", "\nregex = \"\u{e9}\u{1f600}\"\n"),
-];
-
-/// The settings of one rule with this pattern, printed, and those printed again.
-fn printed_twice(alloc: Global, pattern: &str) -> Result<(String, String), SettingsFault> {
-    let mut text = String::from_str(
-        alloc,
-        "[[rule]]\naction = 'drop'\nsource_labels = ['a', '\"']\nregex = ",
-    )?;
-    text.push_str(pattern)?;
-    let once = print_settings(alloc, text.as_bytes())?;
-    let twice = print_settings(alloc, once.as_bytes())?;
-    Ok((once, twice))
-}
-
-/// The first pattern that is printed otherwise, or is another when it is read again.
-fn wrong_pattern(alloc: Global) -> Result<Option<usize>, SettingsFault> {
-    for (i, (pattern, want)) in PATTERNS.iter().enumerate() {
-        let (once, twice) = printed_twice(alloc, pattern)?;
-        if !once.as_str().ends_with(*want) || once.as_str() != twice.as_str() {
-            return Ok(Some(i));
-        }
-    }
-    Ok(None)
-}
-
-#[test]
-fn patterns(rt: HostRuntime) -> Result<(), Fail> {
-    none_is_wrong(&rt, wrong_pattern(rt.alloc())?);
-    Ok(())
-}
-
-/// Texts, and what is told of them.
-static EXPLAINED: [(&str, &str); 14] = [
-    (DEFAULTS, ""),
-    (
+    Printed(LEAST, LEAST),
+    Pattern("'it is'", "\nregex = \"it is\"\n"),
+    Pattern("\"it's\"", "\nregex = \"it's\"\n"),
+    Pattern("'a\"b'", "\nregex = 'a\"b'\n"),
+    Pattern("\"\\\\d+\"", "\nregex = '\\d+'\n"),
+    Pattern("\"\\\\d'\"", "\nregex = '''\\d''''\n"),
+    Pattern("\"\\u0001\\t\"", "\nregex = \"\\u0001\\t\"\n"),
+    Pattern("\"a\\nb\"", "\nregex = \"\"\"\na\nb\"\"\"\n"),
+    Pattern("'\u{e9}\u{1f600}'", "\nregex = \"\u{e9}\u{1f600}\"\n"),
+    Told(DEFAULTS, ""),
+    Told(
         "[send]\nshard = 1",
         "send.shard: is no key; did you mean send.shards?\n",
     ),
-    (
+    Told(
         "[send]\nshrads = 1",
         "send.shrads: is no key; did you mean send.shards?\n",
     ),
-    ("[receive]\nshards = 1", "receive.shards: is no key\n"),
-    ("sned = 1", "sned: is no key; did you mean send?\n"),
-    (
+    Told("[receive]\nshards = 1", "receive.shards: is no key\n"),
+    Told("sned = 1", "sned: is no key; did you mean send?\n"),
+    Told(
         "[send]\nbatch = 0\nshards = '2'\nhost = 'a b'",
         "send.host: is refused; it takes 1 to 255 bytes, each '!' to '~'
 send.shards: is of type string; it takes a whole number from 1 to 1000
 send.batch: 0 is refused; it takes a whole number from 1 to 10000
 ",
     ),
-    (
+    Told(
         "[send]\nnames = 'UTF8'\n[receive]\nnames = 8",
         "send.names: is refused; it takes 'legacy' or 'utf8'
 receive.names: is of type integer; it takes 'legacy' or 'utf8'
 ",
     ),
-    (
+    Told(
         "[send]\nshards = 60",
         "send: min_shards <= shards <= max_shards and min_backoff_ms <= max_backoff_ms have to hold, also of defaults\n",
     ),
-    (
+    Told(
         "receive = 2\nrule = 3\n[[send]]",
         "send: is of another type; it takes a table, [send]
 receive: is of another type; it takes a table, [receive]
 rule: is of another type; it takes a list of tables, each [[rule]]
 ",
     ),
-    (
+    Told(
         "rule = [1, { regex = 1, source_label = [] }]",
         "rule 1: is no table
 rule 2, source_label: is no key; did you mean rule 2, source_labels?
@@ -222,47 +178,96 @@ rule 2, source_labels: is missing; it takes a list of texts, at least one
 rule 2, regex: is of type integer; it takes a text
 ",
     ),
-    (
+    Told(
         "[[rule]]\naction = 'keep'\nsource_labels = ['a']\n[[rule]]\naction = 'drop'\nsource_labels = ['a']\nregex = 'a)(b'",
         "rule 2, regex: \"a)(b\" is no regular expression: unopened group\n",
     ),
-    ("[send", "line 1, column 6: unclosed table, expected `]`\n"),
-    (
+    Told("[send", "line 1, column 6: unclosed table, expected `]`\n"),
+    Told(
         "# \u{e9}\nsend = \u{e9}",
         "line 2, column 8: invalid value, expected a string, number, boolean, date-time, array or inline table\n",
     ),
-    (
+    Told(
         "[send]\nbatch = 99999999999999999999",
         "line 2, column 9: number out of range\n",
     ),
 ];
 
-/// What is told of a text.
-fn explained(alloc: Global, text: &[u8]) -> Result<String, AllocError> {
-    let mut lines = String::new(alloc);
-    for note in explain_settings(alloc, text)?.iter() {
-        lines.push_str(note.place.as_str())?;
-        lines.push_str(": ")?;
-        lines.push_str(note.text.as_str())?;
-        lines.push_str("\n")?;
+/// Whether settings are printed so.
+fn is_printed(alloc: Global, text: &[u8], want: &str) -> bool {
+    match print_settings(alloc, text) {
+        Ok(printed) => printed.as_str() == want,
+        Err(_) => false,
     }
-    Ok(lines)
 }
 
-/// The first text of which something else is told.
-fn wrongly_explained(alloc: Global) -> Result<Option<usize>, AllocError> {
-    for (i, (text, want)) in EXPLAINED.iter().enumerate() {
-        if explained(alloc, text.as_bytes())?.as_str() != *want {
-            return Ok(Some(i));
+/// The settings of one rule with this pattern.
+fn with_pattern(alloc: Global, pattern: &str) -> Result<String, AllocError> {
+    format!(in alloc; "[[rule]]\naction = 'drop'\nsource_labels = ['a', '\"']\nregex = {pattern}")
+}
+
+/// Whether settings are printed with this end, and these are printed as they are.
+fn ends_and_stays(alloc: Global, text: &[u8], end: &str) -> bool {
+    match print_settings(alloc, text) {
+        Ok(once) => {
+            once.as_str().ends_with(end) && is_printed(alloc, once.as_bytes(), once.as_str())
+        }
+        Err(_) => false,
+    }
+}
+
+/// The same of the settings of one rule with this pattern.
+fn is_pattern_printed(alloc: Global, pattern: &str, end: &str) -> bool {
+    match with_pattern(alloc, pattern) {
+        Ok(text) => ends_and_stays(alloc, text.as_bytes(), end),
+        Err(_) => false,
+    }
+}
+
+/// Adds a note, as a line.
+fn put_note(lines: &mut String, note: &SettingsNote) -> Result<(), AllocError> {
+    lines.push_str(note.place.as_str())?;
+    lines.push_str(": ")?;
+    lines.push_str(note.text.as_str())?;
+    lines.push_str("\n")
+}
+
+fn put_notes(lines: &mut String, notes: &[SettingsNote]) -> Result<(), AllocError> {
+    for note in notes {
+        put_note(lines, note)?;
+    }
+    Ok(())
+}
+
+/// Whether this is told of a text.
+fn is_told(alloc: Global, text: &[u8], want: &str) -> bool {
+    let mut lines = String::new(alloc);
+    match explain_settings(alloc, text) {
+        Ok(notes) => put_notes(&mut lines, &notes).is_ok() && lines.as_str() == want,
+        Err(_) => false,
+    }
+}
+
+fn is_so(alloc: Global, row: &Row) -> bool {
+    match row {
+        Printed(text, want) => is_printed(alloc, text.as_bytes(), want),
+        Pattern(pattern, end) => is_pattern_printed(alloc, pattern, end),
+        Told(text, want) => is_told(alloc, text.as_bytes(), want),
+    }
+}
+
+fn wrong_row(alloc: Global) -> Option<usize> {
+    for (i, row) in ROWS.iter().enumerate() {
+        if !is_so(alloc, row) {
+            return Some(i);
         }
     }
-    Ok(None)
+    None
 }
 
 #[test]
-fn faults(rt: HostRuntime) -> Result<(), Fail> {
-    none_is_wrong(&rt, wrongly_explained(rt.alloc())?);
-    let text = explained(rt.alloc(), b"# \xff")?;
-    assert!(rt; text.as_str() == "line 1, column 1: the text is not UTF-8\n");
-    Ok(())
+fn tables_patterns_and_faults(rt: HostRuntime) {
+    none_is_wrong(&rt, wrong_row(rt.alloc()));
+    let not_utf8 = "line 1, column 1: the text is not UTF-8\n";
+    holds(&rt, is_told(rt.alloc(), b"# \xff", not_utf8));
 }

@@ -1,126 +1,93 @@
 //! Values and labels as text.
 
-use crate::rows::none_is_wrong;
-use crate::rule_making::{label_set, raw_labels};
+use crate::rows::{holds, none_is_wrong};
+use crate::rule_making::{label_set, label_set_as};
+use Row::{Labelled, Number, Other, Value};
 use rw_text::{
     TextFault, push_integer, push_labels, push_number, push_value, read_integer, read_labels,
     read_number, read_value,
 };
-use rw_types::{LabelFault, LabelSet, Names, RawLabels, Word};
-use std::alloc::{AllocError, Global};
-use std::test::Fail;
+use rw_types::{LabelSet, Names, RawLabels, Word};
+use std::alloc::Global;
 
-/// Words and the texts that they print.
-static VALUES: [(u64, &str); 9] = [
-    (0, "0"),
-    (0x3ff0_0000_0000_0000, "1"),
-    (0xc000_0000_0000_0000, "-2"),
-    (0x433f_ffff_ffff_ffff, "9007199254740991"),
-    (0x4340_0000_0000_0000, "9007199254740992"),
-    (0xc340_0000_0000_0000, "-9007199254740992"),
-    (0x8000_0000_0000_0000, "0x8000000000000000"),
-    (0x4340_0000_0000_0001, "0x4340000000000001"),
-    (0x3fe0_0000_0000_0000, "0x3fe0000000000000"),
-];
+type Labels = &'static [(&'static str, &'static str)];
 
-/// Whether a word is printed as this text, and read from it.
-fn is_value(alloc: Global, bits: u64, text: &str) -> Result<bool, AllocError> {
-    let mut out = Vec::new(alloc);
-    push_value(&mut out, Word(bits))?;
-    Ok(out.as_slice() == text.as_bytes() && read_value(text.as_bytes()) == Some(Word(bits)))
+/// What a row says.
+enum Row {
+    /// A word, and the text that it prints and is read from.
+    Value(u64, &'static str),
+    /// A text, and the number and the integer that it stands for, if so.
+    Number(&'static str, Option<u64>, Option<i64>),
+    /// A label set, and the text that it prints and is read from.
+    Labelled(Labels, &'static str),
+    /// Labels that are read from this text.
+    Other(Labels, &'static str),
 }
 
-fn wrong_value(alloc: Global) -> Result<Option<usize>, AllocError> {
-    for (i, (bits, text)) in VALUES.iter().enumerate() {
-        if !is_value(alloc, *bits, text)? {
-            return Ok(Some(i));
-        }
-    }
-    Ok(None)
-}
-
-#[test]
-fn values_there_and_back(rt: HostRuntime) -> Result<(), Fail> {
-    none_is_wrong(&rt, wrong_value(rt.alloc())?);
-    Ok(())
-}
-
-/// Texts, and the number and the integer that each stands for, if so.
-static NUMBERS: [(&str, Option<u64>, Option<i64>); 11] = [
-    ("0", Some(0), Some(0)),
-    ("007", Some(7), Some(7)),
-    ("-0", None, Some(0)),
-    ("-12", None, Some(-12)),
-    ("9223372036854775808", Some(1 << 63), None),
-    ("-9223372036854775808", None, Some(i64::MIN)),
-    ("18446744073709551615", Some(u64::MAX), None),
-    ("18446744073709551616", None, None),
-    ("+1", None, None),
-    ("", None, None),
-    ("--1", None, None),
-];
-
-fn wrong_number() -> Option<usize> {
-    for (i, (text, number, integer)) in NUMBERS.iter().enumerate() {
-        if read_number(text.as_bytes()) != *number || read_integer(text.as_bytes()) != *integer {
-            return Some(i);
-        }
-    }
-    None
-}
-
-/// Whether the largest number and the least integer are printed one behind the other.
-fn prints_numbers(alloc: Global) -> Result<bool, AllocError> {
-    let mut out = Vec::new(alloc);
-    push_number(&mut out, u64::MAX)?;
-    push_integer(&mut out, i64::MIN)?;
-    Ok(out.as_slice() == b"18446744073709551615-9223372036854775808".as_slice())
-}
-
-#[test]
-fn numbers(rt: HostRuntime) -> Result<(), Fail> {
-    none_is_wrong(&rt, wrong_number());
-    assert!(rt; prints_numbers(rt.alloc())?);
-    Ok(())
-}
-
-/// Labels and their text.
-type Labelled = (&'static [(&'static str, &'static str)], &'static str);
-
-static LABELS: [Labelled; 5] = [
-    (&[], "{}"),
-    (&[("__name__", "up")], r#"{__name__="up"}"#),
-    (&[("a", "1"), ("b", "2")], r#"{a="1",b="2"}"#),
-    (
+static ROWS: [Row; 35] = [
+    Value(0, "0"),
+    Value(0x3ff0_0000_0000_0000, "1"),
+    Value(0xc000_0000_0000_0000, "-2"),
+    Value(0x433f_ffff_ffff_ffff, "9007199254740991"),
+    Value(0x4340_0000_0000_0000, "9007199254740992"),
+    Value(0xc340_0000_0000_0000, "-9007199254740992"),
+    Value(0x8000_0000_0000_0000, "0x8000000000000000"),
+    Value(0x4340_0000_0000_0001, "0x4340000000000001"),
+    Value(0x3fe0_0000_0000_0000, "0x3fe0000000000000"),
+    Number("0", Some(0), Some(0)),
+    Number("007", Some(7), Some(7)),
+    Number("-0", None, Some(0)),
+    Number("-12", None, Some(-12)),
+    Number("9223372036854775808", Some(1 << 63), None),
+    Number("-9223372036854775808", None, Some(i64::MIN)),
+    Number("18446744073709551615", Some(u64::MAX), None),
+    Number("18446744073709551616", None, None),
+    Number("+1", None, None),
+    Number("", None, None),
+    Number("--1", None, None),
+    Labelled(&[], "{}"),
+    Labelled(&[("__name__", "up")], r#"{__name__="up"}"#),
+    Labelled(&[("a", "1"), ("b", "2")], r#"{a="1",b="2"}"#),
+    Labelled(
         &[("job", "x\\y\"z\n\t{}=,")],
         "{job=\"x\\\\y\\\"z\\n\t{}=,\"}",
     ),
-    (&[("job", "säge")], r#"{job="säge"}"#),
-];
-
-/// Label sets whose names are any text.
-static UTF8_LABELS: [Labelled; 7] = [
-    (&[("a\"b", "1")], r#"{"a\"b"="1"}"#),
-    (&[("a\\b", "1")], r#"{"a\\b"="1"}"#),
-    (&[("a\nb", "1")], r#"{"a\nb"="1"}"#),
-    (&[("a.b", "1")], r#"{"a.b"="1"}"#),
-    (&[("9x", "1")], r#"{"9x"="1"}"#),
-    (&[("säge", "1")], r#"{"säge"="1"}"#),
-    (
+    Labelled(&[("job", "säge")], r#"{job="säge"}"#),
+    // names that are any text
+    Labelled(&[("a\"b", "1")], r#"{"a\"b"="1"}"#),
+    Labelled(&[("a\\b", "1")], r#"{"a\\b"="1"}"#),
+    Labelled(&[("a\nb", "1")], r#"{"a\nb"="1"}"#),
+    Labelled(&[("a.b", "1")], r#"{"a.b"="1"}"#),
+    Labelled(&[("9x", "1")], r#"{"9x"="1"}"#),
+    Labelled(&[("säge", "1")], r#"{"säge"="1"}"#),
+    Labelled(
         &[("__name__", "http.rate"), ("säge", "1")],
         r#"{__name__="http.rate","säge"="1"}"#,
     ),
-];
-
-/// Labels that are no label set, whatever names are taken.
-static OTHER_LABELS: [Labelled; 3] = [
-    (&[("", "")], r#"{""=""}"#),
-    (&[("a:b", "1"), ("a-b", "2")], r#"{a:b="1","a-b"="2"}"#),
-    (
+    // no label set, whatever names are taken
+    Other(&[("", "")], r#"{""=""}"#),
+    Other(&[("a:b", "1"), ("a-b", "2")], r#"{a:b="1","a-b"="2"}"#),
+    Other(
         &[("9\n", "1"), ("a", "2"), ("a", "1")],
         r#"{"9\n"="1",a="2",a="1"}"#,
     ),
 ];
+
+/// Whether a word is printed as this text, and read from it.
+fn is_value(alloc: Global, bits: u64, text: &str) -> bool {
+    let mut out = Vec::new(alloc);
+    push_value(&mut out, Word(bits)).is_ok()
+        && out.as_slice() == text.as_bytes()
+        && read_value(text.as_bytes()) == Some(Word(bits))
+}
+
+/// Whether the largest number and the least integer are printed one behind the other.
+fn prints_numbers(alloc: Global) -> bool {
+    let mut out = Vec::new(alloc);
+    push_number(&mut out, u64::MAX).is_ok()
+        && push_integer(&mut out, i64::MIN).is_ok()
+        && out.as_slice() == b"18446744073709551615-9223372036854775808".as_slice()
+}
 
 fn are_labels(read: &RawLabels, labels: &[(&str, &str)]) -> bool {
     read.len() == labels.len()
@@ -129,67 +96,79 @@ fn are_labels(read: &RawLabels, labels: &[(&str, &str)]) -> bool {
 }
 
 /// Whether the text reads as these labels.
-fn reads_as(alloc: Global, text: &str, labels: &[(&str, &str)]) -> Result<bool, TextFault> {
-    let read = read_labels(alloc, text.as_bytes())?;
-    Ok(are_labels(&read, labels))
+fn reads_as(alloc: Global, text: &[u8], labels: &[(&str, &str)]) -> bool {
+    match read_labels(alloc, text) {
+        Ok(read) => are_labels(&read, labels),
+        Err(_) => false,
+    }
 }
 
 /// Whether the text is printed of these labels.
-fn is_printed(alloc: Global, labels: &[(&str, &str)], text: &str) -> Result<bool, LabelFault> {
-    let set = LabelSet::check_as(alloc, Names::Utf8, &raw_labels(alloc, labels)?)?;
+fn is_printed(alloc: Global, labels: &[(&str, &str)], text: &str) -> bool {
     let mut out = Vec::new(alloc);
-    push_labels(&mut out, &set)?;
-    Ok(out.as_slice() == text.as_bytes())
+    match label_set_as(alloc, Names::Utf8, labels) {
+        Ok(set) => push_labels(&mut out, &set).is_ok() && out.as_slice() == text.as_bytes(),
+        Err(_) => false,
+    }
 }
 
-/// The first of these texts that is printed otherwise.
-fn wrong_print(alloc: Global, rows: &[Labelled]) -> Result<Option<usize>, LabelFault> {
-    for (i, (labels, text)) in rows.iter().enumerate() {
-        if !is_printed(alloc, labels, text)? {
-            return Ok(Some(i));
+fn is_so(alloc: Global, row: &Row) -> bool {
+    match row {
+        Value(bits, text) => is_value(alloc, *bits, text),
+        Number(text, number, integer) => {
+            read_number(text.as_bytes()) == *number && read_integer(text.as_bytes()) == *integer
         }
+        Labelled(labels, text) => {
+            is_printed(alloc, labels, text) && reads_as(alloc, text.as_bytes(), labels)
+        }
+        Other(labels, text) => reads_as(alloc, text.as_bytes(), labels),
     }
-    Ok(None)
 }
 
-/// The first of these texts that reads otherwise.
-fn wrong_reading(alloc: Global, rows: &[Labelled]) -> Result<Option<usize>, TextFault> {
-    for (i, (labels, text)) in rows.iter().enumerate() {
-        if !reads_as(alloc, text, labels)? {
-            return Ok(Some(i));
+fn wrong_row(alloc: Global) -> Option<usize> {
+    for (i, row) in ROWS.iter().enumerate() {
+        if !is_so(alloc, row) {
+            return Some(i);
         }
     }
-    Ok(None)
+    None
 }
 
 #[test]
-fn labels_there_and_back(rt: HostRuntime) -> Result<(), Fail> {
-    none_is_wrong(&rt, wrong_print(rt.alloc(), &LABELS)?);
-    none_is_wrong(&rt, wrong_print(rt.alloc(), &UTF8_LABELS)?);
-    none_is_wrong(&rt, wrong_reading(rt.alloc(), &LABELS)?);
-    none_is_wrong(&rt, wrong_reading(rt.alloc(), &UTF8_LABELS)?);
-    none_is_wrong(&rt, wrong_reading(rt.alloc(), &OTHER_LABELS)?);
-    Ok(())
+fn there_and_back(rt: HostRuntime) {
+    none_is_wrong(&rt, wrong_row(rt.alloc()));
+    holds(&rt, prints_numbers(rt.alloc()));
 }
 
-/// Whether a name of the most bytes that a label set may have beside its value is printed and read again.
-fn is_long_name_kept(alloc: Global) -> Result<bool, Fail> {
-    let mut name = String::from_str(alloc, ".")?;
-    for _ in 1..16_383 {
-        name.push_str("a")?;
+/// A name of the most bytes that a label set may have beside a value of one. It is shorter where memory is refused.
+fn long_name(alloc: Global) -> String {
+    let mut name = String::new(alloc);
+    for i in 0..16_383u32 {
+        let _ = name.push_str(if i == 0 { "." } else { "a" });
     }
-    let labels = [(name.as_str(), "1")];
-    let set = LabelSet::check_as(alloc, Names::Utf8, &raw_labels(alloc, &labels)?)?;
+    name
+}
+
+/// Whether labels are printed in so many bytes, and read again.
+fn is_printed_and_read(alloc: Global, labels: &[(&str, &str)], len: usize) -> bool {
     let mut out = Vec::new(alloc);
-    push_labels(&mut out, &set)?;
-    let read = read_labels(alloc, out.as_slice())?;
-    Ok(out.len() == 16_383 + 8 && are_labels(&read, &labels))
+    match label_set_as(alloc, Names::Utf8, labels) {
+        Ok(set) => {
+            push_labels(&mut out, &set).is_ok() && out.len() == len && reads_as(alloc, &out, labels)
+        }
+        Err(_) => false,
+    }
+}
+
+/// Whether a label with the longest name is.
+fn is_long_name_kept(alloc: Global) -> bool {
+    let name = long_name(alloc);
+    is_printed_and_read(alloc, &[(name.as_str(), "1")], 16_383 + 8)
 }
 
 #[test]
-fn long_names(rt: HostRuntime) -> Result<(), Fail> {
-    assert!(rt; is_long_name_kept(rt.alloc())?);
-    Ok(())
+fn long_names(rt: HostRuntime) {
+    holds(&rt, is_long_name_kept(rt.alloc()));
 }
 
 /// Whether labels are printed whole, or leave the text as it was where memory is refused.
@@ -212,14 +191,24 @@ fn prints_four(alloc: Global, set: &LabelSet) -> bool {
     true
 }
 
+/// The same of a set of two labels; where memory is refused before, nothing is printed.
+fn prints_set(alloc: Global) -> bool {
+    match label_set(alloc, &[("__name__", "up"), ("job", "a\nb")]) {
+        Ok(set) => prints_four(alloc, &set),
+        Err(_) => true,
+    }
+}
+
+fn fault_of(alloc: Global, text: &[u8]) -> Option<TextFault> {
+    read_labels(alloc, text).err()
+}
+
 /// An `Err` of a printer leaves the text as it was. It shows when each allocation fails in turn.
 #[test]
 fn refused_memory_prints_nothing(rt: HostRuntime) {
-    if let Ok(set) = label_set(rt.alloc(), &[("__name__", "up"), ("job", "a\nb")]) {
-        assert!(rt; prints_four(rt.alloc(), &set));
-    }
-    assert_eq!(rt;
-        read_labels(rt.alloc(), b"{").err(),
-        Some(TextFault::NotOfForm)
+    holds(&rt, prints_set(rt.alloc()));
+    holds(
+        &rt,
+        fault_of(rt.alloc(), b"{") == Some(TextFault::NotOfForm),
     );
 }

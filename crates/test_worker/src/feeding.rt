@@ -9,7 +9,8 @@ use std::sync::{Arc, Wait};
 
 /// The sample of this number at this position, of the queue of shard 1 in epoch 3.
 fn sample(seq: u64, pos: u64, t: i64, word: Word, labels: Arc<LabelSet>) -> Item
-    ensures { result ≡ item.Sample (record { epoch = 3; shard = 1; seq = seq; pos = pos; series = 0 }) t word labels }
+    ensures { result ≡ item.Sample
+        (record { epoch = 3; shard = 1; seq = seq; pos = pos; series = 0 }) t word labels }
 {
     let place = Place {
         epoch: 3,

@@ -1,8 +1,8 @@
 use Rattle.std.proofs.Common.{Ok, Err}
 use Rattle.rw_wal_format.specs.Pieces.{bytes}
 use Rattle.rw_send.proofs.FollowLemmas.{fed_piece, part_piece}
-use Rattle.rw_send.proofs.PartLemmas.{also_on_err, joins_or_not}
-use Rattle.rw_send.proofs.ShortLemmas.{short_fed}
+use Rattle.rw_log_shipping.proofs.PartLemmas.{also_on_err, joins_or_not}
+use Rattle.rw_log_shipping.proofs.ShortLemmas.{short_fed}
 use Rattle.rw_send.proofs.live.feed_bytes.Goals as goal
 
 pub returns-in_err-feed-clause-part : goal.returns-in_err-feed-clause-part

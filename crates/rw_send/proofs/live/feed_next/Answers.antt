@@ -1,7 +1,7 @@
 use Rattle.std.proofs.Common.{ap}
 use Rattle.rw_feeder.specs.Feeders.{Sorting}
 use Rattle.rw_send.proofs.FollowLemmas.{fed_next, part_next}
-use Rattle.rw_send.proofs.PartLemmas.{also_on_err}
+use Rattle.rw_log_shipping.proofs.PartLemmas.{also_on_err}
 use Rattle.rw_send.proofs.live.feed_next.Goals as goal
 
 pub returns-in_err-begin_segment-clause-part : goal.returns-in_err-begin_segment-clause-part

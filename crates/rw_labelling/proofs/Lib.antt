@@ -1,0 +1,2 @@
+pub mod LabelledLemmas
+pub mod LabellingLemmas

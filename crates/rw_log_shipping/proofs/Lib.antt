@@ -1,0 +1,5 @@
+pub mod PartLemmas
+pub mod SegmentLemmas
+pub mod ShortLemmas
+pub mod StepLemmas
+pub mod SureLemmas

@@ -1,0 +1,68 @@
+use Rattle.std.proofs.Common.{◌≡◌, ◌-◌, ◌∷◌, Bool, nat_lt, length, map, sym, ap, ◌∙◌, subst, arith}
+use Rattle.std.specs.Vec.Iter.{into_iter_items}
+use Rattle.rw_feeder.specs.Feeders.{Sorting}
+use Rattle.rw_log_shipping.specs.Segments.{AreShort}
+use Rattle.rw_log_shipping.specs.Steps.{IsSet, is_some_more}
+use Rattle.rw_log_shipping.proofs.PartLemmas.{begins_on, halted_at_begin, halted_within}
+use Rattle.rw_log_shipping.proofs.SegmentLemmas.{going_step}
+use Rattle.rw_log_shipping.proofs.StepLemmas.{between, halts_at_begin, halts_behind, halts_within, is_shipped, part_first, part_halts, ships_first, some_more, stays_kept, stays_on}
+use Rattle.rw_log_shipping.proofs.SureLemmas.{sure_rest}
+use Rattle.rw_log_shipping.proofs.shipping.ship_all.Goals as goal
+
+pub loop-segment-preserved : goal.loop-segment-preserved
+loop-segment-preserved g c =
+    let steps : into_iter_items c.loop-segment.segment-iterator ≡ c.in-Some.segment ∷ into_iter_items c.next.new.self = c.in-Some.ensures.steps.0 in
+    let was = c.loop-segment.invariant.kept in
+    let stays = stays_on _ _ _ c.in_ok-begin_segment.ensures.stays c.in_ok-ship_segment.ensures.stays in
+    let kept = stays_kept _ _ stays in
+    let left : c.loop-segment.left - 1 ≡ length (into_iter_items c.next.new.self) = let was = c.loop-segment.invariant.left in let short = ap length steps in omega arith in
+    let set = between (λ fewest most. IsSet (nat_lt 0 (c.loop-segment.left - 1)) fewest most c.ship_segment.new.shipper c.resharded.new.shipper) c.loop-segment.invariant.range.0 c.loop-segment.invariant.range.1
+    c.in_ok-sharding.ensures.set in
+    let one = is_shipped _ _ _ _ (is_some_more (map g.S.Source.remaining (into_iter_items c.next.new.self))) _ _ _ _ c.in_ok-begin_segment.ensures.begun c.in_ok-ship_segment.ensures.whole
+    (c.in_ok-sharding.ensures.put c.in_ok-ship_segment.ensures.sound) stays
+    (subst (λ (b : Bool). IsSet b c.args.sharding.fewest c.args.sharding.most c.ship_segment.new.shipper c.resharded.new.shipper) (sym (some_more g.S.Source.remaining (into_iter_items c.next.new.self) (c.loop-segment.left - 1) left)) set) in
+    record {
+      kept = (ap (λ (l : Sorting). l.choice) c.in_ok-sharding.ensures.log ∙ kept.0 ∙ was.0, c.in_ok-sharding.ensures.config ∙ kept.1 ∙ was.1);
+      short = subst AreShort (sym (ap (λ (l : Sorting). l.pieces) c.in_ok-sharding.ensures.log)) (c.in_ok-ship_segment.ensures.short (c.in_ok-begin_segment.ensures.short c.loop-segment.invariant.short));
+      shards = sym c.in_ok-sharding.ensures.shards;
+      range = (c.in_ok-sharding.ensures.range.0 ∙ c.loop-segment.invariant.range.0, c.in_ok-sharding.ensures.range.1 ∙ c.loop-segment.invariant.range.1);
+      steps = λ last later. c.loop-segment.invariant.steps last (ships_first _ _ _ _ _ _ _ _ _ last steps one later);
+      part = λ last later. c.loop-segment.invariant.part last (part_first _ _ _ _ _ _ _ _ _ last steps one later);
+      going = going_step _ _ _ _ _ _ _ _ _ _ steps c.loop-segment.invariant.going c.in_ok-begin_segment.ensures.begun c.in_ok-ship_segment.ensures.whole
+          (ap (λ (l : Sorting). l.pieces) c.in_ok-sharding.ensures.log);
+      sound = c.in_ok-sharding.ensures.sound c.in_ok-ship_segment.ensures.sound;
+      left = left;
+      sure = sure_rest _ _ _ _ _ steps c.loop-segment.invariant.sure;
+      counted = let counted = c.loop-segment.invariant.counted in
+          let gone = c.in-Some.ensures.steps.1 in
+          let short = ap length steps in
+          omega arith;
+    }
+
+pub returns-in_err-begin_segment-clause-begins : goal.returns-in_err-begin_segment-clause-begins
+returns-in_err-begin_segment-clause-begins g c = halted_at_begin _ _ _ _ _ _ _ _ c.in-Some.ensures.steps.0 c.loop-segment.invariant.going c.in_err-begin_segment.ensures.part
+
+pub returns-in_err-ship_segment-clause-begins : goal.returns-in_err-ship_segment-clause-begins
+returns-in_err-ship_segment-clause-begins g c =
+    halted_within _ _ _ _ _ _ _ _ _ c.in-Some.ensures.steps.0 c.loop-segment.invariant.going c.in_ok-begin_segment.ensures.begun c.in_err-ship_segment.ensures.part
+
+pub returns-in_err-sharding-clause-begins : goal.returns-in_err-sharding-clause-begins
+returns-in_err-sharding-clause-begins g c =
+    begins_on _ _ _ _ (going_step _ _ _ _ _ _ _ _ _ _ c.in-Some.ensures.steps.0 c.loop-segment.invariant.going c.in_ok-begin_segment.ensures.begun c.in_ok-ship_segment.ensures.whole
+    (ap (λ (l : Sorting). l.pieces) c.in_err-sharding.ensures.log))
+
+pub returns-clause-begins : goal.returns-clause-begins
+returns-clause-begins g c = begins_on _ _ _ _ c.loop-segment.invariant.going
+
+pub returns-in_err-begin_segment-clause-part : goal.returns-in_err-begin_segment-clause-part
+returns-in_err-begin_segment-clause-part g c =
+    c.loop-segment.invariant.part _ (part_halts _ _ _ _ _ _ _ _ _ c.in-Some.ensures.steps.0 (halts_at_begin _ _ _ _ c.in_err-begin_segment.ensures.part c.in_err-begin_segment.ensures.stays))
+
+pub returns-in_err-ship_segment-clause-part : goal.returns-in_err-ship_segment-clause-part
+returns-in_err-ship_segment-clause-part g c = c.loop-segment.invariant.part _ (part_halts _ _ _ _ _ _ _ _ _ c.in-Some.ensures.steps.0
+    (halts_within _ _ _ _ _ c.in_ok-begin_segment.ensures.begun c.in_err-ship_segment.ensures.part (stays_on _ _ _ c.in_ok-begin_segment.ensures.stays c.in_err-ship_segment.ensures.stays)))
+
+pub returns-in_err-sharding-clause-part : goal.returns-in_err-sharding-clause-part
+returns-in_err-sharding-clause-part g c = c.loop-segment.invariant.part _ (part_halts _ _ _ _ _ _ _ _ _ c.in-Some.ensures.steps.0
+    (halts_behind _ _ _ _ _ _ c.in_ok-begin_segment.ensures.begun c.in_ok-ship_segment.ensures.whole (stays_on _ _ _ c.in_ok-begin_segment.ensures.stays c.in_ok-ship_segment.ensures.stays)
+    c.in_err-sharding.ensures.log c.in_err-sharding.ensures.compared))

@@ -1,0 +1,22 @@
+use Rattle.std.proofs.Common.{Ok, ap}
+use Rattle.rw_log_shipping.proofs.PartLemmas.{also_on_err, part_halted}
+use Rattle.rw_log_shipping.proofs.SegmentLemmas.{feeding_none, feeding_more}
+use Rattle.rw_log_shipping.proofs.StepLemmas.{stays, stays_on}
+use Rattle.rw_log_shipping.proofs.shipping.ship_segment.Goals as goal
+
+pub loop-init : goal.loop-init
+loop-init g c = record { stays = stays _; short = λ h. h; feeding = feeding_none _ _; sound = c.requires; sure = λ h. h }
+
+pub loop-preserved : goal.loop-preserved
+loop-preserved g c =
+    let fed = c.in_ok-ship_piece.ensures in
+    record {
+      stays = stays_on _ _ _ c.loop.invariant.stays fed.stays;
+      short = λ h. fed.short (c.loop.invariant.short h);
+      feeding = feeding_more _ _ _ _ _ _ c.loop.invariant.feeding (fed.more (ap Ok c.if-not-branch.false));
+      sound = fed.sound;
+      sure = λ h. (fed.sure (c.loop.invariant.sure h)).0;
+    }
+
+pub returns-in_err-ship_piece-clause-part : goal.returns-in_err-ship_piece-clause-part
+returns-in_err-ship_piece-clause-part g c = also_on_err _ (part_halted _ _ _ _ _ _ c.loop.invariant.feeding c.in_err-ship_piece.ensures.part)

@@ -1,0 +1,80 @@
+-- The pieces of a log that stands in several segments.
+use Rattle.std.specs.Prelude.{◌≡◌, ℕ, ◌≤◌, Bool, true, false, List, [], ◌∷◌, ◌++◌, length, Option, Some, None, ⊤}
+use Rattle.std.specs.Io.KnownBytes.{Consumes}
+use Rattle.rw_wal_format.specs.Pieces.{Piece, bytes, next_segment}
+
+-- the text of each segment that pieces tell: the bytes between two words of a next segment, joined; here after some text of the first one
+abbrev pub texts_after : List ℕ → List Piece → List (List ℕ)
+texts_after text [] = text ∷ []
+texts_after text (bytes b ∷ pieces) = texts_after (text ++ b) pieces
+texts_after text (next_segment ∷ pieces) = text ∷ texts_after [] pieces
+
+abbrev pub texts : List Piece → List (List ℕ)
+texts pieces = texts_after [] pieces
+
+-- a piece has at most 64 KiB
+abbrev pub IsShort : Piece → Type 0
+IsShort (bytes b) = length b ≤ 65536
+IsShort next_segment = ⊤
+
+abbrev pub AreShort : List Piece → Type 0
+AreShort [] = ⊤
+AreShort (piece ∷ pieces) = IsShort piece × AreShort pieces
+
+-- a reader gave all that it had left, where that is known
+abbrev pub IsAllOf : Option (List ℕ) → List ℕ → Type 0
+IsAllOf None text = ⊤
+IsAllOf (Some left) text = text ≡ left
+
+-- each of these readers, in order
+abbrev pub AreAllOf : List (Option (List ℕ)) → List (List ℕ) → Type 0
+AreAllOf [] [] = ⊤
+AreAllOf [] (text ∷ texts) = ⊥
+AreAllOf (left ∷ lefts) [] = ⊥
+AreAllOf (left ∷ lefts) (text ∷ texts) = IsAllOf left text × AreAllOf lefts texts
+
+-- one segment for each reader, in order, with all that it had left; no piece where there is no reader
+abbrev pub IsLogOf : List (Option (List ℕ)) → List Piece → Type 0
+IsLogOf [] pieces = pieces ≡ []
+IsLogOf (left ∷ lefts) pieces = AreAllOf (left ∷ lefts) (texts pieces)
+
+-- more may follow
+abbrev pub IsBeginningOf : List (Option (List ℕ)) → List Piece → Type 0
+IsBeginningOf lefts pieces = (later : List Piece) × IsLogOf lefts (pieces ++ later)
+
+-- before a segment's bytes stands word of it, unless it is the first
+abbrev pub Begins : Bool → List Piece → List Piece → Type 0
+Begins true old new = new ≡ old
+Begins false old new = new ≡ old ++ next_segment ∷ []
+
+-- more pieces are the bytes of a segment that goes on
+pub record IsMore (text : List ℕ) (more : List Piece) : Type 0 where
+  pub spells : (before : List ℕ) (later : List Piece) → texts_after before (more ++ later) ≡ texts_after (before ++ text) later
+
+-- all that a reader had left was fed
+pub record IsFed (left : Option (List ℕ)) (old new : List Piece) : Type 0 where
+  pub text : List ℕ
+  pub more : List Piece
+  pub pieces : new ≡ old ++ more
+  pub is_more : IsMore text more
+  pub all : IsAllOf left text
+
+-- a beginning of it was fed
+pub record IsFedPart (left : Option (List ℕ)) (old new : List Piece) : Type 0 where
+  pub text : List ℕ
+  pub rest : List ℕ
+  pub more : List Piece
+  pub pieces : new ≡ old ++ more
+  pub is_more : IsMore text more
+  pub part : IsAllOf left (text ++ rest)
+
+-- a reader gave some bytes more, and they were fed
+pub record IsFedMore (left_before left_after : Option (List ℕ)) (old new : List Piece) : Type 0 where
+  pub text : List ℕ
+  pub consumed : Consumes left_before left_after text
+  pub pieces : new ≡ old ++ bytes text ∷ []
+
+-- no read of these readers can fail
+abbrev pub AreSure : List Bool → Type 0
+AreSure [] = ⊤
+AreSure (sure ∷ sures) = (sure ≡ true) × AreSure sures

@@ -1,0 +1,172 @@
+//! The segments of a log are fed to a shipper.
+
+ghost use Rattle.std.specs.Prelude.{◌≡◌, ◌≤◌, ◌⊎◌, [], length, map, true, false, None, Ok, Err, IfOk, IfErr, OnOk, OnErr, vec_len};
+ghost use Rattle.std.specs.Io.KnownBytes.{Consumes, IsAtEnd};
+ghost use Rattle.rw_log_shipping.specs.Segments.{AreShort, AreSure, Begins, IsBeginningOf, IsFed, IsFedMore, IsFedPart, IsLogOf};
+ghost use Rattle.rw_log_shipping.specs.Halting.{IsHalted};
+ghost use Rattle.rw_log_shipping.specs.Steps.{AreShipped, AreShippedPart, IsKept, StaysOpen};
+ghost use Rattle.rw_log_shipping.specs.declared.halt.Halt.TheVariants.{Unreadable};
+
+use crate::halt::Halt;
+use crate::sharding::{Sharding, resharded};
+use crate::telling::{Means, tell};
+use rw_shipper::{Connect, Shipper};
+use rw_types::Source;
+use rw_wal_tail::Piece;
+use std::alloc::{AllocError, Global};
+use std::sync::Wait;
+use std::thread::Threads;
+use std::time::Clock;
+
+/// The most bytes of a piece.
+pub const PIECE_BYTES: usize = 65_536;
+
+/// Room for a piece.
+pub fn zeros(alloc: Global) -> Result<Vec<u8>, AllocError>
+    ensures { IfOk result (λ v. vec_len v ≡ PIECE_BYTES) }
+{
+    vec![in alloc; 0; PIECE_BYTES]
+}
+
+/// Reads some bytes of a segment; none at its end.
+fn read_piece<S: Source>(alloc: Global, segment: &mut S) -> Result<Vec<u8>, Halt>
+    ensures bytes { IfOk result
+        (λ v. Consumes (S.remaining segment.old) (S.remaining segment.new) v.items) }
+    ensures short { IfOk result (λ v. length v.items ≤ PIECE_BYTES) }
+    ensures end { IfOk result (λ v. vec_len v ≡ 0 → IsAtEnd (S.remaining segment.new)) }
+    ensures sure { S.is_sure segment.old ≡ true
+        → (S.is_sure segment.new ≡ true) × (result ≡ Err Unreadable → ⊥) }
+    ensures err { IfErr result (λ h. (h ≡ Halt.Failed) ⊎ (h ≡ Unreadable)) }
+{
+    let mut piece = zeros(alloc)?;
+    let count = segment.read(&mut piece)?;
+    piece.truncate(count);
+    Ok(piece)
+}
+
+/// Feeds the next bytes of a segment. False is its end.
+fn ship_piece<R: Wait, S: Source, C: Connect + Drop>(
+    rt: &R,
+    means: Means<'_>,
+    shipper: &mut Shipper<C>,
+    segment: &mut S,
+) -> Result<bool, Halt>
+    requires { shipper.old.fault ≡ None }
+    ensures stays { StaysOpen shipper.old shipper.new }
+    ensures short { AreShort shipper.old.log.pieces → AreShort shipper.new.log.pieces }
+    ensures sound { OnOk result (shipper.new.fault ≡ None) }
+    ensures more { result ≡ Ok true
+        → IsFedMore (S.remaining segment.old)
+        (S.remaining segment.new) shipper.old.log.pieces shipper.new.log.pieces }
+    ensures end { result ≡ Ok false
+        → Consumes (S.remaining segment.old) (S.remaining segment.new) []
+        × IsAtEnd (S.remaining segment.new) × (shipper.new.log.pieces ≡ shipper.old.log.pieces) }
+    ensures part { OnErr result ((shipper.new.log.pieces ≡ shipper.old.log.pieces)
+        ⊎ IsFedMore (S.remaining segment.old)
+        (S.remaining segment.new) shipper.old.log.pieces shipper.new.log.pieces) }
+    ensures halted { IfErr result (IsHalted shipper.new) }
+    ensures sure { S.is_sure segment.old ≡ true
+        → (S.is_sure segment.new ≡ true) × (result ≡ Err Unreadable → ⊥) }
+{
+    let piece = read_piece(means.alloc, segment)?;
+    if piece.is_empty() {
+        return Ok(false);
+    }
+    means.counters.read_bytes(piece.len());
+    shipper.feed(rt, Piece::Bytes(piece))?;
+    tell(means.counters, shipper);
+    Ok(true)
+}
+
+/// Feeds all bytes of a segment, as they come.
+fn ship_segment<R: Wait, S: Source + Drop, C: Connect + Drop>(
+    rt: &R,
+    means: Means<'_>,
+    shipper: &mut Shipper<C>,
+    segment: S,
+) -> Result<(), Halt>
+    requires { shipper.old.fault ≡ None }
+    ensures stays { StaysOpen shipper.old shipper.new }
+    ensures short { AreShort shipper.old.log.pieces → AreShort shipper.new.log.pieces }
+    ensures sound { OnOk result (shipper.new.fault ≡ None) }
+    ensures whole { OnOk result
+        (IsFed (S.remaining segment) shipper.old.log.pieces shipper.new.log.pieces) }
+    ensures part { OnErr result
+        (IsFedPart (S.remaining segment) shipper.old.log.pieces shipper.new.log.pieces) }
+    ensures halted { IfErr result (IsHalted shipper.new) }
+    ensures sure { S.is_sure segment ≡ true → result ≡ Err Unreadable → ⊥ }
+{
+    let mut segment = segment;
+    for _ in rt.forever() {
+        if !ship_piece(rt, means, shipper, &mut segment)? {
+            return Ok(());
+        }
+    }
+    unreachable!()
+}
+
+/// Tells that the next segment begins, where it is not the first one.
+pub fn begin_segment<R: Wait, C: Connect + Drop>(
+    rt: &R,
+    shipper: &mut Shipper<C>,
+    is_first: bool,
+) -> Result<(), Halt>
+    requires { shipper.old.fault ≡ None }
+    ensures stays { StaysOpen shipper.old shipper.new }
+    ensures short { AreShort shipper.old.log.pieces → AreShort shipper.new.log.pieces }
+    ensures sound { OnOk result (shipper.new.fault ≡ None) }
+    ensures begun { OnOk result (Begins is_first shipper.old.log.pieces shipper.new.log.pieces) }
+    ensures part { OnErr result ((shipper.new.log.pieces ≡ shipper.old.log.pieces)
+        ⊎ Begins is_first shipper.old.log.pieces shipper.new.log.pieces) }
+    ensures halted { IfErr result (IsHalted shipper.new) }
+    ensures unread { result ≡ Err Unreadable → ⊥ }
+{
+    if is_first {
+        return Ok(());
+    }
+    shipper.feed(rt, Piece::NextSegment)?;
+    Ok(())
+}
+
+/// Feeds the segments of a log one after the other. Between two of them the number of shards is changed to what is wanted under the load.
+pub fn ship_all<
+    R: Threads + Wait + Clock + Copy + Send + 'static,
+    S: Source + Drop,
+    C: Connect + Drop,
+>(
+    rt: &R,
+    means: Means<'_>,
+    shipper: &mut Shipper<C>,
+    sharding: Sharding,
+    segments: Vec<S>,
+) -> Result<(), Halt>
+    requires begun { shipper.old.log.pieces ≡ [] }
+    requires sound { shipper.old.fault ≡ None }
+    requires shards { length shipper.old.fleet.current ≡ sharding.shards }
+    ensures kept { IsKept shipper.old shipper.new }
+    ensures short { AreShort shipper.new.log.pieces }
+    ensures live { OnOk result (shipper.new.fault ≡ None) }
+    ensures whole { OnOk result (IsLogOf (map S.remaining segments.items) shipper.new.log.pieces) }
+    ensures steps { OnOk result
+        (AreShipped sharding.fewest sharding.most true
+        (map S.remaining segments.items) shipper.old shipper.new) }
+    ensures part { AreShippedPart sharding.fewest sharding.most true
+        (map S.remaining segments.items) shipper.old shipper.new }
+    ensures begins { IsBeginningOf (map S.remaining segments.items) shipper.new.log.pieces }
+    ensures halted { IfErr result (IsHalted shipper.new) }
+    ensures sure { AreSure (map S.is_sure segments.items) → result ≡ Err Unreadable → ⊥ }
+{
+    let mut sharding = sharding;
+    let mut is_first = true;
+    let mut left = segments.len();
+    means.counters.set_shards(sharding.shards);
+    for segment in segments {
+        begin_segment(rt, shipper, is_first)?;
+        ship_segment(rt, means, shipper, segment)?;
+        is_first = false;
+        left -= 1;
+        sharding = resharded(rt, shipper, sharding, left > 0)?;
+        means.counters.set_shards(sharding.shards);
+    }
+    Ok(())
+}

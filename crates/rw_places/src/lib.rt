@@ -1,0 +1,6 @@
+//! Seats that connections take, and give back as they end.
+#![tactic(auto)]
+
+mod places;
+
+pub use places::{Places, serve_on};

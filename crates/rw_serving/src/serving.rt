@@ -1,0 +1,79 @@
+//! One connection, served to its end.
+
+use crate::counting::Counting;
+use crate::parting::part;
+use crate::patient::{Patience, Patient};
+use rw_endpoint::serve;
+use rw_head::Limits;
+use rw_metrics::ReceiveCounters;
+use rw_shared_head::{Seat, SharedHead};
+use rw_stop::Sign;
+use rw_types::{Bounded, Std};
+use std::alloc::Global;
+use std::cell::Cell;
+use std::net::TcpStream;
+use std::sync::Wait;
+use std::sync::ledger::Ledger;
+use std::time::Clock;
+
+/// What all connections have in common.
+#[derive(Clone, Copy, Drop)]
+pub struct Post<'a> {
+    /// Where memory is taken for a connection.
+    pub alloc: Global,
+    /// Those of the head.
+    pub limits: &'a Limits,
+    /// Once it is set, connections end.
+    pub sign: &'a Sign,
+    /// For how many milliseconds a connection may be silent.
+    pub idle_ms: Bounded<10, 3_600_000>,
+    /// They are told of each connection and each answer of the head. Nothing is claimed of them.
+    pub counters: &'a ReceiveCounters,
+}
+
+/// Serves a connection to its end, however it ends, parts from the client, and gives the seat back. It is counted as long.
+pub fn served<L: Ledger, R: Wait + Clock>(
+    rt: &R,
+    post: &Post<'_>,
+    shared: &SharedHead<L>,
+    stream: TcpStream,
+    seat: Seat<L>,
+) -> Seat<L> {
+    post.counters.begin_connection();
+    let seat = served_to_end(rt, post, shared, stream, seat);
+    post.counters.end_connection();
+    seat
+}
+
+/// Serves a connection to its end, and gives its seat back. It is not counted here.
+fn served_to_end<L: Ledger, R: Wait + Clock>(
+    rt: &R,
+    post: &Post<'_>,
+    shared: &SharedHead<L>,
+    stream: TcpStream,
+    seat: Seat<L>,
+) -> Seat<L> {
+    let mut seat = seat;
+    let is_inside = Cell::new(false);
+    let patience = Patience::of(post.idle_ms);
+    let Ok(patient) = Patient::new(&stream, post.sign, &is_inside, patience) else {
+        return seat;
+    };
+    let mut reader = Std::new(patient);
+    let mut writer = Std::new(patient);
+    let mut asking = Counting {
+        rt,
+        shared,
+        seat: &mut seat,
+        counters: post.counters,
+    };
+    serve(
+        post.alloc,
+        &mut reader,
+        &mut writer,
+        &mut asking,
+        post.limits,
+    );
+    part(rt, &stream);
+    seat
+}

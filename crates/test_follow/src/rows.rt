@@ -1,8 +1,0 @@
-//! The assertion behind each table.
-
-use std::process::Abort;
-
-/// Stops at the first row of a table that is wrong, if there is one.
-pub(crate) fn none_is_wrong(rt: &impl Abort, row: Option<usize>) {
-    assert_eq!(rt; row, None);
-}

@@ -1,0 +1,156 @@
+//! A folder that is followed while files come and grow.
+
+use crate::folder::new_folder;
+use crate::kept::{Kept, follow_into};
+use Change::{Goes, Grows, Nothing};
+use rw_follow::{Broken, Sign, Timed, Wish};
+use rw_metrics::SendCounters;
+use rw_send::Folder;
+use std::alloc::{AllocError, Global};
+use std::fs;
+use std::fs::{File, OpenOptions};
+use std::io::Write;
+use std::path::{Path, PathBuf};
+use std::rt::Files;
+use std::sync::{Arc, Wait};
+use std::test::Fail;
+use std::time::Duration;
+
+/// What happens to a folder.
+#[derive(Clone, Copy)]
+enum Change {
+    Nothing,
+    /// A file has these bytes more. It comes where it is not there.
+    Grows(&'static str, &'static [u8]),
+    Goes(&'static str),
+}
+
+/// The text of a file that goes on.
+fn has_grown<R: Files<File = File>>(rt: &R, path: Path<'_>, bytes: &[u8]) -> bool {
+    let mut options = OpenOptions::new();
+    options.append(true).create(true);
+    match options.open(rt, path) {
+        Ok(mut file) => file.write_all(bytes).is_ok(),
+        Err(_) => false,
+    }
+}
+
+fn has_changed<R: Files<File = File> + AllocGlobal>(rt: &R, dir: Path<'_>, change: Change) -> bool {
+    match change {
+        Nothing => true,
+        Grows(name, bytes) => match dir.join(rt.alloc(), name) {
+            Ok(path) => has_grown(rt, path.as_path(), bytes),
+            Err(_) => false,
+        },
+        Goes(name) => match dir.join(rt.alloc(), name) {
+            Ok(path) => fs::remove_file(rt, path.as_path()).is_ok(),
+            Err(_) => false,
+        },
+    }
+}
+
+/// Lets a change happen at each look, and says to end behind the last one, or where one cannot be.
+#[derive(Drop)]
+struct Writer<R> {
+    rt: R,
+    dir: PathBuf,
+    changes: &'static [Change],
+    at: usize,
+}
+
+impl<R: Files<File = File> + AllocGlobal> Sign for Writer<R> {
+    fn wish(&mut self) -> Wish {
+        if self.at >= self.changes.len() {
+            return Wish::End;
+        }
+        let change = self.changes[self.at];
+        self.at += 1;
+        if has_changed(&self.rt, self.dir.as_path(), change) {
+            Wish::Work
+        } else {
+            Wish::Hard
+        }
+    }
+}
+
+/// What was given, a bar behind each segment that is over, and at the end the number that is missing or a point.
+fn text_of(alloc: Global, kept: &Kept, end: Option<u64>) -> Result<String, AllocError> {
+    let mut text = Vec::new(alloc);
+    for segment in &kept.whole {
+        text.extend_from_slice(segment)?;
+        text.push(b'|')?;
+    }
+    text.extend_from_slice(&kept.begun)?;
+    let fed = String::from_utf8_lossy(alloc, &text)?;
+    match end {
+        Some(number) => format!(in alloc; "{fed} {number}"),
+        None => format!(in alloc; "{fed}."),
+    }
+}
+
+/// Follows a folder in which these changes happen.
+fn followed<W: Wait>(
+    rt: &HostRuntime,
+    waits: &W,
+    dir: PathBuf,
+    changes: &'static [Change],
+) -> Result<String, AllocError> {
+    let alloc = rt.alloc();
+    let mut buf = [0u8; 3];
+    let counters = Arc::new(alloc, SendCounters::new(alloc)?)?;
+    let mut folder = Folder::new(*rt, String::from_str(alloc, dir.as_str())?, counters);
+    let writer = Writer {
+        rt: *rt,
+        dir,
+        changes,
+        at: 0,
+    };
+    let moment = Duration::from_millis(1);
+    let mut watch = Timed::new(*rt, writer, moment, moment, moment);
+    let mut kept = Kept::new(alloc);
+    let end = match follow_into(waits, &mut kept, &mut folder, &mut watch, &mut buf)? {
+        Ok(_) => None,
+        Err(Broken::Missing(number)) => Some(number),
+        Err(_) => Some(u64::MAX),
+    };
+    text_of(alloc, &kept, end)
+}
+
+/// Other names are passed over, and what was there before is read first.
+static COMES: [Change; 9] = [
+    Nothing,
+    Grows("checkpoint.00000007", b"x"),
+    Grows("00000008", b"ab"),
+    Nothing,
+    Nothing,
+    Grows("00000008", b"cdefg"),
+    Nothing,
+    Grows("00000009", b"h"),
+    Grows("00000010", b""),
+];
+
+#[test]
+fn files_come_and_grow(rt: HostRuntime) -> Result<(), Fail> {
+    let dir = new_folder(&rt, "rwship-files-come-and-grow")?;
+    let text = followed(&rt, &rt, dir, &COMES)?;
+    assert_eq!(rt; text.as_str(), "abcdefg|h|.");
+    Ok(())
+}
+
+/// A file that is read goes, and so does the next one before it was seen.
+static GOES: [Change; 6] = [
+    Grows("00000001", b"a"),
+    Nothing,
+    Goes("00000001"),
+    Grows("00000003", b"c"),
+    Nothing,
+    Nothing,
+];
+
+#[test]
+fn a_missing_file_is_told(rt: HostRuntime) -> Result<(), Fail> {
+    let dir = new_folder(&rt, "rwship-a-missing-file-is-told")?;
+    let text = followed(&rt, &rt, dir, &GOES)?;
+    assert_eq!(rt; text.as_str(), "a 2");
+    Ok(())
+}

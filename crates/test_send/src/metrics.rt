@@ -1,0 +1,153 @@
+//! The page of the metrics, asked for over loopback.
+
+use rw_ledger::Reason;
+use rw_metrics::{
+    Cause, Counters, ReceiveCounters, SendCounters, drops_line, receive_page, send_line,
+    serve_metrics,
+};
+use std::alloc::{AllocError, Global};
+use std::io;
+use std::io::{Read, Write};
+use std::net::{Net, SocketAddr, TcpListener, TcpStream};
+use std::sync::Arc;
+use std::test::Fail;
+use std::thread::Threads;
+use std::time::Clock;
+
+/// A request, and how its reply begins.
+type Row<'a> = (&'a [u8], &'a [u8]);
+
+static ASKED: [Row<'static>; 5] = [
+    (
+        b"GET /metrics HTTP/1.1\r\nHost: a\r\n\r\n",
+        b"HTTP/1.1 200 OK\r\nContent-Type: text/plain; version=0.0.4\r\n",
+    ),
+    (b"GET / HTTP/1.1\r\n\r\n", b"HTTP/1.1 404 Not Found\r\n"),
+    (
+        b"POST /metrics HTTP/1.1\r\n\r\n",
+        b"HTTP/1.1 405 Method Not Allowed\r\n",
+    ),
+    (b"EHLO\r\n\r\n", b"HTTP/1.1 400 Bad Request\r\n"),
+    (b"GET /metrics", b""),
+];
+
+const PAGE: &[u8] = b"# HELP rwship_receive_connections Connections that are served.
+# TYPE rwship_receive_connections gauge
+rwship_receive_connections 1
+# HELP rwship_receive_connections_total Connections that were accepted.
+# TYPE rwship_receive_connections_total counter
+rwship_receive_connections_total 2
+# HELP rwship_receive_accepts_failed_total Accepts that failed.
+# TYPE rwship_receive_accepts_failed_total counter
+rwship_receive_accepts_failed_total 1
+# HELP rwship_receive_requests_total Requests that the head has answered, by status.
+# TYPE rwship_receive_requests_total counter
+rwship_receive_requests_total{code=\"204\"} 2
+rwship_receive_requests_total{code=\"429\"} 1
+# HELP rwship_receive_samples_held Samples that are held.
+# TYPE rwship_receive_samples_held gauge
+rwship_receive_samples_held 17
+# HELP rwship_receive_label_sets Label sets of which samples are held.
+# TYPE rwship_receive_label_sets gauge
+rwship_receive_label_sets 3
+";
+
+/// What is replied to a request that is all that a client writes.
+fn reply_to<N: Net<Stream = TcpStream>>(
+    net: &N,
+    alloc: Global,
+    address: SocketAddr,
+    request: &[u8],
+) -> io::Result<Vec<u8>> {
+    let mut stream = TcpStream::connect(net, address)?;
+    let mut reply = Vec::new(alloc);
+    stream.write_all(request)?;
+    stream.shutdown(std::net::Shutdown::Write)?;
+    stream.read_to_end(&mut reply)?;
+    Ok(reply)
+}
+
+/// The first request that is answered otherwise, by the page of a receiver that has done nothing.
+fn wrong_reply<
+    N: Net<Stream = TcpStream, Listener = TcpListener> + Threads + Clock + Copy + Send + 'static,
+>(rt: &N, alloc: Global) -> io::Result<Option<usize>> {
+    let listener = TcpListener::bind(rt, "127.0.0.1:0")?;
+    let address = listener.local_addr()?;
+    let counters = Arc::new(alloc, ReceiveCounters::new(alloc)?)?;
+    serve_metrics(rt, *rt, alloc, listener, Counters::Receive(counters))?;
+    for (i, row) in ASKED.iter().enumerate() {
+        let reply = reply_to(rt, alloc, address, row.0)?;
+        if !reply.starts_with(row.1) || reply.is_empty() != row.1.is_empty() {
+            return Ok(Some(i));
+        }
+    }
+    Ok(None)
+}
+
+#[test]
+fn the_page_is_served(rt: HostRuntime) -> Result<(), Fail> {
+    let wrong = wrong_reply(&rt, rt.alloc())?;
+    assert_eq!(rt; wrong, None);
+    Ok(())
+}
+
+/// Whether this is the page of a receiver that has done something.
+fn is_counted(alloc: Global) -> Result<bool, AllocError> {
+    let counters = ReceiveCounters::new(alloc)?;
+    counters.begin_connection();
+    counters.begin_connection();
+    counters.end_connection();
+    counters.refuse_connection();
+    counters.answer(204, 10);
+    counters.answer(204, 7);
+    counters.answer(429, 0);
+    counters.hold_label_sets(3);
+    counters.hold_label_sets(2);
+    let page = receive_page(alloc, &counters.numbers(alloc)?)?;
+    Ok(page.as_slice() == PAGE)
+}
+
+#[test]
+fn a_receiver_counts(rt: HostRuntime) -> Result<(), Fail> {
+    assert!(rt; is_counted(rt.alloc())?);
+    Ok(())
+}
+
+/// What is dropped of a log.
+static DROPPED: [(u64, Reason); 2] = [(3, Reason::NoSeries), (5, Reason::NotRising)];
+
+/// Whether these are the lines of a sender that has done something.
+fn are_told(alloc: Global) -> Result<bool, AllocError> {
+    let counters = SendCounters::new(alloc)?;
+    counters.begin_segment(7);
+    counters.read_bytes(456);
+    counters.set_entries(1234);
+    counters.set_shards(4);
+    counters.set_load(1200, 1100, 100);
+    counters.set_load(1200, 1000, 200);
+    counters.set_folder_bytes(1000);
+    counters.drop_unsent(&DROPPED[..1]);
+    counters.drop_unsent(&DROPPED);
+    counters.drop_sample(Reason::Status(400));
+    counters.attempt();
+    counters.fail(Cause::Connect);
+    counters.fail(Cause::Status(503));
+    let numbers = counters.numbers(alloc)?;
+    let line = send_line(alloc, &numbers)?;
+    let drops = drops_line(alloc, &numbers.drops)?;
+    Ok(
+        counters.dropped() == 3
+            && drops.as_slice()
+                == b"dropped 3 noseries 1 badlabels 0 notrising 1 status_400 1".as_slice()
+            && line.as_slice()
+                == b"entries 1234 placed 1200 resolved 1100 dropped 3 filtered 0 waiting 200 shards 4 \
+                    attempts 1 failed 2 last status_503 segment 7 bytes 456 percent 45"
+                    .as_slice(),
+    )
+}
+
+#[test]
+fn a_sender_tells(rt: HostRuntime) -> Result<(), Fail> {
+    assert!(rt; are_told(rt.alloc())?);
+    Ok(())
+}
