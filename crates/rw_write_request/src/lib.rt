@@ -3,6 +3,7 @@
 #![tactic(auto)]
 
 mod fault;
+mod judging;
 mod kind;
 mod laws;
 mod lengths;
@@ -12,6 +13,7 @@ mod reading;
 mod writing;
 
 pub use fault::WireFault;
+pub use judging::check_message;
 pub use laws::{
     canonical_is_a_spelling, canonical_is_read, faults_are_first, one_message, reads_spellings,
     sample_field_is_short, series_in_parts, what_is_read_stays,
