@@ -252,7 +252,10 @@ fn read_sample(bytes: &[u8]) -> Result<(Word, i64), WireFault>
 }
 
 #[tactic(auto, unfolding(crate::specs::Read::nested))]
-fn nested_label(alloc: Global, held: WireValue<'_>) -> Result<(String, String), WireFault>
+pub(crate) fn nested_label(
+    alloc: Global,
+    held: WireValue<'_>,
+) -> Result<(String, String), WireFault>
     ensures { GivesOrMemory text_label result (nested read_label (content_view held.entry)) }
 {
     match held {
