@@ -3,6 +3,7 @@ pub mod BodyLemmas
 pub mod GrowthLemmas
 pub mod NameLemmas
 pub mod OrderLemmas
+pub mod PartLemmas
 pub mod PlaceLemmas
 pub mod StoreLemmas
 pub mod VerdictLemmas

@@ -11,7 +11,75 @@ use crate::label_bounds::LabelBounds;
 use crate::table::Table;
 use crate::verdict::Verdict;
 use rw_types::LabelSet;
-use rw_write_request::{check_message, label_count, message_part, read_series, what_is_read_stays};
+use rw_write_request::{
+    Series, check_message, label_count, message_part, next_samples, read_labels, read_series,
+    samples_stay, what_is_read_stays,
+};
+
+/// The most bytes of a series that is read whole.
+const MOST_WHOLE_BYTES: usize = 65_536;
+
+/// Reads a series whole, and stages it.
+fn stage_whole(
+    table: &mut Table,
+    labels: &mut LabelSet,
+    bounds: &LabelBounds,
+    bytes: &[u8],
+) -> Result<(), Verdict>
+    requires { HoldsNoneRefused bounds.now table.old.staged }
+    ensures kept { table.new.kept ≡ table.old.kept }
+    ensures staged { SeriesGives result bounds.now table.old.staged
+        (read_series bytes.now) table.new.staged }
+{
+    let series = read_series(table.allocator(), bytes)?;
+    table.stage(labels, bounds, &series)
+}
+
+/// Reads the labels of a series, and then stages its samples, each time those of 4,096 fields: in any other room than that of the lists, no more of
+/// them stand at once.
+fn stage_in_parts(
+    table: &mut Table,
+    labels: &mut LabelSet,
+    bounds: &LabelBounds,
+    bytes: &[u8],
+) -> Result<(), Verdict>
+    requires { HoldsNoneRefused bounds.now table.old.staged }
+    ensures kept { table.new.kept ≡ table.old.kept }
+    ensures staged { SeriesGives result bounds.now table.old.staged
+        (read_series bytes.now) table.new.staged }
+{
+    samples_stay();
+    let alloc = table.allocator();
+    let mut series = Series {
+        labels: read_labels(alloc, bytes)?,
+        samples: Vec::new(alloc),
+    };
+    table.stage(labels, bounds, &series)?;
+    let mut rest = bytes;
+    while !rest.is_empty() {
+        rest = next_samples(&mut series.samples, rest)?;
+        table.stage(labels, bounds, &series)?;
+    }
+    Ok(())
+}
+
+/// Stages a series from its bytes: a long one in parts, so that it takes little more room than its samples do once they are held.
+fn stage_read(
+    table: &mut Table,
+    labels: &mut LabelSet,
+    bounds: &LabelBounds,
+    bytes: &[u8],
+) -> Result<(), Verdict>
+    requires { HoldsNoneRefused bounds.now table.old.staged }
+    ensures kept { table.new.kept ≡ table.old.kept }
+    ensures staged { SeriesGives result bounds.now table.old.staged
+        (read_series bytes.now) table.new.staged }
+{
+    if bytes.len() > MOST_WHOLE_BYTES {
+        return stage_in_parts(table, labels, bounds, bytes);
+    }
+    stage_whole(table, labels, bounds, bytes)
+}
 
 /// Stages a series. Where its labels are known, by its first bytes, it is taken as it stands there; else it is read first, unless it has more labels
 /// than the head takes.
@@ -32,8 +100,7 @@ fn stage_series(
     if label_count(bytes) > bounds.max_labels {
         return Err(Verdict::OverLimit);
     }
-    let series = read_series(table.allocator(), bytes)?;
-    table.stage(labels, bounds, &series)?;
+    stage_read(table, labels, bounds, bytes)?;
     table.learn(bytes);
     Ok(())
 }
