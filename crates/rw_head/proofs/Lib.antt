@@ -5,5 +5,6 @@ pub mod NameLemmas
 pub mod OrderLemmas
 pub mod PartLemmas
 pub mod PlaceLemmas
+pub mod StagingLemmas
 pub mod StoreLemmas
 pub mod VerdictLemmas

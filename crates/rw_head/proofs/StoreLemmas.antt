@@ -28,6 +28,10 @@ list_of-with_list l (x ∷ xs) s q = ap (λ o. unwrap_or o []) (get-insert label
 pub list_of-empty : (l : Labels) → list_of empty l ≡ []
 list_of-empty l = ap (λ (o : Option (List Point)). unwrap_or o []) (get-empty labels_cmp l)
 
+pub no_points : (xs : List Point) → length xs ≤ 0 → xs ≡ []
+no_points [] h = refl
+no_points (x ∷ xs) h = absurd (omega arith)
+
 differ : (let no : Option (List Point) = None in no ≡ Some []) → ⊥
 differ e = cc (e)
 

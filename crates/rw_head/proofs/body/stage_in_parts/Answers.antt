@@ -1,4 +1,4 @@
-use Rattle.std.proofs.Common.{◌≡◌, List, [], sym, ap, subst, ◌∙◌, map, rules}
+use Rattle.std.proofs.Common.{List, [], sym, ap, subst, ◌∙◌, map, rules}
 use Rattle.std.proofs.lemmas.Result.{err_from_is_err_and}
 use Rattle.rw_types.specs.Labels.{Labels, text_label}
 use Rattle.rw_write_request.specs.Message.{Sample, TimeSeries}

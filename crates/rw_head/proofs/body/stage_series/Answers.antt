@@ -3,7 +3,6 @@ use Rattle.std.proofs.lemmas.Result.{err_from_is_err_and}
 use Rattle.rw_write_request.specs.Read.{read_series}
 use Rattle.rw_head.specs.Bodies.{Takes, Refuses}
 use Rattle.rw_head.specs.Growth.{HoldsNoneRefused}
-use Rattle.rw_head.specs.Head.{status_of}
 use Rattle.rw_head.specs.Store.{Store}
 use Rattle.rw_head.proofs.BodyLemmas.{known_true, known_false}
 use Rattle.rw_head.proofs.body.stage_series.Goals as goal
