@@ -8,7 +8,7 @@ use Rattle.rw_write_request.specs.declared.fault.WireFault.TheVariants.{OutOfMem
 use Rattle.rw_write_request.specs.declared.kind.Kind.{Kind}
 use Rattle.rw_write_request.specs.Fields.{Field}
 use Rattle.rw_write_request.specs.Read.{varint_fault, read}
-use Rattle.rw_write_request.specs.Faults.{VarintFault, TooFew, LengthFault, ContentFault, TagFault, FieldFault, FirstFault, FaultyText, LabelFault, SampleFault, FaultOf, SeriesFault, RequestFault}
+use Rattle.rw_write_request.specs.Faults.{VarintFault, TooFew, ContentFault, TagFault, FieldFault, FirstFault, FaultyText, LabelFault, SampleFault, FaultOf, SeriesFault}
 use Rattle.rw_write_request.proofs.Faulty.{request-err}
 
 code-certain : (f : CodeFault) (e : WireFault) → e ≡ varint_fault f → e ≢ OutOfMemory

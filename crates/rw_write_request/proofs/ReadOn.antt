@@ -4,7 +4,7 @@ use Rattle.std.specs.Prelude.{IfOk}
 use Rattle.std.proofs.lemmas.Bool.{ne_eqb}
 use Rattle.std.specs.List.{AllByRecursion}
 use Rattle.rw_codes.specs.Varint.{◌>>=◌}
-use Rattle.rw_types.specs.Labels.{Label, Labels}
+use Rattle.rw_types.specs.Labels.{Labels}
 use Rattle.rw_write_request.specs.declared.fault.WireFault.{WireFault}
 use Rattle.rw_write_request.specs.declared.fault.WireFault.TheVariants.{WrongWire}
 use Rattle.rw_write_request.specs.declared.kind.Kind.{Kind}
