@@ -1,5 +1,5 @@
 -- Bodies, series by series.
-use Rattle.std.proofs.Common.{◌≡◌, ◌≢◌, ℕ, ◌<◌, zero, suc, List, [], ◌∷◌, ◌++◌, length, map, Bool, true, false, cond, Option, Some, None, Result, Ok, Err, ◌-◌, refl, sym, ◌∙◌, ap, subst, arith}
+use Rattle.std.proofs.Common.{◌≡◌, ◌≢◌, ℕ, ◌<◌, List, [], ◌∷◌, ◌++◌, length, map, Bool, true, false, cond, Option, Some, None, Result, Ok, Err, ◌-◌, refl, sym, ◌∙◌, ap, subst, arith}
 use Rattle.std.specs.Prelude.{is_some, nat_lt, ◌||◌, IfOk, String}
 use Rattle.std.specs.Global.{Global}
 use Rattle.std.proofs.lemmas.Bool.{lt-ltb}
@@ -7,14 +7,14 @@ use Rattle.rw_types.specs.Labels.{Labels, label_fault, text_label, text_len}
 use Rattle.rw_write_request.specs.Message.{Sample, TimeSeries, WriteRequest}
 use Rattle.rw_write_request.specs.Parts.{read_on, with_series, IsHeadOf, SamplesGive}
 use Rattle.rw_write_request.specs.Texts.{series_of}
-use Rattle.rw_write_request.specs.Read.{fields_in, read, read_series, GivesOrMemory}
+use Rattle.rw_write_request.specs.Read.{fields_in, read, read_series}
 use Rattle.rw_write_request.specs.declared.fault.WireFault.{WireFault}
 use Rattle.rw_write_request.specs.declared.fault.WireFault.TheVariants.{OutOfMemory, Truncated, VarintTooBig, WrongWire, BadWire, FieldZero, NotUtf8}
 use Rattle.rw_head.specs.declared.verdict.Verdict.{Verdict}
 use Rattle.rw_head.specs.declared.verdict.Verdict.TheVariants.{Stored, BadBody, BadLabels, OverLimit, OutOfOrder, NoMemory}
 use Rattle.rw_head.specs.Store.{Store, list_of, total}
 use Rattle.rw_head.specs.Order.{Point, points, accept}
-use Rattle.rw_head.specs.Verdicts.{LabelLimits, is_over, refusal, accepted, taken_unless, taken, taken_next, taken_all, Judged, judged}
+use Rattle.rw_head.specs.Verdicts.{LabelLimits, is_over, refusal, accepted, taken_unless, taken, taken_next, taken_all, judged}
 use Rattle.rw_head.specs.Head.{State, status_of, judged_body}
 use Rattle.rw_head.specs.Bodies.{verdict_of, Takes, Refuses, SeriesGives, KnownGives, known_of, RefusesAll}
 use Rattle.rw_head.specs.Lists.{StoreGives}

@@ -16,7 +16,7 @@ use Rattle.rw_types.proofs.OrderLemmas.{same_if_equal}
 use Rattle.rw_head.specs.Blocks.{Begins, KeepsBlocks}
 use Rattle.rw_head.proofs.BlockLemmas.{sealed_begins}
 use Rattle.rw_head.proofs.OrderLemmas.{Rises-push, accept-none}
-use Rattle.rw_head.proofs.StoreLemmas.{list_of-with_list, list_of-empty, HasNoEmptyList-empty, HasNoEmptyList-with_list, with_list-same, total-with_list}
+use Rattle.rw_head.proofs.StoreLemmas.{no_points, list_of-with_list, list_of-empty, HasNoEmptyList-empty, HasNoEmptyList-with_list, with_list-same, total-with_list}
 use Rattle.rw_head.proofs.VerdictLemmas.{taken_all-err}
 
 begins_itself : (xs : List Point) → Begins xs xs
@@ -81,10 +81,6 @@ EachRises-empty l = subst Rises (sym (list_of-empty l)) tt
 
 unchanged : (s : Store) (n : ℕ) → EachRises s → HasNoEmptyList s → Grown s s n
 unchanged s n h k = record { more = omega arith; few = omega arith; rises = h; filled = k; begins = λ l. begins_itself (list_of s l) }
-
-no_points : (xs : List Point) → length xs ≤ 0 → xs ≡ []
-no_points [] h = refl
-no_points (x ∷ xs) h = absurd (omega arith)
 
 rises_at_each : (b : Bool) (ys zs : List Point) → Rises ys → Rises zs → Rises (cond b ys zs)
 rises_at_each true ys zs h k = h

@@ -3,6 +3,8 @@ pub mod BodyLemmas
 pub mod GrowthLemmas
 pub mod NameLemmas
 pub mod OrderLemmas
+pub mod PartLemmas
 pub mod PlaceLemmas
+pub mod StagingLemmas
 pub mod StoreLemmas
 pub mod VerdictLemmas

@@ -21,18 +21,18 @@ use Rattle.rw_head.specs.Names.{AreNamed, below}
 abbrev Index : Type 0
 Index = BTreeMap Labels ℕ
 
-any_default : {A : Type 0} (xs : List A) (i : ℕ) (a b : A) → i < length xs → get_or xs i a ≡ get_or xs i b
-any_default xs i a b h = sym (get_or_from_slice_get xs i (get_or xs i a) b (slice_get-get_or xs i a h))
+pub get_or_any : {A : Type 0} (xs : List A) (i : ℕ) (a b : A) → i < length xs → get_or xs i a ≡ get_or xs i b
+get_or_any xs i a b h = sym (get_or_from_slice_get xs i (get_or xs i a) b (slice_get-get_or xs i a h))
 
 cases_below : (n m : ℕ) → n < suc m → (n < m) ⊎ (n ≡ m)
 cases_below n m h = elim (cases_lt n m) [ inl lt ↦ inl lt | inr le ↦ inr (omega arith) ]
 
 -- a label set that is the one at a place has this place
 pub stands_here : (index : Index) (names : List Labels) (n : ℕ) (x l : Labels) → AreNamed index names → n < length names → x ≡ get_or names n x → true ≡ labels_eq x l → get labels_cmp index l ≡ Some n
-stands_here index names n x l h lt here e = ap (get labels_cmp index) (sym (same_if_equal x l (sym e)) ∙ here ∙ any_default names n x [] lt) ∙ h.stands n lt
+stands_here index names n x l h lt here e = ap (get labels_cmp index) (sym (same_if_equal x l (sym e)) ∙ here ∙ get_or_any names n x [] lt) ∙ h.stands n lt
 
 pub stands : (index : Index) (names : List Labels) (n : ℕ) (x : Labels) → AreNamed index names → n < length names → x ≡ get_or names n x → get labels_cmp index x ≡ Some n
-stands index names n x h lt here = ap (get labels_cmp index) (here ∙ any_default names n x [] lt) ∙ h.stands n lt
+stands index names n x h lt here = ap (get labels_cmp index) (here ∙ get_or_any names n x [] lt) ∙ h.stands n lt
 
 -- one that is at no place has none
 pub stands_nowhere : (index : Index) (names : List Labels) (l : Labels) → AreNamed index names → ((k : ℕ) → k < length names → get_or names k [] ≡ l → ⊥) → None ≡ get labels_cmp index l
@@ -45,7 +45,7 @@ stands_nowhere index names l h none = by_case (get labels_cmp index l) refl
 -- one that differs from the next
 pub differs : (names : List Labels) (k : ℕ) (x l : Labels) → k < length names → x ≡ get_or names k x → false ≡ labels_eq x l → get_or names k [] ≡ l → ⊥
 differs names k x l lt here e same =
-    let yes : labels_eq x l ≡ true = equal_if_same x l (here ∙ any_default names k x [] lt ∙ same) in cc
+    let yes : labels_eq x l ≡ true = equal_if_same x l (here ∙ get_or_any names k x [] lt ∙ same) in cc
 
 -- texts that are the same are the same labels
 texts_tie : (x y : String Global × String Global) → (string_eq x.0 y.0 && string_eq x.1 y.1) ≡ eq_by_cmp (on text_label label_cmp) x y

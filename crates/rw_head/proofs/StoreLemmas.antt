@@ -28,6 +28,10 @@ list_of-with_list l (x ∷ xs) s q = ap (λ o. unwrap_or o []) (get-insert label
 pub list_of-empty : (l : Labels) → list_of empty l ≡ []
 list_of-empty l = ap (λ (o : Option (List Point)). unwrap_or o []) (get-empty labels_cmp l)
 
+pub no_points : (xs : List Point) → length xs ≤ 0 → xs ≡ []
+no_points [] h = refl
+no_points (x ∷ xs) h = absurd (omega arith)
+
 differ : (let no : Option (List Point) = None in no ≡ Some []) → ⊥
 differ e = cc (e)
 
@@ -58,6 +62,25 @@ same_get (Some (x ∷ xs)) (Some ys) h k e = ap Some e
 -- stores with the same lists are the same
 pub same_store : (s t : Store) → HasNoEmptyList s → HasNoEmptyList t → ((l : Labels) → list_of s l ≡ list_of t l) → s ≡ t
 same_store s t h k same = same_map labels_cmp-total exact_labels s t (λ l. same_get (get s l) (get t l) (h l) (k l) (same l))
+
+-- of two lists that are put for a label set the later one counts
+abbrev held : List Point → Option (List Point)
+held [] = None
+held (x ∷ xs) = Some (x ∷ xs)
+
+get-with_list : (l : Labels) (xs : List Point) (s : Store) (q : Labels) → get (with_list l xs s) q ≡ cond (labels_eq q l) (held xs) (get s q)
+get-with_list l [] s q = get-remove labels_cmp-total s l q
+get-with_list l (x ∷ xs) s q = get-insert labels_cmp-total s l (x ∷ xs) q
+
+chosen-twice : (b : Bool) (x y z : Option (List Point)) → cond b x (cond b y z) ≡ cond b x z
+chosen-twice true x y z = refl
+chosen-twice false x y z = refl
+
+pub with_list-twice : (l : Labels) (xs ys : List Point) (s : Store) → with_list l ys (with_list l xs s) ≡ with_list l ys s
+with_list-twice l xs ys s =
+    same_map labels_cmp-total exact_labels (with_list l ys (with_list l xs s)) (with_list l ys s)
+    (λ q. get-with_list l ys (with_list l xs s) q ∙ ap (λ (o : Option (List Point)). cond (labels_eq q l) (held ys) o) (get-with_list l xs s q)
+    ∙ chosen-twice (labels_eq q l) (held ys) (held xs) (get s q) ∙ sym (get-with_list l ys s q))
 
 itself : (f : Labels → List Point) (l q : Labels) (b : Bool) → labels_eq q l ≡ b → cond b (f l) (f q) ≡ f q
 itself f l q true e = ap f (sym (same_if_equal q l e))

@@ -1,7 +1,9 @@
 //! Bodies of requests, read and judged series by series.
 
-ghost use Rattle.std.specs.Prelude.{◌≡◌, OnOk};
-ghost use Rattle.rw_write_request.specs.Read.{read_series};
+ghost use Rattle.std.specs.Prelude.{◌≡◌, Ok, OnOk, IfErr};
+ghost use Rattle.rw_write_request.specs.Message.{WriteRequest};
+ghost use Rattle.rw_write_request.specs.Read.{read, read_series};
+ghost use Rattle.rw_head.specs.declared.verdict.Verdict.TheVariants.{NoMemory};
 ghost use Rattle.rw_head.specs.Bodies.{SeriesGives, BodyGives};
 ghost use Rattle.rw_head.specs.Growth.{HoldsNoneRefused};
 
@@ -9,7 +11,75 @@ use crate::label_bounds::LabelBounds;
 use crate::table::Table;
 use crate::verdict::Verdict;
 use rw_types::LabelSet;
-use rw_write_request::{label_count, message_part, read_series, what_is_read_stays};
+use rw_write_request::{
+    Series, check_message, label_count, message_part, next_samples, read_labels, read_series,
+    samples_stay, what_is_read_stays,
+};
+
+/// The most bytes of a series that is read whole.
+const MOST_WHOLE_BYTES: usize = 65_536;
+
+/// Reads a series whole, and stages it.
+fn stage_whole(
+    table: &mut Table,
+    labels: &mut LabelSet,
+    bounds: &LabelBounds,
+    bytes: &[u8],
+) -> Result<(), Verdict>
+    requires { HoldsNoneRefused bounds.now table.old.staged }
+    ensures kept { table.new.kept ≡ table.old.kept }
+    ensures staged { SeriesGives result bounds.now table.old.staged
+        (read_series bytes.now) table.new.staged }
+{
+    let series = read_series(table.allocator(), bytes)?;
+    table.stage(labels, bounds, &series)
+}
+
+/// Reads the labels of a series, and then stages its samples, each time those of 4,096 fields: in any other room than that of the lists, no more of
+/// them stand at once.
+fn stage_in_parts(
+    table: &mut Table,
+    labels: &mut LabelSet,
+    bounds: &LabelBounds,
+    bytes: &[u8],
+) -> Result<(), Verdict>
+    requires { HoldsNoneRefused bounds.now table.old.staged }
+    ensures kept { table.new.kept ≡ table.old.kept }
+    ensures staged { SeriesGives result bounds.now table.old.staged
+        (read_series bytes.now) table.new.staged }
+{
+    samples_stay();
+    let alloc = table.allocator();
+    let mut series = Series {
+        labels: read_labels(alloc, bytes)?,
+        samples: Vec::new(alloc),
+    };
+    table.stage(labels, bounds, &series)?;
+    let mut rest = bytes;
+    while !rest.is_empty() {
+        rest = next_samples(&mut series.samples, rest)?;
+        table.stage(labels, bounds, &series)?;
+    }
+    Ok(())
+}
+
+/// Stages a series from its bytes: a long one in parts, so that it takes little more room than its samples do once they are held.
+fn stage_read(
+    table: &mut Table,
+    labels: &mut LabelSet,
+    bounds: &LabelBounds,
+    bytes: &[u8],
+) -> Result<(), Verdict>
+    requires { HoldsNoneRefused bounds.now table.old.staged }
+    ensures kept { table.new.kept ≡ table.old.kept }
+    ensures staged { SeriesGives result bounds.now table.old.staged
+        (read_series bytes.now) table.new.staged }
+{
+    if bytes.len() > MOST_WHOLE_BYTES {
+        return stage_in_parts(table, labels, bounds, bytes);
+    }
+    stage_whole(table, labels, bounds, bytes)
+}
 
 /// Stages a series. Where its labels are known, by its first bytes, it is taken as it stands there; else it is read first, unless it has more labels
 /// than the head takes.
@@ -30,14 +100,13 @@ fn stage_series(
     if label_count(bytes) > bounds.max_labels {
         return Err(Verdict::OverLimit);
     }
-    let series = read_series(table.allocator(), bytes)?;
-    table.stage(labels, bounds, &series)?;
+    stage_read(table, labels, bounds, bytes)?;
     table.learn(bytes);
     Ok(())
 }
 
 /// Stages the series of a body, one after the other, up to the first that is refused or is no series.
-pub(crate) fn stage_body(
+fn stage_parts(
     table: &mut Table,
     labels: &mut LabelSet,
     bounds: &LabelBounds,
@@ -58,4 +127,28 @@ pub(crate) fn stage_body(
         rest = after;
     }
     Ok(())
+}
+
+/// Stages the series of a body, as `stage_parts` does. Where memory was refused, the body is judged without any, and what is no message is bad.
+pub(crate) fn stage_body(
+    table: &mut Table,
+    labels: &mut LabelSet,
+    bounds: &LabelBounds,
+    body: &[u8],
+) -> Result<(), Verdict>
+    requires { HoldsNoneRefused bounds.now table.old.staged }
+    ensures kept { table.new.kept ≡ table.old.kept }
+    ensures staged { BodyGives result bounds.now table.old.staged body.now table.new.staged }
+    ensures within { OnOk result (HoldsNoneRefused bounds.now table.new.staged) }
+    ensures memory { IfErr result
+        (λ v. v ≡ NoMemory → (m : WriteRequest) × (read body.now ≡ Ok m)) }
+{
+    match stage_parts(table, labels, bounds, body) {
+        Ok(()) => Ok(()),
+        Err(verdict) if verdict == Verdict::NoMemory => match check_message(body) {
+            Ok(()) => Err(verdict),
+            Err(_) => Err(Verdict::BadBody),
+        },
+        Err(verdict) => Err(verdict),
+    }
 }

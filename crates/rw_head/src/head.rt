@@ -5,6 +5,7 @@ ghost use Rattle.std.specs.FinMap.{empty};
 ghost use Rattle.rw_head.specs.declared.verdict.Verdict.TheVariants.{NoMemory};
 ghost use Rattle.rw_head.specs.Store.{list_of, total, label_sets, HasNoEmptyList};
 ghost use Rattle.rw_head.specs.Verdicts.{taken_all, apply};
+ghost use Rattle.rw_write_request.specs.Message.{WriteRequest};
 ghost use Rattle.rw_write_request.specs.Read.{read};
 ghost use Rattle.rw_head.specs.Head.{status_of, judged_body, answer, IsStatus};
 ghost use Rattle.rw_head.specs.Lists.{StoreGives};
@@ -140,6 +141,7 @@ impl Head {
             → status_of result ≡ status_of (judged_body self.old (read body.now)).verdict }
         ensures store { result ≢ NoMemory
             → self.new.store ≡ (judged_body self.old (read body.now)).store }
+        ensures readable { result ≡ NoMemory → (m : WriteRequest) × (read body.now ≡ Ok m) }
         ensures limits { self.new.limits ≡ self.old.limits }
         ensures busy { self.new.busy ≡ self.old.busy }
         ensures refused { status_of result ≢ 204 → self.new.store ≡ self.old.store }
@@ -159,12 +161,13 @@ impl Head {
     }
 
     /// The HTTP status for the body of a request. It is 429 for as many requests as the head is busy for at first, whatever they hold; then 204
-    /// where the body is a message that is stored, and 400 where it is refused. 503 means that memory ran out, and nothing is stored; when that
-    /// is, its contract leaves open.
+    /// where the body is a message that is stored, and 400 where it is refused. 503 means that memory ran out, and nothing is stored: then the body
+    /// is a message, but whether it would be stored or refused its contract leaves open.
     pub fn answer(&mut self, body: &[u8]) -> u16
         ensures status { result ≢ 503 → result ≡ (answer self.old body.now).status }
         ensures head { result ≢ 503 → self.new ≡ (answer self.old body.now).head }
         ensures no_memory { result ≡ 503 → (self.new ≡ self.old) × (self.old.busy ≡ 0) }
+        ensures readable { result ≡ 503 → (m : WriteRequest) × (read body.now ≡ Ok m) }
         ensures statuses { IsStatus result }
         ensures refused { result ≢ 204 → self.new.store ≡ self.old.store }
         ensures taken { result ≡ 204 → HasTaken body.now self.old.store self.new.store }

@@ -6,7 +6,7 @@ use Rattle.rw_write_request.specs.declared.fault.WireFault.TheVariants.{OutOfMem
 use Rattle.rw_write_request.specs.Message.{WriteRequest}
 use Rattle.rw_write_request.specs.Spells.{Spells}
 use Rattle.rw_write_request.specs.Read.{GivesOrMemory, read}
-use Rattle.rw_write_request.proofs.Meanings.{request-takes, request-again}
+use Rattle.rw_write_request.proofs.Meanings.{ok_is, request-takes, request-again}
 
 pub is_found : (bytes : List ℕ) (r : Result WriteRequest WireFault) → GivesOrMemory (λ m. m) r (read bytes) → IfOk r (λ m. Spells bytes m)
 is_found bytes (Ok m) h = request-takes bytes m h
@@ -22,9 +22,6 @@ is_memory BadWire m total ok h = absurd (let bad = h (λ e. cc) in cc)
 is_memory FieldZero m total ok h = absurd (let bad = h (λ e. cc) in cc)
 is_memory NotUtf8 m total ok h = absurd (let bad = h (λ e. cc) in cc)
 
-message_is : (x y : WriteRequest) → (let done : WriteRequest → Result WriteRequest WireFault = λ z. Ok z in done x ≡ done y) → x ≡ y
-message_is x y e = cc
-
 pub is_only : (bytes : List ℕ) (r : Result WriteRequest WireFault) → GivesOrMemory (λ m. m) r (read bytes) → (m : WriteRequest) → Spells bytes m → MatchResult r (λ n. n ≡ m) (λ e. e ≡ OutOfMemory)
-is_only bytes (Ok n) h m s = message_is n m (sym h ∙ request-again bytes m s)
+is_only bytes (Ok n) h m s = ok_is n m (sym h ∙ request-again bytes m s)
 is_only bytes (Err e) h m s = is_memory e m (read bytes) (request-again bytes m s) h

@@ -12,4 +12,5 @@ pub mod LittleEnd
 pub mod Counts
 pub mod Faulty
 pub mod FaultyAgain
+pub mod Certain
 pub mod ReadOn

@@ -16,14 +16,15 @@ use Rattle.rw_types.specs.Labels.{Label}
 use Rattle.rw_write_request.specs.Message.{Sample, TimeSeries, WriteRequest}
 use Rattle.rw_write_request.specs.Fields.{Content, Varint, Fixed64, Bytes, Fixed32, Field, wire_of, known_wire, HasKnownWire, contents}
 use Rattle.rw_write_request.specs.Spells.{last_or, IsText, SpellsLabel, SpellsSample, EachSpells, SpellsSeries, Spells}
+use Rattle.rw_write_request.specs.Parts.{series_on}
 use Rattle.rw_write_request.specs.Read.{text, word, timestamp, nested, label_step, read_label, sample_step, read_sample, series_step, read_series, request_step, read}
 use Rattle.rw_write_request.proofs.Results.{bind_ok, bind-is, chosen}
 use Rattle.rw_write_request.proofs.Grammar.{fold_fields, read-takes, read-again}
 
-abbrev done : {X : Type 0} → X → Result X WireFault
+abbrev pub done : {X : Type 0} → X → Result X WireFault
 done x = Ok x
 
-ok_is : {X : Type 0} (x y : X) → done x ≡ done y → x ≡ y
+pub ok_is : {X : Type 0} (x y : X) → done x ≡ done y → x ≡ y
 ok_is x y e = cc
 
 -- ---- a message of two fields, each of which acts on a part of its own
@@ -354,3 +355,11 @@ request-again bytes m h =
 
 pub same_message : (bytes : List ℕ) (one other : WriteRequest) → Spells bytes one → Spells bytes other → one ≡ other
 same_message bytes one other h k = ok_is one other (sym (request-again bytes one h) ∙ request-again bytes other k)
+
+-- what was read of a series stays, and samples come behind it
+pub samples-longer : (bytes : List ℕ) (before whole : TimeSeries) → series_on before bytes ≡ Ok whole → (more : List Sample) × (whole.samples ≡ before.samples ++ more)
+samples-longer bytes before whole e =
+    let t = read-takes kinds.TimeSeries series_step before bytes whole e in
+    let r = two_take series_step series_with (adds read_label) (adds read_sample) series_two t.fields before.labels before.samples whole t.folded in
+    let two = nested_take read_sample SpellsSample sample-takes (contents 2 t.fields) before.samples r.q-end r.twos-fold in
+    (two.items, ap (λ (s : TimeSeries). s.samples) r.is ∙ two.is)

@@ -4,7 +4,7 @@ use Rattle.std.specs.Prelude.{IfOk}
 use Rattle.std.proofs.lemmas.Bool.{ne_eqb}
 use Rattle.std.specs.List.{AllByRecursion}
 use Rattle.rw_codes.specs.Varint.{◌>>=◌}
-use Rattle.rw_types.specs.Labels.{Label, Labels}
+use Rattle.rw_types.specs.Labels.{Labels}
 use Rattle.rw_write_request.specs.declared.fault.WireFault.{WireFault}
 use Rattle.rw_write_request.specs.declared.fault.WireFault.TheVariants.{WrongWire}
 use Rattle.rw_write_request.specs.declared.kind.Kind.{Kind}
@@ -13,11 +13,11 @@ use Rattle.rw_write_request.specs.Message.{TimeSeries, WriteRequest}
 use Rattle.rw_write_request.specs.Fields.{Content, Bytes, Field, AreFields, HasKnownWire, contents}
 use Rattle.rw_write_request.specs.Spells.{EachSpells, SpellsLabel, AreFieldsOf}
 use Rattle.rw_write_request.specs.Read.{field_at, nested, read_fields, read_series, request_step, series_step}
-use Rattle.rw_write_request.specs.Parts.{read_on, with_series, IsHeadOf}
+use Rattle.rw_write_request.specs.Parts.{read_on, with_series, series_on, IsHeadOf}
 use Rattle.rw_write_request.proofs.Results.{bind_ok, bind-is, chosen}
 use Rattle.rw_write_request.proofs.Loop.{field-shorter, more}
 use Rattle.rw_write_request.proofs.Grammar.{field-again, fold_fields, read-takes}
-use Rattle.rw_write_request.proofs.Meanings.{series-takes}
+use Rattle.rw_write_request.proofs.Meanings.{ok_is, series-takes}
 
 -- ---- a message
 passed : (m : WriteRequest) (f : Field) → f.number ≢ 1 → request_step m f ≡ Ok m
@@ -53,19 +53,16 @@ wrong_part bytes f rest m lt at e is =
 abbrev Longer : WriteRequest → WriteRequest → Type 0
 Longer before whole = (more : WriteRequest) × (whole ≡ before ++ more)
 
-same_message : (x y : WriteRequest) → (let done : WriteRequest → Result WriteRequest WireFault = λ z. Ok z in done x ≡ done y) → x ≡ y
-same_message x y e = cc
-
 step_longer : (m next : WriteRequest) (f : Field) → request_step m f ≡ Ok next → Longer m next
 unfolding request_step
 step_longer m next f e =
     elim (chosen (eqb f.number 1) _ _ (Ok next) e) [
-      | inl p ↦ let h = bind_ok (nested read_series f.content) (λ s. Ok (m ++ s ∷ [])) next p.1 in (h.0 ∷ [], sym (same_message (m ++ h.0 ∷ []) next h.2))
-      | inr p ↦ ([], sym (same_message m next p.1) ∙ sym (append-nil m))
+      | inl p ↦ let h = bind_ok (nested read_series f.content) (λ s. Ok (m ++ s ∷ [])) next p.1 in (h.0 ∷ [], sym (ok_is (m ++ h.0 ∷ []) next h.2))
+      | inr p ↦ ([], sym (ok_is m next p.1) ∙ sym (append-nil m))
     ]
 
 fold_longer : (fs : List Field) (m whole : WriteRequest) → fold_fields request_step m fs ≡ Ok whole → Longer m whole
-fold_longer [] m whole e = ([], sym (same_message m whole e) ∙ sym (append-nil m))
+fold_longer [] m whole e = ([], sym (ok_is m whole e) ∙ sym (append-nil m))
 fold_longer (f ∷ fs) m whole e =
     let n = bind_ok (request_step m f) (λ next. fold_fields request_step next fs) whole e in
     let a = step_longer m n.0 f n.1 in
@@ -106,3 +103,12 @@ behind_head head tail labels e =
     let s : TimeSeries = record { labels = labels; samples = [] } in
     let t = read-takes kinds.TimeSeries series_step none head s e in
     reads_on kinds.TimeSeries series_step none s head tail t.fields t.spelled t.wires t.folded
+
+-- a series that is read goes on behind each of its fields
+pub goes_further : (s : TimeSeries) (f : Field) (bytes after : List ℕ) (whole : TimeSeries) → 0 < length bytes → field_at kinds.TimeSeries bytes ≡ Ok (f, after) → series_on s bytes ≡ Ok whole
+    → (next : TimeSeries) × (series_step s f ≡ Ok next) × (series_on next after ≡ Ok whole)
+goes_further s f bytes after whole lt at is = bind_ok (series_step s f) (λ next. series_on next after) whole (sym (more kinds.TimeSeries series_step s bytes f after lt at) ∙ is)
+
+-- and has no fault
+pub not_both : (r : Result TimeSeries WireFault) (whole : TimeSeries) (e : WireFault) → r ≡ Ok whole → r ≡ Err e → ⊥
+not_both r whole e is bad = cc

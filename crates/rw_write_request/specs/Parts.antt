@@ -5,7 +5,7 @@ use Rattle.rw_write_request.specs.declared.kind.Kind.TheVariants as kinds
 use Rattle.rw_write_request.specs.declared.fault.WireFault.{WireFault}
 use Rattle.rw_write_request.specs.declared.fault.WireFault.TheVariants.{OutOfMemory}
 use Rattle.rw_write_request.specs.Message.{Sample, TimeSeries, WriteRequest}
-use Rattle.rw_write_request.specs.Read.{read_fields, read_series, request_step}
+use Rattle.rw_write_request.specs.Read.{read_fields, read_series, request_step, series_step}
 
 -- the message that the bytes spell behind series that were read before them, or the first fault
 abbrev pub read_on : WriteRequest → List ℕ → Result WriteRequest WireFault
@@ -15,6 +15,10 @@ read_on m bytes = read_fields kinds.WriteRequest request_step m bytes
 abbrev pub with_series : WriteRequest → Result TimeSeries WireFault → List ℕ → Result WriteRequest WireFault
 with_series m (Ok s) rest = read_on (m ++ s ∷ []) rest
 with_series m (Err e) rest = Err e
+
+-- the series that the bytes spell behind what was read of it before them, or the first fault
+abbrev pub series_on : TimeSeries → List ℕ → Result TimeSeries WireFault
+series_on s bytes = read_fields kinds.TimeSeries series_step s bytes
 
 -- the head of a series: whole fields, none of them a sample, which spell these labels
 abbrev pub IsHeadOf : List ℕ → Labels → Type 0

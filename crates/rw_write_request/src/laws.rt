@@ -2,10 +2,10 @@
 
 ghost use Rattle.std.specs.Prelude.{◌≡◌, ◌↔◌, ℕ, ◌≤◌, ◌++◌, List, length, Ok, Err};
 ghost use Rattle.rw_types.specs.Labels.{Label};
-ghost use Rattle.rw_write_request.specs.Message.{Sample, WriteRequest};
+ghost use Rattle.rw_write_request.specs.Message.{Sample, TimeSeries, WriteRequest};
 ghost use Rattle.rw_write_request.specs.Spells.{Spells};
 ghost use Rattle.rw_write_request.specs.Read.{read};
-ghost use Rattle.rw_write_request.specs.Parts.{read_on};
+ghost use Rattle.rw_write_request.specs.Parts.{read_on, series_on};
 ghost use Rattle.rw_write_request.specs.Faults.{RequestFault};
 ghost use Rattle.rw_write_request.specs.declared.fault.WireFault.{WireFault};
 ghost use Rattle.rw_write_request.specs.Valid.{IsMessage};
@@ -55,4 +55,10 @@ pub fn sample_field_is_short()
 pub fn what_is_read_stays()
     ensures { (bytes : List ℕ) (before whole : WriteRequest) → read_on before bytes ≡ Ok whole
         → (more : WriteRequest) × (whole ≡ before ++ more) }
+{}
+
+/// Law: the samples that were read of a series stay its first ones.
+pub fn samples_stay()
+    ensures { (bytes : List ℕ) (before whole : TimeSeries) → series_on before bytes ≡ Ok whole
+        → (more : List Sample) × (whole.samples ≡ before.samples ++ more) }
 {}

@@ -1,19 +1,25 @@
 //! Messages, read part by part: their series one after the other, and the samples of a series whose labels are known by its first bytes.
 
-ghost use Rattle.std.specs.Prelude.{◌≡◌, ◌≢◌, ℕ, ◌<◌, ◌++◌, List, None, Err, length, IfOk, IfErr, IfSome};
+ghost use Rattle.std.specs.Prelude.{◌≡◌, ◌≢◌, ℕ, ◌<◌, ◌++◌, List, None, Ok, Err, length, IfOk, IfErr, IfSome, OnOk};
 ghost use Rattle.rw_types.specs.Labels.{Labels};
-ghost use Rattle.rw_write_request.specs.Message.{WriteRequest};
+ghost use Rattle.rw_write_request.specs.Message.{Sample, TimeSeries, WriteRequest};
 ghost use Rattle.rw_write_request.specs.Read.{GivesOrMemory, read_series, series_step};
+ghost use Rattle.rw_write_request.specs.declared.fault.WireFault.TheVariants.{OutOfMemory};
+ghost use Rattle.rw_write_request.specs.Texts.{series_of};
 ghost use Rattle.rw_write_request.specs.View.{field_view};
-ghost use Rattle.rw_write_request.specs.Parts.{read_on, with_series, IsHeadOf, SamplesGive};
+ghost use Rattle.rw_write_request.specs.Parts.{read_on, with_series, series_on, IsHeadOf, SamplesGive};
 
 use crate::fault::WireFault;
 use crate::kind::Kind;
-use crate::reading::{Part, WireValue, field_at, field_counts, nested_sample};
+use crate::reading::{Part, WireValue, field_at, field_counts, nested_label, nested_sample};
 use rw_types::Word;
+use std::alloc::Global;
 
 /// How many samples of a series are read at a time.
 const MOST_SAMPLES: usize = 4096;
+
+/// How many fields of a series are read at a time.
+const MOST_FIELDS: usize = 4096;
 
 /// The field at the front of a message's bytes: the bytes of its series, where it is one, and the bytes behind it.
 pub fn message_part(bytes: &[u8]) -> Result<(Option<&[u8]>, &[u8]), WireFault>
@@ -93,4 +99,91 @@ pub fn read_samples(samples: &mut Vec<(Word, i64)>, bytes: &[u8]) -> Result<bool
         rest = after;
     }
     Ok(true)
+}
+
+/// Adds the label of a field, if it is one. A sample is judged alone.
+#[tactic(auto, unfolding(crate::specs::Read::series_step))]
+fn add_label(
+    alloc: Global,
+    labels: &mut Vec<(String, String)>,
+    part: Part<'_>,
+) -> Result<(), WireFault>
+    ensures found { OnOk result ((samples : List Sample) → (more : List Sample)
+        × (series_step (series_of labels.old.items samples) (field_view part.entry)
+        ≡ Ok (series_of labels.new.items more))) }
+    ensures fault { IfErr result (λ e. e ≢ OutOfMemory → (samples : List Sample)
+        → series_step (series_of labels.old.items samples) (field_view part.entry) ≡ Err e) }
+{
+    match part.number {
+        1 => {
+            let label = nested_label(alloc, part.held)?;
+            labels.push(label)?;
+        }
+        2 => {
+            nested_sample(part.held)?;
+        }
+        _ => {}
+    }
+    Ok(())
+}
+
+/// The labels of the series that the bytes spell, or the first fault in reading order. Its samples are judged too, and take no memory.
+pub fn read_labels(alloc: Global, bytes: &[u8]) -> Result<Vec<(String, String)>, WireFault>
+    ensures found { IfOk result (λ labels. (samples : List Sample)
+        × (read_series bytes.now ≡ Ok (series_of labels.items samples))) }
+    ensures fault { IfErr result (λ e. e ≢ OutOfMemory → read_series bytes.now ≡ Err e) }
+{
+    let mut labels = Vec::new(alloc);
+    let mut rest = bytes;
+    while !rest.is_empty() {
+        let (part, after) = field_at(Kind::TimeSeries, rest)?;
+        add_label(alloc, &mut labels, part)?;
+        rest = after;
+    }
+    Ok(labels)
+}
+
+/// Adds the sample of a field of a series that is sound, if it is one.
+#[tactic(auto, unfolding(crate::specs::Read::series_step))]
+fn add_next(samples: &mut Vec<(Word, i64)>, part: Part<'_>) -> Result<(), WireFault>
+    ensures found { OnOk result ((labels : Labels) (before : List Sample) (next : TimeSeries)
+        → series_step (record { labels = labels; samples = before ++ samples.old.items })
+        (field_view part.entry) ≡ Ok next → next.samples ≡ before ++ samples.new.items) }
+    ensures fault { IfErr result (λ e. e ≢ OutOfMemory
+        → (series : TimeSeries) → series_step series (field_view part.entry) ≡ Err e) }
+{
+    if part.number == 2 {
+        let sample = nested_sample(part.held)?;
+        samples.push(sample)?;
+    }
+    Ok(())
+}
+
+/// Overwrites `samples` with the next ones of a series, those of at most 4,096 fields, and gives the bytes behind them. Labels are passed over: where
+/// they are no labels, nothing is said of what is read.
+pub fn next_samples<'a>(
+    samples: &mut Vec<(Word, i64)>,
+    bytes: &'a [u8],
+) -> Result<&'a [u8], WireFault>
+    requires { 0 < length bytes.now }
+    // What is left spells the rest of the series.
+    ensures found { IfOk result (λ rest. (before whole : TimeSeries)
+        → series_on before bytes.now ≡ Ok whole → (labels : Labels) × (series_on
+        (record { labels = labels; samples = before.samples ++ samples.new.items }) rest.now
+        ≡ Ok whole)) }
+    ensures fault { IfErr result (λ e. e ≢ OutOfMemory
+        → (before whole : TimeSeries) → series_on before bytes.now ≢ Ok whole) }
+    ensures shorter { IfOk result (λ rest. length rest.now < length bytes.now) }
+{
+    samples.clear();
+    let mut rest = bytes;
+    for _ in 0..MOST_FIELDS {
+        if rest.is_empty() {
+            return Ok(rest);
+        }
+        let (part, after) = field_at(Kind::TimeSeries, rest)?;
+        add_next(samples, part)?;
+        rest = after;
+    }
+    Ok(rest)
 }

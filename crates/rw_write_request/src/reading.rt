@@ -1,6 +1,6 @@
 //! Messages, read from their bytes.
 
-ghost use Rattle.std.specs.Prelude.{◌≡◌, ℕ, ◌+◌, ◌*◌, ◌^◌, ◌<◌, ◌≤◌, List, [], ◌∷◌, length, vec_capacity, IfOk, IfErr, MatchResult, ◌≢◌, Err};
+ghost use Rattle.std.specs.Prelude.{◌≡◌, ℕ, ◌+◌, ◌*◌, ◌^◌, ◌<◌, ◌≤◌, List, [], ◌∷◌, length, vec_capacity, IfOk, IfErr, MatchResult, ◌≢◌, Ok, Err};
 ghost use Rattle.rw_write_request.specs.Message.{WriteRequest};
 ghost use Rattle.rw_types.specs.Labels.{text_label};
 ghost use Rattle.rw_write_request.specs.Texts.{series_of};
@@ -11,6 +11,7 @@ ghost use Rattle.rw_write_request.specs.declared.fault.WireFault.TheVariants.{Ou
 ghost use Rattle.rw_write_request.specs.View.{content_view, field_view};
 
 use crate::fault::WireFault;
+use crate::judging::check_message;
 use crate::kind::Kind;
 use crate::message::{Message, Series};
 use byteorder::{ByteOrder, LittleEndian};
@@ -177,8 +178,9 @@ fn set_label<'a>(label: (&'a str, &'a str), part: Part<'a>) -> Result<(&'a str, 
     }
 }
 
-fn read_label(alloc: Global, bytes: &[u8]) -> Result<(String, String), WireFault>
-    ensures { GivesOrMemory text_label result (read_label bytes.now) }
+/// The last name and the last value that the bytes of a label have.
+pub(crate) fn label_texts(bytes: &[u8]) -> Result<(&str, &str), WireFault>
+    ensures { Gives (λ x. (x.0.now, x.1.now)) result (read_label bytes.now) }
 {
     let mut label = ("", "");
     let mut rest = bytes;
@@ -187,8 +189,15 @@ fn read_label(alloc: Global, bytes: &[u8]) -> Result<(String, String), WireFault
         label = set_label(label, part)?;
         rest = after;
     }
-    let name = String::from_str(alloc, label.0)?;
-    let value = String::from_str(alloc, label.1)?;
+    Ok(label)
+}
+
+fn read_label(alloc: Global, bytes: &[u8]) -> Result<(String, String), WireFault>
+    ensures { GivesOrMemory text_label result (read_label bytes.now) }
+{
+    let texts = label_texts(bytes)?;
+    let name = String::from_str(alloc, texts.0)?;
+    let value = String::from_str(alloc, texts.1)?;
     Ok((name, value))
 }
 
@@ -243,7 +252,10 @@ fn read_sample(bytes: &[u8]) -> Result<(Word, i64), WireFault>
 }
 
 #[tactic(auto, unfolding(crate::specs::Read::nested))]
-fn nested_label(alloc: Global, held: WireValue<'_>) -> Result<(String, String), WireFault>
+pub(crate) fn nested_label(
+    alloc: Global,
+    held: WireValue<'_>,
+) -> Result<(String, String), WireFault>
     ensures { GivesOrMemory text_label result (nested read_label (content_view held.entry)) }
 {
     match held {
@@ -348,6 +360,16 @@ pub fn decode(alloc: Global, bytes: &[u8]) -> Result<Message, WireFault>
         → MatchResult result (λ n. n ≡ m) (λ e. e ≡ OutOfMemory) }
     // Any other fault is the first one in reading order.
     ensures fault { IfErr result (λ e. e ≢ OutOfMemory → read bytes.now ≡ Err e) }
+    // Memory runs out only where a message is spelled.
+    ensures memory { IfErr result
+        (λ e. e ≡ OutOfMemory → (m : WriteRequest) × (read bytes.now ≡ Ok m)) }
 {
-    read_message(alloc, bytes)
+    match read_message(alloc, bytes) {
+        Ok(message) => Ok(message),
+        Err(fault) if fault == WireFault::OutOfMemory => {
+            check_message(bytes)?;
+            Err(fault)
+        }
+        Err(fault) => Err(fault),
+    }
 }

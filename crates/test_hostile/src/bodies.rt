@@ -1,8 +1,8 @@
-//! A body with each byte changed to each other value, and cut at each length.
+//! A body with each byte changed to each other value, and cut at each length: read, and judged where it stands.
 
 use crate::changed::{Readings, wrong_byte};
 use crate::plain_body::plain_spelling;
-use rw_write_request::{WireFault, decode, encode};
+use rw_write_request::{WireFault, check_message, decode, encode};
 use std::alloc::Global;
 
 /// `up` with the value 1 at 1000 ms.
@@ -17,11 +17,12 @@ fn spelling(alloc: Global, body: &[u8]) -> Result<Vec<u8>, WireFault> {
     Ok(encode(alloc, &message)?)
 }
 
-/// Whether a body is read as it is to be.
+/// Whether a body is read and judged as it is to be.
 fn is_read(alloc: Global, body: &[u8]) -> bool {
+    let judged = check_message(body);
     match (spelling(alloc, body), plain_spelling(alloc, body)) {
-        (Ok(found), Ok(wanted)) => found.as_slice() == wanted.as_slice(),
-        (Err(found), Err(wanted)) => found == wanted && found != WireFault::OutOfMemory,
+        (Ok(found), Ok(wanted)) => judged.is_ok() && found.as_slice() == wanted.as_slice(),
+        (Err(found), Err(wanted)) => judged == Err(wanted) && found == wanted,
         _ => false,
     }
 }

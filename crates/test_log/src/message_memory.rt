@@ -1,9 +1,10 @@
 //! What happens where memory is refused. Each test takes memory in the two calls alone, so it can be run with each
-//! allocation refused in turn: the refused call says so, and the next one answers as if nothing had happened.
+//! allocation refused in turn: the refused call says so, and the next one answers as if nothing had happened. What is no
+//! message is refused for its first fault whatever memory is refused.
 
 use crate::message_rows::{ONE, is_spelled};
 use crate::rows::holds;
-use rw_write_request::{Message, WireFault, decode};
+use rw_write_request::{Message, WireFault, check_message, decode};
 use std::alloc::Global;
 
 fn decoded(alloc: Global, bytes: &[u8]) -> Result<Message, WireFault> {
@@ -20,13 +21,22 @@ fn is_there_and_back(alloc: Global) -> bool {
     }
 }
 
-/// Whether the front of the message is found to be one.
-fn is_truncated(alloc: Global) -> bool {
-    decoded(alloc, &ONE[..31]).err() == Some(WireFault::Truncated)
+/// The message, and a field behind it that is cut off.
+const CUT: [u8; 33] = [
+    0x0a, 0x1e, 0x0a, 0x0e, 0x0a, 0x08, 0x5f, 0x5f, 0x6e, 0x61, 0x6d, 0x65, 0x5f, 0x5f, 0x12, 0x02,
+    0x75, 0x70, 0x12, 0x0c, 0x09, 0x00, 0x00, 0x00, 0x00, 0x00, 0x00, 0xf0, 0x3f, 0x10, 0xe8, 0x07,
+    0x0a,
+];
+
+/// Whether bytes that are cut off are found to be, at the first call.
+fn is_truncated(alloc: Global, bytes: &[u8]) -> bool {
+    decode(alloc, bytes).err() == Some(WireFault::Truncated)
+        && check_message(bytes) == Err(WireFault::Truncated)
 }
 
 #[test]
 fn a_call_after_refused_memory_is_right(rt: HostRuntime) {
-    holds(&rt, is_truncated(rt.alloc()));
+    holds(&rt, is_truncated(rt.alloc(), &ONE[..31]));
+    holds(&rt, is_truncated(rt.alloc(), &CUT));
     holds(&rt, is_there_and_back(rt.alloc()));
 }

@@ -125,6 +125,34 @@ fn long_body(alloc: Global, count: i64) -> Result<Vec<u8>, AllocError> {
     encode(alloc, &message(alloc, &[(UP, &samples)])?)
 }
 
+/// The body of 10,000 samples of one series whose times rise, and of one more behind them.
+fn body_with_last(alloc: Global, last: i64) -> Result<Vec<u8>, AllocError> {
+    let mut samples = Vec::new(alloc);
+    for t in 0..10_000 {
+        samples.push((t, 1))?;
+    }
+    samples.push((last, 1))?;
+    encode(alloc, &message(alloc, &[(UP, &samples)])?)
+}
+
+/// The first that a new head wrongly answers of these bodies: one whose last sample is too old, and one with a later one, twice.
+fn wrong_of_parts(alloc: Global) -> Option<usize> {
+    let (Ok(bad), Ok(good)) = (body_with_last(alloc, -1), body_with_last(alloc, 10_000)) else {
+        return Some(0);
+    };
+    let rows: [(&[u8], u16, u64); 3] = [(&bad, 400, 0), (&good, 204, 10_001), (&good, 204, 10_001)];
+    match standard(alloc) {
+        Ok(mut head) => first_wrong(&mut head, &rows),
+        Err(_) => Some(0),
+    }
+}
+
+/// A series that is staged in parts is kept whole or not at all.
+#[test]
+fn a_long_series_is_whole(rt: HostRuntime) {
+    none_is_wrong(&rt, wrong_of_parts(rt.alloc()));
+}
+
 fn takes(alloc: Global, body: &[u8]) -> bool {
     match standard(alloc) {
         Ok(mut head) => head.answer(body) == 204 && head.total() == 800_000,

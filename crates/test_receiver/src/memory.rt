@@ -1,5 +1,5 @@
 //! What happens where memory is refused. The test can be run with each allocation refused in turn: the refused call answers 503 and leaves
-//! what the head holds, and the same body is then taken.
+//! what the head holds, and the same body is then taken. A body that is no message is bad, whatever memory is refused.
 
 use crate::bodies::{ONE, TWO};
 use crate::messages::narrow;
@@ -28,8 +28,11 @@ static BODIES: [(&[u8], (u64, usize), (u64, usize)); 2] = [
     (&TWO, (1, 1), (3, 2)),
 ];
 
-/// Gives the first body that is not taken as it should be.
+/// Gives the first body that is not taken as it should be, after one whose last byte is missing.
 fn first_wrong(head: &mut Head) -> Option<usize> {
+    if head.answer(&TWO[..65]) != 400 || counts(head) != (0, 0) {
+        return Some(0);
+    }
     for (i, (body, before, after)) in BODIES.iter().enumerate() {
         if status_at_last(head, body, *before) != 204 || counts(head) != *after {
             return Some(i);

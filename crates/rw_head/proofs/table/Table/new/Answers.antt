@@ -1,5 +1,5 @@
 use Rattle.std.proofs.Common.{◌≡◌, ◌+◌, length, ap, arith}
-use Rattle.rw_head.proofs.PlaceLemmas.{no_places, IsSound-empty}
+use Rattle.rw_head.proofs.StagingLemmas.{no_places, IsSound-empty}
 use Rattle.rw_head.proofs.table.Table.new.Goals as goal
 
 pub invariant_of-result : goal.invariant_of-result

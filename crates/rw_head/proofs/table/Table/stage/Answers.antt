@@ -11,7 +11,8 @@ use Rattle.rw_head.specs.Store.{list_of, with_list}
 use Rattle.rw_head.specs.Verdicts.{accepted, taken_unless, taken}
 use Rattle.rw_head.specs.Growth.{HoldsNoneRefused}
 use Rattle.rw_head.specs.Lists.{no_lists, kept_store, staged_store, ListGives, IsSound, IsAdded}
-use Rattle.rw_head.proofs.PlaceLemmas.{IsSound-set, IsSound-added, IsSound-same, StoreGives-list, taken_by, judged_alone, none_refused, staged-same, staged_len, staged_at, staged_few, staged_nowhere, staged-set, kept-set, kept-added, staged-added, accepted_has}
+use Rattle.rw_head.proofs.PlaceLemmas.{IsSound-added, IsSound-same, none_refused, staged_len, staged_at, staged_few, staged_nowhere, staged-set, kept-set, kept-added, staged-added}
+use Rattle.rw_head.proofs.StagingLemmas.{IsSound-set, StoreGives-list, taken_by, judged_alone, staged-same, accepted_has}
 use Rattle.rw_head.proofs.table.Table.stage.Goals as goal
 
 pub returns-then-is_empty-clause-staged : goal.returns-then-is_empty-clause-staged

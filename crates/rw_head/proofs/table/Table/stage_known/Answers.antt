@@ -8,9 +8,9 @@ use Rattle.rw_head.specs.Order.{points, accept}
 use Rattle.rw_head.specs.Store.{list_of, with_list}
 use Rattle.rw_head.specs.Growth.{HoldsNoneRefused}
 use Rattle.rw_head.specs.Lists.{no_lists, kept_store, staged_store, ListGives, IsSound}
-use Rattle.rw_head.specs.Bodies.{KnownGives}
 use Rattle.rw_head.proofs.BodyLemmas.{all_read, known_gives}
-use Rattle.rw_head.proofs.PlaceLemmas.{IsSound-set, StoreGives-list, taken_by, none_refused, staged_len, staged_at, staged_few, staged-set, kept-set}
+use Rattle.rw_head.proofs.PlaceLemmas.{none_refused, staged_len, staged_at, staged_few, staged-set, kept-set}
+use Rattle.rw_head.proofs.StagingLemmas.{IsSound-set, StoreGives-list, taken_by}
 use Rattle.rw_head.proofs.table.Table.stage_known.Goals as goal
 
 pub stage_at-outcome-requires-clause-room : goal.stage_at-outcome-requires-clause-room

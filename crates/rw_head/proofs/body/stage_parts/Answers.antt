@@ -1,4 +1,4 @@
-use Rattle.std.proofs.Common.{◌≡◌, ℕ, List, Some, subst, ◌∙◌, rules}
+use Rattle.std.proofs.Common.{◌≡◌, subst, ◌∙◌, rules}
 use Rattle.std.specs.Prelude.{IfSome}
 use Rattle.std.proofs.lemmas.Result.{err_from_is_err_and}
 use Rattle.rw_write_request.specs.Message.{WriteRequest}
@@ -6,7 +6,7 @@ use Rattle.rw_write_request.specs.Parts.{read_on, with_series}
 use Rattle.rw_write_request.specs.Read.{read_series}
 use Rattle.rw_head.proofs.BodyLemmas.{one_more, bad_part, all_staged}
 use Rattle.rw_head.proofs.GrowthLemmas.{taken_within}
-use Rattle.rw_head.proofs.body.stage_body.Goals as goal
+use Rattle.rw_head.proofs.body.stage_parts.Goals as goal
 
 pub returns-in_err-stage_series-clause-staged : goal.returns-in_err-stage_series-clause-staged
 returns-in_err-stage_series-clause-staged c =

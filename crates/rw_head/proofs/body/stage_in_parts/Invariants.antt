@@ -1,13 +1,13 @@
 use Rattle.std.proofs.Common.{◌≡◌, length}
 use Rattle.rw_head.specs.Growth.{HoldsNoneRefused}
-use Rattle.rw_head.proofs.BodyLemmas.{HasStaged}
-use Rattle.rw_head.proofs.body.stage_body.Given as goal
+use Rattle.rw_head.proofs.PartLemmas.{HasParts}
+use Rattle.rw_head.proofs.body.stage_in_parts.Given as goal
 
 abbrev pub invariant-loop-rest : goal.invariant-loop-rest
 invariant-loop-rest l = record {
-  kept : l.table.kept ≡ l.initial.table.kept;
+  kept : l.table.kept ≡ l.fn.table.kept;
   within : HoldsNoneRefused l.bounds l.table.staged;
-  staged : HasStaged l.bounds l.initial.table.staged l.table.staged l.body l.rest;
+  staged : HasParts l.bounds l.fn.table.staged l.table.staged l.bytes l.rest l.series.labels;
 }
 
 abbrev pub decreases-loop-rest : goal.decreases-loop-rest
