@@ -4,24 +4,18 @@ use Rattle.std.specs.List.{sum_by}
 use Rattle.std.proofs.lemmas.Bool.{cases_lt, le-ltb, lt-ltb}
 use Rattle.std.proofs.lemmas.Grind.{flat_map-append}
 use Rattle.std.proofs.lemmas.List.Sums.{sum_by-cons}
-use Rattle.rw_codes.specs.Varint.{groups, uvarint}
+use Rattle.rw_codes.specs.Varint.{groups}
 use Rattle.rw_types.specs.Labels.{Labels}
 use Rattle.rw_types.specs.LabelOrder.{labels_eq}
 use Rattle.rw_write_request.specs.Message.{Sample, TimeSeries, WriteRequest}
 use Rattle.rw_write_request.specs.Canon.{canon, label_fields, sample_field, sample_fields, series, series_field}
 use Rattle.rw_batch.specs.Grouping.{LabelledSample, message, distinct, with_sample}
 use Rattle.rw_batch_bytes.specs.Sizes.{bytes_of, bytes_alone}
+use Rattle.rw_codes.proofs.Digits.{groups_some}
+use Rattle.rw_write_request.proofs.Spelled.{series-field-length}
 
 abbrev one_series : Labels → List Sample → TimeSeries
 one_series l ss = record { labels = l; samples = ss }
-
-groups_some : (k n : ℕ) → 1 ≤ length (groups k n)
-unfolding groups
-groups_some zero n = omega arith
-groups_some (suc k) n = elim (cases_lt n 128) [
-  | inl lt ↦ rw (lt-ltb n 128 lt) (omega arith)
-  | inr le ↦ rw (le-ltb n 128 le) (omega arith)
-]
 
 groups_one : (k n : ℕ) → n < 128 → length (groups k n) ≡ 1
 unfolding groups
@@ -55,11 +49,6 @@ groups_near (suc k) a b low high = elim (cases_lt b 128) [
   ]
 ]
 
--- the field of a series, by what it holds
-series_field_len : (s : TimeSeries) → length (series_field s) ≡ 1 + length (uvarint (length (series s))) + length (series s)
-unfolding series_field
-series_field_len s = let all = length-append (uvarint (length (series s))) (series s) in omega arith
-
 series_push_len : (l : Labels) (ss : List Sample) (s : Sample) → length (series (one_series l (ss ++ s ∷ []))) ≡ length (series (one_series l ss)) + length (sample_field s)
 unfolding series
 series_push_len l ss s =
@@ -70,13 +59,13 @@ series_push_len l ss s =
 
 pub bytes_some : (l : Labels) (s : Sample) → 1 ≤ bytes_of l s
 unfolding bytes_of
-bytes_some l s = let len = series_field_len (one_series l (s ∷ [])) in omega arith
+bytes_some l s = let len = series-field-length (one_series l (s ∷ [])) in omega arith
 
 -- more than the field of the sample
 bytes_hold : (l : Labels) (s : Sample) → length (sample_field s) + 2 ≤ bytes_of l s
 unfolding bytes_of series
 bytes_hold l s =
-    let len = series_field_len (one_series l (s ∷ [])) in
+    let len = series-field-length (one_series l (s ∷ [])) in
     let some = groups_some 9 (length (series (one_series l (s ∷ [])))) in
     let all = length-append (label_fields l) (sample_field s ++ []) in
     let alone = ap length (append-nil (sample_field s)) in
@@ -85,8 +74,8 @@ bytes_hold l s =
 -- one sample more in a series
 series_grows : (l m : Labels) (ss : List Sample) (s : Sample) → length (sample_field s) ≤ 22 → length (series_field (one_series l (ss ++ s ∷ []))) ≤ length (series_field (one_series l ss)) + bytes_of m s
 series_grows l m ss s short =
-    let was = series_field_len (one_series l ss) in
-    let now = series_field_len (one_series l (ss ++ s ∷ [])) in
+    let was = series-field-length (one_series l ss) in
+    let now = series-field-length (one_series l (ss ++ s ∷ [])) in
     let push = series_push_len l ss s in
     let near = groups_near 9 (length (series (one_series l ss))) (length (series (one_series l (ss ++ s ∷ [])))) (omega arith) (omega arith) in
     let hold = bytes_hold m s in

@@ -23,7 +23,7 @@ groups_short (suc k) n = elim (cases_lt n 128) [
   | inr le ↦ let h = groups_short k (n / 128) in rw (le-ltb n 128 le) (omega arith)
 ]
 
-groups_some : (k n : ℕ) → 1 ≤ length (groups k n)
+pub groups_some : (k n : ℕ) → 1 ≤ length (groups k n)
 unfolding groups
 groups_some zero n = omega arith
 groups_some (suc k) n = elim (cases_lt n 128) [
@@ -33,7 +33,7 @@ groups_some (suc k) n = elim (cases_lt n 128) [
 
 -- ---- the length
 
-power : (g : ℕ) → 128 ^ suc g ≡ 128 * 128 ^ g
+pub power : (g : ℕ) → 128 ^ suc g ≡ 128 * 128 ^ g
 power g = pow-suc 128 g ∙ mul_comm (128 ^ g) 128
 
 power_some : (g : ℕ) → 1 ≤ 128 ^ g

@@ -1,18 +1,16 @@
 -- What is written as a varint is read again, and the ZigZag map is undone. The steps of both loops.
-use Rattle.std.proofs.Common.{◌≡◌, ℕ, zero, suc, ◌+◌, ◌-◌, ◌*◌, ◌/◌, ◌%◌, ◌^◌, ◌<◌, ◌≤◌, ℤ, pos, negsuc, List, [], ◌∷◌, ◌++◌, length, drop, get_or, Ok, Err, true, false, ltb, eqb, refl, ap, ◌∙◌, subst, inl, inr, arith, lt-ltb, le-ltb, OnErr, eq-eqb, ne_eqb, div-add-mod', pow-suc, mul_comm, Result, ◌≢◌, add-one, drop-cons, drop_of_length-le, lit<, w64, SFits}
+use Rattle.std.proofs.Common.{◌≡◌, ℕ, zero, suc, ◌+◌, ◌-◌, ◌*◌, ◌/◌, ◌%◌, ◌^◌, ◌<◌, ◌≤◌, ℤ, pos, negsuc, List, [], ◌∷◌, ◌++◌, length, drop, get_or, Ok, Err, true, false, ltb, eqb, refl, ap, subst, inl, inr, arith, lt-ltb, le-ltb, OnErr, eq-eqb, ne_eqb, div-add-mod', Result, ◌≢◌, add-one, drop-cons, drop_of_length-le, lit<, w64, SFits}
 use Rattle.std.proofs.Math.Nat.{pow-le-pow_right, mul-le-mul_left}
 use Rattle.std.proofs.lemmas.Bool.{cases_lt}
 use Rattle.std.proofs.lemmas.Bool.Decides.{eqb_tells}
 use Rattle.rw_codes.specs.Varint.{AreBytes, ◌>>=◌, groups, number_in_groups, uvarint, read_uvarint, zig_zag, un_zig_zag, varint, read_varint}
 use Rattle.rw_codes.specs.declared.code_fault.CodeFault.{CodeFault}
 use Rattle.rw_codes.specs.declared.code_fault.CodeFault.TheVariants.{Short, TooBig}
+use Rattle.rw_codes.proofs.Digits.{power}
 
 -- a byte that goes on, and then the rest
 join : (n high : ℕ) → n / 128 ≡ high → 128 + n % 128 - 128 + 128 * high ≡ n
 join n high e = omega (arith, div-add-mod' n 128)
-
-pub power : (k : ℕ) → 128 ^ suc k ≡ 128 * 128 ^ k
-power k = pow-suc 128 k ∙ mul_comm (128 ^ k) 128
 
 pub groups_again : (k n : ℕ) (rest : List ℕ) → n < 2 * 128 ^ k → number_in_groups k (groups k n ++ rest) ≡ Ok (n, rest)
 unfolding groups number_in_groups

@@ -8,7 +8,7 @@ use Rattle.rw_endpoint.specs.Replies.{reply, is_verdict}
 abbrev IsStatus : ℕ → Type 0
 IsStatus s = (s ≡ 204) ⊎ (s ≡ 400) ⊎ (s ≡ 404) ⊎ (s ≡ 405) ⊎ (s ≡ 411) ⊎ (s ≡ 413) ⊎ (s ≡ 415) ⊎ (s ≡ 429) ⊎ (s ≡ 503)
 
-statuses : (s : ℕ) → IsTrue (is_verdict s || is_refusal s) → IsStatus s
+pub statuses : (s : ℕ) → IsTrue (is_verdict s || is_refusal s) → IsStatus s
 statuses s h = grind (arith, common_steps)
 
 -- its reply takes at most 86 bytes

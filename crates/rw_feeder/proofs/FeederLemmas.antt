@@ -1,10 +1,9 @@
 -- What a feeder keeps, with one entry more.
-use Rattle.std.proofs.Common.{◌≡◌, ℕ, ℤ, ◌+◌, ◌<◌, ◌≤◌, false, cond, List, [], ◌∷◌, ◌++◌, length, take, false, Option, None, Some, refl, sym, ap, ◌∙◌, subst, append-nil, length-append, add-zero, arith}
+use Rattle.std.proofs.Common.{◌≡◌, ℕ, ℤ, ◌+◌, ◌<◌, ◌≤◌, cond, List, [], ◌∷◌, ◌++◌, length, take, Option, None, Some, refl, sym, ap, ◌∙◌, subst, append-nil, length-append, add-zero, arith}
 use Rattle.std.specs.Prelude.{fold, drop}
 use Rattle.std.proofs.lemmas.List.Sums.{fold-append}
-use Rattle.std.proofs.lemmas.Bool.Decides.{nat_tests}
-use Rattle.std.specs.Cmp.{nat_cmp_total, unsigned_tied}
-use Rattle.std.specs.Ordering.{nat_cmp, eq_by_cmp}
+use Rattle.std.specs.Cmp.{nat_cmp_total}
+use Rattle.std.specs.Ordering.{nat_cmp}
 use Rattle.std.specs.FinMap.{FinMap, empty, get, insert, get-insert, get-empty}
 use Rattle.rw_types.specs.declared.entry.Entry.{Entry}
 use Rattle.rw_types.specs.declared.entry.Entry.TheVariants.{Def, Sample}
@@ -20,8 +19,9 @@ use Rattle.rw_router.specs.declared.sample.RoutedSample.{RoutedSample}
 use Rattle.rw_wal_tail.specs.Fed.{Fed}
 use Rattle.rw_feeder.specs.Logs.{Sent, kept_sample, sent_by_fate, sent_of, with_name, named, dropped, dropped_by_fate, dropped_of, filtered, filtered_by_fate, filtered_of}
 use Rattle.rw_feeder.specs.Feeders.{Sorting, HasTaken, HasRead, IsFeeder, sent_by}
-use Rattle.rw_feeder.proofs.GatherLemmas.{gather_push}
+use Rattle.rw_types.proofs.GatherLemmas.{gather-push}
 use Rattle.rw_feeder.proofs.HeldLemmas.{held_more, held_placed}
+use Rattle.rw_types.proofs.TimeLemmas.{nat_cmp-apart}
 
 -- the entry in hand was placed
 placed_next : (tail : Fed) (router after : Routing) (names now : FinMap nat_cmp Reason) (n m : ℕ) (ps hand : List Entry) (e : Entry) → IsFeeder tail router names n ps hand → hand ≡ e ∷ [] → m ≡ tail.given → after.cache.choice ≡ router.cache.choice
@@ -33,8 +33,8 @@ placed_next tail router after names now n m ps hand e h is up choice knows names
     let one = ap length is in
     let count = h.counted in
     let all : ps ++ hand ≡ ps ++ e ∷ [] = ap (λ x. ps ++ x) is in
-    let drops : dropped after.cache.choice (ps ++ hand) ≡ dropped router.cache.choice ps ++ dropped_of router.cache.choice ps e = ap (λ r. dropped r (ps ++ hand)) choice ∙ ap (dropped router.cache.choice) all ∙ gather_push (dropped_of router.cache.choice) ps e in
-    let filters : filtered after.cache.choice (ps ++ hand) ≡ filtered router.cache.choice ps ++ filtered_of router.cache.choice ps e = ap (λ r. filtered r (ps ++ hand)) choice ∙ ap (filtered router.cache.choice) all ∙ gather_push (filtered_of router.cache.choice) ps e in
+    let drops : dropped after.cache.choice (ps ++ hand) ≡ dropped router.cache.choice ps ++ dropped_of router.cache.choice ps e = ap (λ r. dropped r (ps ++ hand)) choice ∙ ap (dropped router.cache.choice) all ∙ gather-push (dropped_of router.cache.choice) ps e in
+    let filters : filtered after.cache.choice (ps ++ hand) ≡ filtered router.cache.choice ps ++ filtered_of router.cache.choice ps e = ap (λ r. filtered r (ps ++ hand)) choice ∙ ap (filtered router.cache.choice) all ∙ gather-push (filtered_of router.cache.choice) ps e in
     record {
       taken = subst (HasTaken tail) (sym (append-nil (ps ++ hand))) h.taken;
       counted = up ∙ given;
@@ -78,13 +78,10 @@ pub same_tail : (tail after : Fed) (router : Routing) (names : FinMap nat_cmp Re
 same_tail tail after router names n ps hand h pieces given =
     same_taken tail after router names n ps hand h (record { count = given ∙ h.taken.count; rest = h.taken.rest; begins = ap entries pieces ∙ h.taken.begins })
 
-apart : (p q : ℕ) → p < q → eq_by_cmp nat_cmp q p ≡ false
-apart p q lt = unsigned_tied q p ∙ grind (arith, nat_tests)
-
 -- a name for the next position leaves those behind it without one
 pub named_below : (names now : FinMap nat_cmp Reason) (n : ℕ) (reason : Reason) → ((p : ℕ) → n ≤ p → get names p ≡ None) → now ≡ insert names n reason → (p : ℕ) → n < p → get now p ≡ None
 named_below names now n reason h is p lt =
-    ap (λ m. get m p) is ∙ get-insert nat_cmp_total names n reason p ∙ ap (λ b. cond b (Some reason) (get names p)) (apart n p lt) ∙ h p (omega arith)
+    ap (λ m. get m p) is ∙ get-insert nat_cmp_total names n reason p ∙ ap (λ b. cond b (Some reason) (get names p)) (nat_cmp-apart n p lt) ∙ h p (omega arith)
 
 -- an entry that the router placed
 pub router_placed : (router after : Routing) (ps : List Entry) (pos : ℕ) (e : Entry) → Routes router ps pos e after routed.Placed

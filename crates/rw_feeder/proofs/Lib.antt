@@ -1,4 +1,3 @@
-pub mod GatherLemmas
 pub mod HeldLemmas
 pub mod TailLemmas
 pub mod FeederLemmas

@@ -1,40 +1,19 @@
 -- What is taken from a reader of a log.
-use Rattle.std.proofs.Common.{◌≡◌, ◌≢◌, ℕ, zero, suc, ◌+◌, ◌<◌, ◌≤◌, Bool, true, false, cond, List, [], ◌∷◌, ◌++◌, length, Option, None, Some, Result, Ok, Err, ◌⊎◌, ⊎_elim, refl, sym, ap, ◌∙◌, append_assoc, append-nil, length-append, arith}
+use Rattle.std.proofs.Common.{◌≡◌, ◌+◌, ◌≤◌, true, false, List, [], ◌∷◌, ◌++◌, length, Option, None, Some, Result, Ok, Err, ◌⊎◌, ⊎_elim, sym, ap, ◌∙◌, append_assoc, append-nil, length-append, arith}
 use Rattle.std.proofs.lemmas.Bool.Decides.{nat_tests}
 use Rattle.std.specs.Prelude.{slice_get, nat_lt}
+use Rattle.std.proofs.lemmas.List.{nil_from_length}
 use Rattle.rw_types.specs.declared.entry.Entry.{Entry}
 use Rattle.rw_wal_format.specs.Pieces.{entries, fault}
 use Rattle.rw_wal_format.specs.declared.tail_fault.TailFault.{TailFault}
 use Rattle.rw_wal_format.specs.declared.tail_fault.TailFault.TheVariants.{OutOfMemory}
-use Rattle.rw_wal_tail.specs.Fed.{Fed, next_of, end_of, answered, is_out_of_memory}
+use Rattle.rw_wal_tail.specs.Fed.{Fed, next_of, answered, is_out_of_memory}
 use Rattle.rw_feeder.specs.Feeders.{HasTaken, HasRead}
+use Rattle.rw_wal_tail.proofs.AnswerLemmas.{next_is, end_is, fault_is, has_some, answered_same}
 
 -- what a reader may answer
 abbrev pub Said : Type 0
 Said = Result (Option Entry) TailFault
-
-end_none : (o : Option TailFault) (e : Entry) → Ok (Some e) ≡ end_of o → ⊥
-end_none None e h = cc
-end_none (Some f) e h = cc
-
-next_is : (b : Bool) (o : Option Entry) (f : Option TailFault) (e : Entry) → Ok (Some e) ≡ cond b (Ok o) (end_of f) → o ≡ Some e
-next_is true o f e h = cc
-next_is false o f e h = absurd (end_none f e h)
-
-end_is : (b : Bool) (o : Option Entry) (f : Option TailFault) → Ok None ≡ cond b (Ok o) (end_of f) → (b ≡ true → o ≢ None) → (b ≡ false) × (f ≡ None)
-end_is true o f h some = absurd (some refl cc)
-end_is false o None h some = (refl, refl)
-end_is false o (Some f) h some = absurd (cc)
-
-fault_is : (b : Bool) (o : Option Entry) (f : Option TailFault) (g : TailFault) → Err g ≡ cond b (Ok o) (end_of f) → (b ≡ false) × (f ≡ Some g)
-fault_is true o f g h = absurd (cc)
-fault_is false o None g h = absurd (cc)
-fault_is false o (Some f) g h = (refl, cc)
-
-has_some : {X : Type 0} (xs : List X) (n : ℕ) → n < length xs → slice_get xs n ≢ None
-has_some [] n lt = λ e. omega arith
-has_some (x ∷ xs) zero lt = λ e. cc
-has_some (x ∷ xs) (suc n) lt = has_some xs n (omega arith)
 
 -- the element behind a beginning
 next_rest : {X : Type 0} (front rest : List X) (x : X) → slice_get (front ++ rest) (length front) ≡ Some x → (later : List X) × (rest ≡ x ∷ later)
@@ -42,16 +21,12 @@ next_rest [] [] x e = absurd (cc)
 next_rest [] (y ∷ ys) x e = let same : y ≡ x = cc in (ys, ap (λ z. z ∷ ys) same)
 next_rest (f ∷ fs) rest x e = next_rest fs rest x e
 
-nil_of : {X : Type 0} (xs : List X) → length xs ≡ 0 → xs ≡ []
-nil_of [] e = refl
-nil_of (x ∷ xs) e = absurd (omega arith)
-
 all_taken : (t : Fed) (taken : List Entry) → HasTaken t taken → nat_lt t.given (length (entries t.pieces)) ≡ false → taken ≡ entries t.pieces
 all_taken t taken h e =
     let le : length (entries t.pieces) ≤ t.given = grind (arith, nat_tests) in
     let c = h.count in
     let len = ap length h.begins ∙ length-append taken h.rest in
-    let none : h.rest ≡ [] = nil_of h.rest (omega arith) in
+    let none : h.rest ≡ [] = nil_from_length h.rest (omega arith) in
     sym (append-nil taken) ∙ ap (λ r. taken ++ r) (sym none) ∙ sym h.begins
 
 -- an entry is taken
@@ -85,11 +60,6 @@ took_none t after taken said d is a n = ⊎_elim
     let out : HasRead t.pieces taken None = record { all = all_taken t taken d e.0; fault_is = e.1 } in
     (out, ap (λ (x : Fed). x.pieces) m, ap (λ (x : Fed). x.given) m))
     a
-
-answered_same : (t : Fed) (f : TailFault) → ((answered t (Err f)).pieces ≡ t.pieces) × ((answered t (Err f)).given ≡ t.given)
-unfolding answered
-answered_same t OutOfMemory = (refl, refl)
-answered_same t f = (refl, refl)
 
 -- a fault, or want of memory
 pub took_fault : (t after : Fed) (said : Said) (f : TailFault) → said ≡ Err f → after ≡ answered t said → (after.pieces ≡ t.pieces) × (after.given ≡ t.given)

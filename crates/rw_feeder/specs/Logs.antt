@@ -1,10 +1,11 @@
 -- What becomes of the samples of a log: each is sent in its series, or is dropped for its labels, for want of a series, or because it does not rise in its series, or its series is one that the rules drop.
-use Rattle.std.specs.Prelude.{ℕ, ℤ, List, [], ◌∷◌, ◌++◌, length, fold}
+use Rattle.std.specs.Prelude.{ℕ, ℤ, List, [], ◌∷◌, length, fold}
 use Rattle.std.specs.Ordering.{nat_cmp}
 use Rattle.std.specs.FinMap.{FinMap, empty, insert}
 use Rattle.rw_types.specs.Labels.{Labels}
 use Rattle.rw_types.specs.declared.entry.Entry.{Entry}
 use Rattle.rw_types.specs.declared.entry.Entry.TheVariants.{Def, Sample}
+pub use Rattle.rw_types.specs.Gathering.{gather_from, gather}
 use Rattle.rw_ledger.specs.declared.ledger.Reason.{Reason}
 use Rattle.rw_relabel.specs.declared.choice.Choice.{Choice}
 use Rattle.rw_series_cache.specs.Numbers.{series_of, number_of}
@@ -17,14 +18,6 @@ pub record Sent : Type 0 where
   pub t : ℤ
   pub word : ℕ
   pub labels : Labels
-
--- what each entry gives, by the entries before it
-abbrev pub gather_from : {A : Type 0} → (List Entry → Entry → List A) → List Entry → List Entry → List A
-gather_from f before [] = []
-gather_from f before (e ∷ es) = f before e ++ gather_from f (before ++ e ∷ []) es
-
-abbrev pub gather : {A : Type 0} → (List Entry → Entry → List A) → List Entry → List A
-gather f es = gather_from f [] es
 
 -- a kept sample that comes after these entries
 abbrev pub kept_sample : Choice → List Entry → ℤ → ℕ → Labels → Sent

@@ -10,32 +10,21 @@ use Rattle.rw_plain_queue.specs.History.{IsFew}
 use Rattle.rw_fleet.specs.ShardHistories.{ShardHistory, put_as, item_as, marks_in}
 use Rattle.rw_router.specs.declared.sample.RoutedSample.{RoutedSample}
 use Rattle.rw_fleet.specs.Work.{positions_in}
-
-pub samples_append : (xs ys : List Item) → samples_in (xs ++ ys) ≡ samples_in xs ++ samples_in ys
-samples_append [] ys = refl
-samples_append (item.Sample p t w l ∷ xs) ys = ap (λ ps. record { place = p; t = t; word = w; labels = l.value } ∷ ps) (samples_append xs ys)
-samples_append (item.Flush ∷ xs) ys = samples_append xs ys
-samples_append (item.End k ∷ xs) ys = samples_append xs ys
-
-pub places_append : (xs ys : List Item) → places_in (xs ++ ys) ≡ places_in xs ++ places_in ys
-places_append [] ys = refl
-places_append (item.Sample p t w l ∷ xs) ys = ap (λ ps. p ∷ ps) (places_append xs ys)
-places_append (item.Flush ∷ xs) ys = places_append xs ys
-places_append (item.End k ∷ xs) ys = places_append xs ys
+use Rattle.rw_plain_queue.proofs.Histories.{samples_in-append, places_in-append}
 
 -- with a sample more they are not too many
 pub few_more : (put : List Item) (p : Place) (t : ℤ) (w : _) (l : _) → length (places_in put) < 2 ^ 60 → IsFew (put ++ item.Sample p t w l ∷ [])
-few_more put p t w l below = let all = ap length (places_append put (item.Sample p t w l ∷ [])) in let sum = length-append (places_in put) (p ∷ []) in omega arith
+few_more put p t w l below = let all = ap length (places_in-append put (item.Sample p t w l ∷ [])) in let sum = length-append (places_in put) (p ∷ []) in omega arith
 
 -- with an item more that is no sample
 pub samples_mark : (xs zs : List Item) (x : Item) → zs ≡ xs ++ x ∷ [] → samples_in (x ∷ []) ≡ [] → samples_in zs ≡ samples_in xs
-samples_mark xs zs x is none = ap samples_in is ∙ samples_append xs (x ∷ []) ∙ ap (λ ps. samples_in xs ++ ps) none ∙ append-nil (samples_in xs)
+samples_mark xs zs x is none = ap samples_in is ∙ samples_in-append xs (x ∷ []) ∙ ap (λ ps. samples_in xs ++ ps) none ∙ append-nil (samples_in xs)
 
 pub places_mark : (xs zs : List Item) (x : Item) → zs ≡ xs ++ x ∷ [] → places_in (x ∷ []) ≡ [] → places_in zs ≡ places_in xs
-places_mark xs zs x is none = ap places_in is ∙ places_append xs (x ∷ []) ∙ ap (λ ps. places_in xs ++ ps) none ∙ append-nil (places_in xs)
+places_mark xs zs x is none = ap places_in is ∙ places_in-append xs (x ∷ []) ∙ ap (λ ps. places_in xs ++ ps) none ∙ append-nil (places_in xs)
 
 pub samples_more : (xs zs : List Item) (x : Item) → zs ≡ xs ++ x ∷ [] → samples_in zs ≡ samples_in xs ++ samples_in (x ∷ [])
-samples_more xs zs x is = ap samples_in is ∙ samples_append xs (x ∷ [])
+samples_more xs zs x is = ap samples_in is ∙ samples_in-append xs (x ∷ [])
 
 map_append : (ps qs : List Place) → map (λ (p : Place). p.pos) (ps ++ qs) ≡ map (λ (p : Place). p.pos) ps ++ map (λ (p : Place). p.pos) qs
 map_append [] qs = refl
@@ -51,7 +40,7 @@ positions_length xs ps is = ap length is ∙ map_length (places_in xs)
 
 pub positions_more : (xs zs : List Item) (x : Item) (p : Place) (was now : List ℕ) → zs ≡ xs ++ x ∷ [] → places_in (x ∷ []) ≡ p ∷ [] → was ≡ positions_in xs → now ≡ was ++ p.pos ∷ [] → now ≡ positions_in zs
 positions_more xs zs x p was now is one old new =
-    new ∙ ap (λ l. l ++ p.pos ∷ []) old ∙ sym (ap (λ l. map (λ (q : Place). q.pos) (places_in l)) is ∙ ap (map (λ (q : Place). q.pos)) (places_append xs (x ∷ []) ∙ ap (λ ps. places_in xs ++ ps) one) ∙ map_append (places_in xs) (p ∷ []))
+    new ∙ ap (λ l. l ++ p.pos ∷ []) old ∙ sym (ap (λ l. map (λ (q : Place). q.pos) (places_in l)) is ∙ ap (map (λ (q : Place). q.pos)) (places_in-append xs (x ∷ []) ∙ ap (λ ps. places_in xs ++ ps) one) ∙ map_append (places_in xs) (p ∷ []))
 
 -- the next sample of a shard, part by part
 pub as_put : (lane : ShardHistory) (s : RoutedSample) (epoch shard seq : ℕ) (t : ℤ) → epoch ≡ lane.setup.queue.epoch → shard ≡ lane.setup.queue.shard → seq ≡ length (places_in lane.put) → t ≡ s.t

@@ -5,7 +5,8 @@ use Rattle.rw_plain_queue.specs.declared.item.Item.TheVariants as item
 use Rattle.rw_plain_queue.specs.Items.{samples_in, places_in}
 use Rattle.rw_shard_channel.specs.Ends.{IsBeginning, Feeding, Draining}
 use Rattle.rw_fleet.specs.Work.{positions_in}
-use Rattle.rw_fleet.proofs.PutLemmas.{places_append, positions_length}
+use Rattle.rw_fleet.proofs.PutLemmas.{positions_length}
+use Rattle.rw_plain_queue.proofs.Histories.{places_in-append}
 
 places_fewer : (xs : List Item) → length (places_in xs) ≤ length xs
 places_fewer [] = omega arith
@@ -27,7 +28,7 @@ places_within feed f drain d same_feed same_drain h most =
     let items = ap length h.1 in
     let parts = length-append drain.taken h.0 in
     let places = ap (λ l. length (places_in l)) h.1 in
-    let each = ap length (places_append drain.taken h.0) in
+    let each = ap length (places_in-append drain.taken h.0) in
     let sum = length-append (places_in drain.taken) (places_in h.0) in
     let fewer = places_fewer h.0 in
     omega arith

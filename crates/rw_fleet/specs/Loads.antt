@@ -1,5 +1,5 @@
 -- How far the samples of all shards have come.
-use Rattle.std.specs.Prelude.{◌≡◌, ℕ, ◌+◌, ◌-◌, ◌≤◌, ◌^◌, List, length, min}
+use Rattle.std.specs.Prelude.{◌≡◌, ℕ, ◌+◌, ◌-◌, ◌≤◌, List, length, min}
 use Rattle.std.specs.List.{sum_by}
 use Rattle.rw_plain_queue.specs.Items.{places_in}
 use Rattle.rw_shard_core.specs.declared.config.ConfigFields.{ConfigFields}
@@ -7,14 +7,11 @@ use Rattle.rw_fleet.specs.ShardHistories.{ShardHistory}
 use Rattle.rw_fleet.specs.Fleets.{Shards}
 use Rattle.rw_fleet.specs.declared.joined.StoppedShard.{StoppedShard}
 use Rattle.rw_fleet.specs.declared.load.Load.{Load}
-
--- a number, or the greatest that a counter holds
-abbrev pub capped : ℕ → ℕ
-capped n = min n (2 ^ 64 - 1)
+use Rattle.rw_worker.specs.Report.{counted_to}
 
 -- so many samples are resolved for certain, and so many may not be
 abbrev pub load_of : ℕ → ℕ → Load
-load_of resolved left = record { placed = capped (resolved + left); resolved = capped resolved; backlog = capped left }
+load_of resolved left = record { placed = counted_to (resolved + left); resolved = counted_to resolved; backlog = counted_to left }
 
 abbrev pub resolved_in : {T : Type 0} → StoppedShard T → ℕ
 resolved_in j = j.finished.resolved

@@ -11,10 +11,12 @@ use Rattle.std.proofs.lemmas.Bool.Decides.{Decides-int_eq}
 use Rattle.std.proofs.lemmas.List.{append-nil, length-append, length-drop, length_push, take-append-drop}
 use Rattle.std.proofs.lemmas.List.Sorted.{searchable_from_sorted}
 use Rattle.std.proofs.lemmas.Nat.{div-mul-add}
+use Rattle.std.proofs.Math.Bool.{or-false}
 use Rattle.rw_head.specs.Order.{Point, is_later, holds}
 use Rattle.rw_head.specs.Lists.{Rises}
 use Rattle.rw_head.specs.Blocks.{joined, first_blocks, sealed_of, open_of, AreFull, AreBlocks, Begins, begins_after, first_time, Begun}
-use Rattle.rw_head.proofs.OrderLemmas.{chained, turned, own, above_at, eq_apart_above, holds_nowhere, not_less}
+use Rattle.rw_head.proofs.OrderLemmas.{above_at, eq_apart_above, holds_nowhere, not_less}
+use Rattle.rw_types.proofs.TimeLemmas.{int_lt-asymm, int_lt-irrefl, int_lt-trans}
 
 -- ---- full blocks
 pub AreFull-push : (bs : List (List Point)) (b : List Point) → AreFull bs → length b ≡ 120 → AreFull (bs ++ b ∷ [])
@@ -146,10 +148,6 @@ Rises-block (b ∷ bs) zero h lt = Rises-before b (joined bs) h
 Rises-block (b ∷ bs) (suc n) h lt = Rises-block bs n (Rises-behind b (joined bs) h) (omega arith)
 
 -- ---- where a sample stands
-or_none : (b : Bool) → (b || false) ≡ b
-or_none true = refl
-or_none false = refl
-
 or_assoc : (a b c : Bool) → (a || (b || c)) ≡ ((a || b) || c)
 or_assoc true b c = refl
 or_assoc false b c = refl
@@ -160,7 +158,7 @@ holds-append s (x ∷ xs) ys = ap (λ b. (int_eq x.0 s.0 && (x.1 == s.1)) || b) 
 
 above_each : (t : ℤ) (x : Point) (xs : List Point) (i : ℕ) (d : Point) → Rises (x ∷ xs) → int_lt t x.0 ≡ true → i < length (x ∷ xs) → int_lt t (get_or (x ∷ xs) i d).0 ≡ true
 above_each t x xs zero d h e lt = e
-above_each t x xs (suc i) d h e lt = chained t x.0 (get_or xs i d).0 e (above_at x.0 xs i d h.0 (omega arith))
+above_each t x xs (suc i) d h e lt = int_lt-trans t x.0 (get_or xs i d).0 e (above_at x.0 xs i d h.0 (omega arith))
 
 -- what begins after a timestamp does not hold it
 pub holds_after : (s : Point) (xs : List Point) → Rises xs → begins_after s.0 xs ≡ true → holds s xs ≡ false
@@ -202,7 +200,7 @@ pub in_block : (s : Point) (bs : List (List Point)) (n : ℕ) → AreFull bs →
 in_block s [] n h r g = absurd (omega (arith, g.within))
 in_block s (b ∷ bs) zero h r g =
     holds-append s b (joined bs)
-    ∙ ap (λ c. holds s b || c) (in_no_block s bs h.1 (Rises-behind b (joined bs) r) (Begun-rest s.0 b bs 0 g)) ∙ or_none (holds s b)
+    ∙ ap (λ c. holds s b || c) (in_no_block s bs h.1 (Rises-behind b (joined bs) r) (Begun-rest s.0 b bs 0 g)) ∙ or-false (holds s b)
 in_block s (b ∷ []) (suc n) h r g = absurd (omega (arith, g.within))
 in_block s (b ∷ c ∷ cs) (suc n) h r g =
     holds-append s b (c ++ joined cs)
@@ -214,7 +212,7 @@ pub in_open : (s : Point) (xs ys : List Point) → Rises (xs ++ ys) → begins_a
 in_open s xs ys h e = holds-append s xs ys ∙ ap (λ b. b || holds s ys) (holds_before s xs ys h e)
 
 pub in_sealed : (s : Point) (xs ys : List Point) → Rises (xs ++ ys) → begins_after s.0 ys ≡ true → holds s (xs ++ ys) ≡ holds s xs
-in_sealed s xs ys h e = holds-append s xs ys ∙ ap (λ b. holds s xs || b) (holds_after s ys (Rises-behind xs ys h) e) ∙ or_none (holds s xs)
+in_sealed s xs ys h e = holds-append s xs ys ∙ ap (λ b. holds s xs || b) (holds_after s ys (Rises-behind xs ys h) e) ∙ or-false (holds s xs)
 
 -- ---- the search among first timestamps
 first_in : (P : Point → Type 0) (xs ys : List Point) → length xs ≢ 0 → AllByRecursion P (xs ++ ys) → (t : ℤ) → ((x : Point) → P x → int_lt t x.0 ≡ true) → int_lt t (first_time xs) ≡ true
@@ -242,7 +240,7 @@ firsts_rise f (x ∷ xs) (suc i) (suc j) d h r lt within = firsts_rise f xs i j 
 pub searchable_blocks : {X : Type 0} (f : X → List Point) (xs : List X) (t : ℤ) → AreFull (map f xs) → Rises (joined (map f xs)) → IsNonDecreasingBy (λ y. ordering_index (int_cmp (first_time (f y)) t)) xs
 searchable_blocks f xs t h r = searchable_from_sorted int_cmp_total (λ x. first_time (f x)) xs t
     (λ k d low high. not_less (first_time (f (get_or xs (k + 1) d))) (first_time (f (get_or xs k d)))
-    (turned (first_time (f (get_or xs k d))) (first_time (f (get_or xs (k + 1) d))) (firsts_rise f xs k (k + 1) d h r (omega arith) high)))
+    (int_lt-asymm (first_time (f (get_or xs k d))) (first_time (f (get_or xs (k + 1) d))) (firsts_rise f xs k (k + 1) d h r (omega arith) high)))
 
 at_map : {X : Type 0} (P : List Point → Type 0) (f : X → List Point) (xs : List X) (k : ℕ) → k < length xs → ((d : X) → P (f (get_or xs k d))) → P (get_or (map f xs) k [])
 at_map P f [] k lt h = absurd (omega arith)
@@ -263,7 +261,7 @@ length-map-of f [] = refl
 length-map-of f (x ∷ xs) = ap suc (length-map-of f xs)
 
 less_of : (a b : ℤ) → int_cmp a b ≡ Less → int_lt b a ≡ false
-less_of a b e = turned a b (by_test (int_lt a b) (int_lt b a) e)
+less_of a b e = int_lt-asymm a b (by_test (int_lt a b) (int_lt b a) e)
   where
     by_test : (c d : Bool) → cond c Less (cond d Greater Equal) ≡ Less → c ≡ true
     by_test true d e = refl
@@ -288,9 +286,9 @@ begun_there f xs t u i same h r lt at = record {
   within = omega (arith, length-map-of f xs);
   before = λ k le. at_map (λ b. begins_after t b ≡ false) f xs k (omega arith)
       (λ d. by_first t (f (get_or xs k d)) false (full_map_at f xs k d h (omega arith))
-      (⊎_elim (λ low. turned (first_time (f (get_or xs k d))) t (subst (λ v. int_lt (first_time (f (get_or xs k d))) v ≡ true) (equal_of _ _ (at d) ∙ same) (firsts_rise f xs k i d h r low lt)))
+      (⊎_elim (λ low. int_lt-asymm (first_time (f (get_or xs k d))) t (subst (λ v. int_lt (first_time (f (get_or xs k d))) v ≡ true) (equal_of _ _ (at d) ∙ same) (firsts_rise f xs k i d h r low lt)))
       (λ high. let here : k ≡ i = omega arith in
-      ap (λ m. int_lt t (first_time (f (get_or xs m d)))) here ∙ ap (int_lt t) (equal_of _ _ (at d) ∙ same) ∙ own t)
+      ap (λ m. int_lt t (first_time (f (get_or xs m d)))) here ∙ ap (int_lt t) (equal_of _ _ (at d) ∙ same) ∙ int_lt-irrefl t)
       (cases_lt k i)));
   after = λ k le high. let inside : k < length xs = omega (arith, length-map-of f xs) in
       at_map (λ b. begins_after t b ≡ true) f xs k inside

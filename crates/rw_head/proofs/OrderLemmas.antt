@@ -7,40 +7,19 @@ use Rattle.std.proofs.lemmas.Bool.{cases_lt}
 use Rattle.std.proofs.Math.ListN.{drop_of_length-le}
 use Rattle.std.proofs.lemmas.List.{length_push}
 use Rattle.std.proofs.lemmas.List.Sorted.{searchable_from_sorted}
-use Rattle.std.proofs.Common.{slice_get, ⊎_elim, cond, ◌≡◌, ℕ, ◌+◌, ◌-◌, ◌<◌, ◌≤◌, zero, suc, ℤ, pos, negsuc, int_lt, int_eq, eqb, ltb, List, [], ◌∷◌, ◌++◌, take, drop, length, get_or, Option, Some, None, Bool, true, false, ◌&&◌, ◌||◌, refl, sym, ◌∙◌, ap, subst, arith}
+use Rattle.std.proofs.Common.{slice_get, ⊎_elim, cond, ◌≡◌, ℕ, ◌+◌, ◌-◌, ◌<◌, ◌≤◌, zero, suc, ℤ, int_lt, int_eq, eqb, List, [], ◌∷◌, ◌++◌, take, drop, length, get_or, Option, Some, None, Bool, true, false, ◌&&◌, ◌||◌, refl, sym, ◌∙◌, ap, subst, arith}
 use Rattle.std.specs.List.{AllByRecursion, AllWithin}
 use Rattle.std.proofs.Math.Seq.{drop-cons}
-use Rattle.std.proofs.lemmas.Bool.Decides.{Decides-int_eq, nat_tests}
+use Rattle.std.proofs.lemmas.Bool.Decides.{Decides-int_eq}
 use Rattle.rw_write_request.specs.Message.{Sample}
 use Rattle.rw_head.specs.Order.{Point, point_of, points, is_later, holds, accept_one, accept}
 use Rattle.rw_head.specs.Lists.{Rises}
-
-turned_ltb : (a b : ℕ) → ltb a b ≡ true → ltb b a ≡ false
-turned_ltb a b h = grind (arith, nat_tests)
-
-own_ltb : (a : ℕ) → ltb a a ≡ false
-own_ltb a = grind (arith, nat_tests)
-
-chained_ltb : (a b c : ℕ) → ltb a b ≡ true → ltb b c ≡ true → ltb a c ≡ true
-chained_ltb a b c h k = grind (arith, nat_tests)
-
-pub own : (a : ℤ) → int_lt a a ≡ false
-own (pos a) = own_ltb a
-own (negsuc a) = own_ltb a
-
-pub chained : (a b c : ℤ) → int_lt a b ≡ true → int_lt b c ≡ true → int_lt a c ≡ true
-chained (pos a) (pos b) (pos c) h k = chained_ltb a b c h k
-chained (pos a) (pos b) (negsuc c) h k = absurd cc
-chained (pos a) (negsuc b) c h k = absurd cc
-chained (negsuc a) (pos b) (pos c) h k = refl
-chained (negsuc a) (pos b) (negsuc c) h k = absurd cc
-chained (negsuc a) (negsuc b) (pos c) h k = refl
-chained (negsuc a) (negsuc b) (negsuc c) h k = chained_ltb c b a k h
+use Rattle.rw_types.proofs.TimeLemmas.{int_lt-asymm, int_lt-irrefl, int_lt-trans}
 
 -- what is above one of two is above the lower one
 all_above : (a b : ℤ) (xs : List Point) → int_lt a b ≡ true → AllByRecursion (λ y. int_lt b y.0 ≡ true) xs → AllByRecursion (λ y. int_lt a y.0 ≡ true) xs
 all_above a b [] h all = tt
-all_above a b (x ∷ xs) h all = (chained a b x.0 h all.0, all_above a b xs h all.1)
+all_above a b (x ∷ xs) h all = (int_lt-trans a b x.0 h all.0, all_above a b xs h all.1)
 
 all_push : (P : Point → Type 0) (xs : List Point) (x : Point) → AllByRecursion P xs → P x → AllByRecursion P (xs ++ x ∷ [])
 all_push P [] x all h = (h, tt)
@@ -54,7 +33,7 @@ all_take P (suc n) (x ∷ xs) all = (all.0, all_take P n xs all.1)
 -- what is later than the last of a list that rises is later than its first
 later_than_first : (t : ℤ) (x : Point) (xs : List Point) → Rises (x ∷ xs) → is_later t (x ∷ xs) ≡ true → int_lt x.0 t ≡ true
 later_than_first t x [] h e = e
-later_than_first t x (y ∷ ys) h e = chained x.0 y.0 t h.0.0 (later_than_first t y ys h.1 e)
+later_than_first t x (y ∷ ys) h e = int_lt-trans x.0 y.0 t h.0.0 (later_than_first t y ys h.1 e)
 
 later_rest : (t : ℤ) (x : Point) (xs : List Point) → is_later t (x ∷ xs) ≡ true → is_later t xs ≡ true
 later_rest t x [] e = refl
@@ -85,11 +64,11 @@ rises_at (x ∷ xs) zero (suc j) d h lt within = above_at x.0 xs j d h.0 (omega 
 rises_at (x ∷ xs) (suc i) (suc j) d h lt within = rises_at xs i j d h.1 (omega arith) (omega arith)
 
 eq_apart : (a b : ℤ) → int_lt a b ≡ true → (c : Bool) → int_eq a b ≡ c → c ≡ false
-eq_apart a b h true e = absurd (let same : a ≡ b = (Decides-int_eq a b).0 e in let off : int_lt a a ≡ true = subst (λ x. int_lt a x ≡ true) (sym same) h in cc (own a))
+eq_apart a b h true e = absurd (let same : a ≡ b = (Decides-int_eq a b).0 e in let off : int_lt a a ≡ true = subst (λ x. int_lt a x ≡ true) (sym same) h in cc (int_lt-irrefl a))
 eq_apart a b h false e = refl
 
 pub eq_apart_above : (a b : ℤ) → int_lt b a ≡ true → (c : Bool) → int_eq a b ≡ c → c ≡ false
-eq_apart_above a b h true e = absurd (let same : a ≡ b = (Decides-int_eq a b).0 e in let off : int_lt b b ≡ true = subst (λ x. int_lt b x ≡ true) same h in cc (own b))
+eq_apart_above a b h true e = absurd (let same : a ≡ b = (Decides-int_eq a b).0 e in let off : int_lt b b ≡ true = subst (λ x. int_lt b x ≡ true) same h in cc (int_lt-irrefl b))
 eq_apart_above a b h false e = refl
 
 -- no sample has the timestamp
@@ -148,12 +127,6 @@ found_nowhere t u w xs i same around =
     ap (int_eq (get_or xs k d).0) (sym same)
     ∙ ⊎_elim (λ lt. ap is_eq (around.0 k d (omega arith) lt)) (λ le. ap is_eq (around.1 k d le h)) (cases_lt k i)))
 
-pub turned : (a b : ℤ) → int_lt a b ≡ true → int_lt b a ≡ false
-turned (pos a) (pos b) h = turned_ltb a b h
-turned (pos a) (negsuc b) h = absurd cc
-turned (negsuc a) (pos b) h = refl
-turned (negsuc a) (negsuc b) h = turned_ltb b a h
-
 pub not_less : (a b : ℤ) → int_lt a b ≡ false → is_lt (int_cmp a b) ≡ false
 not_less a b e = ap (λ l. is_lt (cond l Less (cond (int_lt b a) Greater Equal))) e ∙ by_test (int_lt b a)
   where
@@ -164,7 +137,7 @@ not_less a b e = ap (λ l. is_lt (cond l Less (cond (int_lt b a) Greater Equal))
 -- timestamps that rise can be searched
 pub searchable : (xs : List Point) (t : ℤ) → Rises xs → IsNonDecreasingBy (λ y. ordering_index (int_cmp y.0 t)) xs
 searchable xs t h = searchable_from_sorted int_cmp_total (λ p. p.0) xs t
-    (λ k d low high. not_less (get_or xs (k + 1) d).0 (get_or xs k d).0 (turned (get_or xs k d).0 (get_or xs (k + 1) d).0 (rises_at xs k (k + 1) d h (omega arith) high)))
+    (λ k d low high. not_less (get_or xs (k + 1) d).0 (get_or xs k d).0 (int_lt-asymm (get_or xs k d).0 (get_or xs (k + 1) d).0 (rises_at xs k (k + 1) d h (omega arith) high)))
 
 -- the list after a later sample that is pushed
 pub pushed : (kept : ℕ) (xs ys : List Point) (t : ℤ) (w : ℕ) → ys ≡ xs ++ (t, w) ∷ [] → is_later t xs ≡ true → (kept ≤ length xs) × Rises xs → (kept ≤ length ys) × Rises ys

@@ -9,11 +9,12 @@ use Rattle.std.specs.FinMap.Entries.{put, below_all, by_order}
 use Rattle.std.specs.List.Sorted.{IsStrictlySortedBy}
 use Rattle.std.specs.Ordering.{is_lt}
 use Rattle.std.specs.declared.cmp.Ordering.TheVariants.{Less}
-use Rattle.std.proofs.lemmas.Bool.{cases_lt}
+use Rattle.std.proofs.lemmas.Bool.{cases_lt, and_parts, true≢false}
 use Rattle.std.proofs.lemmas.Map.Entries.{btree_map_get_place}
 use Rattle.std.proofs.lemmas.List.{get_or-set_same, get_or-set_other, get_or_append_left, get_or_push, length-set, length_push, length-map}
 use Rattle.std.proofs.lemmas.Option.{slice_get-get_or}
 use Rattle.std.proofs.lemmas.List.Folds.{list_any-append}
+use Rattle.std.proofs.lemmas.Cmp.{eq_by_cmp_equiv}
 use Rattle.rw_types.specs.Labels.{Labels}
 use Rattle.rw_types.specs.LabelOrder.{labels_cmp, labels_eq, labels_cmp-total}
 use Rattle.rw_types.proofs.OrderLemmas.{same_if_equal, equal_if_same}
@@ -23,7 +24,7 @@ use Rattle.rw_head.specs.Verdicts.{LabelLimits}
 use Rattle.rw_head.specs.Growth.{HoldsNoneRefused}
 use Rattle.rw_head.specs.Lists.{Lists, no_lists, IsSound, IsFresh, IsAdded, AllFilled, has_samples, with_samples, AreWithin, listed, store_of_lists, kept_store, staged_store, HasPlaces, Settled}
 use Rattle.rw_head.specs.Names.{below, HasNoneRefused}
-use Rattle.rw_head.proofs.StoreLemmas.{list_of-empty, list_of-with_list, HasNoEmptyList-empty, HasNoEmptyList-with_list, same_store, with_list-same, total-with_list, list_of-few, and_left, is_less, find_below}
+use Rattle.rw_head.proofs.StoreLemmas.{list_of-empty, list_of-with_list, HasNoEmptyList-empty, HasNoEmptyList-with_list, same_store, with_list-same, total-with_list, list_of-few, is_less, find_below}
 use Rattle.rw_head.proofs.NameLemmas.{get_or_any}
 
 -- the list at a place, if there is one
@@ -53,9 +54,6 @@ pub no_empty_list : (f : Lists → List Point) (places : List (Labels × ℕ)) (
 no_empty_list f [] lists = HasNoEmptyList-empty
 no_empty_list f (e ∷ es) lists = HasNoEmptyList-with_list e.0 (f (get_or lists e.1 no_lists)) (store_by f es lists) (no_empty_list f es lists)
 
-pub off : true ≡ false → ⊥
-off e = cc e
-
 -- two stores of lists are the same where each label set has the same list
 pub same_lists : (f g : Lists → List Point) (xs ys : List (Labels × ℕ)) (ls ms : List Lists)
     → ((q : Labels) → at f ls (lookup (is_at (labels_cmp q)) xs) ≡ at g ms (lookup (is_at (labels_cmp q)) ys)) → store_by f xs ls ≡ store_by g ys ms
@@ -76,7 +74,7 @@ changed : (f : Lists → List Point) (index : Index) (lists : List Lists) (l q :
 changed f index lists l q n x true h e k =
     ap (λ p. at f (set lists n x) (get labels_cmp index p)) (same_if_equal q l k) ∙ ap (at f (set lists n x)) e ∙ ap f (get_or-set_same lists n x no_lists (h.within l n e))
 changed f index lists l q n x false h e k =
-    other_place f index lists l q n x (get labels_cmp index q) h e refl (λ same. let yes : labels_eq q l ≡ true = equal_if_same q l same in off (sym yes ∙ k))
+    other_place f index lists l q n x (get labels_cmp index q) h e refl (λ same. let yes : labels_eq q l ≡ true = equal_if_same q l same in true≢false (sym yes ∙ k))
 
 pub store-set : (f : Lists → List Point) (index : Index) (lists : List Lists) (l : Labels) (n : ℕ) (x : Lists) → HasPlaces index lists → get labels_cmp index l ≡ Some n
     → store_by f index.entries (set lists n x) ≡ with_list l (f x) (store_by f index.entries lists)
@@ -126,12 +124,6 @@ kept-added lists index new l x h e none u =
     same_lists f f new.entries index.entries (lists ++ x ∷ []) lists
     (λ q. ap (at f (lists ++ x ∷ [])) (u.0 q) ∙ grown_at f x none lists index l q (get labels_cmp index q) (labels_eq l q) h e refl refl)
 
-turned_eq : (l q : Labels) (b c : Bool) → labels_eq l q ≡ b → labels_eq q l ≡ c → b ≡ c
-turned_eq l q true true e k = refl
-turned_eq l q false false e k = refl
-turned_eq l q true false e k = let yes : labels_eq q l ≡ true = equal_if_same q l (sym (same_if_equal l q e)) in cc
-turned_eq l q false true e k = let yes : labels_eq l q ≡ true = equal_if_same l q (sym (same_if_equal q l k)) in cc
-
 added_at : (f : Lists → List Point) (x : Lists) (lists : List Lists) (index : Index) (q : Labels) (o : Option ℕ) (b c : Bool) → HasPlaces index lists → b ≡ c → get labels_cmp index q ≡ o
     → at f (lists ++ x ∷ []) (cond b (Some (length lists)) o) ≡ cond c (f x) (at f lists o)
 added_at f x lists index q o true true h same at_q = ap f (get_or_push lists x no_lists (length lists) refl)
@@ -149,7 +141,7 @@ staged-added lists index new l x h u =
     same_store (store_by f new.entries (lists ++ x ∷ [])) (with_list l x.staged s) (no_empty_list f new.entries (lists ++ x ∷ []))
     (HasNoEmptyList-with_list l x.staged s (no_empty_list f index.entries lists))
     (λ q. list_of-store f new.entries (lists ++ x ∷ []) q ∙ ap (at f (lists ++ x ∷ [])) (u.0 q)
-    ∙ added_at f x lists index q (get labels_cmp index q) (labels_eq l q) (labels_eq q l) h (turned_eq l q _ _ refl refl) refl
+    ∙ added_at f x lists index q (get labels_cmp index q) (labels_eq l q) (labels_eq q l) h ((eq_by_cmp_equiv labels_cmp-total).symm l q) refl
     ∙ ap (cond (labels_eq q l) x.staged) (sym (list_of-store f index.entries lists q)) ∙ sym (list_of-with_list l x.staged s q))
 
 -- where no label set that has samples is refused, none is that has a place
@@ -193,7 +185,7 @@ settled_at : (touched : List ℕ) (lists : List Lists) (n m : ℕ) (x : Lists) �
     → (get_or (set lists n x) m no_lists).kept ≡ (get_or (set lists n x) m no_lists).staged
 settled_at touched lists n m x h lt e =
     let other = not_touched touched m n (nat_eq m n) refl e in
-    let apart : m ≢ n = λ same. off (sym (eq-eqb m n same) ∙ other.0) in
+    let apart : m ≢ n = λ same. true≢false (sym (eq-eqb m n same) ∙ other.0) in
     let kept : get_or (set lists n x) m no_lists ≡ get_or lists m no_lists = get_or-set_other lists n m x no_lists apart in
     ap (λ x. x.kept) kept ∙ h.others m lt other.1 ∙ sym (ap (λ x. x.staged) kept)
 
@@ -212,7 +204,7 @@ Settled-set touched lists n x h lt = record {
 }
 
 other_than : (touched : List ℕ) (n m : ℕ) → list_any (nat_eq m) (touched ++ n ∷ []) ≡ false → m ≢ n
-other_than touched n m e same = let other = not_touched touched m n (nat_eq m n) refl e in off (sym (eq-eqb m n same) ∙ other.0)
+other_than touched n m e same = let other = not_touched touched m n (nat_eq m n) refl e in true≢false (sym (eq-eqb m n same) ∙ other.0)
 
 Settled-added : (touched : List ℕ) (lists : List Lists) (x : Lists) → Settled touched lists → Settled (touched ++ length lists ∷ []) (lists ++ x ∷ [])
 Settled-added touched lists x h = record {
@@ -254,7 +246,7 @@ last_added : (lists : List Lists) (index : Index) (fresh : List Labels) (l q : L
     → list_any (labels_eq q) (fresh ++ l ∷ []) ≡ true → cond b (Some (length lists)) (get labels_cmp index q) ≡ Some n → length lists + 1 ≤ n + (length fresh + 1)
 last_added lists index fresh l q n true h k any e = let same : length lists ≡ n = cc in omega (arith, same)
 last_added lists index fresh l q n false h k any e =
-    let other : labels_eq q l ≡ false = sym (turned_eq l q false (labels_eq q l) k refl) in
+    let other : labels_eq q l ≡ false = (eq_by_cmp_equiv labels_cmp-total).symm q l ∙ k in
     omega (arith, h.last q n (named_before (list_any (labels_eq q) fresh) (labels_eq q l) other (sym (any_behind l q fresh) ∙ any)) e)
 
 empty_added : (lists : List Lists) (index : Index) (fresh : List Labels) (x : Lists) (n : ℕ) → IsFresh index lists fresh → x.kept ≡ [] → n < length lists + 1 → length lists + 1 ≤ n + (length fresh + 1)
@@ -404,7 +396,7 @@ kept_nowhere index lists l e = sym (list_of-store (λ l. l.kept) index.entries l
 -- ---- the label sets in order
 put_below : (k : Labels) (v : List Point) (es : List (Labels × List Point)) → below_all labels_cmp k es ≡ true → put labels_cmp k v es ≡ (k, v) ∷ es
 put_below k v [] h = refl
-put_below k v (e ∷ es) h = ap (λ r. by_order r ((k, v) ∷ e ∷ es) ((e.0, v) ∷ es) (e ∷ put labels_cmp k v es)) (is_less (labels_cmp k e.0) (and_left _ _ h))
+put_below k v (e ∷ es) h = ap (λ r. by_order r ((k, v) ∷ e ∷ es) ((e.0, v) ∷ es) (e ∷ put labels_cmp k v es)) (is_less (labels_cmp k e.0) ((and_parts _ _ h).0))
 
 abbrev cons_shown : Labels → List Point → List (Labels × List Point) → List (Labels × List Point)
 cons_shown k [] es = es

@@ -5,7 +5,7 @@ use Rattle.std.specs.List.{list_any}
 use Rattle.std.specs.Map.{lookup}
 use Rattle.std.specs.BTreeMap.{is_at}
 use Rattle.std.specs.FinMap.{empty}
-use Rattle.std.proofs.lemmas.Bool.{cases_lt, lt-ltb, le-ltb}
+use Rattle.std.proofs.lemmas.Bool.{cases_lt, lt-ltb, le-ltb, true≢false}
 use Rattle.std.proofs.lemmas.List.{get_or-set_same, get_or-set_other, length-set, length-take-le}
 use Rattle.rw_types.specs.Labels.{Labels}
 use Rattle.rw_types.specs.LabelOrder.{labels_cmp, labels_eq}
@@ -20,7 +20,7 @@ use Rattle.rw_head.specs.Lists.{Lists, no_lists, ListGives, StoreGives, IsSound,
 use Rattle.rw_head.specs.Names.{below}
 use Rattle.rw_head.proofs.OrderLemmas.{accept-none}
 use Rattle.rw_head.proofs.StoreLemmas.{no_points, with_list-same, total-with_list, total-empty}
-use Rattle.rw_head.proofs.PlaceLemmas.{at, Index, store_by, no_empty_list, off, same_lists, store-set, list_at_place, kept-set, HasPlaces-set, HasPlaces-len, Settled-set, staged-part, kept-staged}
+use Rattle.rw_head.proofs.PlaceLemmas.{at, Index, store_by, no_empty_list, same_lists, store-set, list_at_place, kept-set, HasPlaces-set, HasPlaces-len, Settled-set, staged-part, kept-staged}
 
 -- ---- samples that are staged
 total-longer : (l : Labels) (xs : List Point) (s : Store) → HasNoEmptyList s → length (list_of s l) ≤ length xs → total (with_list l xs s) + length (list_of s l) ≡ total s + length xs
@@ -75,7 +75,7 @@ kept_after lists n m x lt kept = by_test (nat_eq m n) refl
         let same : m ≡ n = eqb-true m n e in
         ap (λ k. (get_or (set lists n x) k no_lists).kept) same ∙ ap (λ y. y.kept) (get_or-set_same lists n x no_lists lt) ∙ kept ∙ ap (λ k. (get_or lists k no_lists).kept) (sym same)
     by_test false e =
-        let apart : m ≢ n = λ same. off (sym (eq-eqb m n same) ∙ e) in
+        let apart : m ≢ n = λ same. true≢false (sym (eq-eqb m n same) ∙ e) in
         ap (λ y. y.kept) (get_or-set_other lists n m x no_lists apart)
 
 IsFresh-set : (index : Index) (lists : List Lists) (fresh : List Labels) (n : ℕ) (x : Lists) → IsFresh index lists fresh → n < length lists → x.kept ≡ (get_or lists n no_lists).kept
@@ -104,7 +104,7 @@ AllFilled-set lists n x h lt grown m small = by_test (nat_eq m n) refl
         ap (λ k. has_samples (get_or (set lists n x) k no_lists).staged) same ∙ ap (λ y. has_samples y.staged) (get_or-set_same lists n x no_lists lt)
         ∙ longer_has (get_or lists n no_lists).staged x.staged grown (h n lt)
     by_test false e =
-        let apart : m ≢ n = λ same. off (sym (eq-eqb m n same) ∙ e) in
+        let apart : m ≢ n = λ same. true≢false (sym (eq-eqb m n same) ∙ e) in
         ap (λ y. has_samples y.staged) (get_or-set_other lists n m x no_lists apart) ∙ h m (omega (arith, small, length-set lists n x))
 
 -- lists of which one grew stay sound
@@ -185,7 +185,7 @@ left_of : (index : Index) (ls : List Lists) (fresh : List Labels) (q : Labels) (
 left_of index ls fresh q n true h e k = absurd cc
 left_of index ls fresh q n false h e k = record {
   there = k;
-  low = ⊎_elim (λ lt. lt) (λ le. absurd (off (sym (h.named q n k le) ∙ e))) (cases_lt (n + length fresh) (length ls));
+  low = ⊎_elim (λ lt. lt) (λ le. absurd (true≢false (sym (h.named q n k le) ∙ e))) (cases_lt (n + length fresh) (length ls));
 }
 
 left_kept : (index : Index) (ls ms ns : List Lists) (fresh : List Labels) (q : Labels) (b : Bool) (o : Option ℕ) → HasPlaces index ls → IsFresh index ls fresh
@@ -294,7 +294,7 @@ out_below : (lists : List Lists) (index : Index) (fresh : List Labels) (keep : �
 out_below lists index fresh keep q None b h e k any = no_more b
 out_below lists index fresh keep q (Some n) true h e k any = ap (λ c. cond c (Some n) None) (le-ltb n keep (omega (arith, h.last q n any k, e)))
 out_below lists index fresh keep q (Some n) false h e k any =
-    ap (λ c. cond c (Some n) None) (lt-ltb n keep (⊎_elim (λ lt. lt) (λ le. absurd (off (sym (h.named q n k (omega (arith, le, e))) ∙ any))) (cases_lt n keep)))
+    ap (λ c. cond c (Some n) None) (lt-ltb n keep (⊎_elim (λ lt. lt) (λ le. absurd (true≢false (sym (h.named q n k (omega (arith, le, e))) ∙ any))) (cases_lt n keep)))
 
 pub takes_out : (lists : List Lists) (index new : Index) (fresh : List Labels) (keep : ℕ) → IsFresh index lists fresh → keep + length fresh ≡ length lists
     → ((q : Labels) → get labels_cmp new q ≡ below keep (get labels_cmp index q)) → TakesOut index new fresh

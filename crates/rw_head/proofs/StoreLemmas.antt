@@ -6,6 +6,7 @@ use Rattle.std.specs.Ordering.{is_lt, is_eq}
 use Rattle.std.specs.declared.cmp.Ordering.{Ordering}
 use Rattle.std.specs.declared.cmp.Ordering.TheVariants.{Less, Equal, Greater}
 use Rattle.std.proofs.lemmas.List.Sums.{sum_by-cons}
+use Rattle.std.proofs.lemmas.Bool.{and_parts}
 use Rattle.rw_types.specs.Labels.{Labels}
 use Rattle.rw_types.specs.LabelOrder.{labels_cmp, labels_eq, labels_cmp-total}
 use Rattle.rw_types.proofs.OrderLemmas.{exact_labels, same_if_equal}
@@ -93,14 +94,6 @@ with_list-same l s h =
     (λ q. list_of-with_list l (list_of s l) s q ∙ itself (list_of s) l q (labels_eq q l) refl)
 
 -- ---- all samples
-pub and_left : (a b : Bool) → (a && b) ≡ true → a ≡ true
-and_left true b e = refl
-and_left false b e = e
-
-and_right : (a b : Bool) → (a && b) ≡ true → b ≡ true
-and_right true b e = e
-and_right false b e = absurd cc
-
 pub is_less : (o : Ordering) → is_lt o ≡ true → o ≡ Less
 is_less Less e = refl
 is_less Equal e = absurd cc
@@ -112,12 +105,12 @@ Entries = List (Labels × List Point)
 pub find_below : (k : Labels) (es : Entries) → below_all labels_cmp k es ≡ true → find labels_cmp k es ≡ None
 find_below k [] h = refl
 find_below k (e ∷ es) h =
-    ap (λ r. cond (is_eq r) (Some e.1) (find labels_cmp k es)) (is_less (labels_cmp k e.0) (and_left _ _ h)) ∙ find_below k es (and_right _ _ h)
+    ap (λ r. cond (is_eq r) (Some e.1) (find labels_cmp k es)) (is_less (labels_cmp k e.0) ((and_parts _ _ h).0)) ∙ find_below k es ((and_parts _ _ h).1)
 
 below_lower : (k l : Labels) (es : Entries) → labels_cmp k l ≡ Less → below_all labels_cmp l es ≡ true → below_all labels_cmp k es ≡ true
 below_lower k l [] p h = refl
 below_lower k l (e ∷ es) p h =
-    ap (λ r. is_lt r && below_all labels_cmp k es) (labels_cmp-total.trans k l e.0 p (is_less (labels_cmp l e.0) (and_left _ _ h))) ∙ below_lower k l es p (and_right _ _ h)
+    ap (λ r. is_lt r && below_all labels_cmp k es) (labels_cmp-total.trans k l e.0 p (is_less (labels_cmp l e.0) ((and_parts _ _ h).0))) ∙ below_lower k l es p ((and_parts _ _ h).1)
 
 abbrev sum_of : Entries → ℕ
 sum_of es = sum_by length (map (λ e. e.1) es)
@@ -138,7 +131,7 @@ placed k v e es Greater rest none = omega (arith, sum_of-cons e (put labels_cmp 
 sum-put : (k : Labels) (v : List Point) (es : Entries) → is_sorted labels_cmp es ≡ true → sum_of (put labels_cmp k v es) + length (found k es) ≡ sum_of es + length v
 sum-put k v [] h = omega (arith, sum_of-cons (k, v) [])
 sum-put k v (e ∷ es) h =
-    placed k v e es (labels_cmp k e.0) (sum-put k v es (and_right _ _ h)) (λ p. find_below k es (below_lower k e.0 es p (and_left _ _ h)))
+    placed k v e es (labels_cmp k e.0) (sum-put k v es ((and_parts _ _ h).1)) (λ p. find_below k es (below_lower k e.0 es p ((and_parts _ _ h).0)))
 
 sum-none : (k : Labels) (es : Entries) → T (is_sorted labels_cmp es) → is_sorted labels_cmp es ≡ true
 sum-none k es h = search rules

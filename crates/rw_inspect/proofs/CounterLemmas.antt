@@ -11,7 +11,7 @@ use Rattle.rw_series_cache.specs.Numbers.{series_of}
 use Rattle.rw_series_cache.specs.Rising.{IsNoted}
 use Rattle.rw_series_cache.proofs.RisingLemmas.{noted_at_first, noted_definition}
 use Rattle.rw_series_cache.proofs.KnownLemmas.{definitions_of-definition, series_of-definitions_of}
-use Rattle.rw_feeder.proofs.GatherLemmas.{gather_push}
+use Rattle.rw_types.proofs.GatherLemmas.{gather-push}
 use Rattle.rw_inspect.specs.Counting.{counts_of, IsCacheOf, IsCounter, IsPlaced}
 use Rattle.rw_inspect.specs.Sums.{no_sums, sums_of, with_entry}
 use Rattle.rw_inspect.specs.Troubles.{has_bad_labels, has_no_series, not_rising, trouble_of}
@@ -59,7 +59,7 @@ counter_more es here now hand_now e count up cache new sums more hand hand_more 
       cached = cached;
       all = all_is ∙ ap (λ s. with_entry s e) h.all ∙ sym (sums_of-push es e);
       hand = here_is ∙ ap (λ s. with_entry s e) h.hand ∙ sym (sums_of-push here e);
-      in_trouble = trouble ∙ ap (λ ts. ts ++ trouble_of es e) h.in_trouble ∙ sym (gather_push trouble_of es e);
+      in_trouble = trouble ∙ ap (λ ts. ts ++ trouble_of es e) h.in_trouble ∙ sym (gather-push trouble_of es e);
     }
 
 pub counter_definition : (es here now hand_now : List Entry) (reference : ℕ) (l : Labels) (count up : ℕ) (cache new : Taken) (sums more hand hand_more : Sums) (troubles : List (ℕ × Trouble))

@@ -17,12 +17,12 @@ use Rattle.rw_series_cache.specs.Found.{Answers, standing_in}
 use Rattle.rw_series_cache.specs.declared.known.Known.{Known}
 use Rattle.rw_text.specs.LabelText.{labels_text}
 use Rattle.rw_series_cache.proofs.KnownLemmas.{definitions_of-definition, definitions_of-sample}
-use Rattle.rw_feeder.specs.Logs.{gather_from, gather}
-use Rattle.rw_feeder.proofs.GatherLemmas.{gather_push}
+use Rattle.rw_types.proofs.GatherLemmas.{gather-push}
 use Rattle.rw_inspect.specs.Finding.{Finds, IsFinder, any_names, entry_text, fault_text, labels_or, sample_text, set_text, is_asked, is_missing, line_of, name_at, not_there_text, there_text, note_if, note_of, noted_at, notes_in, position_text, text_at, text_from, told}
 use Rattle.rw_inspect.specs.Inspecting.{ReadsFirst, ReadsInto, fault_in}
 use Rattle.rw_inspect.specs.declared.finding.Found.{Found}
 use Rattle.rw_inspect.specs.declared.report.Segment.{Segment}
+use Rattle.rw_types.specs.Gathering.{gather_from, gather}
 
 -- a note of another position is passed over
 passes : (b : Bool) (p q : ℕ) (text : List ℕ) (notes : List (ℕ × List ℕ)) → nat_eq p q ≡ false → noted_at (note_if b p text ++ notes) q ≡ noted_at notes q
@@ -103,7 +103,7 @@ finder_more positions es now e count up cache new notes grown note h is one same
       defined = defined es h.defined;
       noted =
           added ∙ ap (λ p. map told notes ++ notes_in p note) h.counted ∙ ap (λ ns. map told notes ++ ns) noted ∙ ap (λ ns. ns ++ note_of positions es e) h.noted
-          ∙ sym (gather_push (note_of positions) es e);
+          ∙ sym (gather-push (note_of positions) es e);
     }
 
 -- what is noted of the next entry

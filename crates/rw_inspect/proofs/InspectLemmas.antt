@@ -1,5 +1,5 @@
 -- The segments of a log, one after the other.
-use Rattle.std.proofs.Common.{◌≡◌, ℕ, ◌+◌, ◌<◌, ◌≤◌, List, [], ◌∷◌, ◌++◌, length, Bool, true, false, Option, Some, None, refl, sym, ap, ◌∙◌, subst, append_assoc, append-nil, length-append, arith}
+use Rattle.std.proofs.Common.{◌≡◌, ℕ, ◌+◌, ◌<◌, ◌≤◌, List, [], ◌∷◌, ◌++◌, length, Bool, true, false, Option, None, refl, sym, ap, ◌∙◌, subst, append_assoc, append-nil, length-append, arith}
 use Rattle.std.specs.Prelude.{flat_map, take, is_some, nat_eq}
 use Rattle.std.proofs.lemmas.Grind.{flat_map-append}
 use Rattle.std.proofs.lemmas.Bool.Decides.{nat_tests}
@@ -232,11 +232,6 @@ reported_first lefts taken rows damage r h m = record {
     fault_is = ap fault_in m.damage_is ∙ h.fault_is;
   };
 }
-
--- a fault that is not there
-pub not_some : {X : Type 0} (o : Option X) → is_some o ≡ false → o ≡ None
-not_some None h = refl
-not_some (Some x) h = let no : true ≡ false = h in absurd cc
 
 pub no_more : {X : Type 0} (xs : List X) (n : ℕ) → n ≡ length xs → n ≡ 0 → xs ≡ []
 no_more [] n h e = refl

@@ -1,9 +1,7 @@
 -- A sample that is placed behind others.
-use Rattle.std.proofs.Common.{◌≡◌, ℕ, zero, suc, ◌<◌, ℤ, List, [], ◌∷◌, ◌++◌, cond, length, slice_get, Some, Result, Ok, Err, refl, sym, ap, ◌∙◌, subst, append-nil, arith}
+use Rattle.std.proofs.Common.{◌≡◌, ℕ, ℤ, List, [], ◌∷◌, ◌++◌, cond, length, refl, sym, ap, ◌∙◌, subst, append-nil}
 use Rattle.std.specs.Ordering.{nat_cmp}
-use Rattle.std.specs.Result.{OnOk}
 use Rattle.std.specs.FinMap.{FinMap, insert}
-use Rattle.rw_types.specs.Labels.{Labels}
 use Rattle.rw_types.specs.declared.entry.Entry.{Entry}
 use Rattle.rw_types.specs.declared.entry.Entry.TheVariants.{Sample}
 use Rattle.rw_series_cache.specs.Cached.{Taken}
@@ -16,11 +14,6 @@ use Rattle.rw_inspect.specs.Troubles.{trouble_as, trouble_of}
 use Rattle.rw_inspect.specs.declared.troubles.Trouble.{Trouble}
 use Rattle.rw_inspect.specs.declared.troubles.Trouble.TheVariants.{NotRising}
 use Rattle.rw_relabel.specs.Choices.{legacy}
-
-pub stands_within : (xs : List Labels) (number : ℕ) (l : Labels) → slice_get xs number ≡ Some l → number < length xs
-stands_within [] number l at = absurd cc
-stands_within (x ∷ xs) zero l at = omega arith
-stands_within (x ∷ xs) (suc n) l at = let rest = stands_within xs n l at in omega arith
 
 -- what does not rise is not noted
 still_noted : (before : List Entry) (reference : ℕ) (t : ℤ) (word : ℕ) (noted : FinMap nat_cmp ℤ) (k : Standing) → known legacy before reference ≡ k → IsStill before t k → IsNoted legacy before noted
@@ -68,8 +61,3 @@ placed_rising before reference t word number cache new troubles h r made = (
   },
   sym (append-nil troubles) ∙ ap (λ b. troubles ++ cond b [] ((length before, NotRising) ∷ [])) (sym r.rising) ∙ ap (λ k. troubles ++ trouble_as before t k) (sym r.stands),
 )
-
--- what holds where a call went well
-pub when_ok : {T E : Type 0} (r : Result T E) (P Q : Type 0) → (P → Q) → OnOk r P → OnOk r Q
-when_ok (Ok x) P Q f h = f h
-when_ok (Err e) P Q f h = tt

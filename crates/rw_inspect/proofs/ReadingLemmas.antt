@@ -16,6 +16,7 @@ use Rattle.rw_inspect.specs.Counting.{Counted}
 use Rattle.rw_inspect.specs.Reading.{AreFed, ComesNext, Ends, FeedsMore, Gives, Grows, HasFed, ReadsText, TakesAll}
 use Rattle.rw_inspect.specs.declared.reading.Next.{Next}
 use Rattle.rw_inspect.specs.declared.reading.Next.TheVariants as next
+use Rattle.rw_wal_format.proofs.Growing.{cuts_after}
 
 -- the answers of a reader
 pub gives_entry : (t after : Fed) (e : Entry) (said : Said) → said ≡ Ok (Some e) → (said ≡ Err OutOfMemory) ⊎ (said ≡ next_of t.pieces t.given) → after ≡ answered t said → Gives e t after
@@ -108,12 +109,6 @@ takes_all t at new before after found h ends = record {
   grows = h.grows;
 }
 
--- two pieces of bytes are read as one, and none as nothing
-joined : (page : ℕ) (text : List ℕ) (old : List Piece) (a b : List ℕ) (later : List Piece) → reading_after page text (old ++ bytes a ∷ bytes b ∷ later) ≡ reading_after page text (old ++ bytes (a ++ b) ∷ later)
-joined page text [] a b later = ap (λ x. reading_after page x later) (append_assoc text a b)
-joined page text (bytes c ∷ old) a b later = joined page (text ++ c) old a b later
-joined page text (next_segment ∷ old) a b later = ap (then_next (segment page text)) (joined page [] old a b later)
-
 empty_piece : (page : ℕ) (text : List ℕ) (old later : List Piece) → reading_after page text (old ++ later) ≡ reading_after page text (old ++ bytes [] ∷ later)
 empty_piece page text [] later = ap (λ x. reading_after page x later) (sym (append-nil text))
 empty_piece page text (bytes c ∷ old) later = empty_piece page (text ++ c) old later
@@ -125,7 +120,7 @@ fed-none ps later = empty_piece page_size [] ps later
 
 fed-more : (old new : List Piece) (text b : List ℕ) → AreFed old text new → AreFed old (text ++ b) (new ++ bytes b ∷ [])
 unfolding reading
-fed-more old new text b h later = rw (append_assoc new (bytes b ∷ []) later) (h (bytes b ∷ later) ∙ joined page_size [] old text b later)
+fed-more old new text b h later = rw (append_assoc new (bytes b ∷ []) later) (h (bytes b ∷ later) ∙ cuts_after page_size [] old text b later)
 
 -- before the first piece
 pub has_fed-none : (left : Option (List ℕ)) (t : Fed) (c : Counted) → HasTaken t c.entries → HasFed left left t t c c 0

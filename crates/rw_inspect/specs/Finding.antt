@@ -14,10 +14,10 @@ use Rattle.rw_series_cache.specs.Cached.{Taken}
 use Rattle.rw_series_cache.specs.Known.{Standing, Unknown, Bad, Filtered, Kept, known, definitions_of}
 use Rattle.rw_text.specs.LabelText.{labels_text}
 use Rattle.rw_text.specs.ValueText.{value_text}
-use Rattle.rw_feeder.specs.Logs.{gather}
 use Rattle.rw_inspect.specs.Inspecting.{AreRows, ReadsFirst, fault_in, log_of}
 use Rattle.rw_inspect.specs.declared.finding.Found.{Found}
 use Rattle.rw_inspect.specs.declared.report.Segment.{Segment}
+use Rattle.rw_types.specs.Gathering.{gather}
 
 -- all label sets, with names of any text
 abbrev pub any_names : Choice

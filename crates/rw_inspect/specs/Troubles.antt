@@ -4,10 +4,10 @@ use Rattle.rw_types.specs.declared.entry.Entry.{Entry}
 use Rattle.rw_types.specs.declared.entry.Entry.TheVariants.{Def, Sample}
 use Rattle.rw_series_cache.specs.Known.{Standing, Unknown, Bad, Filtered, Kept, known}
 use Rattle.rw_series_cache.specs.Rising.{rises}
-use Rattle.rw_feeder.specs.Logs.{gather}
 use Rattle.rw_inspect.specs.declared.troubles.Trouble.{Trouble}
 use Rattle.rw_inspect.specs.declared.troubles.Trouble.TheVariants.{NoSeries, BadLabels, NotRising}
 use Rattle.rw_relabel.specs.Choices.{legacy}
+use Rattle.rw_types.specs.Gathering.{gather}
 
 -- A sample after these entries, of whose reference this is known: its reference has no definition before it, or one whose labels are no
 -- label set, or an earlier sample of its label set has the same timestamp or a later one. No rules are asked.

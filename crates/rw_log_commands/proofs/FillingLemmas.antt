@@ -1,7 +1,7 @@
 -- Segments in memory are filled with the records of lines.
 use Rattle.std.proofs.Common.{◌≡◌, ◌<◌, ◌≤◌, ◌+◌, ◌*◌, ℕ, List, [], ◌∷◌, ◌++◌, length, Some, None, Result, Ok, Err, IfSome, IfErr, Bool, true, false, leb, add-zero, refl, sym, ap, ◌∙◌, subst, arith, inl, inr, append_assoc}
 use Rattle.std.proofs.lemmas.Bool.{cases_lt, lt-ltb, le-ltb, le-leb, lt-leb, and_parts, and_cases, and_left, and_right, false≢true}
-use Rattle.std.proofs.lemmas.List.{length-append, append-nil}
+use Rattle.std.proofs.lemmas.List.{length-append, append-nil, nil_from_length}
 use Rattle.rw_wal_format.specs.Laws.{log_all}
 use Rattle.rw_wal_format.specs.Pieces.{page_size}
 use Rattle.rw_wal_format.specs.Writing.{log_bytes, room}
@@ -15,7 +15,8 @@ use Rattle.rw_text.specs.LineText.{Line, series, sample, raw, IsLine}
 use Rattle.rw_log_commands.specs.Filling.{HasMemory, TakesRecords}
 use Rattle.rw_text.specs.RecordLines.{lines, record_of, IsRecordOf}
 use Rattle.rw_log_commands.specs.LogText.{have_room, segment_of, AreRecords, Fills}
-use Rattle.rw_log_commands.proofs.LogTextLemmas.{records_join, next_parts, one_record, empty_from_length}
+use Rattle.rw_log_commands.proofs.LogTextLemmas.{records_join, one_record}
+use Rattle.rw_text.proofs.LineLemmas.{next_parts}
 
 -- ---- one record
 
@@ -91,7 +92,7 @@ not_device s new r line rec m long is h e part = elim (cases_lt (room page_size 
       omega (arith, place.within, m.reserved, part.lacked m.sound)
 ]
 
-said_some : (line : List ℕ) (said : Line) → IsLine line said → 0 < length (record_of said)
+pub said_some : (line : List ℕ) (said : Line) → IsLine line said → 0 < length (record_of said)
 said_some line (series reference labels) l = omega arith
 said_some line (sample reference t word) l = omega arith
 said_some line (raw bytes) l = l.says.2.some
@@ -213,7 +214,7 @@ filling_ends pages text w rest segment f e is = record {
 pub filled_all : (pages : ℕ) (text segment rest : List ℕ) → Fills pages text segment rest → length rest ≡ 0
     → (recs : List (List ℕ)) × AreRecords (lines text) recs × ((have_room pages 0 recs ≡ true) × (segment ≡ segment_of recs))
 filled_all pages text segment rest f e =
-    let whole : lines text ≡ f.front = f.parts ∙ ap (λ (t : List ℕ). f.front ++ lines t) (empty_from_length rest e) ∙ append-nil f.front in
+    let whole : lines text ≡ f.front = f.parts ∙ ap (λ (t : List ℕ). f.front ++ lines t) (nil_from_length rest e) ∙ append-nil f.front in
     (f.records, subst (λ (ls : List (List ℕ)). AreRecords ls f.records) (sym whole) f.good, (f.fits, f.bytes))
 
 no_more_room : (pages offset : ℕ) (recs others : List (List ℕ)) → have_room pages offset recs ≡ false → have_room pages offset (recs ++ others) ≡ false

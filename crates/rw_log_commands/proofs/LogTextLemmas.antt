@@ -1,12 +1,9 @@
 -- Log text line by line.
-use Rattle.std.proofs.Common.{◌≡◌, ◌<◌, ◌≤◌, ◌+◌, ℕ, max, List, [], ◌∷◌, ◌++◌, length, refl, sym, ap, ◌∙◌, subst, arith, append_assoc}
+use Rattle.std.proofs.Common.{◌≡◌, ◌<◌, ◌≤◌, ◌+◌, ℕ, max, List, [], ◌∷◌, ◌++◌, length, refl, sym, ap, ◌∙◌, subst, arith}
 use Rattle.std.proofs.lemmas.List.{length-append, append-nil}
 use Rattle.rw_text.specs.RecordLines.{lines, IsRecordOf}
 use Rattle.rw_log_commands.specs.LogText.{longest_of, AreRecords, IsBadLine}
-
-pub empty_from_length : {A : Type 0} (xs : List A) → length xs ≡ 0 → xs ≡ []
-empty_from_length [] e = refl
-empty_from_length (x ∷ xs) e = absurd (omega arith)
+use Rattle.rw_text.proofs.LineLemmas.{next_parts}
 
 -- ---- records of lines
 
@@ -42,9 +39,6 @@ pub record Judged (text rest : List ℕ) (number longest : ℕ) : Type 0 where
 
 pub judged_begins : (text : List ℕ) → Judged text text 0 0
 judged_begins text = record { front = []; parts = refl; place = refl; records = []; good = refl; most = refl; bound = omega arith }
-
-pub next_parts : (text rest line more : List ℕ) (front : List (List ℕ)) → lines text ≡ front ++ lines rest → lines rest ≡ line ∷ lines more → lines text ≡ (front ++ line ∷ []) ++ lines more
-next_parts text rest line more front e f = e ∙ ap (λ (t : List (List ℕ)). front ++ t) f ∙ sym (append_assoc front (line ∷ []) (lines more))
 
 pub judged_more : (text rest : List ℕ) (number longest : ℕ) (line more : List ℕ) (len later : ℕ) → Judged text rest number longest → lines rest ≡ line ∷ lines more → length more < length rest
     → (recs : List (List ℕ)) × AreRecords (line ∷ []) recs × (len ≡ longest_of recs) → later ≡ max longest len → Judged text more (number + 1) later

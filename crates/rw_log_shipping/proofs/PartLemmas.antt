@@ -1,5 +1,5 @@
 -- A log that was fed in part.
-use Rattle.std.proofs.Common.{◌≡◌, ℕ, Bool, true, false, List, [], ◌∷◌, ◌++◌, map, Option, None, Some, Result, Ok, Err, OnErr, inl, inr, ◌⊎◌, refl, sym, ap, ◌∙◌, subst, append_assoc, append-nil}
+use Rattle.std.proofs.Common.{◌≡◌, ℕ, Bool, true, false, List, [], ◌∷◌, ◌++◌, map, Option, None, Some, Err, inl, inr, ◌⊎◌, refl, sym, ap, ◌∙◌, subst, append_assoc, append-nil}
 use Rattle.std.specs.Io.KnownBytes.{Consumes}
 use Rattle.rw_wal_format.specs.Pieces.{Piece, bytes, next_segment}
 use Rattle.rw_feeder.specs.Feeders.{Sorting}
@@ -37,10 +37,6 @@ more_or_not before after text old new c (inr e) = inr (record { text = text; con
 
 pub begun_or_not : (first : Bool) (old new : Sorting) (e : FeedFault) → first ≡ false → Joins old new next_segment (Err e) → (new.pieces ≡ old.pieces) ⊎ Begins first old.pieces new.pieces
 begun_or_not first old new e later h = subst (λ (b : Bool). (new.pieces ≡ old.pieces) ⊎ Begins b old.pieces new.pieces) (sym later) (joins_or_not old new next_segment e h)
-
-pub also_on_err : {T E P : Type 0} (r : Result T E) → P → OnErr r P
-also_on_err (Ok x) h = tt
-also_on_err (Err e) h = h
 
 -- ---- segment by segment
 

@@ -1,21 +1,22 @@
 -- An arrival keeps the invariant.
 use Rattle.std.proofs.Common.{◌≡◌, ℕ, ◌+◌, ◌-◌, ◌<◌, ◌==◌, Bool, true, false, cond, List, [], ◌∷◌, ◌++◌, length, map, filter, take, Option, Some, None, is_none, slice_get, refl, sym, ap, ◌∙◌, subst, ℤ, int_lt, not, append-nil, append_assoc, arith, inl, inr, ◌⊎◌}
-use Rattle.std.proofs.lemmas.Bool.{cases_eq}
+use Rattle.std.proofs.lemmas.Bool.{cases_eq, true≢false, not-false, cond-false, cond-true, ne_eqb}
 use Rattle.std.proofs.lemmas.Bool.Decides.{Decides-eqb}
 use Rattle.std.proofs.lemmas.List.{map-append}
 use Rattle.rw_machine.proofs.Steps.{either, AllOf, all_append, all_more, all_map, same_is, is_same}
 use Rattle.rw_machine.proofs.Risen.{AllLater, Rises, Rises-risen}
-use Rattle.rw_machine.proofs.OrderRule.{Ascends, ascends_left, accept_repeats, accept_later, holds_append, holds_right, cond_true, cond_false, distinct_apart, Took, take_message}
+use Rattle.rw_machine.proofs.OrderRule.{Ascends, ascends_left, accept_repeats, accept_later, holds_append, holds_right, distinct_apart, Took, take_message}
 use Rattle.rw_machine.proofs.Places.{Numbered, numbered_left, numbered_all, of_append}
 use Rattle.rw_machine.proofs.Invariant.{Inv, as_points, waits, home, id_at, Past, SampleOk, ShardOk, GotOk, IsOpen, InStore, RequestOk, AnswersOpen, AnswerOk, by_bool}
-use Rattle.rw_machine.proofs.Keeps.{some_is, not_equal, pairs_of_points, of_none}
+use Rattle.rw_machine.proofs.Keeps.{pairs_of_points, of_none}
 use Rattle.rw_machine.proofs.Resolves.{holds_each, open_id}
-use Rattle.rw_machine.proofs.Others.{pending_parts}
-use Rattle.rw_machine.proofs.Heads.{accept_all, all_distinct, by_answer, Takes}
+use Rattle.rw_machine.proofs.Others.{pending_parts, all_distinct}
+use Rattle.rw_machine.proofs.Heads.{accept_all, by_answer, Takes}
 use Rattle.rw_batch.specs.Grouping.{distinct}
 use Rattle.rw_head.specs.Head.{Answer}
 use Rattle.rw_head.specs.Store as head
 use Rattle.std.specs.FinMap.{get}
+use Rattle.std.proofs.lemmas.Option.{same_Some}
 use Rattle.rw_head.specs.Order.{accept, holds}
 use Rattle.rw_head.specs.Store.{list_of}
 use Rattle.rw_retry.specs.Judgements.{judgement_of}
@@ -31,9 +32,6 @@ use Rattle.rw_shard_core.specs.Shard.{batch_id, is_empty}
 use Rattle.rw_plain_queue.specs.Items.{Placed}
 use Rattle.rw_types.specs.LabelOrder.{labels_eq}
 use Rattle.rw_types.specs.Labels.{Labels}
-
-off : {P : Type 0} → true ≡ false → P
-off e = cc
 
 later_pairs : (t : ℤ) (ps : List Point) → AllLater t ps → AllOf (λ (y : ℤ × ℕ). int_lt t y.0 ≡ true) (map pair_of ps)
 later_pairs t [] h = tt
@@ -54,17 +52,13 @@ ascends_owed ledger (p ∷ ps) ys h = either (λ qs. Ascends (map pair_of qs ++ 
 unfilter : (P : Labels → Type 0) (p : Labels → Bool) → ((m : Labels) → p m ≡ false → P m) → (ls : List Labels) → AllOf P (filter p ls) → AllOf P ls
 unfilter P p dropped [] h = tt
 unfilter P p dropped (l ∷ ls) h = by_bool (AllOf P (l ∷ ls)) (p l)
-    (λ e. let both : AllOf P (l ∷ filter p ls) = subst (AllOf P) (cond_true (p l) (l ∷ filter p ls) (filter p ls) e) h in (both.0, unfilter P p dropped ls both.1))
-    (λ e. (dropped l e, unfilter P p dropped ls (subst (AllOf P) (cond_false (p l) (l ∷ filter p ls) (filter p ls) e) h)))
-
-not_false : (b : Bool) → not b ≡ false → b ≡ true
-not_false true h = refl
-not_false false h = off h
+    (λ e. let both : AllOf P (l ∷ filter p ls) = subst (AllOf P) (cond-true (p l) (l ∷ filter p ls) (filter p ls) e) h in (both.0, unfilter P p dropped ls both.1))
+    (λ e. (dropped l e, unfilter P p dropped ls (subst (AllOf P) (cond-false (p l) (l ∷ filter p ls) (filter p ls) e) h)))
 
 undistinct : (P : Labels → Type 0) (ls : List Labels) → AllOf P (distinct ls) → AllOf P ls
 unfolding distinct
 undistinct P [] h = tt
-undistinct P (l ∷ ls) h = (h.0, undistinct P ls (unfilter P (λ m. not (labels_eq l m)) (λ m e. subst P (same_is l m (not_false (labels_eq l m) e)) h.0) (distinct ls) h.1))
+undistinct P (l ∷ ls) h = (h.0, undistinct P ls (unfilter P (λ m. not (labels_eq l m)) (λ m e. subst P (same_is l m (not-false (labels_eq l m) e)) h.0) (distinct ls) h.1))
 
 unmap : (P : Labels → Type 0) (xs : List Placed) → AllOf P (map (λ (x : Placed). x.labels) xs) → AllOf (λ (x : Placed). P x.labels) xs
 unmap P [] h = tt
@@ -195,7 +189,7 @@ module _ (c : Setup) (w : World) (at : Inv c w) (r : Request) (r_ok : RequestOk 
   taken_as next = record { status = 204; head = record w.head { store = next } }
 
   next_is : (next : head.Store) → Takes w.head r.batch next → (f : Store) → accept_all (Some (list_of w.head.store)) (message r.batch) ≡ Some f → list_of next ≡ f
-  next_is next t f e = t.same ∙ some_is (sym t.taken ∙ e)
+  next_is next t f e = t.same ∙ same_Some _ _ (sym t.taken ∙ e)
 
   -- a batch that the head has already
   repeated : AllOf (InStore (list_of w.head.store)) r.batch → ((s : Shard) → slice_get w.shards r.id.shard ≡ Some s → s.core.batch ≡ r.batch → is_empty r.batch ≡ false → at.got r.id.shard ≡ s.core.batch) → (next : head.Store) → Takes w.head r.batch next → Inv c (answered w r.id (taken_as next))
@@ -250,36 +244,36 @@ module _ (c : Setup) (w : World) (at : Inv c w) (r : Request) (r_ok : RequestOk 
           got_ok = λ i. by_index i (cases_eq i j);
           grows = λ x l h. subst (λ ps. holds x ps ≡ true) (sym (after_is l)) (holds_append x (list_of w.head.store l) (pairs (of l r.batch)) h);
           stays = λ i u at_i e. by_stay i u at_i e (cases_eq i j);
-          new = inr (is_epoch, subst (AnswersOpen c (got j) (record { id = r.id; status = 204 })) (sym at_j) (r_ok.id_is ∙ ap batch_id (sym batch_is), ap is_empty batch_is ∙ full, λ _. cond_true (j == j) s.core.batch (at.got j) ((Decides-eqb j j).1 refl), λ d. let never : Done ≡ Refused → ⊥ = λ h. cc in absurd (never d)));
+          new = inr (is_epoch, subst (AnswersOpen c (got j) (record { id = r.id; status = 204 })) (sym at_j) (r_ok.id_is ∙ ap batch_id (sym batch_is), ap is_empty batch_is ∙ full, λ _. cond-true (j == j) s.core.batch (at.got j) ((Decides-eqb j j).1 refl), λ d. let never : Done ≡ Refused → ⊥ = λ h. cc in absurd (never d)));
         })
       where
         outside : (l : Labels) → AllOf (λ m. labels_eq m l ≡ false) ls → of l r.batch ≡ []
-        outside l h = of_none l r.batch (all_more (λ (x : Placed). labels_eq x.labels l ≡ false) (λ (x : Placed). labels_eq l x.labels ≡ false) (λ x z. by_bool (labels_eq l x.labels ≡ false) (labels_eq l x.labels) (λ e. off (sym (is_same x.labels l (sym (same_is l x.labels e))) ∙ z)) (λ e. e)) r.batch (unmap (λ m. labels_eq m l ≡ false) r.batch (undistinct (λ m. labels_eq m l ≡ false) (map (λ (x : Placed). x.labels) r.batch) h)))
+        outside l h = of_none l r.batch (all_more (λ (x : Placed). labels_eq x.labels l ≡ false) (λ (x : Placed). labels_eq l x.labels ≡ false) (λ x z. by_bool (labels_eq l x.labels ≡ false) (labels_eq l x.labels) (λ e. absurd (true≢false (sym (is_same x.labels l (sym (same_is l x.labels e))) ∙ z))) (λ e. e)) r.batch (unmap (λ m. labels_eq m l ≡ false) r.batch (undistinct (λ m. labels_eq m l ≡ false) (map (λ (x : Placed). x.labels) r.batch) h)))
 
         by_place : (l : Labels) (took : Took (list_of w.head.store) (λ l. pairs (of l r.batch)) ls (accept_all (Some (list_of w.head.store)) (message r.batch))) → (AllOf (λ m. labels_eq m l ≡ false) ls) ⊎ (took.after l ≡ list_of w.head.store l ++ pairs (of l r.batch)) → took.after l ≡ list_of w.head.store l ++ pairs (of l r.batch)
         by_place l took (inl h) = took.outside l h ∙ sym (append-nil (list_of w.head.store l)) ∙ ap (λ b. list_of w.head.store l ++ pairs b) (sym (outside l h))
         by_place l took (inr h) = h
 
         by_home : (l : Labels) → IsKept c l → (home at.width w.series l ≡ j) ⊎ (home at.width w.series l ≡ j → ⊥) → list_of w.head.store l ++ pairs (of l r.batch) ≡ kept_part l ++ pairs (of l (got (home at.width w.series l)))
-        by_home l k (inl h) = (λ i. (at.stored l k ∙ ap (λ (n : ℕ). kept_part l ++ pairs (of l (at.got n))) h ∙ ap (λ b. kept_part l ++ pairs (of l b)) none ∙ append-nil (kept_part l)) i ++ pairs (of l (sym batch_is i))) ∙ ap (λ b. kept_part l ++ pairs (of l b)) (sym (cond_true (home at.width w.series l == j) s.core.batch (at.got (home at.width w.series l)) ((Decides-eqb (home at.width w.series l) j).1 h)))
+        by_home l k (inl h) = (λ i. (at.stored l k ∙ ap (λ (n : ℕ). kept_part l ++ pairs (of l (at.got n))) h ∙ ap (λ b. kept_part l ++ pairs (of l b)) none ∙ append-nil (kept_part l)) i ++ pairs (of l (sym batch_is i))) ∙ ap (λ b. kept_part l ++ pairs (of l b)) (sym (cond-true (home at.width w.series l == j) s.core.batch (at.got (home at.width w.series l)) ((Decides-eqb (home at.width w.series l) j).1 h)))
         by_home l k (inr h) =
             let apart : of l r.batch ≡ [] = of_none l r.batch (all_more (λ (x : Placed). IsKept c x.labels × (home at.width w.series x.labels ≡ j)) (λ (x : Placed). labels_eq l x.labels ≡ false) (λ x z. by_bool (labels_eq l x.labels ≡ false) (labels_eq l x.labels) (λ e. absurd (h (ap (home at.width w.series) (same_is l x.labels e) ∙ z.1))) (λ e. e)) r.batch homes) in
-            ap (λ b. list_of w.head.store l ++ pairs b) apart ∙ append-nil (list_of w.head.store l) ∙ at.stored l k ∙ ap (λ b. kept_part l ++ pairs (of l b)) (sym (cond_false (home at.width w.series l == j) s.core.batch (at.got (home at.width w.series l)) (not_equal (home at.width w.series l) j h)))
+            ap (λ b. list_of w.head.store l ++ pairs b) apart ∙ append-nil (list_of w.head.store l) ∙ at.stored l k ∙ ap (λ b. kept_part l ++ pairs (of l b)) (sym (cond-false (home at.width w.series l == j) s.core.batch (at.got (home at.width w.series l)) (ne_eqb (home at.width w.series l) j h)))
 
         by_index : (i : ℕ) → (i ≡ j) ⊎ (i ≡ j → ⊥) → GotOk c (slice_get w.shards i) (got i)
-        by_index i (inl h) = subst (λ (o : Option Shard). GotOk c o (got i)) (sym (ap (slice_get w.shards) h ∙ at_j)) (inr (cond_true (i == j) s.core.batch (at.got i) ((Decides-eqb i j).1 h), ap (is_let_in c) batch_is ∙ fits))
-        by_index i (inr h) = subst (GotOk c (slice_get w.shards i)) (sym (cond_false (i == j) s.core.batch (at.got i) (not_equal i j h))) (at.got_ok i)
+        by_index i (inl h) = subst (λ (o : Option Shard). GotOk c o (got i)) (sym (ap (slice_get w.shards) h ∙ at_j)) (inr (cond-true (i == j) s.core.batch (at.got i) ((Decides-eqb i j).1 h), ap (is_let_in c) batch_is ∙ fits))
+        by_index i (inr h) = subst (GotOk c (slice_get w.shards i)) (sym (cond-false (i == j) s.core.batch (at.got i) (ne_eqb i j h))) (at.got_ok i)
 
         by_stay : (i : ℕ) (u : Shard) → slice_get w.shards i ≡ Some u → at.got i ≡ u.core.batch → (i ≡ j) ⊎ (i ≡ j → ⊥) → got i ≡ u.core.batch
-        by_stay i u at_i e (inl h) = cond_true (i == j) s.core.batch (at.got i) ((Decides-eqb i j).1 h) ∙ ap (λ (v : Shard). v.core.batch) (some_is (sym at_j ∙ ap (slice_get w.shards) (sym h) ∙ at_i))
-        by_stay i u at_i e (inr h) = cond_false (i == j) s.core.batch (at.got i) (not_equal i j h) ∙ e
+        by_stay i u at_i e (inl h) = cond-true (i == j) s.core.batch (at.got i) ((Decides-eqb i j).1 h) ∙ ap (λ (v : Shard). v.core.batch) (same_Some _ _ (sym at_j ∙ ap (slice_get w.shards) (sym h) ∙ at_i))
+        by_stay i u at_i e (inr h) = cond-false (i == j) s.core.batch (at.got i) (ne_eqb i j h) ∙ e
 
     open_keeps : (next : head.Store) → Takes w.head r.batch next → Inv c (answered w r.id (taken_as next))
     open_keeps = by_got (subst (λ (o : Option Shard). GotOk c o (at.got j)) at_j (at.got_ok j))
       where
         by_got : (at.got j ≡ []) ⊎ ((at.got j ≡ s.core.batch) × (is_let_in c s.core.batch ≡ true)) → (next : head.Store) → Takes w.head r.batch next → Inv c (answered w r.id (taken_as next))
         by_got (inl g) = first g
-        by_got (inr g) = repeated (has_all g.0) (λ u at_u _ _. g.0 ∙ ap (λ (v : Shard). v.core.batch) (some_is (sym at_j ∙ at_u)))
+        by_got (inr g) = repeated (has_all g.0) (λ u at_u _ _. g.0 ∙ ap (λ (v : Shard). v.core.batch) (same_Some _ _ (sym at_j ∙ at_u)))
 
     open_takes : (after : Store) × (accept_all (Some (list_of w.head.store)) (message r.batch) ≡ Some after)
     open_takes = by_got (subst (λ (o : Option Shard). GotOk c o (at.got j)) at_j (at.got_ok j))

@@ -1,6 +1,6 @@
 -- Each position below `placed` is in one class, and no other is named.
-use Rattle.std.proofs.Common.{◌≡◌, ℕ, zero, suc, ◌+◌, ◌<◌, ◌≤◌, ◌==◌, Bool, true, false, cond, ap, List, [], ◌∷◌, ◌++◌, length, take, Option, Some, None, is_some, slice_get, refl, sym, ◌∙◌, subst, ℤ, ◌&&◌, not, nat_le, length-append, arith, inl, inr, ◌⊎◌}
-use Rattle.std.proofs.lemmas.Bool.{cases_eq}
+use Rattle.std.proofs.Common.{◌≡◌, ℕ, zero, suc, ◌+◌, ◌<◌, ◌≤◌, ◌==◌, Bool, true, false, ap, List, [], ◌∷◌, ◌++◌, length, take, Option, Some, None, is_some, slice_get, refl, sym, ◌∙◌, subst, ℤ, ◌&&◌, not, nat_le, length-append, arith, inl, inr, ◌⊎◌}
+use Rattle.std.proofs.lemmas.Bool.{cases_eq, cond-false, cond-true}
 use Rattle.std.proofs.lemmas.Bool.Decides.{Decides-eqb}
 use Rattle.std.proofs.lemmas.List.{take-append-le}
 use Rattle.rw_machine.proofs.Steps.{always, either, Each, each_change, each_new, AllOf, all_append, all_more}
@@ -33,9 +33,6 @@ use Rattle.rw_plain_queue.specs.Items.{Placed}
 use Rattle.rw_types.specs.Labels.{Labels, label_fault_number}
 use Rattle.rw_types.specs.declared.entry.Entry.{Entry}
 use Rattle.rw_types.specs.declared.entry.Entry.TheVariants.{Def, Sample}
-
-off : {P : Type 0} → true ≡ false → P
-off e = cc
 
 -- at the position stands a sample of a kept series that rises
 abbrev pub KeptKnown : (Labels → Bool) → Standing → Type 0
@@ -107,23 +104,15 @@ classes_next c w e names series filtered shards next same here kept at = record 
     by_case p lt (inl z) = subst (λ (q : ℕ). Says c (log w) q (get names q) (slice_get (log w) q)) z (subst (Says c (log w) w.placed (get names w.placed)) (sym next) here)
     by_case p lt (inr z) = subst (λ n. Says c (log w) p n (slice_get (log w) p)) (sym (same p z)) (at.below p (below_it p lt z))
 
-cond_true : {X : Type 0} (b : Bool) (x y : X) → b ≡ true → cond b x y ≡ x
-cond_true true x y h = refl
-cond_true false x y h = off (sym h)
-
-cond_false : {X : Type 0} (b : Bool) (x y : X) → b ≡ false → cond b x y ≡ y
-cond_false true x y h = off h
-cond_false false x y h = refl
-
 not_equal : (p q : ℕ) (b : Bool) → (p == q) ≡ b → (p ≡ q → ⊥) → (p == q) ≡ false
 not_equal p q true e h = absurd (h ((Decides-eqb p q).0 e))
 not_equal p q false e h = e
 
 pub named_own : (p : ℕ) (reason : Reason) (names : FinMap nat_cmp Reason) → get (insert names p reason) p ≡ Some reason
-named_own p reason names = ap (λ (f : Ledger). f p) (ledger_insert names p reason) ∙ cond_true (p == p) (Some reason) (get names p) ((Decides-eqb p p).1 refl)
+named_own p reason names = ap (λ (f : Ledger). f p) (ledger_insert names p reason) ∙ cond-true (p == p) (Some reason) (get names p) ((Decides-eqb p p).1 refl)
 
 pub named_other : (p q : ℕ) (reason : Reason) (names : FinMap nat_cmp Reason) → (p ≡ q → ⊥) → get (insert names p reason) q ≡ get names q
-named_other p q reason names h = ap (λ (f : Ledger). f q) (ledger_insert names p reason) ∙ cond_false (p == q) (Some reason) (get names q) (not_equal p q (p == q) refl h)
+named_other p q reason names h = ap (λ (f : Ledger). f q) (ledger_insert names p reason) ∙ cond-false (p == q) (Some reason) (get names q) (not_equal p q (p == q) refl h)
 
 classes_place : (c : Setup) (w : World) → Classes c w → Classes c (place c w)
 classes_place c w at = either (Classes c) (is_some w.draining) w (place_entry c w (slice_get (log w) w.placed)) (λ _. at) (λ _. by_entry (slice_get (log w) w.placed) refl)

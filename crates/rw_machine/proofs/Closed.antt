@@ -1,7 +1,9 @@
 -- A queue whose end was taken is empty.
 use Rattle.std.proofs.Common.{◌≡◌, ℕ, zero, suc, ◌<◌, Bool, true, false, cond, List, [], ◌∷◌, ◌++◌, length, take, Option, Some, None, is_some, slice_get, refl, sym, ap, ◌∙◌, subst, ℤ, ◌||◌, ◌&&◌, not, nat_le, arith, inl, inr, ◌⊎◌}
 use Rattle.std.proofs.lemmas.Bool.Decides.{Decides-eqb}
-use Rattle.rw_machine.proofs.Steps.{always, either, Each, each_change, each_new, and_left, not_true}
+use Rattle.std.proofs.lemmas.Bool.{true≢false, not-true, and_parts}
+use Rattle.std.proofs.lemmas.Option.{same_Some}
+use Rattle.rw_machine.proofs.Steps.{always, either, Each, each_change, each_new}
 use Rattle.rw_machine.proofs.Invariant.{by_bool}
 use Rattle.rw_machine.proofs.Places.{get_below}
 use Rattle.rw_machine.specs.declared.event.Event.TheVariants as event
@@ -24,12 +26,6 @@ use Rattle.rw_series_cache.specs.Rising.{rises}
 use Rattle.rw_types.specs.Labels.{Labels}
 use Rattle.rw_types.specs.declared.entry.Entry.{Entry}
 use Rattle.rw_types.specs.declared.entry.Entry.TheVariants.{Def, Sample}
-
-off : {P : Type 0} → true ≡ false → P
-off e = cc
-
-some_is : {X : Type 0} {s t : X} → Some s ≡ Some t → s ≡ t
-some_is e = cc
 
 abbrev pub NoEnd : List Queued → Type 0
 NoEnd [] = Unit {0}
@@ -69,12 +65,12 @@ end_push (EndMark e ∷ q) d h = absurd h
 pushed : (b e : Bool) (q : List Queued) (i : Queued) → b ≡ false → NoEnd (i ∷ []) → Shape b e q → Shape b e (q ++ i ∷ [])
 pushed false false q i z k h = no_end_push q i h k
 pushed false true q i z k h = h
-pushed true e q i z k h = off z
+pushed true e q i z k h = absurd (true≢false z)
 
 ends : (b e : Bool) (q : List Queued) (d : Kind) → b ≡ false → Shape b e q → Shape true e (q ++ EndMark d ∷ [])
 ends false false q d z h = end_push q d h
 ends false true q d z h = absurd h
-ends true e q d z h = off z
+ends true e q d z h = absurd (true≢false z)
 
 front : (b e : Bool) (q : List Queued) (s : Shard) → Shape b e q → s.end_put ≡ b → s.core.ended ≡ e → s.queue ≡ q → ShapeOf (take_front q s)
 front b e [] s h x y z = subst (λ (v : Bool). Shape v s.core.ended s.queue) (sym x) (subst (λ (v : Bool). Shape b v s.queue) (sym y) (subst (Shape b e) (sym z) h))
@@ -99,7 +95,7 @@ pub finished_end : (w : World) → Ends w → is_finished w ≡ true → length 
 finished_end w at h = by_closed w.closed refl h
   where
     by_closed : (o : Option ℕ) → w.closed ≡ o → is_at w.placed o ≡ true → length (log w) ≡ w.placed
-    by_closed None e h = off (sym h)
+    by_closed None e h = absurd (true≢false (sym h))
     by_closed (Some end) e h = at.at_close end e ∙ sym ((Decides-eqb w.placed end).0 h)
 
 -- a step of a shard that leaves its queue and marks
@@ -116,35 +112,35 @@ ends_place c w at = by_bool (Ends (place c w)) (is_some w.draining) (λ d. subst
     unput d x e s may = by_bool (s.end_put ≡ false) s.end_put (λ p. by_case (may p)) (λ p. p)
       where
         by_case : (is_some w.draining ≡ true) ⊎ (is_finished w ≡ true) → s.end_put ≡ false
-        by_case (inl z) = off (sym z ∙ d)
+        by_case (inl z) = absurd (true≢false (sym z ∙ d))
         by_case (inr z) = absurd (unfinished x e z)
 
     moved : is_some w.draining ≡ false → (x : Entry) → slice_get (log w) w.placed ≡ Some x → (v : World) → (s : Shard) → MayEnd w s → MayEnd v s
-    moved d x e v s may p = off (sym p ∙ unput d x e s may)
+    moved d x e v s may p = absurd (true≢false (sym p ∙ unput d x e s may))
 
     by_shard : is_some w.draining ≡ false → (x : Entry) → slice_get (log w) w.placed ≡ Some x → (l : Labels) (t : ℤ) (word i : ℕ) (o : Option Shard) → Ends (put_if_room c w i l t word o)
     by_shard d x e l t word i None = at
     by_shard d x e l t word i (Some s) = either Ends (has_room c.capacity s) (record w { shards = change i (shard_put (next_sample w i l t word s)) w.shards; placed = suc w.placed }) w
-        (λ _. record { at_close = at.at_close; shapes = each_change (λ i u. ShapeOf u × MayEnd (record w { shards = change i (shard_put (next_sample w i l t word s)) w.shards; placed = suc w.placed }) u) (shard_put (next_sample w i l t word s)) i w.shards (λ n u at_u. let h = at.shapes n u at_u in (h.0, moved d x e (record w { shards = change i (shard_put (next_sample w i l t word s)) w.shards; placed = suc w.placed }) u h.1)) (λ u at_u h. (pushed u.end_put u.core.ended u.queue (One (next_sample w i l t word s)) (unput d x e u ((at.shapes i u at_u).1)) tt h.0, λ p. off (sym p ∙ unput d x e u ((at.shapes i u at_u).1)))) })
+        (λ _. record { at_close = at.at_close; shapes = each_change (λ i u. ShapeOf u × MayEnd (record w { shards = change i (shard_put (next_sample w i l t word s)) w.shards; placed = suc w.placed }) u) (shard_put (next_sample w i l t word s)) i w.shards (λ n u at_u. let h = at.shapes n u at_u in (h.0, moved d x e (record w { shards = change i (shard_put (next_sample w i l t word s)) w.shards; placed = suc w.placed }) u h.1)) (λ u at_u h. (pushed u.end_put u.core.ended u.queue (One (next_sample w i l t word s)) (unput d x e u ((at.shapes i u at_u).1)) tt h.0, λ p. absurd (true≢false (sym p ∙ unput d x e u ((at.shapes i u at_u).1))))) })
         (λ _. at)
 
     by_rising : is_some w.draining ≡ false → (x : Entry) → slice_get (log w) w.placed ≡ Some x → (l : Labels) (t : ℤ) (word : ℕ) (b : Bool) → Ends (place_kept c w l t word b)
     by_rising d x e l t word true = by_shard d x e l t word (shard_of w l) (slice_get w.shards (shard_of w l))
-    by_rising d x e l t word false = record { at_close = at.at_close; shapes = λ i s at_i. let h = at.shapes i s at_i in (h.0, λ p. off (sym p ∙ unput d x e s h.1)) }
+    by_rising d x e l t word false = record { at_close = at.at_close; shapes = λ i s at_i. let h = at.shapes i s at_i in (h.0, λ p. absurd (true≢false (sym p ∙ unput d x e s h.1))) }
 
     by_known : is_some w.draining ≡ false → (x : Entry) → slice_get (log w) w.placed ≡ Some x → (t : ℤ) (word : ℕ) (k : Standing) → Ends (place_sample c w t word k)
-    by_known d x e t word Unknown = record { at_close = at.at_close; shapes = λ i s at_i. let h = at.shapes i s at_i in (h.0, λ p. off (sym p ∙ unput d x e s h.1)) }
-    by_known d x e t word (Bad f) = record { at_close = at.at_close; shapes = λ i s at_i. let h = at.shapes i s at_i in (h.0, λ p. off (sym p ∙ unput d x e s h.1)) }
-    by_known d x e t word Filtered = record { at_close = at.at_close; shapes = λ i s at_i. let h = at.shapes i s at_i in (h.0, λ p. off (sym p ∙ unput d x e s h.1)) }
+    by_known d x e t word Unknown = record { at_close = at.at_close; shapes = λ i s at_i. let h = at.shapes i s at_i in (h.0, λ p. absurd (true≢false (sym p ∙ unput d x e s h.1))) }
+    by_known d x e t word (Bad f) = record { at_close = at.at_close; shapes = λ i s at_i. let h = at.shapes i s at_i in (h.0, λ p. absurd (true≢false (sym p ∙ unput d x e s h.1))) }
+    by_known d x e t word Filtered = record { at_close = at.at_close; shapes = λ i s at_i. let h = at.shapes i s at_i in (h.0, λ p. absurd (true≢false (sym p ∙ unput d x e s h.1))) }
     by_known d x e t word (Kept l) = by_rising d x e l t word (rises c.choice (take w.placed (log w)) l t)
 
     by_entry : is_some w.draining ≡ false → (o : Option Entry) → slice_get (log w) w.placed ≡ o → Ends (place_entry c w o)
     by_entry d None e = at
-    by_entry d (Some (Def r m)) e = record { at_close = at.at_close; shapes = λ i s at_i. let h = at.shapes i s at_i in (h.0, λ p. off (sym p ∙ unput d (Def r m) e s h.1)) }
+    by_entry d (Some (Def r m)) e = record { at_close = at.at_close; shapes = λ i s at_i. let h = at.shapes i s at_i in (h.0, λ p. absurd (true≢false (sym p ∙ unput d (Def r m) e s h.1))) }
     by_entry d (Some (Sample r t word)) e = by_known d (Sample r t word) e t word (known c.choice (take w.placed (log w)) r)
 
 ends_flush : (c : Setup) (w : World) (i : ℕ) → Ends w → Ends (changed w i (flush_shard c w))
-ends_flush c w i at = record { at_close = at.at_close; shapes = each_change (λ i s. ShapeOf s × MayEnd w s) (flush_shard c w) i w.shards at.shapes (λ s _ h. either (λ u. ShapeOf u × MayEnd w u) (not s.end_put && has_room c.capacity s) (mark w s) s (λ g. marked s h (not_true s.end_put (and_left (not s.end_put) (has_room c.capacity s) g))) (λ _. h)) }
+ends_flush c w i at = record { at_close = at.at_close; shapes = each_change (λ i s. ShapeOf s × MayEnd w s) (flush_shard c w) i w.shards at.shapes (λ s _ h. either (λ u. ShapeOf u × MayEnd w u) (not s.end_put && has_room c.capacity s) (mark w s) s (λ g. marked s h (not-true s.end_put (and_parts (not s.end_put) (has_room c.capacity s) g).0)) (λ _. h)) }
   where
     marked : (s : Shard) → ShapeOf s × MayEnd w s → s.end_put ≡ false → ShapeOf (mark w s) × MayEnd w (mark w s)
     marked s h z = either (λ u. ShapeOf u × MayEnd w u) (is_finished w) (shard_end kind.Orderly s) (cond (is_some w.draining) (shard_end kind.Reshard s) (shard_flush s))
@@ -180,7 +176,7 @@ settle_leaves Refused s = (λ h. h, refl)
 settle_leaves Again s = (λ h. h, refl)
 
 pub ends_act : (c : Setup) (w : World) (e : Event) → Ends w → Ends (act c w e)
-ends_act c w (event.Feed piece) at = by_bool (Ends (feed w piece)) (is_some w.closed) (λ b. subst Ends (ap (λ (b : Bool). cond b w fed) (sym b)) at) (λ b. subst Ends (ap (λ (b : Bool). cond b w fed) (sym b)) (record { at_close = λ end h. off (sym (ap (λ (o : Option ℕ). is_some o) h) ∙ b); shapes = at.shapes }))
+ends_act c w (event.Feed piece) at = by_bool (Ends (feed w piece)) (is_some w.closed) (λ b. subst Ends (ap (λ (b : Bool). cond b w fed) (sym b)) at) (λ b. subst Ends (ap (λ (b : Bool). cond b w fed) (sym b)) (record { at_close = λ end h. absurd (true≢false (sym (ap (λ (o : Option ℕ). is_some o) h) ∙ b)); shapes = at.shapes }))
   where
     fed : World
     fed = record w { pieces = w.pieces ++ piece_of piece ∷ [] }
@@ -215,23 +211,23 @@ ends_act c w event.Restart at = by_draining w.draining
   where
     by_draining : (o : Option ℕ) → Ends (restart_as c w o)
     by_draining None = at
-    by_draining (Some n) = either Ends _ (restarted n) w (λ _. record { at_close = at.at_close; shapes = each_new (λ i s. ShapeOf s × MayEnd (restarted n) s) c (suc w.epoch) 0 (λ i. (tt, λ p. off (sym p))) n }) (λ _. at)
+    by_draining (Some n) = either Ends _ (restarted n) w (λ _. record { at_close = at.at_close; shapes = each_new (λ i s. ShapeOf s × MayEnd (restarted n) s) c (suc w.epoch) 0 (λ i. (tt, λ p. absurd (true≢false (sym p)))) n }) (λ _. at)
       where
         restarted : ℕ → World
         restarted n = record w { epoch = suc w.epoch; shards = new_shards c (suc w.epoch) 0 n; draining = None }
-ends_act c w event.Close at = by_bool (Ends (close w)) (is_some w.closed) (λ b. subst Ends (ap (λ (b : Bool). cond b w (record w { closed = Some (length (log w)) })) (sym b)) at) (λ b. subst Ends (ap (λ (b : Bool). cond b w (record w { closed = Some (length (log w)) })) (sym b)) (record { at_close = λ end h. some_is h; shapes = λ i s e. ((at.shapes i s e).0, λ p. by_case b s ((at.shapes i s e).1 p)) }))
+ends_act c w event.Close at = by_bool (Ends (close w)) (is_some w.closed) (λ b. subst Ends (ap (λ (b : Bool). cond b w (record w { closed = Some (length (log w)) })) (sym b)) at) (λ b. subst Ends (ap (λ (b : Bool). cond b w (record w { closed = Some (length (log w)) })) (sym b)) (record { at_close = λ end h. same_Some _ _ h; shapes = λ i s e. ((at.shapes i s e).0, λ p. by_case b s ((at.shapes i s e).1 p)) }))
   where
     by_case : is_some w.closed ≡ false → (s : Shard) → (is_some w.draining ≡ true) ⊎ (is_finished w ≡ true) → (is_some w.draining ≡ true) ⊎ (is_at w.placed (Some (length (log w))) ≡ true)
     by_case b s (inl d) = inl d
     by_case b s (inr f) = not_yet w.closed b f
       where
         not_yet : (o : Option ℕ) → is_some o ≡ false → is_at w.placed o ≡ true → (is_some w.draining ≡ true) ⊎ (is_at w.placed (Some (length (log w))) ≡ true)
-        not_yet None b f = off (sym f)
-        not_yet (Some end) b f = off b
+        not_yet None b f = absurd (true≢false (sym f))
+        not_yet (Some end) b f = absurd (true≢false b)
 ends_act c w event.Kill at = record { at_close = at.at_close; shapes = at.shapes }
 
 pub ends_at : (c : Setup) (events : List Event) → Ends (run c events (start c))
-ends_at c events = always Ends c (ends_act c) events (start c) (record { at_close = λ end h. let never : None ≡ Some end → ⊥ = λ h. cc in absurd (never h); shapes = each_new (λ i s. ShapeOf s × MayEnd (start c) s) c 0 0 (λ i. (tt, λ p. off (sym p))) c.shards })
+ends_at c events = always Ends c (ends_act c) events (start c) (record { at_close = λ end h. let never : None ≡ Some end → ⊥ = λ h. cc in absurd (never h); shapes = each_new (λ i s. ShapeOf s × MayEnd (start c) s) c 0 0 (λ i. (tt, λ p. absurd (true≢false (sym p)))) c.shards })
 
 same_change : (f : Shard → Shard) (i : ℕ) (ss : List Shard) → ((s : Shard) → slice_get ss i ≡ Some s → f s ≡ s) → change i f ss ≡ ss
 same_change f i [] h = refl
@@ -257,7 +253,7 @@ closed c events i s at_i h = by_case h
 
     no_change : (b : Bool) → s.core.ended ≡ true → unless_over c (run c events (start c)) (event.Take i) b ≡ run c events (start c)
     no_change true e = refl
-    no_change false e = ap (λ ss. record (run c events (start c)) { shards = ss }) (same_change shard_take i (run c events (start c)).shards (λ u at_u. let same : s ≡ u = some_is (sym at_i ∙ at_u) in subst (λ (v : Shard). shard_take v ≡ v) same (taken e)))
+    no_change false e = ap (λ ss. record (run c events (start c)) { shards = ss }) (same_change shard_take i (run c events (start c)).shards (λ u at_u. let same : s ≡ u = same_Some _ _ (sym at_i ∙ at_u) in subst (λ (v : Shard). shard_take v ≡ v) same (taken e)))
 
     by_case : (s.core.ended ≡ true) ⊎ ((run c events (start c)).killed ≡ true) → happens c (run c events (start c)) (event.Take i) ≡ run c events (start c)
     by_case (inl e) = no_change (is_over (run c events (start c))) e

@@ -2,6 +2,7 @@
 use Rattle.std.proofs.Common.{◌≡◌, ℕ, ◌-◌, Bool, true, false, cond, not, List, [], ◌∷◌, map, length, Option, Some, None, is_some, Result, Ok, Err, refl, sym, ap, ◌∙◌, subst, ◌&&◌, nat_lt, nat_le, arith}
 use Rattle.std.specs.List.{filter}
 use Rattle.std.proofs.lemmas.Bool.Decides.{nat_tests}
+use Rattle.std.proofs.lemmas.Bool.{not-true, and_parts, and_right}
 use Rattle.rw_types.specs.Labels.{Labels, label_fault}
 use Rattle.rw_types.specs.LabelOrder.{labels_eq}
 use Rattle.rw_batch.specs.Grouping.{LabelledSample, distinct, samples_of}
@@ -22,7 +23,7 @@ use Rattle.rw_plain_queue.specs.Items.{Placed}
 use Rattle.rw_machine.specs.Steps.{endpoint_answer}
 use Rattle.rw_machine.specs.Worlds.{Setup}
 use Rattle.rw_machine.proofs.Names.{one_answer}
-use Rattle.rw_machine.proofs.Steps.{either, AllOf, all_filter, is_same, same_is, and_left, and_right, and_both, not_true}
+use Rattle.rw_machine.proofs.Steps.{either, is_same, same_is, and_both}
 use Rattle.rw_machine.proofs.Views.{Pairs, Store, Series, of, pairs, series_of, message, is_refused, is_fit, is_let_in}
 
 abbrev pub store_at : Labels → Pairs → Store → Store
@@ -112,14 +113,14 @@ next_gives limits batch l (Err v) (Some f) fine h = absurd h
 next_gives limits batch l (Err v) None fine is = is
 
 not_refused : (limits : LabelLimits) (l : Labels) (rest : Bool) → (not (is_refused limits l) && rest) ≡ true → is_refused limits l ≡ false
-not_refused limits l rest h = not_true (is_refused limits l) (and_left (not (is_refused limits l)) rest h)
+not_refused limits l rest h = not-true (is_refused limits l) (and_parts (not (is_refused limits l)) rest h).0
 
 -- a message none of whose label sets is refused
 fit_gives : (limits : LabelLimits) (batch : List Placed) (ls : List Labels) (r : Result head.Store Verdict) (o : Option Store) → is_fit limits (map (series_of batch) ls) ≡ true → Gives r o → Gives (taken_all limits r (map (time_series batch) ls)) (accept_all o (map (series_of batch) ls))
 fit_gives limits batch [] r o fit same = same
 fit_gives limits batch (l ∷ ls) r o fit same =
     fit_gives limits batch ls (taken_next limits r (time_series batch l)) (accept_series o (series_of batch l))
-    (and_right (not (is_refused limits l)) (is_fit limits (map (series_of batch) ls)) fit)
+    (and_parts (not (is_refused limits l)) (is_fit limits (map (series_of batch) ls)) fit).1
     (next_gives limits batch l r o (not_refused limits l (is_fit limits (map (series_of batch) ls)) fit) same)
 
 -- refused with this status
@@ -194,15 +195,6 @@ large_is a b h = grind (arith, nat_tests)
 small_is : (a b : ℕ) → nat_lt b a ≡ false → nat_le a b ≡ true
 small_is a b h = grind (arith, nat_tests)
 
-and_off : (a b : Bool) → b ≡ false → (a && b) ≡ false
-and_off true b h = h
-and_off false b h = refl
-
-pub all_distinct : (P : Labels → Type 0) (ls : List Labels) → AllOf P ls → AllOf P (distinct ls)
-unfolding distinct
-all_distinct P [] all = tt
-all_distinct P (l ∷ ls) all = (all.0, all_filter P (λ m. not (labels_eq l m)) (distinct ls) (all_distinct P ls all.1))
-
 -- What the endpoint answers to a batch of label sets: 413 or 400 where its limits do not let it in, 429 while it is busy, else 400 or 204
 -- as the order rule says.
 pub by_answer : (P : Answer → Type 0) (c : Setup) (h : State) (batch : List Placed) → h.limits ≡ c.limits
@@ -226,4 +218,4 @@ by_answer P c h batch limited large busy unfit refused taken =
     by_fit true fit small =
         let fits : is_let_in c batch ≡ true = and_both (nat_le (length (body_of batch)) c.max_body) (is_fit c.limits (message batch)) small fit in
         let_in P h batch (refused fits) (taken fits) (taken_all c.limits (Ok h.store) (map (time_series batch) ls)) (accept_all (Some (list_of h.store)) (message batch)) refl (fit_gives c.limits batch ls (Ok h.store) (Some (list_of h.store)) fit refl)
-    by_fit false fit small = kept_out P h (unfit (and_off (nat_le (length (body_of batch)) c.max_body) (is_fit c.limits (message batch)) fit)) (taken_all c.limits (Ok h.store) (map (time_series batch) ls)) (unfit_refuses c.limits batch ls (Ok h.store) fit tt)
+    by_fit false fit small = kept_out P h (unfit (and_right (nat_le (length (body_of batch)) c.max_body) (is_fit c.limits (message batch)) fit)) (taken_all c.limits (Ok h.store) (map (time_series batch) ls)) (unfit_refuses c.limits batch ls (Ok h.store) fit tt)

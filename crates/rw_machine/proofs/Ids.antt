@@ -1,15 +1,15 @@
 -- Each id has one batch, whatever the timestamps.
 use Rattle.std.proofs.Common.{◌≡◌, ℕ, zero, suc, ◌+◌, ◌<◌, ◌≤◌, true, false, List, [], ◌∷◌, ◌++◌, length, take, Option, Some, None, is_some, slice_get, refl, sym, ap, ◌∙◌, subst, ℤ, ◌&&◌, not, nat_le, length-append, arith, inl, inr, ◌⊎◌, Bool}
-use Rattle.std.proofs.lemmas.Bool.{cases_eq}
+use Rattle.std.proofs.lemmas.Bool.{cases_eq, true≢false, not-true, and_parts}
+use Rattle.std.proofs.lemmas.Option.{same_Some}
 use Rattle.rw_retry.specs.Judgements.{judgement_of}
 use Rattle.rw_retry.specs.declared.judgement.Judgement.{Judgement}
 use Rattle.rw_retry.specs.declared.judgement.Judgement.TheVariants.{Again, Done, Refused}
 use Rattle.rw_batch.specs.declared.batch.BatchId.{BatchId}
-use Rattle.rw_machine.proofs.Steps.{always, either, Each, each_change, each_new, AllOf, all_append, all_more, all_get, and_left, and_right, not_true}
+use Rattle.rw_machine.proofs.Steps.{always, either, Each, each_change, each_new, AllOf, all_append, all_more, all_get}
 use Rattle.rw_machine.proofs.Places.{Numbered, numbered_push, numbered_right, at_change, get_changed, get_others}
 use Rattle.rw_machine.proofs.Others.{pending_parts, pending_put, pending_resolve}
 use Rattle.rw_machine.proofs.Invariant.{IsQuiet, IsOpen, Past, past_change, id_at, quiet_flush, quiet_take, quiet_freeze, quiet_send, quiet_lost, quiet_again}
-use Rattle.rw_machine.proofs.Keeps.{some_is}
 use Rattle.rw_machine.proofs.Views.{shard_again, shard_resolve}
 use Rattle.rw_machine.specs.Promises.{HasOneBatchEachId}
 use Rattle.rw_machine.specs.Shards.{Shard, has_room, pending, samples_in, shard_put, shard_send, shard_freeze, shard_take, shard_lost, with_core}
@@ -26,10 +26,11 @@ use Rattle.rw_plain_queue.specs.Items.{Placed}
 use Rattle.rw_types.specs.Labels.{Labels}
 use Rattle.rw_types.specs.declared.entry.Entry.{Entry}
 use Rattle.rw_types.specs.declared.entry.Entry.TheVariants.{Def, Sample}
+use Rattle.rw_shard_core.proofs.EmptyLemmas.{length_not_empty}
 
 -- what was pushed, or what stood there
 pub get_pushed : {X : Type 0} (xs : List X) (y : X) (i : ℕ) (x : X) → slice_get (xs ++ y ∷ []) i ≡ Some x → (slice_get xs i ≡ Some x) ⊎ (y ≡ x)
-get_pushed [] y zero x e = inr (some_is e)
+get_pushed [] y zero x e = inr (same_Some _ _ e)
 get_pushed [] y (suc i) x e = let never : None ≡ Some x → ⊥ = λ h. cc in absurd (never e)
 get_pushed (z ∷ xs) y zero x e = inl e
 get_pushed (z ∷ xs) y (suc i) x e = get_pushed xs y i x e
@@ -98,7 +99,7 @@ place_ids c w at = either Ids (is_some w.draining) w (place_entry c w (slice_get
     by_shard i l t word None e = at
     by_shard i l t word (Some s) e = either Ids (has_room c.capacity s) _ w
         (λ _. record {
-          rows = each_change (InRow w.epoch) (shard_put (next_sample w i l t word s)) i w.shards at.rows (λ u at_u h. let same : s ≡ u = some_is (sym e ∙ at_u) in put_row w.epoch i (next_sample w i l t word s) u (refl, refl, ap (λ (v : Shard). length v.put) same) h);
+          rows = each_change (InRow w.epoch) (shard_put (next_sample w i l t word s)) i w.shards at.rows (λ u at_u h. let same : s ≡ u = same_Some _ _ (sym e ∙ at_u) in put_row w.epoch i (next_sample w i l t word s) u (refl, refl, ap (λ (v : Shard). length v.put) same) h);
           fates = all_more (Fate w.epoch w.shards) (Fate w.epoch (change i (shard_put (next_sample w i l t word s)) w.shards)) (fate_change w.epoch i (shard_put (next_sample w i l t word s)) w.shards (λ _. refl) (λ _ _. refl)) w.requests at.fates;
           one = at.one;
         })
@@ -120,11 +121,8 @@ place_ids c w at = either Ids (is_some w.draining) w (place_entry c w (slice_get
     by_entry (Some (Sample r t word)) = by_known t word (known c.choice (take w.placed (log w)) r)
 
 -- ---- the open batch
-off : {P : Type 0} → true ≡ false → P
-off e = cc
-
 front_id : (epoch i n : ℕ) (b rest : List Placed) → is_empty b ≡ false → Numbered (IsAt epoch i) n (b ++ rest) → batch_id b ≡ id_at epoch i n
-front_id epoch i n [] rest full all = off full
+front_id epoch i n [] rest full all = absurd (true≢false full)
 front_id epoch i n (x ∷ b) rest full all = λ j. id_at (all.0.0 j) (all.0.1 j) (all.0.2 j)
 
 row_id : (epoch i : ℕ) (s : Shard) → InRow epoch i s → is_empty s.core.batch ≡ false → batch_id s.core.batch ≡ id_at epoch i (length s.core.resolved)
@@ -147,7 +145,7 @@ open_batch epoch i ss s e row full r h ids = by_fate h.fate
 
 send_ids : (w : World) (i : ℕ) (o : Option Shard) → slice_get w.shards i ≡ o → Ids w → Ids (send_batch w i o)
 send_ids w i None e at = at
-send_ids w i (Some s) e at = either Ids (can_send s.core) _ w (λ h. sent (not_true (is_empty s.core.batch) (and_left (not (is_empty s.core.batch)) (not s.core.waiting) (and_right (not s.core.killed) (not (is_empty s.core.batch) && not s.core.waiting) h)))) (λ _. at)
+send_ids w i (Some s) e at = either Ids (can_send s.core) _ w (λ h. sent (not-true (is_empty s.core.batch) (and_parts (not (is_empty s.core.batch)) (not s.core.waiting) (and_parts (not s.core.killed) (not (is_empty s.core.batch) && not s.core.waiting) h).1).0)) (λ _. at)
   where
     new : Request
     new = request_by s
@@ -178,10 +176,6 @@ send_ids w i (Some s) e at = either Ids (can_send s.core) _ w (λ h. sent (not_t
         }
 
 -- ---- it is resolved
-full_length : (xs : List Placed) → is_empty xs ≡ false → 0 < length xs
-full_length [] h = off h
-full_length (x ∷ xs) h = omega arith
-
 resolve_row : (epoch i : ℕ) (s : Shard) → InRow epoch i s → InRow epoch i (shard_resolve s)
 resolve_row epoch i s h =
     let more : length (s.core.resolved ++ s.core.batch) ≡ length s.core.resolved + length s.core.batch = length-append s.core.resolved s.core.batch in
@@ -201,10 +195,10 @@ resolve_fate epoch j ss s e row full r h = record { id_is = h.id_is; fate = by_f
 
     below : r.id ≡ id_at epoch j (length s.core.resolved) → (u : Shard) → slice_get (change j shard_resolve ss) r.id.shard ≡ Some u → r.id.seq < length u.core.resolved
     below here u at_u =
-        let same : shard_resolve s ≡ u = some_is (sym (get_changed j shard_resolve ss s e) ∙ sym (ap (λ (d : BatchId). slice_get (change j shard_resolve ss) d.shard) here) ∙ at_u) in
+        let same : shard_resolve s ≡ u = same_Some _ _ (sym (get_changed j shard_resolve ss s e) ∙ sym (ap (λ (d : BatchId). slice_get (change j shard_resolve ss) d.shard) here) ∙ at_u) in
         let seq : r.id.seq ≡ length s.core.resolved = ap (λ (d : BatchId). d.seq) here in
         let long : length u.core.resolved ≡ length s.core.resolved + length s.core.batch = ap (λ (v : Shard). length v.core.resolved) (sym same) ∙ length-append s.core.resolved s.core.batch in
-        let some : 0 < length s.core.batch = full_length s.core.batch full in
+        let some : 0 < length s.core.batch = length_not_empty s.core.batch full in
         omega arith
 
     by_fate : (Past epoch ss r.id ⊎ ((r.id.epoch ≡ epoch) × IsOpen (slice_get ss r.id.shard) r.batch)) → (j ≡ r.id.shard) ⊎ (j ≡ r.id.shard → ⊥) → (Past epoch (change j shard_resolve ss) r.id ⊎ ((r.id.epoch ≡ epoch) × IsOpen (slice_get (change j shard_resolve ss) r.id.shard) r.batch))
@@ -229,7 +223,7 @@ reply_ids w None at = at
 reply_ids w (Some a) at = by_shard (slice_get w.shards a.id.shard) refl
   where
     full : (s : Shard) → is_answer a.id s.core ≡ true → is_empty s.core.batch ≡ false
-    full s h = not_true (is_empty s.core.batch) (and_left (not (is_empty s.core.batch)) s.core.waiting (and_right (not s.core.killed) (not (is_empty s.core.batch) && s.core.waiting) (and_left (awaits s.core) (same_id a.id (batch_id s.core.batch)) h)))
+    full s h = not-true (is_empty s.core.batch) (and_parts (not (is_empty s.core.batch)) s.core.waiting (and_parts (not s.core.killed) (not (is_empty s.core.batch) && s.core.waiting) (and_parts (awaits s.core) (same_id a.id (batch_id s.core.batch)) h).0).1).0
 
     by_shard : (o : Option Shard) → slice_get w.shards a.id.shard ≡ o → Ids (reply_to w a o)
     by_shard None e = at

@@ -6,6 +6,7 @@ use Rattle.rw_machine.proofs.Others.{pending_flush, pending_end, pending_take, p
 use Rattle.rw_machine.proofs.Places.{at_change, Numbered, length_change}
 use Rattle.rw_plain_queue.specs.declared.item.Kind.TheVariants as kind
 use Rattle.std.specs.FinMap.{get}
+use Rattle.std.proofs.lemmas.Option.{same_Some}
 use Rattle.rw_batch.specs.declared.batch.BatchId.{BatchId}
 use Rattle.rw_head.specs.Order.{holds}
 use Rattle.rw_head.specs.Store.{list_of}
@@ -22,6 +23,7 @@ use Rattle.rw_series_cache.specs.Numbers.{number_of}
 use Rattle.rw_plain_queue.specs.Items.{Placed}
 use Rattle.rw_types.specs.LabelOrder.{labels_eq}
 use Rattle.rw_types.specs.Labels.{Labels}
+use Rattle.rw_shard_core.proofs.EmptyLemmas.{nil_from_empty}
 
 abbrev pub as_points : List Placed → List Point
 as_points = map (λ (x : Placed). (x.place.pos, x.t, x.word))
@@ -110,20 +112,13 @@ pub record IsQuiet (f : Shard → Shard) (s : Shard) : Type 0 where
   pub same_put : (f s).put ≡ s.put
   pub same_batch : is_empty s.core.batch ≡ false → (f s).core.batch ≡ s.core.batch
 
-some_is : {s t : Shard} → Some s ≡ Some t → s ≡ t
-some_is e = cc
-
 pub past_change : (epoch : ℕ) (j : ℕ) (f : Shard → Shard) (ss : List Shard) → ((s : Shard) → length s.core.resolved ≤ length (f s).core.resolved) → (id : BatchId) → Past epoch ss id → Past epoch (change j f ss) id
 past_change epoch j f ss more id (inl h) = inl h
 past_change epoch j f ss more id (inr h) = inr (
   h.0,
   at_change (λ o. (s : Shard) → o ≡ Some s → id.seq < length s.core.resolved) j id.shard f ss
-      (λ s e k at t same. let here : id.seq < length s.core.resolved = at s refl in let le : length s.core.resolved ≤ length (f s).core.resolved = more s in subst (λ u. id.seq < length u.core.resolved) (some_is same) (omega arith)) h.1,
+      (λ s e k at t same. let here : id.seq < length s.core.resolved = at s refl in let le : length s.core.resolved ≤ length (f s).core.resolved = more s in subst (λ u. id.seq < length u.core.resolved) (same_Some _ _ same) (omega arith)) h.1,
 )
-
-empty_nil : (xs : List Placed) → is_empty xs ≡ true → xs ≡ []
-empty_nil [] h = refl
-empty_nil (x ∷ xs) h = let no : false ≡ true → ⊥ = λ e. cc in absurd (no h)
 
 pub by_bool : (P : Type 0) (b : Bool) → (b ≡ true → P) → (b ≡ false → P) → P
 by_bool P true on off = on refl
@@ -161,7 +156,7 @@ quiet c w j f q at = record {
     kept_got : (s : Shard) (got : List Placed) → GotOk c (Some s) got → GotOk c (Some (f s)) got
     kept_got s got (inl h) = inl h
     kept_got s got (inr h) = by_bool (GotOk c (Some (f s)) got) (is_empty s.core.batch)
-        (λ e. inl (h.0 ∙ empty_nil s.core.batch e))
+        (λ e. inl (h.0 ∙ nil_from_empty s.core.batch e))
         (λ e. inr (h.0 ∙ sym ((q s).same_batch e), ap (is_let_in c) ((q s).same_batch e) ∙ h.1))
 
     kept_open : (i : ℕ) (batch : List Placed) → IsOpen (slice_get w.shards i) batch → IsOpen (slice_get (change j f w.shards) i) batch

@@ -1,18 +1,18 @@
 -- Feeding, placing, sending, resolving and restarting keep the invariant.
 use Rattle.std.proofs.Common.{◌≡◌, ℕ, suc, ◌+◌, ◌%◌, nat_eq, ◌<◌, ◌≤◌, ◌==◌, Bool, true, false, cond, List, [], ◌∷◌, ◌++◌, length, map, take, Option, Some, None, is_none, is_some, slice_get, refl, sym, ap, ◌∙◌, subst, ℤ, ◌||◌, append-nil, append_assoc, length-append, length-take-le, arith, inl, inr, ◌⊎◌, ◌&&◌}
 use Rattle.std.specs.List.{list_any}
-use Rattle.std.proofs.lemmas.Bool.{cases_eq}
+use Rattle.std.proofs.lemmas.Bool.{cases_eq, true≢false, or_right, cond-false, cond-true, ne_eqb}
 use Rattle.std.proofs.lemmas.Bool.Decides.{Decides-eqb}
 use Rattle.std.proofs.lemmas.List.{take-append-le, map-append}
 use Rattle.std.proofs.lemmas.List.Elements.{filter-append}
 use Rattle.rw_machine.proofs.Steps.{either, each_change, AllOf, all_left, all_more, same_is, is_same}
 use Rattle.rw_machine.proofs.Others.{entries_grow, known_kept, pending_parts, pending_put}
 use Rattle.rw_machine.proofs.Names.{ledger_insert, name_batch}
-use Rattle.rw_machine.proofs.OrderRule.{cond_true, cond_false}
 use Rattle.rw_machine.proofs.Places.{at_change, Numbered, numbered_more, numbered_push, numbered_all, length_change, points_more, take_next, get_below, number_more, get_changed, get_others, of_append}
 use Rattle.rw_machine.proofs.Invariant.{Inv, as_points, waits, home, id_at, Past, SampleOk, ShardOk, GotOk, DoneOk, IsOpen, InStore, RequestOk, AnswersOpen, AnswerOk, past_change, by_bool}
 use Rattle.std.specs.FinMap.{FinMap, get, insert}
 use Rattle.std.specs.Ordering.{nat_cmp}
+use Rattle.std.proofs.lemmas.Option.{same_Some}
 use Rattle.rw_wal_format.specs.Pieces.{entries}
 use Rattle.rw_wal_tail.specs.Fed.{piece_of}
 use Rattle.rw_wal_tail.specs.declared.piece.Piece.{Piece}
@@ -35,18 +35,9 @@ use Rattle.rw_types.specs.Labels.{Labels, label_fault_number}
 use Rattle.rw_types.specs.declared.entry.Entry.{Entry}
 use Rattle.rw_types.specs.declared.entry.Entry.TheVariants.{Def, Sample}
 
-off : {P : Type 0} → true ≡ false → P
-off e = cc
-
-pub some_is : {X : Type 0} {s t : X} → Some s ≡ Some t → s ≡ t
-some_is e = cc
-
 -- the ledger
-pub not_equal : (p q : ℕ) → (p ≡ q → ⊥) → (p == q) ≡ false
-not_equal p q h = by_bool ((p == q) ≡ false) (p == q) (λ e. absurd (h ((Decides-eqb p q).0 e))) (λ e. e)
-
 pub named_other : (p q : ℕ) (r : Reason) (ledger : Ledger) → (p ≡ q → ⊥) → named_at p r ledger q ≡ ledger q
-named_other p q r ledger h = cond_false (p == q) (Some r) (ledger q) (not_equal p q h)
+named_other p q r ledger h = cond-false (p == q) (Some r) (ledger q) (ne_eqb p q h)
 
 pub name_all_other : (status : ℕ) (xs : List Placed) (ledger : Ledger) (p : ℕ) → AllOf (λ (x : Placed). x.place.pos ≡ p → ⊥) xs → name_batch status xs ledger p ≡ ledger p
 name_all_other status [] ledger p h = refl
@@ -59,7 +50,7 @@ names_stay status (x ∷ xs) ledger p h = names_stay status xs (named_at x.place
 pub names_own : (status : ℕ) (xs : List Placed) (ledger : Ledger) → AllOf (λ (x : Placed). is_none (name_batch status xs ledger x.place.pos) ≡ false) xs
 names_own status [] ledger = tt
 names_own status (x ∷ xs) ledger = (
-  names_stay status xs (named_at x.place.pos (Status status) ledger) x.place.pos (ap is_none (cond_true (x.place.pos == x.place.pos) (Some (Status status)) (ledger x.place.pos) ((Decides-eqb x.place.pos x.place.pos).1 refl))),
+  names_stay status xs (named_at x.place.pos (Status status) ledger) x.place.pos (ap is_none (cond-true (x.place.pos == x.place.pos) (Some (Status status)) (ledger x.place.pos) ((Decides-eqb x.place.pos x.place.pos).1 refl))),
   names_own status xs (named_at x.place.pos (Status status) ledger),
 )
 
@@ -69,11 +60,11 @@ owed_same new old (q ∷ ps) h = (λ i. cond (is_none (h.0 i)) (q ∷ owed_by ne
 
 pub owed_all : (ledger : Ledger) (ps : List Point) → AllOf (λ (q : Point). ledger q.0 ≡ None) ps → owed_by ledger ps ≡ ps
 owed_all ledger [] h = refl
-owed_all ledger (q ∷ ps) h = cond_true (is_none (ledger q.0)) (q ∷ owed_by ledger ps) (owed_by ledger ps) (ap is_none h.0) ∙ ap (λ rest. q ∷ rest) (owed_all ledger ps h.1)
+owed_all ledger (q ∷ ps) h = cond-true (is_none (ledger q.0)) (q ∷ owed_by ledger ps) (owed_by ledger ps) (ap is_none h.0) ∙ ap (λ rest. q ∷ rest) (owed_all ledger ps h.1)
 
 pub owed_none : (ledger : Ledger) (ps : List Point) → AllOf (λ (q : Point). is_none (ledger q.0) ≡ false) ps → owed_by ledger ps ≡ []
 owed_none ledger [] h = refl
-owed_none ledger (q ∷ ps) h = cond_false (is_none (ledger q.0)) (q ∷ owed_by ledger ps) (owed_by ledger ps) h.0 ∙ owed_none ledger ps h.1
+owed_none ledger (q ∷ ps) h = cond-false (is_none (ledger q.0)) (q ∷ owed_by ledger ps) (owed_by ledger ps) h.0 ∙ owed_none ledger ps h.1
 
 pub owed_append : (ledger : Ledger) (xs ys : List Point) → owed_by ledger (xs ++ ys) ≡ owed_by ledger xs ++ owed_by ledger ys
 owed_append ledger xs ys = filter-append (λ (q : Point). is_none (ledger q.0)) xs ys
@@ -84,7 +75,7 @@ pairs_of_points (x ∷ xs) = ap (λ rest. (x.t, x.word) ∷ rest) (pairs_of_poin
 
 pub of_none : (l : Labels) (xs : List Placed) → AllOf (λ (x : Placed). labels_eq l x.labels ≡ false) xs → of l xs ≡ []
 of_none l [] h = refl
-of_none l (x ∷ xs) h = cond_false (labels_eq l x.labels) (x ∷ of l xs) (of l xs) h.0 ∙ of_none l xs h.1
+of_none l (x ∷ xs) h = cond-false (labels_eq l x.labels) (x ∷ of l xs) (of l xs) h.0 ∙ of_none l xs h.1
 
 -- new entries leave those placed
 pub feed_keeps : (c : Setup) (w : World) (piece : Piece) → Inv c w → Inv c (feed w piece)
@@ -114,7 +105,7 @@ feed_keeps c w piece at = either (Inv c) (is_some w.closed) w (record w { pieces
 no_member : (c : Setup) (w : World) (at : Inv c w) (l : Labels) → list_any (labels_eq l) w.series ≡ false → (i : ℕ) (o : Option Shard) → slice_get w.shards i ≡ o → AllOf (λ (x : Placed). labels_eq l x.labels ≡ false) (waits o)
 no_member c w at l new i None e = tt
 no_member c w at l new i (Some s) e = numbered_all (SampleOk c w.epoch w.placed at.width w.series (get w.names) at.ident i) (λ (x : Placed). labels_eq l x.labels ≡ false) (length s.core.resolved) (length s.core.resolved + length (pending s)) (pending s) refl
-    (λ k x _ _ ok. by_bool (labels_eq l x.labels ≡ false) (labels_eq l x.labels) (λ h. off (sym ok.member ∙ ap (λ m. list_any (labels_eq m) w.series) (sym (same_is l x.labels h)) ∙ new)) (λ h. h))
+    (λ k x _ _ ok. by_bool (labels_eq l x.labels ≡ false) (labels_eq l x.labels) (λ h. absurd (true≢false (sym ok.member ∙ ap (λ m. list_any (labels_eq m) w.series) (sym (same_is l x.labels h)) ∙ new))) (λ h. h))
     ((at.shards_ok i s e).numbered)
 
 got_of_none : (c : Setup) (l : Labels) (o : Option Shard) (got : List Placed) → GotOk c o got → AllOf (λ (x : Placed). labels_eq l x.labels ≡ false) (waits o) → of l got ≡ []
@@ -187,9 +178,9 @@ moves_keeps c w e series names filtered m at = record {
     same_owed l k = owed_same (get names) (get w.names) (at.done l) (all_more (DoneOk w.epoch w.shards w.placed at.ident) (λ (q : Point). get names q.0 ≡ get w.names q.0) (λ q ok. m.below q.0 ok.1) (at.done l) (at.done_ok l k))
 
 pub of_is : (l : Labels) (k : Standing) → is_of l k ≡ true → k ≡ Kept l
-of_is l Unknown h = off (sym h)
-of_is l (Bad f) h = off (sym h)
-of_is l Filtered h = off (sym h)
+of_is l Unknown h = absurd (true≢false (sym h))
+of_is l (Bad f) h = absurd (true≢false (sym h))
+of_is l Filtered h = absurd (true≢false (sym h))
 of_is l (Kept m) h = ap Kept (sym (same_is l m h))
 
 -- no point of a series: another's, or one that does not rise
@@ -197,7 +188,7 @@ no_point_by : (c : Setup) (l : Labels) (seen : List Entry) (r : ℕ) (t : ℤ) (
 no_point_by c l seen r t word h = by_test (is_of l (known c.choice seen r)) h
   where
     by_test : (b : Bool) → (b ≡ true → rises c.choice seen l t ≡ false) → cond {A = List Point} (b && rises c.choice seen l t) ((length seen, t, word) ∷ []) [] ≡ []
-    by_test true h = cond_false (rises c.choice seen l t) ((length seen, t, word) ∷ []) [] (h refl)
+    by_test true h = cond-false (rises c.choice seen l t) ((length seen, t, word) ∷ []) [] (h refl)
     by_test false h = refl
 
 no_point_fallen : (c : Setup) (l m : Labels) (seen : List Entry) (r : ℕ) (t : ℤ) (word : ℕ) → known c.choice seen r ≡ Kept m → rises c.choice seen m t ≡ false → point_of c l seen (Sample r t word) ≡ []
@@ -218,12 +209,8 @@ or_more true x y more h = refl
 or_more false x y more h = more h
 
 any_more : (l m : Labels) (xs : List Labels) → list_any (labels_eq l) xs ≡ true → list_any (labels_eq l) (xs ++ m ∷ []) ≡ true
-any_more l m [] h = off (sym h)
+any_more l m [] h = absurd (true≢false (sym h))
 any_more l m (x ∷ xs) h = or_more (labels_eq l x) (list_any (labels_eq l) xs) (list_any (labels_eq l) (xs ++ m ∷ [])) (any_more l m xs) h
-
-or_right : (b x : Bool) → x ≡ true → (b || x) ≡ true
-or_right true x h = refl
-or_right false x h = h
 
 any_own : (l : Labels) (xs : List Labels) → list_any (labels_eq l) (xs ++ l ∷ []) ≡ true
 any_own l [] = ap (λ b. b || false) (is_same l l refl)
@@ -283,7 +270,7 @@ put_keeps c w r t word l i s e is_known up i_is at_i at = record {
   placed_in = get_below (log w) w.placed (Sample r t word) e;
   series_in = λ q m h. at.series_in q m (sym (ap (λ es. known c.choice es q) seen_more ∙ known_sample c seen r t word q) ∙ h);
   shards_ok = each_change (ShardOk c w.epoch (suc w.placed) at.width w.series (get w.names) ident) (shard_put x) i w.shards (λ j u at_j. older j u (at.shards_ok j u at_j))
-      (λ u at_u _. let same : s ≡ u = some_is (sym at_i ∙ at_u) in subst (λ (u : Shard). ShardOk c w.epoch (suc w.placed) at.width w.series (get w.names) ident i (shard_put x u)) same pushed);
+      (λ u at_u _. let same : s ≡ u = same_Some _ _ (sym at_i ∙ at_u) in subst (λ (u : Shard). ShardOk c w.epoch (suc w.placed) at.width w.series (get w.names) ident i (shard_put x u)) same pushed);
   got_ok = λ j. at_change (λ o. GotOk c o (at.got j)) i j (shard_put x) w.shards (λ _ _ _ g. g) (at.got_ok j);
   mine = λ m k. ap (points c m) seen_more ∙ points_more c m seen (Sample r t word) ∙ by_home m k (cases_eq (home at.width w.series m) i);
   stored = at.stored;
@@ -306,7 +293,7 @@ put_keeps c w r t word l i s e is_known up i_is at_i at = record {
     ident p = cond (w.placed == p) (id_at w.epoch i (length s.put)) (at.ident p)
 
     same_ident : (p : ℕ) → p < w.placed → ident p ≡ at.ident p
-    same_ident p lt = cond_false (w.placed == p) (id_at w.epoch i (length s.put)) (at.ident p) (not_equal w.placed p (λ e. omega arith))
+    same_ident p lt = cond-false (w.placed == p) (id_at w.epoch i (length s.put)) (at.ident p) (ne_eqb w.placed p (λ e. omega arith))
 
     kept : IsKept c l
     kept = known_kept c seen r l is_known
@@ -324,7 +311,7 @@ put_keeps c w r t word l i s e is_known up i_is at_i at = record {
     older j u ok = record { counted = ok.counted; numbered = numbered_more (SampleOk c w.epoch w.placed at.width w.series (get w.names) at.ident j) (SampleOk c w.epoch (suc w.placed) at.width w.series (get w.names) ident j) (length u.core.resolved) (pending u) (λ k y _ y_ok. sample j k y y_ok) ok.numbered }
 
     new : SampleOk c w.epoch (suc w.placed) at.width w.series (get w.names) ident i (length s.put) x
-    new = record { epoch_is = refl; shard_is = refl; seq_is = refl; ident_is = cond_true (w.placed == w.placed) (id_at w.epoch i (length s.put)) (at.ident w.placed) ((Decides-eqb w.placed w.placed).1 refl); below = omega arith; unnamed = at.fresh w.placed (omega arith); kept = kept; member = at.series_in r l is_known; home_is = home_l }
+    new = record { epoch_is = refl; shard_is = refl; seq_is = refl; ident_is = cond-true (w.placed == w.placed) (id_at w.epoch i (length s.put)) (at.ident w.placed) ((Decides-eqb w.placed w.placed).1 refl); below = omega arith; unnamed = at.fresh w.placed (omega arith); kept = kept; member = at.series_in r l is_known; home_is = home_l }
 
     pushed : ShardOk c w.epoch (suc w.placed) at.width w.series (get w.names) ident i (shard_put x s)
     pushed = let ok = older i s (at.shards_ok i s at_i) in record {
@@ -343,7 +330,7 @@ put_keeps c w r t word l i s e is_known up i_is at_i at = record {
         long = length-take-le w.placed (log w) at.placed_in
 
         by_test : (b : Bool) → labels_eq m l ≡ b → cond (b && rises c.choice seen m t) ((length seen, t, word) ∷ []) [] ≡ as_points (cond b (x ∷ []) [])
-        by_test true same = cond_true (rises c.choice seen m t) ((length seen, t, word) ∷ []) [] (ap (λ (n : Labels). rises c.choice seen n t) (same_is m l same) ∙ up) ∙ ap (λ (n : ℕ). (n, t, word) ∷ []) long
+        by_test true same = cond-true (rises c.choice seen m t) ((length seen, t, word) ∷ []) [] (ap (λ (n : Labels). rises c.choice seen n t) (same_is m l same) ∙ up) ∙ ap (λ (n : ℕ). (n, t, word) ∷ []) long
         by_test false differs = refl
 
     by_home : (m : Labels) → IsKept c m → (home at.width w.series m ≡ i) ⊎ (home at.width w.series m ≡ i → ⊥) → points c m seen ++ point_of c m seen (Sample r t word) ≡ at.done m ++ as_points (of m (waits (slice_get (change i (shard_put x) w.shards) (home at.width w.series m))))
@@ -355,7 +342,7 @@ put_keeps c w r t word l i s e is_known up i_is at_i at = record {
         (λ j. mine j ++ same_point m j) ∙ append_assoc (at.done m) (as_points (of m (pending s))) (as_points (of m (x ∷ []))) ∙ ap (λ ps. at.done m ++ ps) joined ∙ ap (λ o. at.done m ++ as_points (of m (waits o))) (sym here)
     by_home m k (inr h) =
         let differs : labels_eq m l ≡ false = by_bool _ (labels_eq m l) (λ z. absurd (h (ap (home at.width w.series) (same_is m l z) ∙ home_l))) (λ z. z) in
-        let none : point_of c m seen (Sample r t word) ≡ [] = same_point m ∙ ap as_points (cond_false (labels_eq m l) (x ∷ []) [] differs) in
+        let none : point_of c m seen (Sample r t word) ≡ [] = same_point m ∙ ap as_points (cond-false (labels_eq m l) (x ∷ []) [] differs) in
         ap (λ ps. points c m seen ++ ps) none ∙ append-nil (points c m seen) ∙ at.mine m k ∙ ap (λ o. at.done m ++ as_points (of m (waits o))) (sym (get_others i (home at.width w.series m) (shard_put x) w.shards (λ z. h (sym z))))
 
     fate : (q : Request) → ((Past w.epoch w.shards q.id × (is_let_in c q.batch ≡ true → AllOf (InStore (list_of w.head.store)) q.batch)) ⊎ ((q.id.epoch ≡ w.epoch) × IsOpen (slice_get w.shards q.id.shard) q.batch)) → ((Past w.epoch (change i (shard_put x) w.shards) q.id × (is_let_in c q.batch ≡ true → AllOf (InStore (list_of w.head.store)) q.batch)) ⊎ ((q.id.epoch ≡ w.epoch) × IsOpen (slice_get (change i (shard_put x) w.shards) q.id.shard) q.batch))

@@ -1,7 +1,8 @@
 -- The lists of a shard.
 use Rattle.std.proofs.Common.{◌≡◌, ℕ, suc, ◌+◌, ◌<◌, ◌≤◌, true, false, cond, List, [], ◌∷◌, ◌++◌, length, take, Option, Some, None, is_some, slice_get, refl, sym, ap, ◌∙◌, subst, ℤ, ◌&&◌, not, nat_le, append-nil, append_assoc, length-append, arith, Bool}
-use Rattle.std.proofs.lemmas.Bool.{ltb-true}
-use Rattle.rw_machine.proofs.Steps.{always, either, Each, each_change, each_new, and_right}
+use Rattle.std.proofs.lemmas.Bool.{ltb-true, and_parts}
+use Rattle.std.proofs.lemmas.Option.{same_Some}
+use Rattle.rw_machine.proofs.Steps.{always, either, Each, each_change, each_new}
 use Rattle.rw_machine.proofs.Others.{samples_append, no_batch}
 use Rattle.rw_machine.specs.declared.event.Event.TheVariants as event
 use Rattle.rw_plain_queue.specs.declared.item.Kind.TheVariants as kind
@@ -24,9 +25,6 @@ use Rattle.rw_types.specs.Labels.{Labels}
 use Rattle.rw_types.specs.declared.entry.Entry.{Entry}
 use Rattle.rw_types.specs.declared.entry.Entry.TheVariants.{Def, Sample}
 
-some_is : {X : Type 0} {s t : X} → Some s ≡ Some t → s ≡ t
-some_is e = cc
-
 pub record Lists (c : Setup) (s : Shard) : Type 0 where
   pub queued : s.put ≡ s.core.taken ++ samples_in s.queue
   pub held : s.core.taken ≡ s.core.resolved ++ (s.core.batch ++ s.core.builder)
@@ -47,7 +45,7 @@ lists_put c x s room h = record {
 }
 
 lists_flush : (c : Setup) (w : World) (s : Shard) → Lists c s → Lists c (flush_shard c w s)
-lists_flush c w s h = either (Lists c) (not s.end_put && has_room c.capacity s) (mark w s) s (λ g. by_mark (and_right (not s.end_put) (has_room c.capacity s) g)) (λ _. h)
+lists_flush c w s h = either (Lists c) (not s.end_put && has_room c.capacity s) (mark w s) s (λ g. by_mark (and_parts (not s.end_put) (has_room c.capacity s) g).1) (λ _. h)
   where
     pushed : (i : Queued) → samples_in (i ∷ []) ≡ [] → s.put ≡ s.core.taken ++ samples_in (s.queue ++ i ∷ [])
     pushed i none = h.queued ∙ ap (λ ps. s.core.taken ++ ps) (sym (samples_append s.queue i ∙ ap (λ ps. samples_in s.queue ++ ps) none ∙ append-nil (samples_in s.queue)))
@@ -104,7 +102,7 @@ all_place c w at = either (All c) (is_some w.draining) w (place_entry c w (slice
   where
     by_shard : (i : ℕ) (l : Labels) (t : ℤ) (word : ℕ) (o : Option Shard) → slice_get w.shards i ≡ o → All c (put_if_room c w i l t word o)
     by_shard i l t word None e = at
-    by_shard i l t word (Some s) e = either (All c) (has_room c.capacity s) _ w (λ room. each_change (λ i s. Lists c s) (shard_put (next_sample w i l t word s)) i w.shards at (λ u at_u h. let same : s ≡ u = some_is (sym e ∙ at_u) in lists_put c (next_sample w i l t word s) u (subst (λ (v : Shard). has_room c.capacity v ≡ true) same room) h)) (λ _. at)
+    by_shard i l t word (Some s) e = either (All c) (has_room c.capacity s) _ w (λ room. each_change (λ i s. Lists c s) (shard_put (next_sample w i l t word s)) i w.shards at (λ u at_u h. let same : s ≡ u = same_Some _ _ (sym e ∙ at_u) in lists_put c (next_sample w i l t word s) u (subst (λ (v : Shard). has_room c.capacity v ≡ true) same room) h)) (λ _. at)
 
     by_rising : (l : Labels) (t : ℤ) (word : ℕ) (b : Bool) → All c (place_kept c w l t word b)
     by_rising l t word true = by_shard (shard_of w l) l t word (slice_get w.shards (shard_of w l)) refl

@@ -1,13 +1,13 @@
 -- What holds after every event, whatever the timestamps: what `settle` needs to come to a report.
 use Rattle.std.proofs.Common.{◌≡◌, ℕ, suc, ◌+◌, ◌<◌, ◌≤◌, ◌==◌, Bool, true, false, cond, List, [], ◌∷◌, ◌++◌, length, take, Option, Some, None, is_some, slice_get, refl, sym, ap, ◌∙◌, subst, ℤ, ◌||◌, ◌&&◌, not, nat_le, length-append, arith}
 use Rattle.std.specs.List.{list_any}
-use Rattle.std.proofs.lemmas.Bool.{leb-true}
+use Rattle.std.proofs.lemmas.Bool.{leb-true, true≢false, not-true, and_parts}
 use Rattle.std.proofs.lemmas.Bool.Decides.{Decides-eqb}
-use Rattle.rw_machine.proofs.Steps.{always, either, Each, each_change, each_new, AllOf, all_append, all_left, all_right, and_left, and_right, and_both}
+use Rattle.std.proofs.lemmas.Option.{same_Some}
+use Rattle.rw_machine.proofs.Steps.{always, either, Each, each_change, each_new, AllOf, all_append, all_left, all_right, and_both}
 use Rattle.rw_machine.proofs.Others.{pending_put, pending_freeze, entries_grow}
 use Rattle.rw_machine.proofs.Places.{get_below, length_change}
 use Rattle.rw_machine.proofs.Invariant.{quiet_take, quiet_flush}
-use Rattle.rw_machine.proofs.Keeps.{some_is}
 use Rattle.rw_machine.proofs.Resolves.{length_new}
 use Rattle.rw_machine.proofs.Closed.{Ends, ends_act, ends_at, Shape, ShapeOf}
 use Rattle.rw_machine.specs.declared.event.Event.TheVariants as event
@@ -32,9 +32,7 @@ use Rattle.rw_plain_queue.specs.Items.{Placed}
 use Rattle.rw_types.specs.Labels.{Labels}
 use Rattle.rw_types.specs.declared.entry.Entry.{Entry}
 use Rattle.rw_types.specs.declared.entry.Entry.TheVariants.{Def, Sample}
-
-off : {P : Type 0} → true ≡ false → P
-off e = cc
+use Rattle.rw_shard_core.proofs.EmptyLemmas.{is_empty-push}
 
 pub same_id_own : (d : BatchId) → same_id d d ≡ true
 same_id_own d = and_both (d.epoch == d.epoch && d.shard == d.shard) (d.seq == d.seq) (and_both (d.epoch == d.epoch) (d.shard == d.shard) ((Decides-eqb d.epoch d.epoch).1 refl) ((Decides-eqb d.shard d.shard).1 refl)) ((Decides-eqb d.seq d.seq).1 refl)
@@ -44,7 +42,7 @@ abbrev pub HasId : List Request → BatchId → Type 0
 HasId requests id = list_any (λ (r : Request). same_id id r.id) requests ≡ true
 
 has_more : (requests : List Request) (r : Request) (id : BatchId) → HasId requests id → HasId (requests ++ r ∷ []) id
-has_more [] r id h = off (sym h)
+has_more [] r id h = absurd (true≢false (sym h))
 has_more (q ∷ qs) r id h = by_test (same_id id q.id) h (has_more qs r id)
   where
     by_test : (b : Bool) → (b || list_any (λ (r : Request). same_id id r.id) qs) ≡ true → (list_any (λ (r : Request). same_id id r.id) qs ≡ true → list_any (λ (r : Request). same_id id r.id) (qs ++ r ∷ []) ≡ true) → (b || list_any (λ (r : Request). same_id id r.id) (qs ++ r ∷ [])) ≡ true
@@ -77,7 +75,7 @@ pub record Live (c : Setup) (w : World) : Type 0 where
   pub going : Each (Going c w.requests) w.shards
 
 new_going : (c : Setup) (requests : List Request) (epoch n i : ℕ) → Going c requests i (new_shard (new_core c.target epoch n c.batch))
-new_going c requests epoch n i = record { alive = refl; full_is = refl; counted = refl; mine = tt; held = λ e. off (sym e); closes = λ e _. off (sym e); sent = λ e _. off e }
+new_going c requests epoch n i = record { alive = refl; full_is = refl; counted = refl; mine = tt; held = λ e. absurd (true≢false (sym e)); closes = λ e _. absurd (true≢false (sym e)); sent = λ e _. absurd (true≢false e) }
 
 more_going : (c : Setup) (requests : List Request) (r : Request) (i : ℕ) (s : Shard) → Going c requests i s → Going c (requests ++ r ∷ []) i s
 more_going c requests r i s g = record { alive = g.alive; full_is = g.full_is; counted = g.counted; mine = g.mine; held = g.held; closes = g.closes; sent = λ x y. has_more requests r (batch_id s.core.batch) (g.sent x y) }
@@ -141,14 +139,6 @@ record Fronted (s t : Shard) : Type 0 where
   batch : t.core.batch ≡ s.core.batch
   waiting : t.core.waiting ≡ s.core.waiting
 
-not_not : (b : Bool) → not b ≡ true → b ≡ false
-not_not true h = off (sym h)
-not_not false h = refl
-
-pushed_full : (xs : List Placed) (x : Placed) → is_empty (xs ++ x ∷ []) ≡ false
-pushed_full [] x = refl
-pushed_full (y ∷ xs) x = refl
-
 take_fronted : (s : Shard) → ShapeOf s → (s.core.marked ≡ true → is_empty s.core.builder ≡ false) → (s.core.ended ≡ true → is_empty s.core.builder ≡ false → s.core.marked ≡ true) → Fronted s (shard_take s)
 take_fronted s shape held closes = either (Fronted s) (can_take s.core) (take_front s.queue s) s (λ _. by_queue s.queue s.end_put s.core.ended refl refl refl shape) (λ _. same)
   where
@@ -165,9 +155,9 @@ take_fronted s shape held closes = either (Fronted s) (can_take s.core) (take_fr
 
     by_queue : (q : List Queued) (b e : Bool) → s.queue ≡ q → s.end_put ≡ b → s.core.ended ≡ e → Shape b e q → Fronted s (take_front q s)
     by_queue [] b e x y z h = same
-    by_queue (One p ∷ q) b e x y z h = record { killed = refl; full = refl; held = λ _. pushed_full s.core.builder p; closes = λ k _. off (sym k ∙ unended (One p) q b e z h); batch = refl; waiting = refl }
-    by_queue (FlushMark ∷ q) b e x y z h = record { killed = refl; full = refl; held = λ k. not_not (is_empty s.core.builder) k; closes = λ _ k. ap not k; batch = refl; waiting = refl }
-    by_queue (EndMark d ∷ q) b e x y z h = record { killed = refl; full = refl; held = λ k. not_not (is_empty s.core.builder) k; closes = λ _ k. ap not k; batch = refl; waiting = refl }
+    by_queue (One p ∷ q) b e x y z h = record { killed = refl; full = refl; held = λ _. is_empty-push s.core.builder p; closes = λ k _. absurd (true≢false (sym k ∙ unended (One p) q b e z h)); batch = refl; waiting = refl }
+    by_queue (FlushMark ∷ q) b e x y z h = record { killed = refl; full = refl; held = λ k. not-true (is_empty s.core.builder) k; closes = λ _ k. ap not k; batch = refl; waiting = refl }
+    by_queue (EndMark d ∷ q) b e x y z h = record { killed = refl; full = refl; held = λ k. not-true (is_empty s.core.builder) k; closes = λ _ k. ap not k; batch = refl; waiting = refl }
 
 take_going : (c : Setup) (requests : List Request) (i : ℕ) (s : Shard) → ShapeOf s → Going c requests i s → Going c requests i (shard_take s)
 take_going c requests i s shape g =
@@ -196,13 +186,13 @@ freeze_going c requests i s g = either (λ (k : Core). pending (record s { core 
       full_is = g.full_is;
       counted = g.counted ∙ ap (λ ps. length s.core.resolved + length ps) (sym same);
       mine = subst (AllOf (λ (x : Placed). x.place.shard ≡ i)) (sym same) g.mine;
-      held = λ e. off (sym e);
-      closes = λ _ e. off e;
-      sent = λ _ e. off (sym e);
+      held = λ e. absurd (true≢false (sym e));
+      closes = λ _ e. absurd (true≢false e);
+      sent = λ _ e. absurd (true≢false (sym e));
     }
 
 again_going : (c : Setup) (requests : List Request) (i : ℕ) (s : Shard) → Going c requests i s → Going c requests i (shard_again s)
-again_going c requests i s g = record { alive = g.alive; full_is = g.full_is; counted = g.counted; mine = g.mine; held = g.held; closes = g.closes; sent = λ _ e. off (sym e) }
+again_going c requests i s g = record { alive = g.alive; full_is = g.full_is; counted = g.counted; mine = g.mine; held = g.held; closes = g.closes; sent = λ _ e. absurd (true≢false (sym e)) }
 
 lost_going : (c : Setup) (requests : List Request) (i : ℕ) (s : Shard) → Going c requests i s → Going c requests i (shard_lost s)
 lost_going c requests i s g = either (λ (k : Core). Going c requests i (record s { core = k })) (awaits s.core) (again s.core) s.core (λ _. again_going c requests i s g) (λ _. g)
@@ -218,7 +208,7 @@ resolve_going c requests i s g = record {
   mine = all_append mine s.core.builder (samples_in s.queue) (all_right mine s.core.batch s.core.builder (all_left mine (s.core.batch ++ s.core.builder) (samples_in s.queue) g.mine)) (all_right mine (s.core.batch ++ s.core.builder) (samples_in s.queue) g.mine);
   held = g.held;
   closes = g.closes;
-  sent = λ e _. off e;
+  sent = λ e _. absurd (true≢false e);
 }
   where
     mine : Placed → Type 0
@@ -283,7 +273,7 @@ send_live c w i (Some s) e at = either (LiveIf c) (can_send s.core) (record w { 
       placed_in = at.placed_in;
       wide = (let e : length (change i shard_send w.shards) ≡ length w.shards = length_change i shard_send w.shards in let le : 1 ≤ length w.shards = at.wide in omega arith);
       drains = at.drains;
-      going = each_change (Going c (w.requests ++ r ∷ [])) shard_send i w.shards (λ j u at_j. more_going c w.requests r j u (at.going j u at_j)) (λ u at_u g. let same : s ≡ u = some_is (sym e ∙ at_u) in send_going c (w.requests ++ r ∷ []) i u (subst (λ (v : Shard). HasId (w.requests ++ r ∷ []) (batch_id v.core.batch)) same (has_own w.requests r)) g);
+      going = each_change (Going c (w.requests ++ r ∷ [])) shard_send i w.shards (λ j u at_j. more_going c w.requests r j u (at.going j u at_j)) (λ u at_u g. let same : s ≡ u = same_Some _ _ (sym e ∙ at_u) in send_going c (w.requests ++ r ∷ []) i u (subst (λ (v : Shard). HasId (w.requests ++ r ∷ []) (batch_id v.core.batch)) same (has_own w.requests r)) g);
     })
     (λ _ _. at)
   where
@@ -357,7 +347,7 @@ live_act c w e at = by_event e (ends_act c w e at.ends)
     by_event (event.Arrive k how) = by_request how (slice_get w.requests k)
     by_event (event.Reply k) = reply_live c w (slice_get w.replies k) at
     by_event (event.Lost i) = λ ends. shard_live c w i shard_lost ends (λ s _ g. lost_going c w.requests i s g) at
-    by_event (event.Reshard n) = either (LiveIf c) (not (is_some w.draining) && (not (is_finished w) && (nat_le 1 n && nat_le n 1000))) (record w { draining = Some n }) w (λ h ends. record { ends = ends; placed_in = at.placed_in; wide = at.wide; drains = λ m e. let is : n ≡ m = some_is e in subst (λ (k : ℕ). 1 ≤ k) is (leb-true 1 n (and_left (nat_le 1 n) (nat_le n 1000) (and_right (not (is_finished w)) (nat_le 1 n && nat_le n 1000) (and_right (not (is_some w.draining)) (not (is_finished w) && (nat_le 1 n && nat_le n 1000)) h)))); going = at.going }) (λ _ _. at)
+    by_event (event.Reshard n) = either (LiveIf c) (not (is_some w.draining) && (not (is_finished w) && (nat_le 1 n && nat_le n 1000))) (record w { draining = Some n }) w (λ h ends. record { ends = ends; placed_in = at.placed_in; wide = at.wide; drains = λ m e. let is : n ≡ m = same_Some _ _ e in subst (λ (k : ℕ). 1 ≤ k) is (leb-true 1 n (and_parts (nat_le 1 n) (nat_le n 1000) (and_parts (not (is_finished w)) (nat_le 1 n && nat_le n 1000) (and_parts (not (is_some w.draining)) (not (is_finished w) && (nat_le 1 n && nat_le n 1000)) h).1).1).0); going = at.going }) (λ _ _. at)
     by_event event.Restart = by_draining w.draining refl
     by_event event.Close = either (LiveIf c) (is_some w.closed) w (record w { closed = Some (length (log w)) }) (λ _ _. at) (λ _ ends. record { ends = ends; placed_in = at.placed_in; wide = at.wide; drains = at.drains; going = at.going })
     by_event event.Kill = λ ends. record { ends = ends; placed_in = at.placed_in; wide = at.wide; drains = at.drains; going = at.going }

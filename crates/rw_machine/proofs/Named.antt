@@ -4,10 +4,11 @@ use Rattle.std.proofs.lemmas.Bool.{cases_eq}
 use Rattle.std.proofs.lemmas.Bool.Decides.{Decides-eqb}
 use Rattle.std.specs.FinMap.{FinMap, get, get-empty, insert}
 use Rattle.std.specs.Ordering.{nat_cmp}
+use Rattle.std.proofs.lemmas.Option.{same_Some}
 use Rattle.rw_machine.proofs.Steps.{always, unless, either, Each, each_change, each_new, AllOf, all_more}
 use Rattle.rw_machine.proofs.Frames.{restart_frame}
-use Rattle.rw_machine.proofs.Others.{pending_parts, pending_put, pending_resolve}
-use Rattle.rw_machine.proofs.Places.{Numbered, numbered_left, numbered_right, numbered_push, numbered_more, numbered_all}
+use Rattle.rw_machine.proofs.Others.{pending_put, pending_resolve}
+use Rattle.rw_machine.proofs.Places.{Numbered, numbered_right, numbered_push, numbered_more, numbered_all}
 use Rattle.rw_machine.proofs.Invariant.{IsQuiet, quiet_again, quiet_flush, quiet_freeze, quiet_lost, quiet_send, quiet_take}
 use Rattle.rw_machine.proofs.Classes.{named_or_not, named_other, named_own}
 use Rattle.rw_machine.specs.declared.event.Event.TheVariants as event
@@ -18,7 +19,7 @@ use Rattle.rw_retry.specs.declared.judgement.Judgement.{Judgement}
 use Rattle.rw_retry.specs.declared.judgement.Judgement.TheVariants.{Again, Done, Refused}
 use Rattle.rw_machine.proofs.Views.{shard_again, shard_resolve}
 use Rattle.rw_machine.specs.Promises.{NamesRefusals, Stands, is_refused, refusal, refusal_by, refusals, refused_in}
-use Rattle.rw_machine.specs.Shards.{Shard, has_room, pending, samples_in, shard_freeze, shard_lost, shard_put, shard_send, shard_take, with_core}
+use Rattle.rw_machine.specs.Shards.{Shard, has_room, pending, shard_freeze, shard_lost, shard_put, shard_send, shard_take, with_core}
 use Rattle.rw_machine.specs.Steps.{act, arrive, change, changed, flush_shard, happens, next_sample, place, place_entry, place_kept, place_sample, put_if_room, reply_to, restart_as, run, send_batch, settled, shard_of, take_reply, unless_over}
 use Rattle.rw_machine.specs.Worlds.{Reply, Request, Setup, World, all_drained, is_finished, is_over, log, start}
 use Rattle.rw_machine.specs.declared.event.Event.{Event}
@@ -31,12 +32,10 @@ use Rattle.rw_plain_queue.specs.Items.{Placed}
 use Rattle.rw_types.specs.Labels.{Labels, label_fault_number}
 use Rattle.rw_types.specs.declared.entry.Entry.{Entry}
 use Rattle.rw_types.specs.declared.entry.Entry.TheVariants.{Def, Sample}
+use Rattle.rw_machine.proofs.Resolves.{batch_numbered}
 
 abbrev Names : Type 0
 Names = FinMap nat_cmp Reason
-
-some_is : {X : Type 0} {s t : X} → Some s ≡ Some t → s ≡ t
-some_is e = cc
 
 stands_left : (q : ℕ × ℕ) (xs ys : List (ℕ × ℕ)) → Stands q xs → Stands q (xs ++ ys)
 stands_left q [] ys h = let never : None ≡ Some q → ⊥ = λ h. cc in absurd (never h.1)
@@ -78,14 +77,14 @@ status_stays status (x ∷ xs) names p h = status_stays status xs (insert names 
 named_in : (status : ℕ) (xs : List Placed) (names : Names) (p s : ℕ) → Stands (p, s) (with_status status xs) → get (name_all status (positions xs) names) p ≡ Some (Status s)
 named_in status [] names p s h = none_stands h
 named_in status (x ∷ xs) names p s (zero, e) =
-    let pair : (x.place.pos, status) ≡ (p, s) = some_is e in
+    let pair : (x.place.pos, status) ≡ (p, s) = same_Some _ _ e in
     let at : x.place.pos ≡ p = ap (λ (d : ℕ × ℕ). d.0) pair in
     let as_s : status ≡ s = ap (λ (d : ℕ × ℕ). d.1) pair in
     status_stays status xs (insert names x.place.pos (Status status)) p (ap (get (insert names x.place.pos (Status status))) (sym at) ∙ named_own x.place.pos (Status status) names) ∙ ap (λ (n : ℕ). Some (Status n)) as_s
 named_in status (x ∷ xs) names p s (suc k, e) = named_in status xs (insert names x.place.pos (Status status)) p s (k, e)
 
 status_is : (a b : ℕ) → Some (Status a) ≡ Some (Status b) → a ≡ b
-status_is a b e = let same : Status a ≡ Status b = some_is e in cc
+status_is a b e = let same : Status a ≡ Status b = same_Some _ _ e in cc
 
 -- a take_reply names what it refuses, and nothing else
 abbrev NamesBy : ℕ → ℕ → Names → List (ℕ × ℕ) → Names → Type 0
@@ -135,11 +134,11 @@ place_names c w p s = either P (is_some w.draining) w (place_entry c w (slice_ge
 
     by_rising : (l : Labels) (t : ℤ) (word : ℕ) (b : Bool) → NamesBy p s w.names [] (place_kept c w l t word b).names
     by_rising l t word true = by_shard (shard_of w l) l t word (slice_get w.shards (shard_of w l))
-    by_rising l t word false = by_name NotRising (λ h. let z : NotRising ≡ Status s = some_is h in let never : NotRising ≡ Status s → ⊥ = λ h. cc in never z)
+    by_rising l t word false = by_name NotRising (λ h. let z : NotRising ≡ Status s = same_Some _ _ h in let never : NotRising ≡ Status s → ⊥ = λ h. cc in never z)
 
     by_known : (t : ℤ) (word : ℕ) (k : Standing) → NamesBy p s w.names [] (place_sample c w t word k).names
-    by_known t word Unknown = by_name NoSeries (λ h. let z : NoSeries ≡ Status s = some_is h in let never : NoSeries ≡ Status s → ⊥ = λ h. cc in never z)
-    by_known t word (Bad f) = by_name (BadLabels (label_fault_number f)) (λ h. let z : BadLabels (label_fault_number f) ≡ Status s = some_is h in let never : BadLabels (label_fault_number f) ≡ Status s → ⊥ = λ h. cc in never z)
+    by_known t word Unknown = by_name NoSeries (λ h. let z : NoSeries ≡ Status s = same_Some _ _ h in let never : NoSeries ≡ Status s → ⊥ = λ h. cc in never z)
+    by_known t word (Bad f) = by_name (BadLabels (label_fault_number f)) (λ h. let z : BadLabels (label_fault_number f) ≡ Status s = same_Some _ _ h in let never : BadLabels (label_fault_number f) ≡ Status s → ⊥ = λ h. cc in never z)
     by_known t word Filtered = same
     by_known t word (Kept l) = by_rising l t word (rises c.choice (take w.placed (log w)) l t)
 
@@ -249,7 +248,7 @@ unnamed_place c w at = either Unnamed (is_some w.draining) w (place_entry c w (s
           numbered = each_change (AreUnnamed ident (suc w.placed) w.names) (shard_put (next_sample w i l t word s)) i w.shards (later w at ident w.names old (λ p _. refl))
               (λ u at_u h. subst (Numbered (IsUnnamed ident (suc w.placed) w.names i) (length u.core.resolved)) (sym (pending_put (next_sample w i l t word s) u))
               (numbered_push (IsUnnamed ident (suc w.placed) w.names i) (length u.core.resolved) (length u.core.resolved + length (pending u)) (pending u) (next_sample w i l t word s) refl h
-              (own ∙ ap (λ (v : Shard). (i, length v.core.resolved + length (pending v))) (some_is (sym e ∙ at_u)), below_own, at.fresh w.placed (omega arith))));
+              (own ∙ ap (λ (v : Shard). (i, length v.core.resolved + length (pending v))) (same_Some _ _ (sym e ∙ at_u)), below_own, at.fresh w.placed (omega arith))));
           fresh = λ p le. at.fresh p (omega arith);
         })
         (λ _. at)
@@ -284,10 +283,6 @@ unnamed_place c w at = either Unnamed (is_some w.draining) w (place_entry c w (s
     by_entry (Some (Def r l)) = moved _ w.filtered
     by_entry (Some (Sample r t word)) = by_known t word (known c.choice (take w.placed (log w)) r)
 
--- the samples of the open batch, and those behind it
-batch_numbered : (P : ℕ → Placed → Type 0) (s : Shard) → Numbered P (length s.core.resolved) (pending s) → Numbered P (length s.core.resolved) s.core.batch
-batch_numbered P s h = numbered_left P (length s.core.resolved) s.core.batch (s.core.builder ++ samples_in s.queue) (subst (Numbered P (length s.core.resolved)) (pending_parts s) h)
-
 rest_numbered : (P : ℕ → Placed → Type 0) (s : Shard) → Numbered P (length s.core.resolved) (pending s) → Numbered P (length s.core.resolved + length s.core.batch) (pending (shard_resolve s))
 rest_numbered P s h = numbered_right P (length s.core.resolved) (length s.core.resolved + length s.core.batch) s.core.batch (pending (shard_resolve s)) refl (subst (Numbered P (length s.core.resolved)) (sym (pending_resolve s)) h)
 
@@ -300,7 +295,7 @@ unnamed_resolve w j s names e at still fresh = record {
   ident = at.ident;
   numbered = each_moved (AreUnnamed at.ident w.placed w.names) (AreUnnamed at.ident w.placed names) shard_resolve j w.shards at.numbered
       (λ i u apart h. numbered_more (IsUnnamed at.ident w.placed w.names i) (IsUnnamed at.ident w.placed names i) (length u.core.resolved) (pending u) (λ n x _ k. (k.0, k.1, still i n x (λ z. absurd (apart z)) k)) h)
-      (λ u at_u h. own u (some_is (sym e ∙ at_u)) h);
+      (λ u at_u h. own u (same_Some _ _ (sym e ∙ at_u)) h);
   fresh = fresh;
 }
   where

@@ -1,7 +1,8 @@
 -- The order rule on repeats and on later samples, one series and a whole message.
-use Rattle.std.proofs.Common.{◌≡◌, ℕ, ◌==◌, Bool, true, false, cond, List, [], ◌∷◌, ◌++◌, map, filter, Option, Some, None, refl, sym, ap, ◌∙◌, subst, ℤ, pos, negsuc, int_lt, int_eq, ◌||◌, ◌&&◌, not, append-nil, append_assoc, arith, ltb}
-use Rattle.std.proofs.lemmas.Bool.Decides.{Decides-int_eq, Decides-eqb, nat_tests}
-use Rattle.rw_machine.proofs.Steps.{either, AllOf, all_left, all_filter, all_more, and_left, and_both, same_is, is_same, not_true}
+use Rattle.std.proofs.Common.{◌≡◌, ℕ, ◌==◌, Bool, true, false, cond, List, [], ◌∷◌, ◌++◌, map, filter, Option, Some, None, refl, sym, ap, ◌∙◌, subst, ℤ, int_lt, int_eq, ◌||◌, ◌&&◌, not, append-nil, append_assoc}
+use Rattle.std.proofs.lemmas.Bool.Decides.{Decides-int_eq, Decides-eqb}
+use Rattle.std.proofs.lemmas.Bool.{true≢false, not-true, cond-false, cond-true, and_parts}
+use Rattle.rw_machine.proofs.Steps.{either, AllOf, all_left, all_filter, all_more, and_both, same_is, is_same}
 use Rattle.rw_head.specs.Order.{accept, accept_one, holds, is_later}
 use Rattle.rw_machine.proofs.Views.{Pairs, Store, of, pairs, series_of}
 use Rattle.rw_machine.proofs.Heads.{store_at, put_series, accept_series, accept_all}
@@ -9,6 +10,7 @@ use Rattle.rw_batch.specs.Grouping.{distinct}
 use Rattle.rw_plain_queue.specs.Items.{Placed}
 use Rattle.rw_types.specs.LabelOrder.{labels_eq}
 use Rattle.rw_types.specs.Labels.{Labels}
+use Rattle.rw_types.proofs.TimeLemmas.{int_lt-asymm, int_lt-irrefl}
 
 -- strictly rising timestamps
 abbrev pub Ascends : Pairs → Type 0
@@ -19,55 +21,28 @@ pub ascends_left : (xs ys : Pairs) → Ascends (xs ++ ys) → Ascends xs
 ascends_left [] ys h = tt
 ascends_left (x ∷ xs) ys h = (all_left (λ (y : ℤ × ℕ). int_lt x.0 y.0 ≡ true) xs ys h.0, ascends_left xs ys h.1)
 
-off : {P : Type 0} → true ≡ false → P
-off e = cc
-
-turned_ltb : (a b : ℕ) → ltb a b ≡ true → ltb b a ≡ false
-turned_ltb a b h = grind (arith, nat_tests)
-
-own_ltb : (a : ℕ) → ltb a a ≡ false
-own_ltb a = grind (arith, nat_tests)
-
-pub turned : (a b : ℤ) → int_lt a b ≡ true → int_lt b a ≡ false
-turned (pos a) (pos b) h = turned_ltb a b h
-turned (pos a) (negsuc b) h = off (sym h)
-turned (negsuc a) (pos b) h = refl
-turned (negsuc a) (negsuc b) h = turned_ltb b a h
-
-own : (a : ℤ) → int_lt a a ≡ false
-own (pos a) = own_ltb a
-own (negsuc a) = own_ltb a
-
 not_later : (t : ℤ) (y : ℤ × ℕ) (ys : Pairs) → AllOf (λ (y : ℤ × ℕ). int_lt t y.0 ≡ true) (y ∷ ys) → is_later t (y ∷ ys) ≡ false
-not_later t y [] h = turned t y.0 h.0
+not_later t y [] h = int_lt-asymm t y.0 h.0
 not_later t y (z ∷ ys) h = not_later t z ys h.1
 
 pub repeat_not_later : (s : ℤ × ℕ) (xs : Pairs) → Ascends xs → holds s xs ≡ true → is_later s.0 xs ≡ false
-repeat_not_later s [] h at = off (sym at)
+repeat_not_later s [] h at = absurd (true≢false (sym at))
 repeat_not_later s (x ∷ []) h at = by_test (int_eq x.0 s.0 && (x.1 == s.1)) refl at
   where
     by_test : (b : Bool) → (int_eq x.0 s.0 && (x.1 == s.1)) ≡ b → (b || false) ≡ true → int_lt x.0 s.0 ≡ false
-    by_test true e at = subst (λ t. int_lt x.0 t ≡ false) ((Decides-int_eq x.0 s.0).0 (and_left (int_eq x.0 s.0) (x.1 == s.1) e)) (own x.0)
-    by_test false e at = off (sym at)
+    by_test true e at = subst (λ t. int_lt x.0 t ≡ false) ((Decides-int_eq x.0 s.0).0 (and_parts (int_eq x.0 s.0) (x.1 == s.1) e).0) (int_lt-irrefl x.0)
+    by_test false e at = absurd (true≢false (sym at))
 repeat_not_later s (x ∷ y ∷ ys) h at = by_test (int_eq x.0 s.0 && (x.1 == s.1)) refl at (repeat_not_later s (y ∷ ys) h.1)
   where
     by_test : (b : Bool) → (int_eq x.0 s.0 && (x.1 == s.1)) ≡ b → (b || holds s (y ∷ ys)) ≡ true → (holds s (y ∷ ys) ≡ true → is_later s.0 (y ∷ ys) ≡ false) → is_later s.0 (y ∷ ys) ≡ false
-    by_test true e at rest = subst (λ t. is_later t (y ∷ ys) ≡ false) ((Decides-int_eq x.0 s.0).0 (and_left (int_eq x.0 s.0) (x.1 == s.1) e)) (not_later x.0 y ys h.0)
+    by_test true e at rest = subst (λ t. is_later t (y ∷ ys) ≡ false) ((Decides-int_eq x.0 s.0).0 (and_parts (int_eq x.0 s.0) (x.1 == s.1) e).0) (not_later x.0 y ys h.0)
     by_test false e at rest = rest at
-
-pub cond_false : {X : Type 0} (b : Bool) (x y : X) → b ≡ false → cond b x y ≡ y
-cond_false true x y h = off h
-cond_false false x y h = refl
-
-pub cond_true : {X : Type 0} (b : Bool) (x y : X) → b ≡ true → cond b x y ≡ x
-cond_true true x y h = refl
-cond_true false x y h = off (sym h)
 
 -- repeats change nothing
 pub accept_repeats : (xs ss : Pairs) → Ascends xs → AllOf (λ s. holds s xs ≡ true) ss → accept (Some xs) ss ≡ Some xs
 accept_repeats xs [] h all = refl
 accept_repeats xs (s ∷ ss) h all =
-    let step : accept_one xs s ≡ Some xs = cond_false (is_later s.0 xs) (Some (xs ++ s ∷ [])) (cond (holds s xs) (Some xs) None) (repeat_not_later s xs h all.0) ∙ cond_true (holds s xs) (Some xs) None all.0 in
+    let step : accept_one xs s ≡ Some xs = cond-false (is_later s.0 xs) (Some (xs ++ s ∷ [])) (cond (holds s xs) (Some xs) None) (repeat_not_later s xs h all.0) ∙ cond-true (holds s xs) (Some xs) None all.0 in
     ap (λ o. accept o ss) step ∙ accept_repeats xs ss h all.1
 
 later_than : (xs : Pairs) (s : ℤ × ℕ) (ss : Pairs) → Ascends (xs ++ s ∷ ss) → is_later s.0 xs ≡ true
@@ -79,12 +54,12 @@ later_than (x ∷ y ∷ ys) s ss h = later_than (y ∷ ys) s ss h.1
 pub accept_later : (xs ss : Pairs) → Ascends (xs ++ ss) → accept (Some xs) ss ≡ Some (xs ++ ss)
 accept_later xs [] h = ap Some (sym (append-nil xs))
 accept_later xs (s ∷ ss) h =
-    let step : accept_one xs s ≡ Some (xs ++ s ∷ []) = cond_true (is_later s.0 xs) (Some (xs ++ s ∷ [])) (cond (holds s xs) (Some xs) None) (later_than xs s ss h) in
+    let step : accept_one xs s ≡ Some (xs ++ s ∷ []) = cond-true (is_later s.0 xs) (Some (xs ++ s ∷ [])) (cond (holds s xs) (Some xs) None) (later_than xs s ss h) in
     let shift : (xs ++ s ∷ []) ++ ss ≡ xs ++ s ∷ ss = append_assoc xs (s ∷ []) ss in
     ap (λ o. accept o ss) step ∙ accept_later (xs ++ s ∷ []) ss (subst Ascends (sym shift) h) ∙ ap Some shift
 
 pub holds_append : (s : ℤ × ℕ) (xs ys : Pairs) → holds s xs ≡ true → holds s (xs ++ ys) ≡ true
-holds_append s [] ys h = off (sym h)
+holds_append s [] ys h = absurd (true≢false (sym h))
 holds_append s (x ∷ xs) ys h = by_test (int_eq x.0 s.0 && (x.1 == s.1)) h (holds_append s xs ys)
   where
     by_test : (b : Bool) → (b || holds s xs) ≡ true → (holds s xs ≡ true → holds s (xs ++ ys) ≡ true) → (b || holds s (xs ++ ys)) ≡ true
@@ -104,7 +79,7 @@ holds_own s xs = by_test (int_eq s.0 s.0 && (s.1 == s.1)) (and_both _ _ ((Decide
   where
     by_test : (b : Bool) → b ≡ true → (b || holds s xs) ≡ true
     by_test true h = refl
-    by_test false h = off (sym h)
+    by_test false h = absurd (true≢false (sym h))
 
 -- no label set twice
 abbrev pub Apart : List Labels → Type 0
@@ -122,7 +97,7 @@ passes p (l ∷ ls) = either (AllOf (λ m. p m ≡ true)) (p l) (l ∷ filter p 
 pub distinct_apart : (ls : List Labels) → Apart (distinct ls)
 unfolding distinct
 distinct_apart [] = tt
-distinct_apart (l ∷ ls) = (all_more (λ m. not (labels_eq l m) ≡ true) (λ m. labels_eq l m ≡ false) (λ m. not_true (labels_eq l m)) (filter (λ m. not (labels_eq l m)) (distinct ls)) (passes (λ m. not (labels_eq l m)) (distinct ls)), apart_filter (λ m. not (labels_eq l m)) (distinct ls) (distinct_apart ls))
+distinct_apart (l ∷ ls) = (all_more (λ m. not (labels_eq l m) ≡ true) (λ m. labels_eq l m ≡ false) (λ m. not-true (labels_eq l m)) (filter (λ m. not (labels_eq l m)) (distinct ls)) (passes (λ m. not (labels_eq l m)) (distinct ls)), apart_filter (λ m. not (labels_eq l m)) (distinct ls) (distinct_apart ls))
 
 -- what a store that took a message has
 pub record Took (store : Store) (add : Labels → Pairs) (ls : List Labels) (o : Option Store) : Type 0 where
@@ -135,7 +110,7 @@ turned_same : (l m : Labels) → labels_eq l m ≡ false → labels_eq m l ≡ f
 turned_same l m h = by_test (labels_eq m l) refl
   where
     by_test : (b : Bool) → labels_eq m l ≡ b → b ≡ false
-    by_test true e = off (sym (is_same l m (sym (same_is m l e))) ∙ h)
+    by_test true e = absurd (true≢false (sym (is_same l m (sym (same_is m l e))) ∙ h))
     by_test false e = refl
 
 pub take_message : (b : List Placed) (add : Labels → Pairs) (ls : List Labels) (store : Store) → Apart ls → AllOf (λ l. accept (Some (store l)) (pairs (of l b)) ≡ Some (store l ++ add l)) ls → Took store add ls (accept_all (Some store) (map (series_of b) ls))
@@ -143,19 +118,19 @@ take_message b add [] store apart all = record { after = store; taken = refl; in
 take_message b add (l ∷ ls) store apart all =
     let next : Store = store_at l (store l ++ add l) store in
     let step : accept_series (Some store) (series_of b l) ≡ Some next = ap (λ o. put_series l o store) all.0 in
-    let kept : (m : Labels) → labels_eq l m ≡ false → next m ≡ store m = λ m h. cond_false (labels_eq l m) (store l ++ add l) (store m) h in
+    let kept : (m : Labels) → labels_eq l m ≡ false → next m ≡ store m = λ m h. cond-false (labels_eq l m) (store l ++ add l) (store m) h in
     let rest = take_message b add ls next apart.1 (both ls apart.0 all.1) in
     record {
       after = rest.after;
       taken = ap (λ o. accept_all o (map (series_of b) ls)) step ∙ rest.taken;
-      inside = (rest.outside l (all_more (λ m. labels_eq l m ≡ false) (λ m. labels_eq m l ≡ false) (turned_same l) ls apart.0) ∙ cond_true (labels_eq l l) (store l ++ add l) (store l) (is_same l l refl), back ls apart.0 rest.after rest.inside);
+      inside = (rest.outside l (all_more (λ m. labels_eq l m ≡ false) (λ m. labels_eq m l ≡ false) (turned_same l) ls apart.0) ∙ cond-true (labels_eq l l) (store l ++ add l) (store l) (is_same l l refl), back ls apart.0 rest.after rest.inside);
       outside = λ m h. rest.outside m h.1 ∙ kept m h.0;
     }
   where
     both : (ms : List Labels) → AllOf (λ m. labels_eq l m ≡ false) ms → AllOf (λ m. accept (Some (store m)) (pairs (of m b)) ≡ Some (store m ++ add m)) ms → AllOf (λ m. accept (Some (store_at l (store l ++ add l) store m)) (pairs (of m b)) ≡ Some (store_at l (store l ++ add l) store m ++ add m)) ms
     both [] apart all = tt
-    both (m ∷ ms) apart all = (subst (λ (xs : Pairs). accept (Some xs) (pairs (of m b)) ≡ Some (xs ++ add m)) (sym (cond_false (labels_eq l m) (store l ++ add l) (store m) apart.0)) all.0, both ms apart.1 all.1)
+    both (m ∷ ms) apart all = (subst (λ (xs : Pairs). accept (Some xs) (pairs (of m b)) ≡ Some (xs ++ add m)) (sym (cond-false (labels_eq l m) (store l ++ add l) (store m) apart.0)) all.0, both ms apart.1 all.1)
 
     back : (ms : List Labels) → AllOf (λ m. labels_eq l m ≡ false) ms → (after : Store) → AllOf (λ m. after m ≡ store_at l (store l ++ add l) store m ++ add m) ms → AllOf (λ m. after m ≡ store m ++ add m) ms
     back [] apart after all = tt
-    back (m ∷ ms) apart after all = (all.0 ∙ ap (λ (xs : Pairs). xs ++ add m) (cond_false (labels_eq l m) (store l ++ add l) (store m) apart.0), back ms apart.1 after all.1)
+    back (m ∷ ms) apart after all = (all.0 ∙ ap (λ (xs : Pairs). xs ++ add m) (cond-false (labels_eq l m) (store l ++ add l) (store m) apart.0), back ms apart.1 after all.1)

@@ -1,6 +1,7 @@
 -- Label sets without logged samples hold nothing.
 use Rattle.std.proofs.Common.{◌≡◌, ℕ, suc, Bool, true, false, cond, List, [], ◌∷◌, ◌++◌, length, map, take, drop, Option, Some, None, slice_get, refl, sym, ap, ◌∙◌, subst, ℤ, is_some, ◌&&◌, not, nat_le, nat_lt, if◌then◌else◌, append-nil, append_assoc, arith, Result, Ok, Err, ◌-◌}
 use Rattle.std.proofs.lemmas.List.{take-append-drop}
+use Rattle.std.proofs.lemmas.Bool.{and_parts}
 use Rattle.rw_types.specs.Labels.{Labels, label_fault}
 use Rattle.rw_types.specs.LabelOrder.{labels_eq}
 use Rattle.rw_types.specs.declared.entry.Entry.{Entry}
@@ -40,7 +41,7 @@ use Rattle.rw_machine.specs.Steps.{act, arrive, changed, endpoint_answer, flush_
 use Rattle.rw_machine.specs.Worlds.{Reply, Request, Setup, World, is_finished, log, start}
 use Rattle.rw_machine.specs.Promises.{HoldsNothingElse, Point}
 use Rattle.rw_machine.proofs.Views.{IsKept, logged_points, logged_from, shard_resolve}
-use Rattle.rw_machine.proofs.Steps.{always, either, Each, each_change, each_new, AllOf, all_append, all_left, all_right, all_get, all_more, all_filter, all_map, and_left, and_right, same_is}
+use Rattle.rw_machine.proofs.Steps.{always, either, Each, each_change, each_new, AllOf, all_append, all_left, all_right, all_get, all_more, all_filter, all_map, same_is}
 use Rattle.rw_machine.proofs.Places.{logged_append, take_next}
 
 -- what `known` keeps is a kept label set
@@ -97,7 +98,7 @@ nil_of (x ∷ xs) h = let never : false ≡ true → ⊥ = λ e. cc in absurd (n
 
 -- where a freeze may be, no batch is open
 pub no_batch : (k : Core) → can_freeze k ≡ true → k.batch ≡ []
-no_batch k h = nil_of k.batch (and_left (is_empty k.batch) (not (is_empty k.builder)) (and_right (not k.killed) (is_empty k.batch && not (is_empty k.builder)) h))
+no_batch k h = nil_of k.batch (and_parts (is_empty k.batch) (not (is_empty k.builder)) (and_parts (not k.killed) (is_empty k.batch && not (is_empty k.builder)) h).1).0
 
 pub pending_freeze : (s : Shard) → pending (shard_freeze s) ≡ pending s
 pending_freeze s = either (λ (k : Core). core.pending k ++ samples_in s.queue ≡ pending s) (can_freeze s.core) (record s.core { builder = []; marked = false; batch = s.core.builder; waiting = false }) s.core
@@ -147,7 +148,7 @@ next_logged c es n l r t word e kept h = never (logged_points c l (take n es)) (
     never [] z = cc
     never (p ∷ ps) z = cc
 
-all_distinct : (P : Labels → Type 0) (ls : List Labels) → AllOf P ls → AllOf P (distinct ls)
+pub all_distinct : (P : Labels → Type 0) (ls : List Labels) → AllOf P ls → AllOf P (distinct ls)
 unfolding distinct
 all_distinct P [] all = tt
 all_distinct P (l ∷ ls) all = (all.0, all_filter P (λ m. not (labels_eq l m)) (distinct ls) (all_distinct P ls all.1))

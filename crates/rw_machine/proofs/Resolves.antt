@@ -1,16 +1,17 @@
 -- Sending, resolving and restarting keep the invariant.
 use Rattle.std.proofs.Common.{◌≡◌, ℕ, zero, suc, ◌+◌, ◌<◌, ◌≤◌, ◌==◌, Bool, true, false, cond, List, [], ◌∷◌, ◌++◌, length, map, take, Option, Some, None, is_none, slice_get, refl, sym, ap, ◌∙◌, subst, ℤ, ◌&&◌, not, append-nil, append_assoc, length-append, arith, inl, inr, ◌⊎◌}
 use Rattle.std.specs.List.{list_all}
-use Rattle.std.proofs.lemmas.Bool.{cases_eq}
+use Rattle.std.proofs.lemmas.Bool.{cases_eq, true≢false, not-true, cond-false, cond-true, and_parts, ne_eqb}
 use Rattle.std.proofs.lemmas.Bool.Decides.{Decides-eqb}
 use Rattle.std.proofs.lemmas.List.{map-append}
-use Rattle.rw_machine.proofs.Steps.{either, each_new, AllOf, all_append, all_more, all_filter, all_map, is_same, and_left, and_right, not_true}
-use Rattle.rw_machine.proofs.OrderRule.{cond_true, cond_false, holds_right, holds_own}
+use Rattle.rw_machine.proofs.Steps.{either, each_new, AllOf, all_append, all_more, all_filter, all_map, is_same}
+use Rattle.rw_machine.proofs.OrderRule.{holds_right, holds_own}
 use Rattle.rw_machine.proofs.Places.{Numbered, numbered_more, numbered_left, numbered_right, numbered_all, length_change, get_changed, get_others, of_append}
 use Rattle.rw_machine.proofs.Invariant.{Inv, as_points, waits, home, id_at, Past, SampleOk, ShardOk, GotOk, DoneOk, IsOpen, InStore, RequestOk, AnswersOpen, AnswerOk, quiet, quiet_send, quiet_again, past_change}
-use Rattle.rw_machine.proofs.Keeps.{some_is, not_equal, name_all_other, names_own, owed_same, owed_all, owed_none, owed_append, pairs_of_points}
+use Rattle.rw_machine.proofs.Keeps.{name_all_other, names_own, owed_same, owed_all, owed_none, owed_append, pairs_of_points}
 use Rattle.std.specs.FinMap.{FinMap, get}
 use Rattle.std.specs.Ordering.{nat_cmp}
+use Rattle.std.proofs.lemmas.Option.{same_Some}
 use Rattle.rw_ledger.specs.declared.ledger.Reason.{Reason}
 use Rattle.rw_machine.proofs.Others.{pending_parts}
 use Rattle.rw_machine.proofs.Names.{ledger_name_all, name_batch}
@@ -29,16 +30,14 @@ use Rattle.rw_shard_core.specs.Shard.{awaits, batch_id, can_send, is_answer, is_
 use Rattle.rw_plain_queue.specs.Items.{Placed}
 use Rattle.rw_types.specs.LabelOrder.{labels_eq}
 use Rattle.rw_types.specs.Labels.{Labels}
-
-off : {P : Type 0} → true ≡ false → P
-off e = cc
+use Rattle.rw_shard_core.proofs.EmptyLemmas.{length_not_empty}
 
 -- an open batch's id
 pub open_id : (c : Setup) (epoch placed width : ℕ) (series : List Labels) (ledger : Ledger) (ident : ℕ → BatchId) (i : ℕ) (s : Shard) → ShardOk c epoch placed width series ledger ident i s → is_empty s.core.batch ≡ false → batch_id s.core.batch ≡ id_at epoch i (length s.core.resolved)
 open_id c epoch placed width series ledger ident i s ok full = by_batch s.core.batch refl full
   where
     by_batch : (b : List Placed) → s.core.batch ≡ b → is_empty b ≡ false → batch_id s.core.batch ≡ id_at epoch i (length s.core.resolved)
-    by_batch [] e h = off h
+    by_batch [] e h = absurd (true≢false h)
     by_batch (x ∷ b) e h =
         let first : SampleOk c epoch placed width series ledger ident i (length s.core.resolved) x = (subst (λ ys. Numbered (SampleOk c epoch placed width series ledger ident i) (length s.core.resolved) (ys ++ (s.core.builder ++ samples_in s.queue))) e (subst (Numbered (SampleOk c epoch placed width series ledger ident i) (length s.core.resolved)) (pending_parts s) ok.numbered)).0 in
         ap batch_id e ∙ (λ j. id_at (first.epoch_is j) (first.shard_is j) (first.seq_is j))
@@ -52,7 +51,7 @@ send_keeps c w i None e at = at
 send_keeps c w i (Some s) e at = either (Inv c) (can_send s.core) _ w (λ h. quiet c (record w { requests = w.requests ++ r ∷ [] }) i shard_send quiet_send (added (full_of h))) (λ _. at)
   where
     full_of : can_send s.core ≡ true → is_empty s.core.batch ≡ false
-    full_of h = not_true (is_empty s.core.batch) (and_left (not (is_empty s.core.batch)) (not s.core.waiting) (and_right (not s.core.killed) (not (is_empty s.core.batch) && not s.core.waiting) h))
+    full_of h = not-true (is_empty s.core.batch) (and_parts (not (is_empty s.core.batch)) (not s.core.waiting) (and_parts (not s.core.killed) (not (is_empty s.core.batch) && not s.core.waiting) h).1).0
 
     r : Request
     r = request_by s
@@ -96,13 +95,9 @@ holds_more s l x xs h = either (λ ys. holds s (pairs ys) ≡ true) (labels_eq l
 pub holds_each : (xs : List Placed) → AllOf (λ (y : Placed). holds (y.t, y.word) (pairs (of y.labels xs)) ≡ true) xs
 holds_each [] = tt
 holds_each (x ∷ xs) = (
-  subst (λ ys. holds (x.t, x.word) (pairs ys) ≡ true) (sym (cond_true (labels_eq x.labels x.labels) (x ∷ of x.labels xs) (of x.labels xs) (is_same x.labels x.labels refl))) (holds_own (x.t, x.word) (pairs (of x.labels xs))),
+  subst (λ ys. holds (x.t, x.word) (pairs ys) ≡ true) (sym (cond-true (labels_eq x.labels x.labels) (x ∷ of x.labels xs) (of x.labels xs) (is_same x.labels x.labels refl))) (holds_own (x.t, x.word) (pairs (of x.labels xs))),
   all_more (λ (y : Placed). holds (y.t, y.word) (pairs (of y.labels xs)) ≡ true) (λ (y : Placed). holds (y.t, y.word) (pairs (of y.labels (x ∷ xs))) ≡ true) (λ y h. holds_more (y.t, y.word) y.labels x xs h) xs (holds_each xs),
 )
-
-full_length : (xs : List Placed) → is_empty xs ≡ false → 0 < length xs
-full_length [] h = off h
-full_length (x ∷ xs) h = omega arith
 
 -- the open batch of shard j is resolved, and the ledger names it or not
 module _ (c : Setup) (w : World) (at : Inv c w) (j : ℕ) (s : Shard) (at_j : slice_get w.shards j ≡ Some s) (full : is_empty s.core.batch ≡ false) (names : FinMap nat_cmp Reason) (same : (p : ℕ) → AllOf (λ (x : Placed). x.place.pos ≡ p → ⊥) s.core.batch → get names p ≡ get w.names p) (owes : (l : Labels) → map pair_of (owed_by (get names) (as_points (of l s.core.batch))) ≡ pairs (of l (at.got j))) (has : is_let_in c s.core.batch ≡ true → at.got j ≡ s.core.batch) where
@@ -150,7 +145,7 @@ module _ (c : Setup) (w : World) (at : Inv c w) (j : ℕ) (s : Shard) (at_j : sl
 
   -- an id of the batch is past now
   past_batch : (id : BatchId) (k : ℕ) → id ≡ id_at w.epoch j k → k < length s.core.resolved + length s.core.batch → Past w.epoch shards id
-  past_batch id k e lt = subst (Past w.epoch shards) (sym e) (inr (refl, λ u at_u. let is : shard_resolve s ≡ u = some_is (sym now_at_j ∙ at_u) in let long : length u.core.resolved ≡ length s.core.resolved + length s.core.batch = ap (λ (v : Shard). length v.core.resolved) (sym is) ∙ resolved_length in omega arith))
+  past_batch id k e lt = subst (Past w.epoch shards) (sym e) (inr (refl, λ u at_u. let is : shard_resolve s ≡ u = same_Some _ _ (sym now_at_j ∙ at_u) in let long : length u.core.resolved ≡ length s.core.resolved + length s.core.batch = ap (λ (v : Shard). length v.core.resolved) (sym is) ∙ resolved_length in omega arith))
 
   never_past : (k : ℕ) → length s.core.resolved ≤ k → Past w.epoch w.shards (id_at w.epoch j k) → ⊥
   never_past k le (inl h) = let lt : w.epoch < w.epoch = h in omega arith
@@ -163,20 +158,20 @@ module _ (c : Setup) (w : World) (at : Inv c w) (j : ℕ) (s : Shard) (at_j : sl
   got i = cond (i == j) [] (at.got i)
 
   home_yes : (l : Labels) → home at.width w.series l ≡ j → done l ≡ at.done l ++ as_points (of l s.core.batch)
-  home_yes l h = cond_true (home at.width w.series l == j) (at.done l ++ as_points (of l s.core.batch)) (at.done l) ((Decides-eqb (home at.width w.series l) j).1 h)
+  home_yes l h = cond-true (home at.width w.series l == j) (at.done l ++ as_points (of l s.core.batch)) (at.done l) ((Decides-eqb (home at.width w.series l) j).1 h)
 
   home_other : (l : Labels) → (home at.width w.series l ≡ j → ⊥) → done l ≡ at.done l
-  home_other l h = cond_false (home at.width w.series l == j) (at.done l ++ as_points (of l s.core.batch)) (at.done l) (not_equal (home at.width w.series l) j h)
+  home_other l h = cond-false (home at.width w.series l == j) (at.done l ++ as_points (of l s.core.batch)) (at.done l) (ne_eqb (home at.width w.series l) j h)
 
   got_yes : (i : ℕ) → i ≡ j → got i ≡ []
-  got_yes i h = cond_true (i == j) [] (at.got i) ((Decides-eqb i j).1 h)
+  got_yes i h = cond-true (i == j) [] (at.got i) ((Decides-eqb i j).1 h)
 
   got_other : (i : ℕ) → (i ≡ j → ⊥) → got i ≡ at.got i
-  got_other i h = cond_false (i == j) [] (at.got i) (not_equal i j h)
+  got_other i h = cond-false (i == j) [] (at.got i) (ne_eqb i j h)
 
   resolved_shards : (i : ℕ) (u : Shard) → slice_get shards i ≡ Some u → (i ≡ j) ⊎ (i ≡ j → ⊥) → ShardOk c w.epoch w.placed at.width w.series (get names) at.ident i u
   resolved_shards i u at_i (inl h) =
-      let is : shard_resolve s ≡ u = some_is (sym now_at_j ∙ ap (slice_get shards) (sym h) ∙ at_i) in
+      let is : shard_resolve s ≡ u = same_Some _ _ (sym now_at_j ∙ ap (slice_get shards) (sym h) ∙ at_i) in
       let here : ShardOk c w.epoch w.placed at.width w.series (get names) at.ident j (shard_resolve s) = record {
         counted = (let a : length s.put ≡ length s.core.resolved + length (pending s) = ok.counted in let b : length (pending s) ≡ length s.core.batch + length rest = ap length (pending_parts s) ∙ length-append s.core.batch rest in let d : length (s.core.resolved ++ s.core.batch) ≡ length s.core.resolved + length s.core.batch = resolved_length in omega arith);
         numbered = subst (λ (n : ℕ). Numbered (New j) n rest) (sym resolved_length) (numbered_more (Old j) (New j) (length s.core.resolved + length s.core.batch) rest (λ k y le y_ok. renamed j k y y_ok (λ _. le)) (numbered_right (Old j) (length s.core.resolved) (length s.core.resolved + length s.core.batch) s.core.batch rest refl (subst (Numbered (Old j) (length s.core.resolved)) (pending_parts s) ok.numbered)));
@@ -228,7 +223,7 @@ module _ (c : Setup) (w : World) (at : Inv c w) (j : ℕ) (s : Shard) (at_j : sl
   id_here = open_id c w.epoch w.placed at.width w.series (get w.names) at.ident j s ok full
 
   longer : length s.core.resolved < length s.core.resolved + length s.core.batch
-  longer = let lt : 0 < length s.core.batch = full_length s.core.batch full in omega arith
+  longer = let lt : 0 < length s.core.batch = length_not_empty s.core.batch full in omega arith
 
   abbrev Fate : List Shard → Request → Type 0
   Fate ss r = (Past w.epoch ss r.id × (is_let_in c r.batch ≡ true → AllOf (InStore (list_of w.head.store)) r.batch)) ⊎ ((r.id.epoch ≡ w.epoch) × IsOpen (slice_get ss r.id.shard) r.batch)
@@ -269,9 +264,9 @@ module _ (c : Setup) (w : World) (at : Inv c w) (j : ℕ) (s : Shard) (at_j : sl
 
 pub same_id_is : (a b : BatchId) → same_id a b ≡ true → a ≡ b
 same_id_is a b h i = id_at
-    ((Decides-eqb a.epoch b.epoch).0 (and_left (a.epoch == b.epoch) (a.shard == b.shard) (and_left (a.epoch == b.epoch && a.shard == b.shard) (a.seq == b.seq) h)) i)
-    ((Decides-eqb a.shard b.shard).0 (and_right (a.epoch == b.epoch) (a.shard == b.shard) (and_left (a.epoch == b.epoch && a.shard == b.shard) (a.seq == b.seq) h)) i)
-    ((Decides-eqb a.seq b.seq).0 (and_right (a.epoch == b.epoch && a.shard == b.shard) (a.seq == b.seq) h) i)
+    ((Decides-eqb a.epoch b.epoch).0 (and_parts (a.epoch == b.epoch) (a.shard == b.shard) (and_parts (a.epoch == b.epoch && a.shard == b.shard) (a.seq == b.seq) h).0).0 i)
+    ((Decides-eqb a.shard b.shard).0 (and_parts (a.epoch == b.epoch) (a.shard == b.shard) (and_parts (a.epoch == b.epoch && a.shard == b.shard) (a.seq == b.seq) h).0).1 i)
+    ((Decides-eqb a.seq b.seq).0 (and_parts (a.epoch == b.epoch && a.shard == b.shard) (a.seq == b.seq) h).1 i)
 
 -- a reply with this judgement
 abbrev pub settled_by : World → ℕ → Shard → ℕ → Judgement → World
@@ -286,7 +281,7 @@ reply_keeps c w (Some a) answers at = by_shard (slice_get w.shards a.id.shard) r
   where
     by_shard : (o : Option Shard) → slice_get w.shards a.id.shard ≡ o → Inv c (reply_to w a o)
     by_shard None e = at
-    by_shard (Some s) e = either (Inv c) (is_answer a.id s.core) _ w (λ h. by_guard (and_left (awaits s.core) (same_id a.id (batch_id s.core.batch)) h) (same_id_is a.id (batch_id s.core.batch) (and_right (awaits s.core) (same_id a.id (batch_id s.core.batch)) h))) (λ _. at)
+    by_shard (Some s) e = either (Inv c) (is_answer a.id s.core) _ w (λ h. by_guard (and_parts (awaits s.core) (same_id a.id (batch_id s.core.batch)) h).0 (same_id_is a.id (batch_id s.core.batch) (and_parts (awaits s.core) (same_id a.id (batch_id s.core.batch)) h).1)) (λ _. at)
       where
         ok : ShardOk c w.epoch w.placed at.width w.series (get w.names) at.ident a.id.shard s
         ok = at.shards_ok a.id.shard s e
@@ -295,7 +290,7 @@ reply_keeps c w (Some a) answers at = by_shard (slice_get w.shards a.id.shard) r
         by_guard waits_ same = by_answer (answers a refl at)
           where
             full : is_empty s.core.batch ≡ false
-            full = not_true (is_empty s.core.batch) (and_left (not (is_empty s.core.batch)) s.core.waiting (and_right (not s.core.killed) (not (is_empty s.core.batch) && s.core.waiting) waits_))
+            full = not-true (is_empty s.core.batch) (and_parts (not (is_empty s.core.batch)) s.core.waiting (and_parts (not s.core.killed) (not (is_empty s.core.batch) && s.core.waiting) waits_).1).0
 
             id_is : a.id ≡ id_at w.epoch a.id.shard (length s.core.resolved)
             id_is = same ∙ open_id c w.epoch w.placed at.width w.series (get w.names) at.ident a.id.shard s ok full
@@ -314,7 +309,7 @@ reply_keeps c w (Some a) answers at = by_shard (slice_get w.shards a.id.shard) r
 
             nothing_got : is_let_in c s.core.batch ≡ false → (at.got a.id.shard ≡ []) ⊎ ((at.got a.id.shard ≡ s.core.batch) × (is_let_in c s.core.batch ≡ true)) → at.got a.id.shard ≡ []
             nothing_got unfit (inl h) = h
-            nothing_got unfit (inr h) = off (sym h.1 ∙ unfit)
+            nothing_got unfit (inr h) = absurd (true≢false (sym h.1 ∙ unfit))
 
             by_judgement : (d : Judgement) → judgement_of a.status ≡ d → AnswersOpen c (at.got a.id.shard) a (Some s) → Inv c (settled_by w a.id.shard s a.status d)
             by_judgement Done d open_here =
@@ -326,7 +321,7 @@ reply_keeps c w (Some a) answers at = by_shard (slice_get w.shards a.id.shard) r
                 let unfit : is_let_in c s.core.batch ≡ false = open_here.3 d in
                 resolve_keeps c w at a.id.shard s e full names (λ p apart. ap (λ ledger. ledger p) named ∙ name_all_other a.status s.core.batch (get w.names) p apart)
                 (λ l. ap (map pair_of) (owed_none (get names) (as_points (of l s.core.batch)) (of_batch (λ (q : Point). is_none (get names q.0) ≡ false) l (subst (λ (ledger : Ledger). AllOf (λ (x : Placed). is_none (ledger x.place.pos) ≡ false) s.core.batch) (sym named) (names_own a.status s.core.batch (get w.names))))) ∙ sym (ap (λ b. pairs (of l b)) (nothing_got unfit (subst (λ (o : Option Shard). GotOk c o (at.got a.id.shard)) e (at.got_ok a.id.shard)))))
-                (λ fits. off (sym fits ∙ unfit))
+                (λ fits. absurd (true≢false (sym fits ∙ unfit)))
             by_judgement Again d open_here = quiet c w a.id.shard shard_again quiet_again at
 
             by_answer : AnswerOk c w.epoch w.shards at.got a → Inv c (settled_by w a.id.shard s a.status (judgement_of a.status))
@@ -339,8 +334,8 @@ reply_keeps c w (Some a) answers at = by_shard (slice_get w.shards a.id.shard) r
 
 list_all_at : (p : Shard → Bool) (ss : List Shard) (i : ℕ) (s : Shard) → list_all p ss ≡ true → slice_get ss i ≡ Some s → p s ≡ true
 list_all_at p [] i s h e = let never : None ≡ Some s → ⊥ = λ h. cc in absurd (never e)
-list_all_at p (x ∷ ss) zero s h e = let same : x ≡ s = cc in ap p (sym same) ∙ and_left (p x) (list_all p ss) h
-list_all_at p (x ∷ ss) (suc i) s h e = list_all_at p ss i s (and_right (p x) (list_all p ss) h) e
+list_all_at p (x ∷ ss) zero s h e = let same : x ≡ s = cc in ap p (sym same) ∙ (and_parts (p x) (list_all p ss) h).0
+list_all_at p (x ∷ ss) (suc i) s h e = list_all_at p ss i s (and_parts (p x) (list_all p ss) h).1 e
 
 nil_length : (xs : List Placed) → length xs ≡ 0 → xs ≡ []
 nil_length [] h = refl
@@ -354,7 +349,7 @@ nil_left (x ∷ xs) ys h = let never : x ∷ (xs ++ ys) ≡ [] → ⊥ = λ h. c
 pub drained : (c : Setup) (w : World) (at : Inv c w) → all_drained w ≡ true → (i : ℕ) (o : Option Shard) → slice_get w.shards i ≡ o → waits o ≡ []
 drained c w at all i None e = refl
 drained c w at all i (Some s) e =
-    let even : (length s.core.resolved == length s.put) ≡ true = and_right s.core.ended (length s.core.resolved == length s.put) (list_all_at is_drained w.shards i s all e) in
+    let even : (length s.core.resolved == length s.put) ≡ true = (and_parts s.core.ended (length s.core.resolved == length s.put) (list_all_at is_drained w.shards i s all e)).1 in
     let same : length s.core.resolved ≡ length s.put = (Decides-eqb (length s.core.resolved) (length s.put)).0 even in
     let count : length s.put ≡ length s.core.resolved + length (pending s) = (at.shards_ok i s e).counted in
     nil_length (pending s) (omega arith)
@@ -373,7 +368,7 @@ length_new c epoch k (suc n) = ap suc (length_new c epoch (suc k) n)
 
 pub restart_keeps : (c : Setup) (w : World) (o : Option ℕ) → Inv c w → Inv c (restart_as c w o)
 restart_keeps c w None at = at
-restart_keeps c w (Some n) at = either (Inv c) (not (is_finished w) && all_drained w) _ w (λ h. begun (and_right (not (is_finished w)) (all_drained w) h)) (λ _. at)
+restart_keeps c w (Some n) at = either (Inv c) (not (is_finished w) && all_drained w) _ w (λ h. begun (and_parts (not (is_finished w)) (all_drained w) h).1) (λ _. at)
   where
     fresh_wait : (i : ℕ) (o : Option Shard) → slice_get (new_shards c (suc w.epoch) 0 n) i ≡ o → waits o ≡ []
     fresh_wait i None e = refl
@@ -416,7 +411,7 @@ restart_keeps c w (Some n) at = either (Inv c) (not (is_finished w) && all_drain
           where
             by_shard : (o : Option Shard) → slice_get w.shards r.id.shard ≡ o → IsOpen o r.batch → ((Past (suc w.epoch) (new_shards c (suc w.epoch) 0 n) r.id × (is_let_in c r.batch ≡ true → AllOf (InStore (list_of w.head.store)) r.batch)) ⊎ ((r.id.epoch ≡ suc w.epoch) × IsOpen (slice_get (new_shards c (suc w.epoch) 0 n) r.id.shard) r.batch))
             by_shard None e g = absurd g
-            by_shard (Some s) e g = off (sym (ap is_empty (sym g.0 ∙ nil_left s.core.batch (s.core.builder ++ samples_in s.queue) (sym (pending_parts s) ∙ drained c w at all r.id.shard (Some s) e))) ∙ g.1)
+            by_shard (Some s) e g = absurd (true≢false (sym (ap is_empty (sym g.0 ∙ nil_left s.core.batch (s.core.builder ++ samples_in s.queue) (sym (pending_parts s) ∙ drained c w at all r.id.shard (Some s) e))) ∙ g.1))
 
         answer : (a : Reply) → AnswerOk c w.epoch w.shards at.got a → AnswerOk c (suc w.epoch) (new_shards c (suc w.epoch) 0 n) (λ _. []) a
         answer a (inl h) = inl (older a.id h)

@@ -1,7 +1,8 @@
 -- The points that rise: those that are later than all before them.
 use Rattle.std.proofs.Common.{◌≡◌, ℤ, int_lt, Bool, true, false, cond, if◌then◌else◌, List, [], ◌∷◌, ◌++◌, sym, ap, ◌∙◌, subst, append-nil, append_assoc}
+use Rattle.std.proofs.lemmas.Bool.{and_parts}
 use Rattle.rw_series_cache.specs.Rising.{is_after_all}
-use Rattle.rw_machine.proofs.Steps.{either, and_left, and_right}
+use Rattle.rw_machine.proofs.Steps.{either}
 use Rattle.rw_machine.specs.Promises.{Point}
 
 abbrev pub AllLater : ℤ → List Point → Type 0
@@ -36,8 +37,8 @@ pub risen-push : (ps : List Point) (p : Point) → risen (ps ++ p ∷ []) ≡ ri
 risen-push ps p = risen_after-push [] ps p
 
 later_than_each : (t : ℤ) (b : List Point) (p : Point) (ps : List Point) → is_after_all t (b ++ p ∷ ps) ≡ true → int_lt p.1 t ≡ true
-later_than_each t [] p ps h = and_left (int_lt p.1 t) (is_after_all t ps) h
-later_than_each t (q ∷ b) p ps h = later_than_each t b p ps (and_right (int_lt q.1 t) (is_after_all t (b ++ p ∷ ps)) h)
+later_than_each t [] p ps h = (and_parts (int_lt p.1 t) (is_after_all t ps) h).0
+later_than_each t (q ∷ b) p ps h = later_than_each t b p ps (and_parts (int_lt q.1 t) (is_after_all t (b ++ p ∷ ps)) h).1
 
 later_than_before : (b : List Point) (p : Point) (d ps : List Point) → AllLater p.1 (risen_after (b ++ p ∷ d) ps)
 later_than_before b p d [] = tt

@@ -1,9 +1,8 @@
 -- Each round of `settle` leaves less work.
 use Rattle.std.proofs.Common.{◌≡◌, ℕ, suc, ◌+◌, ◌-◌, ◌*◌, ◌<◌, ◌≤◌, Bool, true, false, cond, List, [], ◌∷◌, ◌++◌, length, map, take, Option, Some, None, Result, Ok, Err, is_some, slice_get, refl, sym, ap, ◌∙◌, subst, ℤ, ◌||◌, ◌&&◌, not, nat_lt, length-append, arith, inl, inr, ◌⊎◌}
 use Rattle.std.specs.List.{list_any}
-use Rattle.std.proofs.lemmas.Bool.{ltb-true}
-use Rattle.rw_machine.proofs.Steps.{either, AllOf, all_left, and_left, and_right, and_both, not_true}
-use Rattle.rw_machine.proofs.OrderRule.{cond_true, cond_false}
+use Rattle.std.proofs.lemmas.Bool.{ltb-true, true≢false, not-true, cond-false, cond-true, and_parts}
+use Rattle.rw_machine.proofs.Steps.{either, AllOf, all_left, and_both}
 use Rattle.rw_machine.proofs.Places.{get_below}
 use Rattle.rw_machine.proofs.Live.{HasId, Going, same_id_own}
 use Rattle.rw_machine.proofs.Measure.{builder_work, batch_work, end_work, shard_work, shards_work, drain_work, work, work_change}
@@ -40,9 +39,6 @@ use Rattle.rw_plain_queue.specs.Items.{Placed}
 use Rattle.rw_types.specs.Labels.{Labels}
 use Rattle.rw_types.specs.declared.entry.Entry.{Entry}
 use Rattle.rw_types.specs.declared.entry.Entry.TheVariants.{Def, Sample}
-
-off : {P : Type 0} → true ≡ false → P
-off e = cc
 
 no_shard : {P : Type 0} {s : Shard} → None ≡ Some s → P
 no_shard e = cc
@@ -94,14 +90,14 @@ shard_round w i f s e lt = record {
 
 -- event.Place
 pub place_round : (c : Setup) (w : World) → can_place c w ≡ true → Round w (place c w)
-place_round c w can = subst (Round w) (sym (cond_false (is_some w.draining) w (place_entry c w (slice_get (log w) w.placed)) (not_true (is_some w.draining) (and_left (not (is_some w.draining)) (can_place_entry c w (slice_get (log w) w.placed)) can)))) (by_entry (slice_get (log w) w.placed) refl (and_right (not (is_some w.draining)) (can_place_entry c w (slice_get (log w) w.placed)) can))
+place_round c w can = subst (Round w) (sym (cond-false (is_some w.draining) w (place_entry c w (slice_get (log w) w.placed)) (not-true (is_some w.draining) (and_parts (not (is_some w.draining)) (can_place_entry c w (slice_get (log w) w.placed)) can).0))) (by_entry (slice_get (log w) w.placed) refl (and_parts (not (is_some w.draining)) (can_place_entry c w (slice_get (log w) w.placed)) can).1)
   where
     left : (x : Entry) → slice_get (log w) w.placed ≡ Some x → 5 * (length (log w) - suc w.placed) + shards_work w.shards + drain_work w.draining + 2 * w.head.busy < work w
     left x e = entry_less (length (log w)) w.placed (shards_work w.shards) (drain_work w.draining) (2 * w.head.busy) (get_below (log w) w.placed x e)
 
     by_shard : (x : Entry) → slice_get (log w) w.placed ≡ Some x → (l : Labels) (t : ℤ) (word i : ℕ) (o : Option Shard) → slice_get w.shards i ≡ o → room_at c o ≡ true → Round w (put_if_room c w i l t word o)
-    by_shard x e l t word i None at_i room = off (sym room)
-    by_shard x e l t word i (Some s) at_i room = subst (Round w) (sym (cond_true (has_room c.capacity s) (record w { shards = change i (shard_put (next_sample w i l t word s)) w.shards; placed = suc w.placed }) w room)) (record {
+    by_shard x e l t word i None at_i room = absurd (true≢false (sym room))
+    by_shard x e l t word i (Some s) at_i room = subst (Round w) (sym (cond-true (has_room c.capacity s) (record w { shards = change i (shard_put (next_sample w i l t word s)) w.shards; placed = suc w.placed }) w room)) (record {
       lower = put_less (length (log w)) w.placed (shards_work w.shards) (shards_work (change i (shard_put (next_sample w i l t word s)) w.shards)) (drain_work w.draining) (2 * w.head.busy) (shard_work s) (shard_work (shard_put (next_sample w i l t word s) s)) (get_below (log w) w.placed x e) (work_change i (shard_put (next_sample w i l t word s)) w.shards s at_i) (let long : length (s.queue ++ One (next_sample w i l t word s) ∷ []) ≡ length s.queue + 1 = length-append s.queue (One (next_sample w i l t word s) ∷ []) in omega arith);
       same = record { killed = refl; pieces = refl; closed = refl };
     })
@@ -117,14 +113,14 @@ place_round c w can = subst (Round w) (sym (cond_false (is_some w.draining) w (p
     by_known x e t word (Kept l) h = by_rising x e l t word (rises c.choice (take w.placed (log w)) l t) h
 
     by_entry : (o : Option Entry) → slice_get (log w) w.placed ≡ o → can_place_entry c w o ≡ true → Round w (place_entry c w o)
-    by_entry None e h = off (sym h)
+    by_entry None e h = absurd (true≢false (sym h))
     by_entry (Some (Def r m)) e h = record { lower = left (Def r m) e; same = record { killed = refl; pieces = refl; closed = refl } }
     by_entry (Some (Sample r t word)) e h = by_known (Sample r t word) e t word (known c.choice (take w.placed (log w)) r) h
 
 -- event.Freeze, event.Take, event.Flush
 empty_batch : (b : List Placed) (v : Bool) → is_empty b ≡ true → batch_work b v ≡ 0
 empty_batch [] v h = refl
-empty_batch (x ∷ b) v h = off (sym h)
+empty_batch (x ∷ b) v h = absurd (true≢false (sym h))
 
 most_batch : (b : List Placed) (v : Bool) → batch_work b v ≤ 2
 most_batch [] v = omega arith
@@ -132,7 +128,7 @@ most_batch (x ∷ b) true = omega arith
 most_batch (x ∷ b) false = omega arith
 
 full_builder : (b : List Placed) → is_empty b ≡ false → builder_work b ≡ 3
-full_builder [] h = off h
+full_builder [] h = absurd (true≢false h)
 full_builder (x ∷ b) h = refl
 
 most_builder : (b : List Placed) → builder_work b ≤ 3
@@ -142,7 +138,7 @@ most_builder (x ∷ b) = omega arith
 pub frozen_less : (s : Shard) → s.core.killed ≡ false → is_empty s.core.batch ≡ true → is_empty s.core.builder ≡ false → shard_work (shard_freeze s) < shard_work s
 frozen_less s alive e f =
     let t : Shard = record s { core = record s.core { builder = []; marked = false; batch = s.core.builder; waiting = false } } in
-    let is : shard_freeze s ≡ t = ap (λ (k : Core). record s { core = k }) (cond_true (can_freeze s.core) _ s.core (and_both (not s.core.killed) (is_empty s.core.batch && not (is_empty s.core.builder)) (ap not alive) (and_both (is_empty s.core.batch) (not (is_empty s.core.builder)) e (ap not f)))) in
+    let is : shard_freeze s ≡ t = ap (λ (k : Core). record s { core = k }) (cond-true (can_freeze s.core) _ s.core (and_both (not s.core.killed) (is_empty s.core.batch && not (is_empty s.core.builder)) (ap not alive) (and_both (is_empty s.core.batch) (not (is_empty s.core.builder)) e (ap not f)))) in
     let a : batch_work s.core.batch s.core.waiting ≡ 0 = empty_batch s.core.batch s.core.waiting e in
     let b : builder_work s.core.builder ≡ 3 = full_builder s.core.builder f in
     let d : batch_work s.core.builder false ≤ 2 = most_batch s.core.builder false in
@@ -150,13 +146,13 @@ frozen_less s alive e f =
     subst (λ t. shard_work t < shard_work s) (sym is) lt
 
 pub taken_less : (s : Shard) → can_take s.core ≡ true → is_empty s.queue ≡ false → shard_work (shard_take s) < shard_work s
-taken_less s can some = subst (λ t. shard_work t < shard_work s) (sym (cond_true (can_take s.core) (take_front s.queue s) s can)) (by_queue s.queue refl some)
+taken_less s can some = subst (λ t. shard_work t < shard_work s) (sym (cond-true (can_take s.core) (take_front s.queue s) s can)) (by_queue s.queue refl some)
   where
     less : (q b d m e n : ℕ) → q ≡ suc n → d ≤ b + 3 → 4 * n + d + m + e < 4 * q + b + m + e
     less q b d m e n h le = omega arith
 
     by_queue : (q : List Queued) → s.queue ≡ q → is_empty q ≡ false → shard_work (take_front q s) < shard_work s
-    by_queue [] e h = off h
+    by_queue [] e h = absurd (true≢false h)
     by_queue (One x ∷ q) e h = less (length s.queue) (builder_work s.core.builder) (builder_work (s.core.builder ++ x ∷ [])) (batch_work s.core.batch s.core.waiting) (end_work s.end_put) (length q) (ap length e) (let le : builder_work (s.core.builder ++ x ∷ []) ≤ 3 = most_builder (s.core.builder ++ x ∷ []) in omega arith)
     by_queue (FlushMark ∷ q) e h = less (length s.queue) (builder_work s.core.builder) (builder_work s.core.builder) (batch_work s.core.batch s.core.waiting) (end_work s.end_put) (length q) (ap length e) (omega arith)
     by_queue (EndMark k ∷ q) e h = less (length s.queue) (builder_work s.core.builder) (builder_work s.core.builder) (batch_work s.core.batch s.core.waiting) (end_work s.end_put) (length q) (ap length e) (omega arith)
@@ -172,23 +168,23 @@ or_cases true b h = inl refl
 or_cases false b h = inr (refl, h)
 
 pub flush_less : (c : Setup) (w : World) (s : Shard) → (is_finished w || is_some w.draining) ≡ true → s.end_put ≡ false → has_room c.capacity s ≡ true → shard_work (flush_shard c w s) < shard_work s
-flush_less c w s ending unput room = subst (λ t. shard_work t < shard_work s) (sym (cond_true (not s.end_put && has_room c.capacity s) (mark w s) s (and_both (not s.end_put) (has_room c.capacity s) (ap not unput) room))) (by_case (or_cases (is_finished w) (is_some w.draining) ending))
+flush_less c w s ending unput room = subst (λ t. shard_work t < shard_work s) (sym (cond-true (not s.end_put && has_room c.capacity s) (mark w s) s (and_both (not s.end_put) (has_room c.capacity s) (ap not unput) room))) (by_case (or_cases (is_finished w) (is_some w.draining) ending))
   where
     by_case : (is_finished w ≡ true) ⊎ ((is_finished w ≡ false) × (is_some w.draining ≡ true)) → shard_work (mark w s) < shard_work s
-    by_case (inl f) = subst (λ t. shard_work t < shard_work s) (sym (cond_true (is_finished w) (shard_end kind.Orderly s) (cond (is_some w.draining) (shard_end kind.Reshard s) (shard_flush s)) f)) (ended_less kind.Orderly s unput)
-    by_case (inr h) = subst (λ t. shard_work t < shard_work s) (sym (cond_false (is_finished w) (shard_end kind.Orderly s) (cond (is_some w.draining) (shard_end kind.Reshard s) (shard_flush s)) h.0 ∙ cond_true (is_some w.draining) (shard_end kind.Reshard s) (shard_flush s) h.1)) (ended_less kind.Reshard s unput)
+    by_case (inl f) = subst (λ t. shard_work t < shard_work s) (sym (cond-true (is_finished w) (shard_end kind.Orderly s) (cond (is_some w.draining) (shard_end kind.Reshard s) (shard_flush s)) f)) (ended_less kind.Orderly s unput)
+    by_case (inr h) = subst (λ t. shard_work t < shard_work s) (sym (cond-false (is_finished w) (shard_end kind.Orderly s) (cond (is_some w.draining) (shard_end kind.Reshard s) (shard_flush s)) h.0 ∙ cond-true (is_some w.draining) (shard_end kind.Reshard s) (shard_flush s) h.1)) (ended_less kind.Reshard s unput)
 
 -- event.Send
 sent_less : (b : List Placed) → is_empty b ≡ false → batch_work b true < batch_work b false
-sent_less [] h = off h
+sent_less [] h = absurd (true≢false h)
 sent_less (x ∷ b) h = omega arith
 
 pub send_round : (w : World) (i : ℕ) (s : Shard) → slice_get w.shards i ≡ Some s → s.core.killed ≡ false → is_empty s.core.batch ≡ false → s.core.waiting ≡ false → Round w (send_batch w i (slice_get w.shards i))
 send_round w i s e alive full still =
     let can : can_send s.core ≡ true = and_both (not s.core.killed) (not (is_empty s.core.batch) && not s.core.waiting) (ap not alive) (and_both (not (is_empty s.core.batch)) (not s.core.waiting) (ap not full) (ap not still)) in
-    let is : send_batch w i (slice_get w.shards i) ≡ record w { requests = w.requests ++ request_by s ∷ []; shards = change i shard_send w.shards } = ap (send_batch w i) e ∙ cond_true (can_send s.core) _ w can in
+    let is : send_batch w i (slice_get w.shards i) ≡ record w { requests = w.requests ++ request_by s ∷ []; shards = change i shard_send w.shards } = ap (send_batch w i) e ∙ cond-true (can_send s.core) _ w can in
     let t : Shard = record s { core = record s.core { waiting = true } } in
-    let sent : shard_send s ≡ t = ap (λ (k : Core). record s { core = k }) (cond_true (can_send s.core) _ s.core can) in
+    let sent : shard_send s ≡ t = ap (λ (k : Core). record s { core = k }) (cond-true (can_send s.core) _ s.core can) in
     let was : batch_work s.core.batch s.core.waiting ≡ batch_work s.core.batch false = ap (batch_work s.core.batch) still in
     let lt : batch_work s.core.batch true < batch_work s.core.batch false = sent_less s.core.batch full in
     let less : shard_work t < shard_work s = omega arith in
@@ -217,7 +213,7 @@ newest_stands : (id : BatchId) (rs : List Request) → HasId rs id → (r : Requ
 newest_stands id rs has = by_case (newest id 0 rs 0)
   where
     by_case : Newest id 0 rs 0 (newest_from id 0 rs 0) → (r : Request) × (slice_get rs (newest_from id 0 rs 0) ≡ Some r) × (same_id id r.id ≡ true)
-    by_case (inl h) = off (sym has ∙ h.0)
+    by_case (inl h) = absurd (true≢false (sym has ∙ h.0))
     by_case (inr h) = (h.1, ap (slice_get rs) (h.2 ∙ (let z : 0 + h.0 ≡ h.0 = omega arith in z)) ∙ h.3, h.4)
 
 -- an answer lowers the busy count where it says busy, and leaves it elsewhere
@@ -268,7 +264,7 @@ answer_calm c h batch =
     by_result (Err v) z = record { most = omega arith; again = λ d. refused (sym (ap judgement_of z) ∙ d) }
 
 waiting_work : (b : List Placed) → is_empty b ≡ false → batch_work b true ≡ 1
-waiting_work [] h = off h
+waiting_work [] h = absurd (true≢false h)
 waiting_work (x ∷ b) h = refl
 
 resolved_less : (e s t d b a u v : ℕ) → t + u ≡ s + v → v < u → a ≤ b → e + t + d + 2 * a < e + s + d + 2 * b
@@ -314,7 +310,7 @@ exchange_round c w i s e over g full waits =
     a = record { id = r.id; status = verdict.status }
 
     shard_is : (b : List Placed) → is_empty b ≡ false → AllOf (λ (x : Placed). x.place.shard ≡ i) b → (batch_id b).shard ≡ i
-    shard_is [] h all = off h
+    shard_is [] h all = absurd (true≢false h)
     shard_is (x ∷ b) h all = all.0
 
     at_i : r.id.shard ≡ i
@@ -327,7 +323,7 @@ exchange_round c w i s e over g full waits =
     guard = and_both (awaits s.core) (same_id r.id (batch_id s.core.batch)) (and_both (not s.core.killed) (not (is_empty s.core.batch) && s.core.waiting) (ap not g.alive) (and_both (not (is_empty s.core.batch)) s.core.waiting (ap not full) waits)) (ap (λ (d : BatchId). same_id d (batch_id s.core.batch)) id_is ∙ same_id_own (batch_id s.core.batch))
 
     replied : take_reply u (slice_get u.replies (length w.replies)) ≡ settled u r.id.shard s verdict.status
-    replied = ap (take_reply u) (get_last w.replies a) ∙ ap (reply_to u a) here ∙ cond_true (is_answer r.id s.core) (settled u r.id.shard s verdict.status) u guard
+    replied = ap (take_reply u) (get_last w.replies a) ∙ ap (reply_to u a) here ∙ cond-true (is_answer r.id s.core) (settled u r.id.shard s verdict.status) u guard
 
     calm : Calm w.head verdict
     calm = answer_calm c w.head r.batch

@@ -1,20 +1,21 @@
 -- Over a whole schedule: the head holds a beginning, and all once complete.
 use Rattle.std.proofs.Common.{◌≡◌, ℕ, ◌+◌, Bool, true, false, cond, List, [], ◌∷◌, ◌++◌, length, map, filter, take, drop, Option, Some, None, is_some, slice_get, refl, sym, ap, ◌∙◌, subst, ℤ, ◌&&◌, not, nat_le, append-nil, append_assoc, arith, inl, inr, ◌⊎◌, is_none, take-append-drop}
 use Rattle.std.proofs.lemmas.List.{map-append}
-use Rattle.rw_machine.proofs.Steps.{always, unless, either, each_new, AllOf, all_get, all_map, all_filter, and_right}
+use Rattle.rw_machine.proofs.Steps.{always, unless, either, each_new, AllOf, all_get, all_map, all_filter}
 use Rattle.rw_machine.proofs.Risen.{risen}
 use Rattle.rw_machine.proofs.Classes.{classes}
 use Rattle.rw_machine.proofs.Owed.{no_logged, owed_points}
 use Rattle.rw_machine.proofs.Others.{others, pending_parts}
-use Rattle.rw_machine.proofs.OrderRule.{cond_false}
 use Rattle.rw_machine.proofs.Places.{logged_append, numbered_all, of_append}
 use Rattle.rw_machine.proofs.Invariant.{Inv, id_at, as_points, waits, home, SampleOk, ShardOk, GotOk, RequestOk, AnswerOk, quiet, quiet_take, quiet_freeze, quiet_flush, quiet_lost}
-use Rattle.rw_machine.proofs.Keeps.{feed_keeps, place_keeps, owed_all, owed_append, pairs_of_points, some_is}
+use Rattle.rw_machine.proofs.Keeps.{feed_keeps, place_keeps, owed_all, owed_append, pairs_of_points}
 use Rattle.rw_machine.proofs.Resolves.{send_keeps, reply_keeps, restart_keeps, drained, drained_got, batch_numbered, length_new}
 use Rattle.rw_machine.proofs.Arrives.{arrive_keeps}
 use Rattle.rw_machine.specs.declared.event.Event.TheVariants as event
 use Rattle.std.specs.FinMap.{get, empty, get-empty}
 use Rattle.std.specs.Ordering.{nat_cmp}
+use Rattle.std.proofs.lemmas.Option.{same_Some}
+use Rattle.std.proofs.lemmas.Bool.{cond-false, and_parts}
 use Rattle.rw_wal_format.specs.Pieces.{fault}
 use Rattle.rw_wal_format.specs.Series.{samples_after}
 use Rattle.rw_wal_format.specs.declared.tail_fault.TailFault.{TailFault}
@@ -165,11 +166,11 @@ kept_or_none c l = by_fault (label_fault c.choice.names l) refl
   where
     by_keeps : (b : Bool) → label_fault c.choice.names l ≡ None → keeps c.choice.rules l ≡ b → IsKept c l ⊎ ((es : List Entry) → logged_points c l es ≡ [])
     by_keeps true n e = inl (n, e)
-    by_keeps false n e = inr (λ es. cond_false (is_kept c.choice l) (samples_after l [] es) [] (ap (λ (o : Option LabelFault). is_none o && keeps c.choice.rules l) n ∙ e))
+    by_keeps false n e = inr (λ es. cond-false (is_kept c.choice l) (samples_after l [] es) [] (ap (λ (o : Option LabelFault). is_none o && keeps c.choice.rules l) n ∙ e))
 
     by_fault : (o : Option LabelFault) → label_fault c.choice.names l ≡ o → IsKept c l ⊎ ((es : List Entry) → logged_points c l es ≡ [])
     by_fault None n = by_keeps (keeps c.choice.rules l) n refl
-    by_fault (Some f) n = inr (λ es. cond_false (is_kept c.choice l) (samples_after l [] es) [] (ap (λ (o : Option LabelFault). is_none o && keeps c.choice.rules l) n))
+    by_fault (Some f) n = inr (λ es. cond-false (is_kept c.choice l) (samples_after l [] es) [] (ap (λ (o : Option LabelFault). is_none o && keeps c.choice.rules l) n))
 
 -- where a label set has no samples the head holds none
 nothing_held : (c : Setup) (w : World) → HoldsNothingElse c w → (l : Labels) → ((es : List Entry) → logged_points c l es ≡ []) → HoldsBeginning c w l
@@ -193,26 +194,26 @@ pub complete_is : (w : World) (end : ℕ) → report w ≡ Some (Complete end) �
 complete_is w end e = by_killed w.killed e
   where
     by_fault : (o : Option TailFault) → Some (ended_as o w.placed) ≡ Some (Complete end) → w.placed ≡ end
-    by_fault None e = let same : Complete w.placed ≡ Complete end = some_is e in cc
-    by_fault (Some f) e = let never : Damaged f ≡ Complete end → ⊥ = λ h. cc in absurd (never (some_is e))
+    by_fault None e = let same : Complete w.placed ≡ Complete end = same_Some _ _ e in cc
+    by_fault (Some f) e = let never : Damaged f ≡ Complete end → ⊥ = λ h. cc in absurd (never (same_Some _ _ e))
 
     by_drained : (b : Bool) → (is_finished w && all_drained w) ≡ b → cond b (Some (ended_as (fault w.pieces) w.placed)) None ≡ Some (Complete end) → (all_drained w ≡ true) × (w.placed ≡ end)
-    by_drained true d e = (and_right (is_finished w) (all_drained w) d, by_fault (fault w.pieces) e)
+    by_drained true d e = ((and_parts (is_finished w) (all_drained w) d).1, by_fault (fault w.pieces) e)
     by_drained false d e = let never : None ≡ Some (Complete end) → ⊥ = λ h. cc in absurd (never e)
 
     by_killed : (b : Bool) → cond b (Some (Abandoned w.placed (filter (is_pending w) (up_to w.placed)))) (cond (is_finished w && all_drained w) (Some (ended_as (fault w.pieces) w.placed)) None) ≡ Some (Complete end) → (all_drained w ≡ true) × (w.placed ≡ end)
-    by_killed true e = let never : Abandoned w.placed (filter (is_pending w) (up_to w.placed)) ≡ Complete end → ⊥ = λ h. cc in absurd (never (some_is e))
+    by_killed true e = let never : Abandoned w.placed (filter (is_pending w) (up_to w.placed)) ≡ Complete end → ⊥ = λ h. cc in absurd (never (same_Some _ _ e))
     by_killed false e = by_drained (is_finished w && all_drained w) refl e
 
 pub damaged_is : (w : World) (f : TailFault) → report w ≡ Some (Damaged f) → all_drained w ≡ true
 damaged_is w f e = by_killed w.killed e
   where
     by_drained : (b : Bool) → (is_finished w && all_drained w) ≡ b → cond b (Some (ended_as (fault w.pieces) w.placed)) None ≡ Some (Damaged f) → all_drained w ≡ true
-    by_drained true d e = and_right (is_finished w) (all_drained w) d
+    by_drained true d e = (and_parts (is_finished w) (all_drained w) d).1
     by_drained false d e = let never : None ≡ Some (Damaged f) → ⊥ = λ h. cc in absurd (never e)
 
     by_killed : (b : Bool) → cond b (Some (Abandoned w.placed (filter (is_pending w) (up_to w.placed)))) (cond (is_finished w && all_drained w) (Some (ended_as (fault w.pieces) w.placed)) None) ≡ Some (Damaged f) → all_drained w ≡ true
-    by_killed true e = let never : Abandoned w.placed (filter (is_pending w) (up_to w.placed)) ≡ Damaged f → ⊥ = λ h. cc in absurd (never (some_is e))
+    by_killed true e = let never : Abandoned w.placed (filter (is_pending w) (up_to w.placed)) ≡ Damaged f → ⊥ = λ h. cc in absurd (never (same_Some _ _ e))
     by_killed false e = by_drained (is_finished w && all_drained w) refl e
 
 pub in_order : (c : Setup) (events : List Event) → IsInOrder c (run c events (start c))

@@ -2,13 +2,12 @@
 use Rattle.std.proofs.Common.{◌≡◌, ℕ, zero, suc, ◌+◌, ◌-◌, ◌*◌, ◌<◌, ◌≤◌, ◌==◌, Bool, true, false, cond, List, [], ◌∷◌, ◌++◌, length, take, filter, Option, Some, None, is_some, slice_get, refl, sym, ap, ◌∙◌, subst, ◌||◌, ◌&&◌, not, nat_le, nat_lt, arith, ℤ}
 use Rattle.std.specs.List.{list_all, position_or_len}
 use Rattle.std.proofs.Math.Nat.{mod-lt}
-use Rattle.std.proofs.lemmas.Bool.{leb-true, lt-ltb, ltb-true}
+use Rattle.std.proofs.lemmas.Bool.{leb-true, lt-ltb, ltb-true, true≢false, or_right, not-true, not-false, cond-false, cond-true, and_parts}
 use Rattle.std.proofs.lemmas.Bool.Decides.{Decides-eqb}
-use Rattle.rw_machine.proofs.Steps.{either, and_left, and_right, and_both, not_true, unless}
+use Rattle.rw_machine.proofs.Steps.{either, and_both, unless}
 use Rattle.rw_machine.proofs.Classes.{classes}
 use Rattle.rw_machine.proofs.Runs.{holds_at_end, all_of_it}
 use Rattle.rw_machine.proofs.Others.{nil_of, others}
-use Rattle.rw_machine.proofs.OrderRule.{cond_true, cond_false}
 use Rattle.rw_machine.proofs.Invariant.{Inv, by_bool}
 use Rattle.rw_machine.proofs.Places.{get_some}
 use Rattle.rw_machine.proofs.Closed.{finished_end, Shape}
@@ -32,11 +31,8 @@ use Rattle.rw_types.specs.Labels.{Labels}
 use Rattle.rw_types.specs.declared.entry.Entry.{Entry}
 use Rattle.rw_types.specs.declared.entry.Entry.TheVariants.{Def, Sample}
 
-off : {P : Type 0} → true ≡ false → P
-off e = cc
-
 -- the first shard that passes
-hit : (p : Shard → Bool) (ss : List Shard) → position_or_len p ss < length ss → (s : Shard) × (slice_get ss (position_or_len p ss) ≡ Some s) × (p s ≡ true)
+pub hit : (p : Shard → Bool) (ss : List Shard) → position_or_len p ss < length ss → (s : Shard) × (slice_get ss (position_or_len p ss) ≡ Some s) × (p s ≡ true)
 hit p [] lt = absurd (omega arith)
 hit p (x ∷ ss) lt = by_test (p x) refl lt (hit p ss)
   where
@@ -60,35 +56,27 @@ miss p (x ∷ ss) none i s e = by_test (p x) refl none i e (miss p ss)
 by_first : (P : List Event → Type 0) (w : World) (p : Shard → Bool) (make : ℕ → List Event) (rest : List Event) → ((i : ℕ) (s : Shard) → slice_get w.shards i ≡ Some s → p s ≡ true → P (make i)) → (((i : ℕ) (s : Shard) → slice_get w.shards i ≡ Some s → p s ≡ false) → P rest) → P (first_of_these (at_first p make w) rest)
 by_first P w p make rest some none = either (λ o. P (first_of_these (made_at make o) rest)) (nat_lt (position_or_len p w.shards) (length w.shards)) (Some (position_or_len p w.shards)) None
     (λ h. let at = hit p w.shards (ltb-true (position_or_len p w.shards) (length w.shards) h) in some (position_or_len p w.shards) at.0 at.1 at.2)
-    (λ h. none (miss p w.shards (λ lt. off (sym (lt-ltb (position_or_len p w.shards) (length w.shards) lt) ∙ h))))
+    (λ h. none (miss p w.shards (λ lt. absurd (true≢false (sym (lt-ltb (position_or_len p w.shards) (length w.shards) lt) ∙ h)))))
 
 all_from : (p : Shard → Bool) (ss : List Shard) → ((i : ℕ) (s : Shard) → slice_get ss i ≡ Some s → p s ≡ true) → list_all p ss ≡ true
 all_from p [] h = refl
 all_from p (x ∷ ss) h = and_both (p x) (list_all p ss) (h zero x refl) (all_from p ss (λ i s e. h (suc i) s e))
 
-not_false : (b : Bool) → not b ≡ false → b ≡ true
-not_false true h = refl
-not_false false h = off h
-
 and_false : (a b : Bool) → a ≡ true → (a && b) ≡ false → b ≡ false
 and_false true b x h = h
-and_false false b x h = off (sym x)
+and_false false b x h = absurd (true≢false (sym x))
 
 and_false_left : (a b : Bool) → b ≡ true → (a && b) ≡ false → a ≡ false
-and_false_left true b x h = off (sym x ∙ h)
+and_false_left true b x h = absurd (true≢false (sym x ∙ h))
 and_false_left false b x h = refl
 
 or_false_left : (a b : Bool) → (a || b) ≡ false → a ≡ false
-or_false_left true b h = off h
+or_false_left true b h = absurd (true≢false h)
 or_false_left false b h = refl
 
 or_false_right : (a b : Bool) → (a || b) ≡ false → b ≡ false
-or_false_right true b h = off h
+or_false_right true b h = absurd (true≢false h)
 or_false_right false b h = h
-
-or_right : (a b : Bool) → b ≡ true → (a || b) ≡ true
-or_right true b h = refl
-or_right false b h = h
 
 -- where no step of `settle` can be made but a restart
 module _ (c : Setup) (w : World) (can : CanWork c) (at : Live c w) (end : ℕ) (shut : w.closed ≡ Some end) (over : is_over w ≡ false)
@@ -103,14 +91,14 @@ module _ (c : Setup) (w : World) (can : CanWork c) (at : Live c w) (end : ℕ) (
       due h = by_full (nat_le s.core.full (length s.core.builder)) refl h
         where
           no_builder : is_empty s.core.builder ≡ true
-          no_builder = not_false (is_empty s.core.builder) (and_false (is_due s.core) (not (is_empty s.core.builder)) h (no_freeze i s e))
+          no_builder = not-false (is_empty s.core.builder) (and_false (is_due s.core) (not (is_empty s.core.builder)) h (no_freeze i s e))
 
           by_full : (b : Bool) → nat_le s.core.full (length s.core.builder) ≡ b → (b || s.core.marked) ≡ true → ⊥
           by_full true z k = let le : s.core.full ≤ length s.core.builder = leb-true s.core.full (length s.core.builder) z in let is : s.core.full ≡ c.batch = (at.going i s e).full_is in let none : length s.core.builder ≡ 0 = ap length (nil_of s.core.builder no_builder) in let some : 1 ≤ c.batch = can.batch in omega arith
-          by_full false z k = off (sym no_builder ∙ (at.going i s e).held k)
+          by_full false z k = absurd (true≢false (sym no_builder ∙ (at.going i s e).held k))
 
   no_queue : (i : ℕ) (s : Shard) → slice_get w.shards i ≡ Some s → s.queue ≡ []
-  no_queue i s e = nil_of s.queue (not_false (is_empty s.queue) (and_false (can_take s.core) (not (is_empty s.queue)) (and_both (not s.core.killed) (is_empty s.core.batch && not (is_due s.core)) (ap not (at.going i s e).alive) (and_both (is_empty s.core.batch) (not (is_due s.core)) (not_false (is_empty s.core.batch) (no_open i s e)) (ap not (undue i s e)))) (no_take i s e)))
+  no_queue i s e = nil_of s.queue (not-false (is_empty s.queue) (and_false (can_take s.core) (not (is_empty s.queue)) (and_both (not s.core.killed) (is_empty s.core.batch && not (is_due s.core)) (ap not (at.going i s e).alive) (and_both (is_empty s.core.batch) (not (is_due s.core)) (not-false (is_empty s.core.batch) (no_open i s e)) (ap not (undue i s e)))) (no_take i s e)))
 
   has_space : (i : ℕ) (s : Shard) → slice_get w.shards i ≡ Some s → has_room c.capacity s ≡ true
   has_space i s e = lt-ltb (length s.queue) c.capacity (let none : length s.queue ≡ 0 = ap length (no_queue i s e) in let some : 1 ≤ c.capacity = can.capacity in omega arith)
@@ -142,25 +130,25 @@ module _ (c : Setup) (w : World) (can : CanWork c) (at : Live c w) (end : ℕ) (
       stuck : is_finished w ≡ false → is_some w.draining ≡ false → ⊥
       stuck f d =
           let long : length (log w) ≡ end = at.ends.at_close end shut in
-          let apart : w.placed ≡ end → ⊥ = λ h. off (sym (ap (is_at w.placed) shut ∙ (Decides-eqb w.placed end).1 h) ∙ f) in
+          let apart : w.placed ≡ end → ⊥ = λ h. absurd (true≢false (sym (ap (is_at w.placed) shut ∙ (Decides-eqb w.placed end).1 h) ∙ f)) in
           let le : w.placed ≤ length (log w) = at.placed_in in
           let lt : w.placed < length (log w) = below (length (log w)) w.placed end long apart le in
           let next = get_some (log w) w.placed lt in
-          off (sym (and_both (not (is_some w.draining)) (can_place_entry c w (slice_get (log w) w.placed)) (ap not d) (ap (can_place_entry c w) next.1 ∙ by_entry next.0)) ∙ no_place)
+          absurd (true≢false (sym (and_both (not (is_some w.draining)) (can_place_entry c w (slice_get (log w) w.placed)) (ap not d) (ap (can_place_entry c w) next.1 ∙ by_entry next.0)) ∙ no_place))
         where
           below : (m n e : ℕ) → m ≡ e → (n ≡ e → ⊥) → n ≤ m → n < m
           below m n e h apart le = by_test (nat_lt n m) refl
             where
               by_test : (b : Bool) → nat_lt n m ≡ b → n < m
               by_test true z = ltb-true n m z
-              by_test false z = absurd (apart (let never : n < m → ⊥ = λ lt. off (sym (lt-ltb n m lt) ∙ z) in omega arith))
+              by_test false z = absurd (apart (let never : n < m → ⊥ = λ lt. absurd (true≢false (sym (lt-ltb n m lt) ∙ z)) in omega arith))
 
   module _ (no_end : (i : ℕ) (s : Shard) → slice_get w.shards i ≡ Some s → (not s.end_put && has_room c.capacity s) ≡ false) where
     drained : (i : ℕ) (s : Shard) → slice_get w.shards i ≡ Some s → is_drained s ≡ true
     drained i s e = and_both s.core.ended (length s.core.resolved == length s.put) ended ((Decides-eqb (length s.core.resolved) (length s.put)).1 even)
       where
         put : s.end_put ≡ true
-        put = not_false s.end_put (and_false_left (not s.end_put) (has_room c.capacity s) (has_space i s e) (no_end i s e))
+        put = not-false s.end_put (and_false_left (not s.end_put) (has_room c.capacity s) (has_space i s e) (no_end i s e))
 
         by_shape : (b : Bool) → Shape true b [] → b ≡ true
         by_shape true h = refl
@@ -170,10 +158,10 @@ module _ (c : Setup) (w : World) (can : CanWork c) (at : Live c w) (end : ℕ) (
         ended = by_shape s.core.ended (subst (Shape true s.core.ended) (no_queue i s e) (subst (λ (b : Bool). Shape b s.core.ended s.queue) put ((at.ends.shapes i s e).0)))
 
         no_builder : s.core.builder ≡ []
-        no_builder = nil_of s.core.builder (by_bool (is_empty s.core.builder ≡ true) (is_empty s.core.builder) (λ h. h) (λ h. off (sym (or_right (nat_le s.core.full (length s.core.builder)) s.core.marked ((at.going i s e).closes ended h)) ∙ undue i s e)))
+        no_builder = nil_of s.core.builder (by_bool (is_empty s.core.builder ≡ true) (is_empty s.core.builder) (λ h. h) (λ h. absurd (true≢false (sym (or_right (nat_le s.core.full (length s.core.builder)) s.core.marked ((at.going i s e).closes ended h)) ∙ undue i s e))))
 
         nothing : pending s ≡ []
-        nothing = (λ j. (nil_of s.core.batch (not_false (is_empty s.core.batch) (no_open i s e)) j ++ no_builder j) ++ samples_in (no_queue i s e j))
+        nothing = (λ j. (nil_of s.core.batch (not-false (is_empty s.core.batch) (no_open i s e)) j ++ no_builder j) ++ samples_in (no_queue i s e j))
 
         even : length s.core.resolved ≡ length s.put
         even = let count : length s.put ≡ length s.core.resolved + length (pending s) = (at.going i s e).counted in let none : length (pending s) ≡ 0 = ap length nothing in omega arith
@@ -194,8 +182,8 @@ module _ (c : Setup) (w : World) (can : CanWork c) (at : Live c w) (end : ℕ) (
         sum e s n b d h = omega arith
 
         by_draining : (o : Option ℕ) → w.draining ≡ o → is_some o ≡ true → Round w (restart_as c w o)
-        by_draining None e h = off (sym h)
-        by_draining (Some n) e h = subst (Round w) (sym (cond_true (not (is_finished w) && all_drained w) (record w { epoch = suc w.epoch; shards = new_shards c (suc w.epoch) 0 n; draining = None }) w (and_both (not (is_finished w)) (all_drained w) (ap not unfinished) all))) (record {
+        by_draining None e h = absurd (true≢false (sym h))
+        by_draining (Some n) e h = subst (Round w) (sym (cond-true (not (is_finished w) && all_drained w) (record w { epoch = suc w.epoch; shards = new_shards c (suc w.epoch) 0 n; draining = None }) w (and_both (not (is_finished w)) (all_drained w) (ap not unfinished) all))) (record {
           lower = subst (λ (m : ℕ). 5 * (length (log w) - w.placed) + m + 0 + 2 * w.head.busy < work w) (sym (new_work c (suc w.epoch) 0 n)) (sum (5 * (length (log w) - w.placed)) (shards_work w.shards) n (2 * w.head.busy) (drain_work w.draining) (ap drain_work e));
           same = record { killed = refl; pieces = refl; closed = refl };
         })
@@ -205,11 +193,11 @@ pub round : (c : Setup) (w : World) → CanWork c → Live c w → (end : ℕ) �
 round c w can at end shut over =
     let P : List Event → Type 0 = λ es. Round w (run c es w) in
     either P (can_place c w) (event.Place ∷ []) _ (λ h. single c w event.Place over (place_round c w h)) (λ no_place.
-    by_first P w (λ s. not (is_empty s.core.batch)) (λ i. exchange_at w i (slice_get w.shards i)) _ (λ i s e h. open_round i s e (not_true (is_empty s.core.batch) h)) (λ no_open.
-    by_first P w (λ s. is_due s.core && not (is_empty s.core.builder)) (λ i. event.Freeze i ∷ []) _ (λ i s e h. single c w (event.Freeze i) over (shard_round w i shard_freeze s e (frozen_less s (at.going i s e).alive (not_false (is_empty s.core.batch) (no_open i s e)) (not_true (is_empty s.core.builder) (and_right (is_due s.core) (not (is_empty s.core.builder)) h))))) (λ no_freeze.
-    by_first P w (λ s. can_take s.core && not (is_empty s.queue)) (λ i. event.Take i ∷ []) _ (λ i s e h. single c w (event.Take i) over (shard_round w i shard_take s e (taken_less s (and_left (can_take s.core) (not (is_empty s.queue)) h) (not_true (is_empty s.queue) (and_right (can_take s.core) (not (is_empty s.queue)) h))))) (λ no_take.
-    subst P (ap (λ (o : Option (List Event)). first_of_these o (event.Restart ∷ [])) (sym (cond_true (is_finished w || is_some w.draining) (at_first (λ s. not s.end_put && has_room c.capacity s) (λ i. event.Flush i ∷ []) w) None (ending c w can at end shut over no_place no_open no_freeze no_take))))
-    (by_first P w (λ s. not s.end_put && has_room c.capacity s) (λ i. event.Flush i ∷ []) (event.Restart ∷ []) (λ i s e h. single c w (event.Flush i) over (shard_round w i (flush_shard c w) s e (flush_less c w s (ending c w can at end shut over no_place no_open no_freeze no_take) (not_true s.end_put (and_left (not s.end_put) (has_room c.capacity s) h)) (and_right (not s.end_put) (has_room c.capacity s) h)))) (λ no_end.
+    by_first P w (λ s. not (is_empty s.core.batch)) (λ i. exchange_at w i (slice_get w.shards i)) _ (λ i s e h. open_round i s e (not-true (is_empty s.core.batch) h)) (λ no_open.
+    by_first P w (λ s. is_due s.core && not (is_empty s.core.builder)) (λ i. event.Freeze i ∷ []) _ (λ i s e h. single c w (event.Freeze i) over (shard_round w i shard_freeze s e (frozen_less s (at.going i s e).alive (not-false (is_empty s.core.batch) (no_open i s e)) (not-true (is_empty s.core.builder) (and_parts (is_due s.core) (not (is_empty s.core.builder)) h).1)))) (λ no_freeze.
+    by_first P w (λ s. can_take s.core && not (is_empty s.queue)) (λ i. event.Take i ∷ []) _ (λ i s e h. single c w (event.Take i) over (shard_round w i shard_take s e (taken_less s (and_parts (can_take s.core) (not (is_empty s.queue)) h).0 (not-true (is_empty s.queue) (and_parts (can_take s.core) (not (is_empty s.queue)) h).1)))) (λ no_take.
+    subst P (ap (λ (o : Option (List Event)). first_of_these o (event.Restart ∷ [])) (sym (cond-true (is_finished w || is_some w.draining) (at_first (λ s. not s.end_put && has_room c.capacity s) (λ i. event.Flush i ∷ []) w) None (ending c w can at end shut over no_place no_open no_freeze no_take))))
+    (by_first P w (λ s. not s.end_put && has_room c.capacity s) (λ i. event.Flush i ∷ []) (event.Restart ∷ []) (λ i s e h. single c w (event.Flush i) over (shard_round w i (flush_shard c w) s e (flush_less c w s (ending c w can at end shut over no_place no_open no_freeze no_take) (not-true s.end_put (and_parts (not s.end_put) (has_room c.capacity s) h).0) (and_parts (not s.end_put) (has_room c.capacity s) h).1))) (λ no_end.
     single c w event.Restart over (restart_round c w can at end shut over no_place no_open no_freeze no_take no_end)))))))
   where
     open_round : (i : ℕ) (s : Shard) → slice_get w.shards i ≡ Some s → is_empty s.core.batch ≡ false → Round w (run c (exchange_at w i (slice_get w.shards i)) w)
@@ -265,25 +253,25 @@ closes : (c : Setup) (w : World) → Closes w (happens c w event.Close)
 closes c w = by_over (is_over w) refl
   where
     by_note : (o : Option ℕ) → w.closed ≡ o → is_some o ≡ true → (end : ℕ) × (w.closed ≡ Some end)
-    by_note None e h = off (sym h)
+    by_note None e h = absurd (true≢false (sym h))
     by_note (Some end) e h = (end, e)
 
     noted : Closes w (close w)
     noted = either (Closes w) (is_some w.closed) w (record w { closed = Some (length (log w)) }) (λ h. record { killed = refl; pieces = refl; shut = λ _. by_note w.closed refl h }) (λ _. record { killed = refl; pieces = refl; shut = λ _. (length (log w), refl) })
 
     by_over : (b : Bool) → is_over w ≡ b → Closes w (happens c w event.Close)
-    by_over true e = subst (Closes w) (sym (ap (unless_over c w event.Close) e)) (record { killed = refl; pieces = refl; shut = λ h. off (sym e ∙ h) })
+    by_over true e = subst (Closes w) (sym (ap (unless_over c w event.Close) e)) (record { killed = refl; pieces = refl; shut = λ h. absurd (true≢false (sym e ∙ h)) })
     by_over false e = subst (Closes w) (sym (acts c w event.Close e)) noted
 
 reported : (v : World) → is_over v ≡ true → (o : Ending) × (report v ≡ Some o)
 reported v over = by_killed v.killed refl over
   where
     by_killed : (b : Bool) → v.killed ≡ b → (b || (is_finished v && all_drained v)) ≡ true → (o : Ending) × (report v ≡ Some o)
-    by_killed true e h = (Abandoned v.placed (filter (is_pending v) (up_to v.placed)), cond_true v.killed (Some (Abandoned v.placed (filter (is_pending v) (up_to v.placed)))) _ e)
-    by_killed false e h = (ended_as (fault v.pieces) v.placed, cond_false v.killed (Some (Abandoned v.placed (filter (is_pending v) (up_to v.placed)))) (cond (is_finished v && all_drained v) (Some (ended_as (fault v.pieces) v.placed)) None) e ∙ cond_true (is_finished v && all_drained v) (Some (ended_as (fault v.pieces) v.placed)) None h)
+    by_killed true e h = (Abandoned v.placed (filter (is_pending v) (up_to v.placed)), cond-true v.killed (Some (Abandoned v.placed (filter (is_pending v) (up_to v.placed)))) _ e)
+    by_killed false e h = (ended_as (fault v.pieces) v.placed, cond-false v.killed (Some (Abandoned v.placed (filter (is_pending v) (up_to v.placed)))) (cond (is_finished v && all_drained v) (Some (ended_as (fault v.pieces) v.placed)) None) e ∙ cond-true (is_finished v && all_drained v) (Some (ended_as (fault v.pieces) v.placed)) None h)
 
 report_ended : (v : World) → v.killed ≡ false → (is_finished v && all_drained v) ≡ true → report v ≡ Some (ended_as (fault v.pieces) v.placed)
-report_ended v e h = cond_false v.killed (Some (Abandoned v.placed (filter (is_pending v) (up_to v.placed)))) (cond (is_finished v && all_drained v) (Some (ended_as (fault v.pieces) v.placed)) None) e ∙ cond_true (is_finished v && all_drained v) (Some (ended_as (fault v.pieces) v.placed)) None h
+report_ended v e h = cond-false v.killed (Some (Abandoned v.placed (filter (is_pending v) (up_to v.placed)))) (cond (is_finished v && all_drained v) (Some (ended_as (fault v.pieces) v.placed)) None) e ∙ cond-true (is_finished v && all_drained v) (Some (ended_as (fault v.pieces) v.placed)) None h
 
 -- once there is a report, more rounds add no event
 pub settle_from_more : (c : Setup) (n k : ℕ) (w : World) → is_over (settle_if c n w (is_over w)) ≡ true → settle_from c (k + n) w (is_over w) ≡ settle_from c n w (is_over w)
@@ -291,7 +279,7 @@ settle_from_more c zero k w done = by_over (is_over w) refl done
   where
     by_over : (b : Bool) → is_over w ≡ b → is_over (settle_if c zero w b) ≡ true → settle_from c (k + zero) w b ≡ settle_from c zero w b
     by_over true e h = refl
-    by_over false e h = off (sym h ∙ e)
+    by_over false e h = absurd (true≢false (sym h ∙ e))
 settle_from_more c (suc n) k w done = by_over (settle_from_more c n k (run c (next_events c w) w)) (is_over w) done
   where
     by_over : (is_over (settle_if c n (run c (next_events c w) w) (is_over (run c (next_events c w) w))) ≡ true → settle_from c (k + n) (run c (next_events c w) w) (is_over (run c (next_events c w) w)) ≡ settle_from c n (run c (next_events c w) w) (is_over (run c (next_events c w) w))) → (b : Bool) → is_over (settle_if c (suc n) w b) ≡ true → settle_from c (k + suc n) w b ≡ settle_from c (suc n) w b
@@ -318,7 +306,7 @@ settle_ends c events can = (work u, λ n le. (settled n (rounds c n u can live (
       reports = reported v t.over;
       same_log = log_is;
       ending = λ alive. report_ended v (killed_is alive) (end_is alive) ∙ (λ i. Some (ended_as (fault (pieces_are i)) (place_is alive i)));
-      holds = λ alive l. subst (λ (m : ℕ). HoldsAll c v m l) (place_is alive) (all_there (and_right (is_finished v) (all_drained v) (end_is alive)) l);
+      holds = λ alive l. subst (λ (m : ℕ). HoldsAll c v m l) (place_is alive) (all_there (and_parts (is_finished v) (all_drained v) (end_is alive)).1 l);
     }
       where
         v : World
@@ -337,7 +325,7 @@ settle_ends c events can = (work u, λ n le. (settled n (rounds c n u can live (
         end_is alive = ap (λ (b : Bool). b || (is_finished v && all_drained v)) (sym (killed_is alive)) ∙ t.over
 
         place_is : w.killed ≡ false → v.placed ≡ length (log w)
-        place_is alive = sym (finished_end v t.live.ends (and_left (is_finished v) (all_drained v) (end_is alive))) ∙ ap length log_is
+        place_is alive = sym (finished_end v t.live.ends (and_parts (is_finished v) (all_drained v) (end_is alive)).0) ∙ ap length log_is
 
         later : List Event
         later = events ++ settle_events c n w

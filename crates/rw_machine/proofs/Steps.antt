@@ -1,5 +1,5 @@
 -- How a fact goes through one event.
-use Rattle.std.proofs.Common.{◌≡◌, ℕ, zero, suc, Bool, true, false, cond, List, [], ◌∷◌, ◌++◌, map, filter, Some, None, slice_get, refl, ap, subst, ◌+◌, arith, ◌&&◌, not}
+use Rattle.std.proofs.Common.{◌≡◌, ℕ, zero, suc, Bool, true, false, cond, List, [], ◌∷◌, ◌++◌, map, filter, Some, None, slice_get, refl, ap, subst, ◌+◌, arith, ◌&&◌}
 use Rattle.std.specs.Ordering.{is_eq}
 use Rattle.std.proofs.lemmas.Cmp.{tied_itself}
 use Rattle.rw_machine.specs.declared.event.Event.TheVariants as event
@@ -75,21 +75,9 @@ pub all_map : {X Y : Type 0} (P : Y → Type 0) (f : X → Y) (xs : List X) → 
 all_map P f [] all = tt
 all_map P f (x ∷ xs) all = (all.0, all_map P f xs all.1)
 
-pub and_left : (a b : Bool) → (a && b) ≡ true → a ≡ true
-and_left true b h = refl
-and_left false b h = h
-
-pub and_right : (a b : Bool) → (a && b) ≡ true → b ≡ true
-and_right true b h = h
-and_right false b h = let e : false ≡ true = h in cc
-
 pub and_both : (a b : Bool) → a ≡ true → b ≡ true → (a && b) ≡ true
 and_both true b h k = k
 and_both false b h k = h
-
-pub not_true : (a : Bool) → not a ≡ true → a ≡ false
-not_true true h = let e : false ≡ true = h in cc
-not_true false h = refl
 
 pub same_is : (l m : Labels) → labels_eq l m ≡ true → l ≡ m
 same_is l m h = same_if_equal l m h

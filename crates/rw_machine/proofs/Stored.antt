@@ -1,16 +1,17 @@
 -- What no shard holds any more is in the store, or named.
-use Rattle.std.proofs.Common.{◌≡◌, ℕ, zero, suc, ◌<◌, ◌≤◌, ◌==◌, Bool, true, false, cond, List, [], ◌∷◌, ◌++◌, length, map, take, Option, Some, None, is_none, slice_get, refl, sym, ap, ◌∙◌, subst, ℤ, ◌||◌, ◌&&◌, length-take-le, arith, inl, inr, ◌⊎◌}
+use Rattle.std.proofs.Common.{◌≡◌, ℕ, zero, suc, ◌<◌, ◌≤◌, ◌==◌, Bool, true, false, cond, List, [], ◌∷◌, ◌++◌, length, map, take, Option, Some, None, is_none, slice_get, refl, sym, ap, ◌∙◌, subst, ℤ, ◌&&◌, length-take-le, arith, inl, inr, ◌⊎◌}
 use Rattle.std.specs.List.{list_any}
 use Rattle.std.proofs.lemmas.Bool.Decides.{Decides-eqb}
 use Rattle.rw_machine.proofs.Steps.{and_both, either, is_same}
 use Rattle.rw_machine.proofs.Others.{known_kept}
-use Rattle.rw_machine.proofs.OrderRule.{cond_true, holds_append, holds_right, holds_own}
+use Rattle.rw_machine.proofs.OrderRule.{holds_append, holds_right, holds_own}
 use Rattle.rw_machine.proofs.Places.{points_append}
 use Rattle.rw_machine.proofs.Invariant.{Inv, as_points, waits, home, by_bool}
 use Rattle.rw_machine.proofs.Classes.{classes}
 use Rattle.rw_machine.proofs.Owed.{named_fallen}
 use Rattle.rw_machine.proofs.Runs.{holds_at_end}
 use Rattle.std.specs.FinMap.{get}
+use Rattle.std.proofs.lemmas.Bool.{or_right, or_left, cond-true}
 use Rattle.rw_head.specs.Order.{holds}
 use Rattle.rw_head.specs.Store.{list_of}
 use Rattle.rw_machine.proofs.Views.{IsKept, Ledger, is_of, of, owed_by, pairs, point_of, points, points_from}
@@ -58,7 +59,7 @@ is_point c log p n r t word l lt long e is_known up =
     let split = split_at log p n (Sample r t word) e lt in
     let here : point_of c l (take p log) (Sample r t word) ≡ (p, t, word) ∷ [] =
     ap (λ k. cond (is_of l k && rises c.choice (take p log) l t) ((length (take p log), t, word) ∷ []) []) is_known
-    ∙ cond_true (labels_eq l l && rises c.choice (take p log) l t) ((length (take p log), t, word) ∷ []) [] (and_both (labels_eq l l) (rises c.choice (take p log) l t) (is_same l l refl) up)
+    ∙ cond-true (labels_eq l l && rises c.choice (take p log) l t) ((length (take p log), t, word) ∷ []) [] (and_both (labels_eq l l) (rises c.choice (take p log) l t) (is_same l l refl) up)
     ∙ ap (λ (m : ℕ). (m, t, word) ∷ []) long in
     subst (λ es. In (p, t, word) (points c l es)) (sym split.1)
     (subst (In (p, t, word)) (sym (points_append c l (take p log) (Sample r t word ∷ split.0)))
@@ -70,32 +71,24 @@ in_owed : (ledger : Ledger) (q : Point) (ps : List Point) → ledger q.0 ≡ Non
 in_owed ledger q [] free h = absurd h
 in_owed ledger q (x ∷ ps) free (inl h) =
     subst (λ (y : Point). holds (pair_of q) (map pair_of (cond (is_none (ledger y.0)) (y ∷ owed_by ledger ps) (owed_by ledger ps))) ≡ true) (sym h)
-    (subst (λ qs. holds (pair_of q) (map pair_of qs) ≡ true) (sym (cond_true (is_none (ledger q.0)) (q ∷ owed_by ledger ps) (owed_by ledger ps) (ap is_none free))) (holds_own (pair_of q) (map pair_of (owed_by ledger ps))))
+    (subst (λ qs. holds (pair_of q) (map pair_of qs) ≡ true) (sym (cond-true (is_none (ledger q.0)) (q ∷ owed_by ledger ps) (owed_by ledger ps) (ap is_none free))) (holds_own (pair_of q) (map pair_of (owed_by ledger ps))))
 in_owed ledger q (x ∷ ps) free (inr h) =
     let rest : holds (pair_of q) (map pair_of (owed_by ledger ps)) ≡ true = in_owed ledger q ps free h in
     either (λ qs. holds (pair_of q) (map pair_of qs) ≡ true) (is_none (ledger x.0)) (x ∷ owed_by ledger ps) (owed_by ledger ps) (λ _. holds_right (pair_of q) (pair_of x ∷ []) (map pair_of (owed_by ledger ps)) rest) (λ _. rest)
 
-or_true : (b x : Bool) → x ≡ true → (b || x) ≡ true
-or_true true x h = refl
-or_true false x h = h
-
-or_here : (b x : Bool) → b ≡ true → (b || x) ≡ true
-or_here true x h = refl
-or_here false x h = let never : false ≡ true → ⊥ = λ h. cc in absurd (never h)
-
 -- a point of the waiting samples is a waiting position
 waits_at : (l : Labels) (q : Point) (xs : List Placed) → In q (as_points (of l xs)) → list_any (λ (x : Placed). x.place.pos == q.0) xs ≡ true
 waits_at l q [] h = absurd h
-waits_at l q (x ∷ xs) h = either (λ ys. In q (as_points ys) → list_any (λ (x : Placed). x.place.pos == q.0) (x ∷ xs) ≡ true) (labels_eq l x.labels) (x ∷ of l xs) (of l xs) (λ _ k. by_place (waits_at l q xs) k) (λ _ k. or_true (x.place.pos == q.0) (list_any (λ (x : Placed). x.place.pos == q.0) xs) (waits_at l q xs k)) h
+waits_at l q (x ∷ xs) h = either (λ ys. In q (as_points ys) → list_any (λ (x : Placed). x.place.pos == q.0) (x ∷ xs) ≡ true) (labels_eq l x.labels) (x ∷ of l xs) (of l xs) (λ _ k. by_place (waits_at l q xs) k) (λ _ k. or_right (x.place.pos == q.0) (list_any (λ (x : Placed). x.place.pos == q.0) xs) (waits_at l q xs k)) h
   where
     by_place : (In q (as_points (of l xs)) → list_any (λ (x : Placed). x.place.pos == q.0) xs ≡ true) → In q (as_points (x ∷ of l xs)) → list_any (λ (x : Placed). x.place.pos == q.0) (x ∷ xs) ≡ true
-    by_place rest (inl e) = or_here (x.place.pos == q.0) (list_any (λ (x : Placed). x.place.pos == q.0) xs) ((Decides-eqb x.place.pos q.0).1 (ap (λ (z : Point). z.0) e))
-    by_place rest (inr k) = or_true (x.place.pos == q.0) (list_any (λ (x : Placed). x.place.pos == q.0) xs) (rest k)
+    by_place rest (inl e) = or_left (x.place.pos == q.0) (list_any (λ (x : Placed). x.place.pos == q.0) xs) ((Decides-eqb x.place.pos q.0).1 (ap (λ (z : Point). z.0) e))
+    by_place rest (inr k) = or_right (x.place.pos == q.0) (list_any (λ (x : Placed). x.place.pos == q.0) xs) (rest k)
 
 any_at : (f : Shard → Bool) (ss : List Shard) (i : ℕ) (s : Shard) → slice_get ss i ≡ Some s → f s ≡ true → list_any f ss ≡ true
 any_at f [] i s e h = let never : None ≡ Some s → ⊥ = λ h. cc in absurd (never e)
-any_at f (x ∷ ss) zero s e h = let same : x ≡ s = cc in or_here (f x) (list_any f ss) (ap f same ∙ h)
-any_at f (x ∷ ss) (suc i) s e h = or_true (f x) (list_any f ss) (any_at f ss i s e h)
+any_at f (x ∷ ss) zero s e h = let same : x ≡ s = cc in or_left (f x) (list_any f ss) (ap f same ∙ h)
+any_at f (x ∷ ss) (suc i) s e h = or_right (f x) (list_any f ss) (any_at f ss i s e h)
 
 pub resolved_is_stored : (c : Setup) (events : List Event) → StoresResolved c (run c events (start c))
 resolved_is_stored c events p r t word l lt e is_known gone free = by_place (in_append q (at.done l) (as_points (of l (waits (slice_get w.shards (home at.width w.series l))))) (subst (In q) (at.mine l kept) (is_point c (log w) p w.placed r t word l lt long e is_known up)))

@@ -113,6 +113,11 @@ endpoint_answer c h batch =
 abbrev pub answered : World → BatchId → Answer → World
 answered w id a = record w { replies = w.replies ++ record { id = id; status = a.status } ∷ []; head = a.head }
 
+-- a request is answered with this status, and the head stays
+abbrev pub turned_away : World → ℕ → Option Request → World
+turned_away w status None = w
+turned_away w status (Some r) = answered w r.id (record { status = status; head = w.head })
+
 -- Arrive
 abbrev pub arrive : Setup → World → How → Option Request → World
 arrive c w how None = w

@@ -5,7 +5,7 @@ use Rattle.rw_types.specs.declared.place.Place.{Place}
 use Rattle.rw_plain_queue.specs.declared.item.Kind.{Kind}
 use Rattle.rw_plain_queue.specs.declared.item.Item.{Item}
 use Rattle.rw_plain_queue.specs.declared.item.Item.TheVariants.{Sample, Flush, End}
-use Rattle.rw_plain_queue.specs.Items.{places_in, is_end}
+use Rattle.rw_plain_queue.specs.Items.{places_in, is_end, samples_in}
 use Rattle.rw_plain_queue.specs.History.{IsNamed, IsNumbered, Rises, EndIsLast, IsFew, IsHistory, MayFollow, IsOpen, IsEnded}
 use Rattle.rw_plain_queue.proofs.Lists.{get_snoc, get_front, get_below, cut_snoc, no_front, cut_not_nil}
 
@@ -100,3 +100,10 @@ ended-whole put taken items split last ended =
     let cut : put ≡ ended.0 ++ End ended.1 ∷ items = split ∙ ap (λ xs. xs ++ items) ended.2 ∙ append_assoc ended.0 (End ended.1 ∷ []) items in
     let none : items ≡ [] = last ended.0 items ended.1 cut in
     split ∙ ap (λ xs. taken ++ xs) none ∙ append-nil taken
+
+pub samples_in-append : (xs ys : List Item) → samples_in (xs ++ ys) ≡ samples_in xs ++ samples_in ys
+samples_in-append [] ys = refl
+samples_in-append (Sample place t word labels ∷ xs) ys =
+    ap (λ zs. record { place = place; t = t; word = word; labels = labels.value } ∷ zs) (samples_in-append xs ys)
+samples_in-append (Flush ∷ xs) ys = samples_in-append xs ys
+samples_in-append (End kind ∷ xs) ys = samples_in-append xs ys

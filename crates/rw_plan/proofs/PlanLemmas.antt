@@ -1,11 +1,11 @@
 -- The plan of a log, entry by entry.
-use Rattle.std.proofs.Common.{◌≡◌, ℕ, ℤ, ◌+◌, List, [], ◌∷◌, ◌++◌, Bool, true, false, cond, count_by, eq-eqb, refl, sym, ◌∙◌, ap, subst, Some, None, Result, Ok, Err, append_assoc, add-zero}
+use Rattle.std.proofs.Common.{◌≡◌, ℕ, ℤ, ◌+◌, List, [], ◌∷◌, ◌++◌, Bool, true, false, cond, count_by, eq-eqb, refl, sym, ◌∙◌, ap, subst, Some, None, Result, add-zero}
 use Rattle.std.proofs.lemmas.List.{append-nil}
-use Rattle.std.proofs.lemmas.List.Elements.{filter-append}
 use Rattle.std.proofs.lemmas.List.Sums.{sum_by_push}
 use Rattle.std.specs.Arc.{arc_value}
 use Rattle.std.specs.Result.{OnOk}
 use Rattle.std.specs.FinMap.{empty}
+use Rattle.std.proofs.lemmas.Result.{on_ok_weaker}
 use Rattle.rw_types.specs.Labels.{Labels, label_fault}
 use Rattle.rw_types.specs.declared.entry.Entry.{Entry}
 use Rattle.rw_types.specs.declared.entry.Entry.TheVariants.{Def, Sample}
@@ -14,30 +14,24 @@ use Rattle.rw_relabel.specs.Rules.{keeps}
 use Rattle.rw_relabel.specs.declared.choice.Choice.{Choice}
 use Rattle.rw_series_cache.specs.Cached.{Taken}
 use Rattle.rw_series_cache.specs.Found.{Answers, standing_in, IsOfSeries}
-use Rattle.rw_series_cache.specs.Known.{Standing, Unknown, Bad, Filtered, Kept, standing_of, standing_by, standing_of_set, known, is_definition, definitions_of}
+use Rattle.rw_series_cache.specs.Known.{Standing, Unknown, Bad, Filtered, Kept, standing_of, standing_by, standing_of_set, known, definitions_of}
 use Rattle.rw_series_cache.specs.Numbers.{series_of, number_of}
 use Rattle.rw_series_cache.specs.declared.known.Known.{Known}
 use Rattle.rw_series_cache.specs.declared.known.Known.TheVariants as found
-use Rattle.rw_series_cache.proofs.KnownLemmas.{bad_labels, known-definition}
-use Rattle.rw_plan.specs.Plan.{bad_text, kept_text, definition_text, line_of, standing_at, each_after, lines, standings, is_kept, is_filtered, is_bad, is_unknown, counts_of, counts_text, plan_text}
+use Rattle.rw_series_cache.proofs.KnownLemmas.{bad_labels, known-definition, definitions_of-definition, definitions_of-sample}
+use Rattle.rw_plan.specs.Plan.{bad_text, kept_text, definition_text, line_of, standing_at, lines, standings, is_kept, is_filtered, is_bad, is_unknown, counts_of, counts_text, plan_text}
 use Rattle.rw_plan.specs.Planned.{IsPlanned, with_sample, found_text}
 use Rattle.rw_plan.specs.declared.counts.SampleCounts.{SampleCounts}
+use Rattle.rw_types.proofs.GatherLemmas.{gather-push}
 
 -- one more entry gives its part
-each_after-push : {A : Type 0} (f : List Entry → Entry → List A) (before es : List Entry) (e : Entry) → each_after f before (es ++ e ∷ []) ≡ each_after f before es ++ f (before ++ es) e
-each_after-push f before [] e = append-nil (f before e) ∙ ap (λ b. f b e) (sym (append-nil before))
-each_after-push f before (d ∷ es) e =
-    ap (λ r. f before d ++ r) (each_after-push f (before ++ d ∷ []) es e)
-    ∙ ap (λ b. f before d ++ (each_after f (before ++ d ∷ []) es ++ f b e)) (append_assoc before (d ∷ []) es)
-    ∙ sym (append_assoc (f before d) (each_after f (before ++ d ∷ []) es) (f (before ++ d ∷ es) e))
-
 lines-push : (choice : Choice) (es : List Entry) (e : Entry) → lines choice (es ++ e ∷ []) ≡ lines choice es ++ line_of choice es e
 unfolding lines
-lines-push choice es e = each_after-push (line_of choice) [] es e
+lines-push choice es e = gather-push (line_of choice) es e
 
 standings-push : (choice : Choice) (es : List Entry) (e : Entry) → standings choice (es ++ e ∷ []) ≡ standings choice es ++ standing_at choice es e
 unfolding standings
-standings-push choice es e = each_after-push (standing_at choice) [] es e
+standings-push choice es e = gather-push (standing_at choice) es e
 
 count_by-push : {X : Type 0} (p : X → Bool) (xs : List X) (x : X) → count_by p (xs ++ x ∷ []) ≡ cond (p x) (count_by p xs + 1) (count_by p xs)
 count_by-push p xs x = sum_by_push (λ y. cond (p y) 1 0) xs x ∙ plus (p x) (count_by p xs)
@@ -45,13 +39,6 @@ count_by-push p xs x = sum_by_push (λ y. cond (p y) 1 0) xs x ∙ plus (p x) (c
     plus : (b : Bool) (n : ℕ) → n + cond b 1 0 ≡ cond b (n + 1) n
     plus true n = refl
     plus false n = add-zero n
-
--- a definition is one of the definitions, and a sample is none
-definitions_of-definition : (es : List Entry) (r : ℕ) (l : Labels) → definitions_of (es ++ Def r l ∷ []) ≡ definitions_of es ++ Def r l ∷ []
-definitions_of-definition es r l = filter-append is_definition es (Def r l ∷ [])
-
-definitions_of-sample : (es : List Entry) (r : ℕ) (t : ℤ) (w : ℕ) → definitions_of (es ++ Sample r t w ∷ []) ≡ definitions_of es
-definitions_of-sample es r t w = filter-append is_definition es (Sample r t w ∷ []) ∙ append-nil (definitions_of es)
 
 -- one more sample counts
 counts_of-push : (ss : List Standing) (s : Standing) → counts_of (ss ++ s ∷ []) ≡ with_sample (counts_of ss) s
@@ -89,10 +76,6 @@ line_found choice es reference l answer e h =
     line_as (series_of choice (es ++ Def reference l ∷ [])) reference l answer (keeps choice.rules l) (h.standing ∙ known_own choice es reference l ∙ set_stands choice l e) h.number
     ∙ ap (definition_text (series_of choice (es ++ Def reference l ∷ [])) reference l) (sym (set_stands choice l e))
 
-on_ok : {T E : Type 0} (r : Result T E) (P Q : Type 0) → (P → Q) → OnOk r P → OnOk r Q
-on_ok (Ok x) P Q f h = f h
-on_ok (Err e) P Q f h = tt
-
 -- the line of a label set that was defined and then looked up
 pub set_line : {T E : Type 0} (old new : Taken) (reference : ℕ) (labels set : Labels) (answer : Known) (text now : List ℕ) (r : Result T E)
     → new ≡ record old { definitions = old.definitions ++ Def reference labels ∷ [] } → set ≡ labels → label_fault old.choice.names labels ≡ None
@@ -105,7 +88,7 @@ set_line old new reference labels set answer text now r defined same label_set a
     let found : Answers old.choice (es ++ Def reference labels ∷ []) reference answer =
     subst (λ rs. Answers rs (es ++ Def reference labels ∷ []) reference answer) (ap (λ (k : Taken). k.choice) defined) (answers (es ++ Def reference labels ∷ []) here) in
     let line = line_found old.choice es reference labels answer label_set found in
-    on_ok r (now ≡ text ++ found_text reference set answer) (now ≡ text ++ line_of old.choice es (Def reference labels))
+    on_ok_weaker r
     (λ e. e ∙ ap (λ l. text ++ found_text reference l answer) same ∙ ap (λ x. text ++ x) line) pushed
 
 -- the line of labels that have a fault

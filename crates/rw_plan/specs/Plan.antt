@@ -10,6 +10,7 @@ use Rattle.rw_series_cache.specs.Known.{Standing, Unknown, Bad, Filtered, Kept, 
 use Rattle.rw_series_cache.specs.Numbers.{series_of, number_of}
 use Rattle.rw_text.specs.LabelText.{labels_text}
 use Rattle.rw_plan.specs.declared.counts.SampleCounts.{SampleCounts}
+use Rattle.rw_types.specs.Gathering.{gather}
 
 -- `REF bad FAULT`, `REF filtered LABELS` and `REF kept NUMBER LABELS`, each with a newline
 abbrev pub bad_text : ℕ → LabelFault → List ℕ
@@ -39,18 +40,13 @@ abbrev pub standing_at : Choice → List Entry → Entry → List Standing
 standing_at choice before (Sample reference t word) = known choice before reference ∷ []
 standing_at choice before (Def reference labels) = []
 
--- what entries give, each after those before
-abbrev pub each_after : {A : Type 0} → (List Entry → Entry → List A) → List Entry → List Entry → List A
-each_after f before [] = []
-each_after f before (e ∷ es) = f before e ++ each_after f (before ++ e ∷ []) es
-
 -- the lines of the definitions
 unfoldable pub lines : Choice → List Entry → List ℕ
-lines choice es = each_after (line_of choice) [] es
+lines choice es = gather (line_of choice) es
 
 -- what is known of the samples, in order
 unfoldable pub standings : Choice → List Entry → List Standing
-standings choice es = each_after (standing_at choice) [] es
+standings choice es = gather (standing_at choice) es
 
 abbrev pub is_kept : Standing → Bool
 is_kept (Kept l) = true

@@ -1,19 +1,11 @@
 -- The records of a script can be written.
-use Rattle.std.proofs.Common.{◌<◌, ℕ, List, [], ◌∷◌, length, sym, subst, arith, inl, inr}
+use Rattle.std.proofs.Common.{ℕ, List, [], ◌∷◌, sym, subst, inl, inr}
 use Rattle.std.specs.List.{AllByRecursion}
-use Rattle.rw_text.specs.LineText.{Line, series, sample, raw, IsLine}
-use Rattle.rw_text.specs.RecordLines.{lines, record_of, IsRecordOf}
+use Rattle.rw_text.specs.RecordLines.{lines}
 use Rattle.rw_script.specs.ScriptText.{Order, logged, fed, arrives, bare, numbered, IsOrder}
 use Rattle.rw_script.specs.Scripts.{AreOrders, IsScript}
 use Rattle.rw_replay.specs.Played.{IsWritable}
-
-said_some : (line : List ℕ) (said : Line) → IsLine line said → 0 < length (record_of said)
-said_some line (series reference labels) l = omega arith
-said_some line (sample reference t word) l = omega arith
-said_some line (raw bytes) l = l.says.2.some
-
-record_some : (line rec : List ℕ) → IsRecordOf line rec → 0 < length rec
-record_some line rec h = rw h.is (said_some line h.said h.is_line)
+use Rattle.rw_log_commands.proofs.FillingLemmas.{record_some}
 
 order_writable : (line : List ℕ) (o : Order) → IsOrder line o → IsWritable o
 order_writable line (logged rec) (inl (is_bare, e)) = absurd is_bare

@@ -1,7 +1,6 @@
 -- Replies of the endpoint, as the sender reads them.
 use Rattle.std.proofs.Common.{◌≡◌, ◌⊎◌, ◌<◌, ◌≤◌, ℕ, List, [], ◌∷◌, ◌++◌, length, Bool, true, ◌&&◌, ◌||◌, ◌==◌, nat_lt, nat_le, codes, IsTrue, Some, if◌then◌else◌, refl, sym, subst, ap, ◌∙◌, inl, inr, arith}
 use Rattle.std.proofs.lemmas.Bool.{and_parts, ltb-true, leb-true}
-use Rattle.std.proofs.lemmas.Grind.{common_steps}
 use Rattle.std.proofs.lemmas.List.{append-nil}
 use Rattle.std.proofs.lemmas.List.Elements.{All-weaker}
 use Rattle.std.proofs.lemmas.List.Sums.{AllPass-from_list_all}
@@ -15,6 +14,7 @@ use Rattle.rw_shard_core.specs.declared.replies.ReplyRead.TheVariants.{Status, P
 use Rattle.rw_endpoint.specs.Judgement.{is_refusal}
 use Rattle.rw_endpoint.specs.Replies.{reply, is_verdict, phrase, status_code as code_digits}
 use Rattle.rw_roundtrip.proofs.Heads.{field}
+use Rattle.rw_endpoint.proofs.ReplyLemmas.{statuses}
 
 -- a text that is one head has its status, and nothing else is read
 record IsHeadOf (text : List ℕ) (status : ℕ) (head : ResponseHead) : Type 0 where
@@ -150,9 +150,6 @@ is_503 = head_from (reply 503 true) 503 (reply_head 503) (record { printed = ref
 
 abbrev IsStatus : ℕ → Type 0
 IsStatus s = (s ≡ 204) ⊎ (s ≡ 400) ⊎ (s ≡ 404) ⊎ (s ≡ 405) ⊎ (s ≡ 411) ⊎ (s ≡ 413) ⊎ (s ≡ 415) ⊎ (s ≡ 429) ⊎ (s ≡ 503)
-
-statuses : (s : ℕ) → IsTrue (is_verdict s || is_refusal s) → IsStatus s
-statuses s h = grind (arith, common_steps)
 
 at : (s n : ℕ) → s ≡ n → IsReply n → IsReply s
 at s n e p = subst IsReply (sym e) p

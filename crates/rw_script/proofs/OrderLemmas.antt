@@ -1,10 +1,10 @@
 -- The words of script lines, told apart, and what stands behind them.
-use Rattle.std.proofs.Common.{◌≡◌, ◌==◌, ◌^◌, ◌<◌, ◌*◌, ◌+◌, ◌&&◌, nat_lt, ℕ, List, [], ◌∷◌, ◌++◌, All, Bool, true, false, not, Option, Some, None, if◌then◌else◌, codes, refl, sym, ap, ◌∙◌, subst, inl, inr, arith}
+use Rattle.std.proofs.Common.{◌≡◌, ◌==◌, ◌^◌, ◌<◌, ◌*◌, ◌+◌, nat_lt, ℕ, List, [], ◌∷◌, ◌++◌, All, true, false, not, Option, Some, None, if◌then◌else◌, codes, refl, sym, ap, ◌∙◌, subst, inl, inr, arith}
 use Rattle.std.proofs.Math.ListN.{get_or}
 use Rattle.std.proofs.lemmas.List.Elements.{All-nil, All-cons}
 use Rattle.std.specs.List.{list_all}
 use Rattle.std.specs.Str.{IsUtf8}
-use Rattle.std.proofs.lemmas.Bool.{ltb-true}
+use Rattle.std.proofs.lemmas.Bool.{ltb-true, not-true, and_parts}
 use Rattle.std.proofs.lemmas.Str.{IsUtf8-from_ascii}
 use Rattle.std.proofs.lemmas.Str.Ascii.{IsAscii-from_all}
 use Rattle.rw_hex.specs.HexText.{read_digits}
@@ -24,15 +24,10 @@ use Rattle.rw_script.specs.ScriptText.{Order, logged, fed, arrives, bare, number
 
 -- ---- words are text
 
-both_true : (a b : Bool) → (a && b) ≡ true → (a ≡ true) × (b ≡ true)
-both_true true true e = (refl, refl)
-both_true true false e = cc
-both_true false b e = cc
-
 below_all : (text : List ℕ) → list_all (λ b. nat_lt b 128) text ≡ true → All (λ b. b < 128) text
 below_all [] e = All-nil (λ b. b < 128)
 below_all (b ∷ bs) e =
-    let p = both_true (nat_lt b 128) (list_all (λ b. nat_lt b 128) bs) e in
+    let p = and_parts (nat_lt b 128) (list_all (λ b. nat_lt b 128) bs) e in
     All-cons (λ b. b < 128) b bs (ltb-true b 128 p.0) (below_all bs p.1)
 
 not_ascii : {A : Type 0} (text word : List ℕ) → ¬ (IsUtf8 text) → list_all (λ b. nat_lt b 128) word ≡ true → text ≡ word → A
@@ -193,15 +188,11 @@ no_other word rest log feed arrive none (numbered w n) (e, h) = none w n e h
 abbrev pub NoSpace : List ℕ → Type 0
 NoSpace text = All (λ b. (b == 32) ≡ false) text
 
-not_true : (a : Bool) → not a ≡ true → a ≡ false
-not_true true e = cc
-not_true false e = refl
-
 spaceless : (text : List ℕ) → list_all (λ b. not (b == 32)) text ≡ true → NoSpace text
 spaceless [] e = All-nil (λ b. (b == 32) ≡ false)
 spaceless (b ∷ bs) e =
-    let p = both_true (not (b == 32)) (list_all (λ b. not (b == 32)) bs) e in
-    All-cons (λ b. (b == 32) ≡ false) b bs (not_true (b == 32) p.0) (spaceless bs p.1)
+    let p = and_parts (not (b == 32)) (list_all (λ b. not (b == 32)) bs) e in
+    All-cons (λ b. (b == 32) ≡ false) b bs (not-true (b == 32) p.0) (spaceless bs p.1)
 
 bare_without_space : (w : BareWord) → NoSpace (bare_text w)
 bare_without_space Segment = spaceless (codes "segment") refl

@@ -1,5 +1,5 @@
 -- A script is read line by line.
-use Rattle.std.proofs.Common.{◌≡◌, ◌<◌, ◌≤◌, ◌+◌, ◌&&◌, ◌||◌, ℕ, List, [], ◌∷◌, ◌++◌, length, map, Bool, true, false, refl, sym, ap, ap₂, ◌∙◌, subst, arith, append_assoc}
+use Rattle.std.proofs.Common.{◌≡◌, ◌<◌, ◌≤◌, ◌+◌, ◌&&◌, ◌||◌, ℕ, List, [], ◌∷◌, ◌++◌, length, map, Bool, true, false, refl, sym, ap, ap₂, ◌∙◌, subst, arith}
 use Rattle.std.specs.List.{list_any}
 use Rattle.std.proofs.lemmas.List.{length-append, append-nil}
 use Rattle.rw_text.specs.RecordLines.{lines}
@@ -8,6 +8,7 @@ use Rattle.rw_script.specs.declared.command.Command.{Command}
 use Rattle.rw_script.specs.ScriptText.{Order, IsOrder, order_of}
 use Rattle.rw_script.specs.Scripts.{is_log, is_piece, is_mixed, AreOrders, IsScript, IsBadLine}
 use Rattle.rw_script.specs.Ways.{AreWaysOf, are_both, with_order}
+use Rattle.rw_text.proofs.LineLemmas.{next_parts}
 
 -- ---- ways
 
@@ -61,9 +62,6 @@ pub record Begun (text rest : List ℕ) (number : ℕ) (orders : List Order) (w 
 
 pub begun : (text : List ℕ) → Begun text text 0 [] (record { log = false; pieces = false })
 begun text = record { front = []; parts = refl; place = refl; good = refl; ways = record { log = refl; pieces = refl }; one_way = refl; bound = omega arith }
-
-next_parts : (text rest line more : List ℕ) (front : List (List ℕ)) → lines text ≡ front ++ lines rest → lines rest ≡ line ∷ lines more → lines text ≡ (front ++ line ∷ []) ++ lines more
-next_parts text rest line more front e f = e ∙ ap (λ (t : List (List ℕ)). front ++ t) f ∙ sym (append_assoc front (line ∷ []) (lines more))
 
 pub begun_more : (text rest line more : List ℕ) (number : ℕ) (orders : List Order) (w : Ways) (o : Order) → Begun text rest number orders w → lines rest ≡ line ∷ lines more → length more < length rest
     → (0 < length line) × IsOrder line o × (are_both (with_order w o) ≡ false) → Begun text more (number + 1) (orders ++ o ∷ []) (with_order w o)

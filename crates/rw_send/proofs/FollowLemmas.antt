@@ -181,17 +181,10 @@ follow_so s now said fed o ended shipped answer so e f whole signed c a hard =
     subst (λ (r : Result (Unit {0}) FollowFault). FollowAnswers now said fed o r) (sym f) (follow_answers s now said fed o ended answer whole signed c answers is_hard)
 
 -- where a following ends early, the shipper has halted so
-halts_by : {T : Type 0} (s : Shipping T) (now : Option Moment) (ended : Result Stop Cut) → IfErr ended (IsCut s now) → IfErr (shipped_by ended) (IsHalted s)
-halts_by s now (Ok stop.Orderly) c = tt
-halts_by s now (Ok stop.Hard) c = tt
-halts_by s now (Err (cut.Broken (broken.Missing n))) c = tt
-halts_by s now (Err (cut.Broken (broken.Unreadable read.OutOfMemory))) c = tt
-halts_by s now (Err (cut.Broken (broken.Unreadable read.Failed))) c = tt
-halts_by s now (Err (cut.Halted h)) c = c
 
 pub halts_so : {T : Type 0} (s : Shipping T) (now : Option Moment) (ended : Result Stop Cut) (shipped : Result (Unit {0}) Halt)
     → shipped ≡ shipped_by ended → IfErr ended (IsCut s now) → IfErr shipped (IsHalted s)
-halts_so s now ended shipped e c = subst (λ (r : Result (Unit {0}) Halt). IfErr r (IsHalted s)) (sym e) (halts_by s now ended c)
+halts_so s now ended shipped e c = subst (λ (r : Result (Unit {0}) Halt). IfErr r (IsHalted s)) (sym e) (halted_by s now ended c)
 
 -- ---- a report is printed
 

@@ -1,6 +1,7 @@
 -- Numbers of series.
 use Rattle.std.proofs.Common.{◌≡◌, ℕ, ◌+◌, ◌≤◌, zero, suc, List, [], ◌∷◌, ◌++◌, length, length-append, Bool, true, false, not, cond, ◌||◌, refl, sym, ◌∙◌, ap, Some, slice_get, arith}
 use Rattle.std.specs.List.{list_any}
+use Rattle.std.proofs.lemmas.Bool.{or_right, or_left}
 use Rattle.rw_types.specs.Labels.{Labels}
 use Rattle.rw_types.specs.LabelOrder.{labels_eq, same_if_equal}
 use Rattle.rw_types.proofs.OrderLemmas.{equal_if_same}
@@ -30,17 +31,10 @@ stands_there (x ∷ xs) l h = stands_first x l xs (labels_eq l x) refl (stands_t
 pub has_number : (xs : List Labels) (l : Labels) → list_any (labels_eq l) xs ≡ true → HasNumber xs l (number_of xs l)
 has_number xs l h = record { numbered = refl; stands = stands_there xs l h }
 
-or_later : (a b : Bool) → b ≡ true → (a || b) ≡ true
-or_later true b h = refl
-or_later false b h = h
-
-or_first : (a b : Bool) → a ≡ true → (a || b) ≡ true
-or_first a b h = ap (λ x. x || b) h
-
 pub any_at : (xs : List Labels) (n : ℕ) (l : Labels) → slice_get xs n ≡ Some l → list_any (labels_eq l) xs ≡ true
 any_at [] n l e = absurd cc
-any_at (x ∷ xs) zero l e = let same : l ≡ x = cc in or_first (labels_eq l x) (list_any (labels_eq l) xs) (equal_if_same l x same)
-any_at (x ∷ xs) (suc n) l e = or_later (labels_eq l x) (list_any (labels_eq l) xs) (any_at xs n l e)
+any_at (x ∷ xs) zero l e = let same : l ≡ x = cc in or_left (labels_eq l x) (list_any (labels_eq l) xs) (equal_if_same l x same)
+any_at (x ∷ xs) (suc n) l e = or_right (labels_eq l x) (list_any (labels_eq l) xs) (any_at xs n l e)
 
 number_before_by : (x l : Labels) (xs ys : List Labels) (b : Bool) → labels_eq l x ≡ b → (list_any (labels_eq l) xs ≡ true → number_of (xs ++ ys) l ≡ number_of xs l)
     → (b || list_any (labels_eq l) xs) ≡ true → number_of (x ∷ (xs ++ ys)) l ≡ number_of (x ∷ xs) l
@@ -73,8 +67,8 @@ number_at_end [] l h = number_at_first l l [] (equal_if_same l l refl)
 number_at_end (x ∷ xs) l h = number_at_end_by x l xs (labels_eq l x) refl (number_at_end xs l) h
 
 pub any_at_end : (xs : List Labels) (l : Labels) → list_any (labels_eq l) (xs ++ l ∷ []) ≡ true
-any_at_end [] l = or_first (labels_eq l l) false (equal_if_same l l refl)
-any_at_end (x ∷ xs) l = or_later (labels_eq l x) (list_any (labels_eq l) (xs ++ l ∷ [])) (any_at_end xs l)
+any_at_end [] l = or_left (labels_eq l l) false (equal_if_same l l refl)
+any_at_end (x ∷ xs) l = or_right (labels_eq l x) (list_any (labels_eq l) (xs ++ l ∷ [])) (any_at_end xs l)
 
 -- a new series has the next number
 pub new_number : (xs : List Labels) (l : Labels) → list_any (labels_eq l) xs ≡ false → HasNumber (xs ++ l ∷ []) l (number_of xs l)

@@ -1,10 +1,12 @@
 -- What is noted of each series decides which samples rise, entry by entry.
-use Rattle.std.proofs.Common.{◌≡◌, ℕ, zero, suc, ◌<◌, ◌≤◌, ℤ, pos, negsuc, int_lt, Bool, true, false, cond, ◌&&◌, List, [], ◌∷◌, ◌++◌, length, length-append, slice_get, Option, None, Some, ◌⊎◌, inl, inr, refl, sym, ap, ◌∙◌, subst, ltb, append_assoc, arith}
+use Rattle.std.proofs.Common.{◌≡◌, ℕ, zero, suc, ◌≤◌, ℤ, pos, negsuc, int_lt, Bool, true, false, cond, ◌&&◌, List, [], ◌∷◌, ◌++◌, length, length-append, slice_get, Option, None, Some, ◌⊎◌, inl, inr, refl, sym, ap, ◌∙◌, subst, ltb, append_assoc, arith}
 use Rattle.std.proofs.lemmas.List.Folds.{list_all-append}
 use Rattle.std.specs.List.{list_any}
 use Rattle.std.specs.Ordering.{nat_cmp}
 use Rattle.std.specs.FinMap.{FinMap, empty, get, insert, get-empty}
 use Rattle.std.proofs.lemmas.Bool.Decides.{nat_tests}
+use Rattle.std.proofs.lemmas.Bool.{true≢false, and_parts}
+use Rattle.std.proofs.lemmas.Option.{slice_get_within}
 use Rattle.rw_types.specs.Labels.{Labels, label_fault}
 use Rattle.rw_types.specs.LabelOrder.{labels_eq, same_if_equal}
 use Rattle.rw_types.proofs.OrderLemmas.{equal_if_same}
@@ -22,9 +24,7 @@ use Rattle.rw_series_cache.proofs.NumberLemmas.{has_number, number_stays, any_at
 use Rattle.rw_series_cache.proofs.PointLemmas.{definition_gives_none, sample_is_kept, sample_is_other, has_labels-only, both_kept}
 use Rattle.rw_series_cache.proofs.SeriesLemmas.{kept_has_number, number_stays_on}
 use Rattle.rw_series_cache.proofs.TimestampLemmas.{get_here, get_elsewhere}
-
-off : {P : Type 0} → true ≡ false → P
-off e = let no : true ≡ false → ⊥ = λ z. cc in absurd (no e)
+use Rattle.rw_types.proofs.TimeLemmas.{int_lt-trans}
 
 -- the order of timestamps
 after_later_ltb : (a t s : ℕ) → ltb a t ≡ false → ltb a s ≡ true → ltb t s ≡ true
@@ -32,36 +32,18 @@ after_later_ltb a t s f g = grind (arith, nat_tests)
 
 after_later : (a t s : ℤ) → int_lt a t ≡ false → int_lt a s ≡ true → int_lt t s ≡ true
 after_later (pos a) (pos t) (pos s) f g = after_later_ltb a t s f g
-after_later (pos a) (pos t) (negsuc s) f g = off (sym g)
+after_later (pos a) (pos t) (negsuc s) f g = absurd (true≢false (sym g))
 after_later (pos a) (negsuc t) (pos s) f g = refl
-after_later (pos a) (negsuc t) (negsuc s) f g = off (sym g)
-after_later (negsuc a) (pos t) s f g = off f
+after_later (pos a) (negsuc t) (negsuc s) f g = absurd (true≢false (sym g))
+after_later (negsuc a) (pos t) s f g = absurd (true≢false f)
 after_later (negsuc a) (negsuc t) (pos s) f g = refl
 after_later (negsuc a) (negsuc t) (negsuc s) f g = earlier_ltb a t s f g
   where
     earlier_ltb : (a t s : ℕ) → ltb t a ≡ false → ltb s a ≡ true → ltb s t ≡ true
     earlier_ltb a t s f g = grind (arith, nat_tests)
 
-later_still : (a t s : ℤ) → int_lt a t ≡ true → int_lt t s ≡ true → int_lt a s ≡ true
-later_still (pos a) (pos t) (pos s) f g = still_ltb a t s f g
-  where
-    still_ltb : (a t s : ℕ) → ltb a t ≡ true → ltb t s ≡ true → ltb a s ≡ true
-    still_ltb a t s f g = grind (arith, nat_tests)
-later_still (pos a) (pos t) (negsuc s) f g = off (sym g)
-later_still (pos a) (negsuc t) s f g = off (sym f)
-later_still (negsuc a) t (pos s) f g = refl
-later_still (negsuc a) (pos t) (negsuc s) f g = off (sym g)
-later_still (negsuc a) (negsuc t) (negsuc s) f g = back_ltb a t s f g
-  where
-    back_ltb : (a t s : ℕ) → ltb t a ≡ true → ltb s t ≡ true → ltb s a ≡ true
-    back_ltb a t s f g = grind (arith, nat_tests)
-
 abbrev Point : Type 0
 Point = ℕ × ℤ × ℕ
-
-and_true : (a b : Bool) → (a && b) ≡ true → (a ≡ true) × (b ≡ true)
-and_true true b e = (refl, e)
-and_true false b e = off (sym e)
 
 true_after : (b : Bool) → (b && true) ≡ b
 true_after true = refl
@@ -73,19 +55,19 @@ is_after_all-push t ps p = list_all-append (λ (q : Point). int_lt q.1 t) ps (p 
 
 -- what is later than all samples is later than one that is not
 past_falling : (ps : List Point) (t s : ℤ) → is_after_all t ps ≡ false → is_after_all s ps ≡ true → int_lt t s ≡ true
-past_falling [] t s f g = off f
-past_falling (p ∷ ps) t s f g = by_test (int_lt p.1 t) refl f (λ h. past_falling ps t s h (and_true (int_lt p.1 s) (is_after_all s ps) g).1)
+past_falling [] t s f g = absurd (true≢false f)
+past_falling (p ∷ ps) t s f g = by_test (int_lt p.1 t) refl f (λ h. past_falling ps t s h (and_parts (int_lt p.1 s) (is_after_all s ps) g).1)
   where
     by_test : (b : Bool) → int_lt p.1 t ≡ b → (b && is_after_all t ps) ≡ false → (is_after_all t ps ≡ false → int_lt t s ≡ true) → int_lt t s ≡ true
     by_test true e h rest = rest h
-    by_test false e h rest = after_later p.1 t s e (and_true (int_lt p.1 s) (is_after_all s ps) g).0
+    by_test false e h rest = after_later p.1 t s e (and_parts (int_lt p.1 s) (is_after_all s ps) g).0
 
 -- what is later than a sample that is later than all is later than all
 past_rising : (ps : List Point) (t s : ℤ) → is_after_all t ps ≡ true → int_lt t s ≡ true → is_after_all s ps ≡ true
 past_rising [] t s f g = refl
 past_rising (p ∷ ps) t s f g =
-    let both = and_true (int_lt p.1 t) (is_after_all t ps) f in
-    ap (λ b. b && is_after_all s ps) (later_still p.1 t s both.0 g) ∙ past_rising ps t s both.1 g
+    let both = and_parts (int_lt p.1 t) (is_after_all t ps) f in
+    ap (λ b. b && is_after_all s ps) (int_lt-trans p.1 t s both.0 g) ∙ past_rising ps t s both.1 g
 
 -- so a sample that falls decides nothing, and one that rises decides all
 falling_adds_none : (ps : List Point) (t s : ℤ) → is_after_all t ps ≡ false → (is_after_all s ps && int_lt t s) ≡ is_after_all s ps
@@ -123,7 +105,7 @@ unmet_after choice l fine keep before (Sample r t w ∷ es) none =
         let is_known : known choice before r ≡ Kept l = ap (standing_of choice) (has_labels-only l (labels_of before r (length before)) e) ∙ kept_labels choice l fine keep in
         let number = kept_has_number choice before r l is_known in
         let stays = number_stays_on choice before (Sample r t w ∷ es) l number.0 number.1 in
-        off (sym (any_at (series_of choice (before ++ Sample r t w ∷ es)) number.0 l stays.stands) ∙ none)
+        absurd (true≢false (sym (any_at (series_of choice (before ++ Sample r t w ∷ es)) number.0 l stays.stands) ∙ none))
     by_test false e later = later
 
 unmet_has_none : (choice : Choice) (es : List Entry) (l : Labels) → list_any (labels_eq l) (series_of choice es) ≡ false → kept_points choice es l ≡ []
@@ -161,11 +143,6 @@ noted_at_first choice = record {
   decides = λ l number t h. let no : None ≡ Some l = subst (λ (s : List Labels). slice_get s number ≡ Some l) (series_of-none choice) h.stands in absurd cc;
   none = λ number le. get-empty nat_cmp number;
 }
-
-within : (s : List Labels) (n : ℕ) (l : Labels) → slice_get s n ≡ Some l → n < length s
-within [] n l h = absurd cc
-within (x ∷ xs) zero l h = omega arith
-within (x ∷ xs) (suc n) l h = let rest = within xs n l h in omega arith
 
 -- a series has one number
 same_number : (s : List Labels) (l : Labels) (n k : ℕ) → HasNumber s l n → HasNumber s l k → n ≡ k
@@ -239,7 +216,7 @@ noted_other choice es r t w noted other at = record {
 
 -- another series than that of a sample
 apart_kept : (choice : Choice) (es : List Entry) (r : ℕ) (l m : Labels) → known choice es r ≡ Kept l → labels_eq l m ≡ false → known choice es r ≡ Kept m → ⊥
-apart_kept choice es r l m is e other = let same : l ≡ m = let twice : Kept l ≡ Kept m = sym is ∙ other in cc in off (sym (equal_if_same l m same) ∙ e)
+apart_kept choice es r l m is e other = let same : l ≡ m = let twice : Kept l ≡ Kept m = sym is ∙ other in cc in absurd (true≢false (sym (equal_if_same l m same) ∙ e))
 
 -- nor does one that does not rise
 pub noted_falling : (choice : Choice) (es : List Entry) (r : ℕ) (t : ℤ) (w : ℕ) (l : Labels) (noted : FinMap nat_cmp ℤ) → known choice es r ≡ Kept l → rises choice es l t ≡ false → IsNoted choice es noted
@@ -260,7 +237,7 @@ noted_rising choice es r t w l number noted is numbered up at = record {
   decides = λ m n s h. by_test m n s (subst (λ (z : List Labels). HasNumber z m n) (series_of-push choice es (Sample r t w)) h) (labels_eq l m) refl;
   none = λ n le.
       let past : length (series_of choice es) ≤ n = subst (λ (z : List Labels). length z ≤ n) (series_of-push choice es (Sample r t w)) le in
-      let here = within (series_of choice es) number l numbered.stands in
+      let here = slice_get_within (series_of choice es) number l numbered.stands in
       get_elsewhere noted number t n (λ e. omega arith) ∙ at.none n past;
 }
   where
@@ -271,6 +248,6 @@ noted_rising choice es r t w l number noted is numbered up at = record {
         ap (λ o. is_after o s) (get_here noted number t n place)
         ∙ sym (rise_decides choice es l t s up) ∙ sym (rises_more choice es l r t w s is) ∙ ap (λ k. rises choice (es ++ Sample r t w ∷ []) k s) same
     by_test m n s h false e =
-        ap (λ o. is_after o s) (get_elsewhere noted number t n (λ place. let twice : Some m ≡ Some l = sym h.stands ∙ ap (slice_get (series_of choice es)) place ∙ numbered.stands in let same : l ≡ m = cc in off (sym (equal_if_same l m same) ∙ e)))
+        ap (λ o. is_after o s) (get_elsewhere noted number t n (λ place. let twice : Some m ≡ Some l = sym h.stands ∙ ap (slice_get (series_of choice es)) place ∙ numbered.stands in let same : l ≡ m = cc in absurd (true≢false (sym (equal_if_same l m same) ∙ e))))
         ∙ at.decides m n s h
         ∙ sym (rises_by choice es (es ++ Sample r t w ∷ []) m s (sample_is_other choice es m r t w (apart_kept choice es r l m is e)))

@@ -5,17 +5,11 @@ use Rattle.std.proofs.lemmas.Cmp.{nat_cmp_total}
 use Rattle.std.specs.Cmp.{unsigned_tied}
 use Rattle.std.specs.Ordering.{nat_cmp}
 use Rattle.std.specs.FinMap.{FinMap, get, insert, get-empty, get-insert, same_map, nat_cmp-IsAntisymmetric}
+use Rattle.std.proofs.lemmas.Bool.{ne_eqb}
 use Rattle.rw_series_cache.specs.Noted.{times_from}
 
 pub get_inserted : (m : FinMap nat_cmp ℤ) (k : ℕ) (t : ℤ) (q : ℕ) → get (insert m k t) q ≡ cond (q == k) (Some t) (get m q)
 get_inserted m k t q = get-insert nat_cmp_total m k t q ∙ ap (λ b. cond b (Some t) (get m q)) (unsigned_tied q k)
-
-pub differs : (p q : ℕ) → (p ≡ q → ⊥) → (p == q) ≡ false
-differs p q apart = by_test (p == q) refl
-  where
-    by_test : (b : Bool) → (p == q) ≡ b → (p == q) ≡ false
-    by_test true e = absurd (apart ((Decides-eqb p q).0 e))
-    by_test false e = e
 
 same_number : (p q : ℕ) → p ≡ q → (p == q) ≡ true
 same_number p q e = (Decides-eqb p q).1 e
@@ -24,7 +18,7 @@ pub get_here : (m : FinMap nat_cmp ℤ) (k : ℕ) (t : ℤ) (q : ℕ) → q ≡ 
 get_here m k t q e = get_inserted m k t q ∙ ap (λ b. cond b (Some t) (get m q)) (same_number q k e)
 
 pub get_elsewhere : (m : FinMap nat_cmp ℤ) (k : ℕ) (t : ℤ) (q : ℕ) → (q ≡ k → ⊥) → get (insert m k t) q ≡ get m q
-get_elsewhere m k t q apart = get_inserted m k t q ∙ ap (λ b. cond b (Some t) (get m q)) (differs q k apart)
+get_elsewhere m k t q apart = get_inserted m k t q ∙ ap (λ b. cond b (Some t) (get m q)) (ne_eqb q k apart)
 
 -- the first of two notes at a place is forgotten
 insert_again : (m : FinMap nat_cmp ℤ) (k : ℕ) (s t : ℤ) → insert (insert m k s) k t ≡ insert m k t

@@ -1,6 +1,7 @@
 -- Each step of an end keeps the rule of the queue.
-use Rattle.std.proofs.Common.{◌≡◌, ◌≢◌, ◌≤◌, ◌<◌, ◌*◌, ℕ, zero, suc, true, false, true≢false, List, [], ◌∷◌, ◌++◌, length, set, sym, refl, ap, ◌∙◌, subst, ⊎_elim, append_assoc, append-nil, length-append, arith}
+use Rattle.std.proofs.Common.{◌≡◌, ◌≢◌, ◌≤◌, ◌<◌, ◌*◌, ℕ, zero, suc, true, false, List, [], ◌∷◌, ◌++◌, length, set, sym, refl, ap, ◌∙◌, subst, ⊎_elim, append_assoc, append-nil, length-append, arith}
 use Rattle.std.proofs.lemmas.Nat.{mul-le}
+use Rattle.std.proofs.lemmas.Bool.{false≢true}
 use mathlib.Core.Option.{some, some-ne-none, some-injective}
 use lib.ListN.{get_elem?}
 use Rattle.crossbeam_channel.specs.Fifo.{Pushes, Pops, Forks, Merges, Learns}
@@ -14,9 +15,6 @@ use Rattle.rw_plain_queue.specs.declared.item.Item.TheVariants.{End}
 use Rattle.rw_plain_queue.specs.History.{IsHistory, EndIsLast, IsOpen, IsEnded, MayFollow}
 use Rattle.rw_shard_channel.specs.Rule.{Filled, joined, AreBlocks, IsRoomy, both, feeder, drainer, unnamed, no_name, nobody, Fits, IsRelayed, Took, Remains}
 use Rattle.rw_plain_queue.proofs.Histories.{history-nil, history-front, history-put, history-end, open-put, open-push}
-
-off : false ≡ true → ⊥
-off e = true≢false (sym e)
 
 at_end : (l : List Log) (a b : Log) (j : ℕ) → get_elem? l j ≢ some b → get_elem? (l ++ a ∷ []) j ≡ some b → j ≡ length l
 at_end [] a b zero n e = refl
@@ -82,7 +80,7 @@ puts n port v x is most goes any few items views room h at =
         within = let longer = length-append items (x ∷ []) in omega arith;
         sized = blocks-snoc h.name.most items x h.sized any (subst (λ (m : Name). length x.items ≤ m.most) mine.1 few);
         history = subst (λ (y : Name × List Item). IsHistory y.0.epoch y.0.shard (y.1 ++ x.items)) (λ i. (mine.1 i, mine.2 i)) goes;
-        fits = all_set (Fits h.writer h.reader h.name put h.taken) views port w ((λ _. (mine.0, mine.1, ap (λ l. l ++ x.items) mine.2)), (λ d. absurd (off d)))
+        fits = all_set (Fits h.writer h.reader h.name put h.taken) views port w ((λ _. (mine.0, mine.1, ap (λ l. l ++ x.items) mine.2)), (λ d. absurd (false≢true d)))
             (λ j u other e. ((λ p. absurd (other (((h.fits j u e).0 p).0 ∙ sym mine.0))), (h.fits j u e).1));
       },
       refl,
@@ -105,7 +103,7 @@ takes port v is x items views h at =
         within = let most = h.within in omega arith;
         sized = h.sized.2;
         history = h.history;
-        fits = all_set (Fits h.writer h.reader h.name h.put taken) views port w ((λ d. absurd (off d)), (λ _. (mine.0, mine.1, ap (λ l. l ++ x.items) mine.2)))
+        fits = all_set (Fits h.writer h.reader h.name h.put taken) views port w ((λ d. absurd (false≢true d)), (λ _. (mine.0, mine.1, ap (λ l. l ++ x.items) mine.2)))
             (λ j u other e. ((h.fits j u e).0, (λ p. absurd (other (((h.fits j u e).1 p).0 ∙ sym mine.0)))));
       },
       (
@@ -125,7 +123,7 @@ forked blocks views port v h at feeds drains name put taken split within sized h
     let vs : List Log = set views port l in
     let mine = h.fits port v at in
     let Old : ℕ → Log → Type 0 = λ j u. (u.feeds ≡ true → (j ≡ port) × (u ≡ l)) × (u.drains ≢ true) in
-    let old : AllViews Old vs = all_set Old views port l ((λ _. (refl, refl)), (λ d. off d))
+    let old : AllViews Old vs = all_set Old views port l ((λ _. (refl, refl)), (λ d. false≢true d))
     (λ j u other e. ((λ p. absurd (other (((h.fits j u e).0 p).0 ∙ sym (mine.0 feeds).0))), (λ p. other (((h.fits j u e).1 p).0 ∙ sym (mine.1 drains).0)))) in record {
       writer = port;
       reader = length vs;
@@ -138,7 +136,7 @@ forked blocks views port v h at feeds drains name put taken split within sized h
       history = history;
       fits = λ j u e. ⊎_elim
           (λ was. ((λ p. let o = (old j u was).0 p in (o.0, ap (λ (y : Log). y.name) o.1, ap (λ (y : Log). y.put) o.1)), (λ p. absurd ((old j u was).1 p))))
-          (λ (new : r ≡ u). ((λ p. absurd (off (ap (λ (y : Log). y.feeds) new ∙ p))), (λ p. (at_end vs r u j (λ was. (old j u was).1 p) e, ap (λ (y : Log). y.name) (sym new), ap (λ (y : Log). y.taken) (sym new)))))
+          (λ (new : r ≡ u). ((λ p. absurd (false≢true (ap (λ (y : Log). y.feeds) new ∙ p))), (λ p. (at_end vs r u j (λ was. (old j u was).1 p) e, ap (λ (y : Log). y.name) (sym new), ap (λ (y : Log). y.taken) (sym new)))))
           (at_snoc vs r u j e);
     }
 
@@ -176,7 +174,7 @@ closes port v other u is is' blocks views h at two at' =
       within = h.within;
       sized = h.sized;
       history = h.history;
-      fits = all_set (Fits h.writer port h.name h.put h.taken) vs other nobody ((λ p. absurd (off p)), (λ p. absurd (off p))) (λ j y apart e. now j y e apart);
+      fits = all_set (Fits h.writer port h.name h.put h.taken) vs other nobody ((λ p. absurd (false≢true p)), (λ p. absurd (false≢true p))) (λ j y apart e. now j y e apart);
     }
 
 pub compares : (port : ℕ) (v : Log) → v ≡ both v.name v.put v.taken → Learns IsRelayed port v (Remains v)

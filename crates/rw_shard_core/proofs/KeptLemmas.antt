@@ -14,21 +14,12 @@ use Rattle.std.specs.Ordering.{nat_cmp}
 use Rattle.rw_ledger.specs.Names.{Named}
 use Rattle.rw_ledger.specs.declared.ledger.Reason.{Reason}
 use Rattle.rw_types.specs.declared.place.Place.{Place}
-use Rattle.rw_plain_queue.specs.Items.{Placed, samples_in}
-use Rattle.rw_plain_queue.specs.declared.item.Item.{Item}
-use Rattle.rw_plain_queue.specs.declared.item.Item.TheVariants.{Sample, Flush, End}
+use Rattle.rw_plain_queue.specs.Items.{Placed}
 use Rattle.rw_shard_core.specs.Shard.{Core, is_empty, can_take, can_freeze, freeze, freeze_room, last_of, IsNext, AreInRow, places_of, labelled, body_of, IsReadAgain}
 use Rattle.rw_shard_core.specs.SentRequest.{request_of}
 use Rattle.rw_shard_core.specs.Inside.{batch_part, builder_part, is_waiting, IsKept, SpellsMessageOf}
 use Rattle.rw_shard_core.specs.declared.config.Target.{Target}
 use Rattle.rw_shard_core.specs.declared.shard.OpenBatch.{OpenBatch}
-
-pub samples_in-append : (xs ys : List Item) → samples_in (xs ++ ys) ≡ samples_in xs ++ samples_in ys
-samples_in-append [] ys = refl
-samples_in-append (Sample place t word labels ∷ xs) ys =
-    ap (λ zs. record { place = place; t = t; word = word; labels = labels.value } ∷ zs) (samples_in-append xs ys)
-samples_in-append (Flush ∷ xs) ys = samples_in-append xs ys
-samples_in-append (End kind ∷ xs) ys = samples_in-append xs ys
 
 -- a guard that holds
 guard_parts : (killed empty full marked : Bool) → (not killed && (empty && not (full || marked))) ≡ true → (empty ≡ true) × (full ≡ false)
@@ -69,11 +60,11 @@ last_of-All P [] y h e = absurd (cc)
 last_of-All P (x ∷ []) y h e = let same : x ≡ y = cc in rw (← same) (h 0 x (omega arith))
 last_of-All P (x ∷ z ∷ zs) y h e = last_of-All P (z ∷ zs) y (All-tail P x (z ∷ zs) h) e
 
-one : (P : Placed → Type 0) (x : Placed) → P x → All P (x ∷ [])
-one P x p zero d lt = p
-one P x p (suc k) d lt = absurd (omega arith)
+pub All-one : (P : Placed → Type 0) (x : Placed) → P x → All P (x ∷ [])
+All-one P x p zero d lt = p
+All-one P x p (suc k) d lt = absurd (omega arith)
 
-AreInRow-push : (xs : List Placed) (x : Placed) → AreInRow xs → IfSome (last_of xs) (λ y. IsNext y x) → AreInRow (xs ++ x ∷ [])
+pub AreInRow-push : (xs : List Placed) (x : Placed) → AreInRow xs → IfSome (last_of xs) (λ y. IsNext y x) → AreInRow (xs ++ x ∷ [])
 AreInRow-push [] x h n = tt
 AreInRow-push (y ∷ []) x h n = (n, tt)
 AreInRow-push (y ∷ z ∷ zs) x h n = (h.0, AreInRow-push (z ∷ zs) x h.1 n)
@@ -105,7 +96,7 @@ kept_take target epoch shard full builder None last taken resolved pending x k e
   builder_full = k.builder_full;
   fits = omega (arith, length-append pending (x ∷ []));
   whole = ap (λ ys. ys ++ x ∷ []) k.whole ∙ append_assoc resolved pending (x ∷ []);
-  named = All-append (λ (y : Placed). (y.place.epoch ≡ epoch) × (y.place.shard ≡ shard)) taken (x ∷ []) k.named (one (λ (y : Placed). (y.place.epoch ≡ epoch) × (y.place.shard ≡ shard)) x (ep, sh));
+  named = All-append (λ (y : Placed). (y.place.epoch ≡ epoch) × (y.place.shard ≡ shard)) taken (x ∷ []) k.named (All-one (λ (y : Placed). (y.place.epoch ≡ epoch) × (y.place.shard ≡ shard)) x (ep, sh));
   in_row = AreInRow-push taken x k.in_row next;
   last_is = sym (ap (option_map (λ (y : Placed). y.place)) (last_of-append taken (x ∷ []) x refl));
   builder_is = record {

@@ -2,3 +2,4 @@ pub mod KeptLemmas
 pub mod NamingLemmas
 pub mod ReplyLemmas
 pub mod RequestLemmas
+pub mod EmptyLemmas

@@ -1,19 +1,22 @@
 -- Names for the samples of a batch.
 use Rattle.std.proofs.Common.{◌≡◌, ℕ, zero, suc, ◌+◌, ◌<◌, false, List, [], ◌∷◌, ◌++◌, length, drop, Option, None, Some, All, cond, eqb, Bool, true, ◌≢◌, get_or, refl, arith, ap, ◌∙◌}
-use Rattle.std.specs.Cmp.{nat_cmp_total, unsigned_tied}
+use Rattle.std.specs.Cmp.{nat_cmp_total}
 use Rattle.std.proofs.lemmas.Bool.{eqb-true, eqb-false}
 use Rattle.std.proofs.lemmas.List.{length-map}
-use Rattle.std.proofs.lemmas.Bool.Decides.{nat_tests}
 use Rattle.std.specs.Prelude.{slice_index_or}
-use Rattle.std.specs.Ordering.{nat_cmp, eq_by_cmp}
+use Rattle.std.specs.Ordering.{nat_cmp}
 use Rattle.std.specs.FinMap.{FinMap, get, insert, get-insert}
 use Rattle.rw_ledger.specs.declared.ledger.Reason.{Reason}
 use Rattle.rw_ledger.specs.declared.ledger.Reason.TheVariants as Why
 use Rattle.rw_types.specs.declared.place.Place.{Place}
 use Rattle.rw_plain_queue.specs.Items.{Placed}
-use Rattle.rw_shard_core.specs.Shard.{AreInRow, positions_of, positions, name_all}
+use Rattle.rw_shard_core.specs.Shard.{AreInRow, positions_of, positions, name_all, settle_names}
 use Rattle.rw_shard_core.specs.Inside.{RiseStrictly, batch_part}
 use Rattle.rw_shard_core.specs.declared.shard.OpenBatch.{OpenBatch}
+use Rattle.rw_types.proofs.TimeLemmas.{nat_cmp-apart}
+use Rattle.rw_retry.specs.declared.judgement.Judgement.{Judgement}
+use Rattle.rw_retry.specs.declared.judgement.Judgement.TheVariants.{Done, Again, Refused}
+use Rattle.rw_ledger.specs.Names.{Named}
 
 -- what follows samples in a row is in a row
 pub AreInRow-rest : (xs ys : List Placed) → AreInRow (xs ++ ys) → AreInRow ys
@@ -45,9 +48,6 @@ rise_above p (q ∷ qs) h = above (rise_above q qs h.1) where
   above rest zero d lt = h.0
   above rest (suc k) d lt = let r = rest k d (omega arith) in omega (arith, h.0, r)
 
-apart : (p q : ℕ) → p < q → eq_by_cmp nat_cmp q p ≡ false
-apart p q lt = unsigned_tied q p ∙ grind (arith, nat_tests)
-
 -- a name for the first leaves the others without one
 name_first : (p : ℕ) (ps : List ℕ) (reason : Reason) (names : FinMap nat_cmp Reason) → RiseStrictly (p ∷ ps) →
     All (λ q. get names q ≡ None) (p ∷ ps) → All (λ q. get (insert names p reason) q ≡ None) ps
@@ -55,7 +55,7 @@ name_first p ps reason names rise none = λ k d lt.
     let q : ℕ = slice_index_or ps k d in
     let above : p < q = rise_above p ps rise k d lt in
     let before : get names q ≡ None = none (suc k) d (omega arith) in
-    get-insert nat_cmp_total names p reason q ∙ ap (λ b. cond b (Some reason) (get names q)) (apart p q above) ∙ before
+    get-insert nat_cmp_total names p reason q ∙ ap (λ b. cond b (Some reason) (get names q)) (nat_cmp-apart p q above) ∙ before
 
 -- the position at an index, and those after it
 pub left_is : (ps : List Place) (i : ℕ) (d : Place) → i < length ps →
@@ -107,3 +107,9 @@ one_more names ps i e lt none below k d up = by_place (eqb k i) refl where
   by_place false other =
       let apart' : k ≢ i = eqb-false k i other in
       below k d (omega (arith, apart', up))
+
+-- the names that an answer leaves do not depend on the room for them
+pub settle_names-room : (j : Judgement) (status : ℕ) (xs : List Placed) (l : Named) → (settle_names j status xs l).names ≡ (settle_names j status xs (record { names = l.names; room = 0 })).names
+settle_names-room Done status xs l = refl
+settle_names-room Again status xs l = refl
+settle_names-room Refused status xs l = refl

@@ -1,7 +1,6 @@
 -- Replies head by head.
 use Rattle.std.proofs.Common.{◌≡◌, ℕ, ◌-◌, ◌<◌, ◌≤◌, ◌⊎◌, inl, inr, List, [], ◌∷◌, ◌++◌, length, take, drop, sym, ap, ◌∙◌, arith, length-append}
-use Rattle.std.proofs.lemmas.List.{take-append-le, take-append-drop, length-map, length-take}
-use Rattle.std.proofs.Math.Seq.{take-append_seam}
+use Rattle.std.proofs.lemmas.List.{length-map, length-take}
 use Rattle.httparse.specs.Grammar.{Field, ResponseHead, ReadsResponse, HasNoResponse, print_response, status_code}
 use Rattle.httparse.specs.Spans.{ResponseOverflows, AreFieldsAt, header_bytes, name_and_value}
 use Rattle.httparse.specs.declared.spans.HeaderSpan.{HeaderSpan}
@@ -9,6 +8,7 @@ use Rattle.httparse.proofs.GrammarLemmas.{response_unique, response_prefix_free,
 use Rattle.rw_shard_core.specs.Replies.{BeginsWith, IsInformational, Follows, Answers, HasNoReply, Reads}
 use Rattle.rw_shard_core.specs.declared.replies.ReplyRead.{ReplyRead}
 use Rattle.rw_shard_core.specs.declared.replies.ReplyRead.TheVariants.{Status, Partial, Bad}
+use Rattle.rw_types.proofs.AnswerLemmas.{front_within}
 
 -- the fields that the spans cover are as many as the spans
 pub fields_fit : (buf : List ℕ) (headers : List HeaderSpan) (n : ℕ) (fields : List Field) → AreFieldsAt buf headers n fields →
@@ -22,15 +22,6 @@ fields_fit buf headers n fields e le =
 pub some_bytes : (h : ResponseHead) → 0 < length (print_response h)
 unfolding print_response
 some_bytes h = simp length-append (omega arith)
-
--- a front that is no longer than the buffer stands in it
-front_within : (buf more front rest : List ℕ) → buf ++ more ≡ front ++ rest → length front ≤ length buf →
-    buf ≡ front ++ drop (length front) buf
-front_within buf more front rest e le =
-    let n = length front in
-    let same : take n buf ≡ front =
-    sym (take-append-le n buf more le) ∙ ap (take n) e ∙ take-append_seam front rest in
-    sym (take-append-drop n buf) ∙ ap (λ t. t ++ drop n buf) same
 
 -- a head that is not below 100 stands at the front of each reply
 first_head : (room : ℕ) (text : List ℕ) (heads : List ResponseHead) (status : ℕ) → Follows (Answers status) room text heads →

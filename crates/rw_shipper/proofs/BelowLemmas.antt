@@ -1,6 +1,7 @@
 -- The positions of samples that were put.
 use Rattle.std.proofs.Common.{◌≡◌, ℕ, ℤ, zero, suc, ◌+◌, ◌<◌, ◌≤◌, Bool, true, false, List, [], ◌∷◌, ◌++◌, length, map, Some, None, cond, sym, subst, length-append, zero-add, arith}
 use Rattle.std.specs.Prelude.{◌==◌, filter, slice_get, ⊤}
+use Rattle.std.proofs.lemmas.Option.{same_Some}
 use Rattle.rw_types.specs.declared.entry.Entry.{Entry}
 use Rattle.rw_types.specs.declared.entry.Entry.TheVariants as entry
 use Rattle.rw_types.specs.declared.place.Place.{Place}
@@ -12,7 +13,6 @@ use Rattle.rw_fleet.specs.ShardHistories.{ShardHistory}
 use Rattle.rw_router.specs.Fates.{Fate, Drops, Filters, Sends, fate}
 use Rattle.rw_feeder.specs.Logs.{Sent, gather_from, sent_by_fate, sent_of, sent}
 use Rattle.rw_shipper.specs.Placement.{as_sent, shard_of, IsPlacing}
-use Rattle.rw_shipper.proofs.PlacementLemmas.{some_is}
 
 -- below a position
 abbrev pub AllBelow : ℕ → List Sent → Type 0
@@ -61,7 +61,7 @@ sent_below choice es = subst (λ n. AllBelow n (sent choice es)) (zero-add (leng
 
 below_place : (n : ℕ) (xs : List Item) (k : ℕ) (o : Place) → AllBelow n (map as_sent (samples_in xs)) → slice_get (places_in xs) k ≡ Some o → o.pos < n
 below_place n [] k o h at = absurd (let at' : None ≡ Some o = at in cc)
-below_place n (item.Sample p t w l ∷ xs) zero o h at = subst (λ (q : Place). q.pos < n) (some_is p o at) h.0
+below_place n (item.Sample p t w l ∷ xs) zero o h at = subst (λ (q : Place). q.pos < n) (same_Some p o at) h.0
 below_place n (item.Sample p t w l ∷ xs) (suc k) o h at = below_place n xs k o h.1 at
 below_place n (item.Flush ∷ xs) k o h at = below_place n xs k o h at
 below_place n (item.End kind ∷ xs) k o h at = below_place n xs k o h at

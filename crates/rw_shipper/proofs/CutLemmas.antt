@@ -2,7 +2,7 @@
 use Rattle.std.proofs.Common.{◌≡◌, ◌≢◌, inl, inr, ℕ, ℤ, zero, suc, ◌+◌, ◌-◌, ◌<◌, ◌≤◌, List, [], ◌∷◌, ◌++◌, length, map, Bool, true, false, Some, None, refl, sym, ap, ◌∙◌, subst, append_assoc, append-nil, zero-add, arith}
 use Rattle.std.specs.Prelude.{Option, set, slice_get, slice_index}
 use Rattle.std.proofs.lemmas.List.{length-set, length-map}
-use Rattle.std.proofs.lemmas.Option.{slice_get_within}
+use Rattle.std.proofs.lemmas.Option.{slice_get_within, same_Some}
 use Rattle.std.proofs.lemmas.Bool.Decides.{nat_tests}
 use Rattle.std.specs.Arc.{arc_value}
 use Rattle.rw_types.specs.declared.place.Place.{Place}
@@ -17,7 +17,7 @@ use Rattle.rw_router.specs.declared.sample.RoutedSample.{RoutedSample}
 use Rattle.rw_fleet.specs.ShardHistories.{ShardHistory, AreFresh, AreSame, IsPut, item_as, marked}
 use Rattle.rw_shipper.specs.Placement.{AreKept}
 use Rattle.rw_shipper.specs.Cutting.{IsCutBy, AreCutBy, AreCounted, GoesCut, IsCutAt, HasRoomMade}
-use Rattle.rw_shipper.proofs.PlacementLemmas.{get_set, some_is}
+use Rattle.rw_shipper.proofs.PlacementLemmas.{get_set}
 
 bytes_append : (n : ℕ) (xs ys : List Item) → bytes_after n (xs ++ ys) ≡ bytes_after (bytes_after n xs) ys
 bytes_append n [] ys = refl
@@ -77,7 +77,7 @@ cut_on limit (p ∷ ps) (q ∷ qs) (r ∷ rs) h g = (cut_both limit p q r h.0 g.
 
 cut_set : (limit : Option ℕ) (ps : List ShardHistory) (k : ℕ) (was now : ShardHistory) → slice_get ps k ≡ Some was → IsCutBy limit was now → AreCutBy limit ps (set ps k now)
 cut_set limit [] k was now at h = tt
-cut_set limit (p ∷ ps) zero was now at h = (subst (λ x. IsCutBy limit x now) (sym (some_is p was at)) h, cut_self limit ps)
+cut_set limit (p ∷ ps) zero was now at h = (subst (λ x. IsCutBy limit x now) (sym (same_Some p was at)) h, cut_self limit ps)
 cut_set limit (p ∷ ps) (suc k) was now at h = (cut_one limit p, cut_set limit ps k was now at h)
 
 pub goes_cut_on : (a b c : Counting) (x y z : List ShardHistory) → b.limit ≡ a.limit → GoesCut a b x y → GoesCut b c y z → GoesCut a c x z
@@ -96,7 +96,7 @@ set_twice (p ∷ ps) (suc k) a b = ap (λ qs. p ∷ qs) (set_twice ps k a b)
 
 get_again : (ps : List ShardHistory) (k : ℕ) (was now x : ShardHistory) → slice_get ps k ≡ Some was → slice_get (set ps k now) k ≡ Some x → x ≡ now
 get_again [] k was now x at there = absurd (let none : None ≡ Some was = at in cc)
-get_again (p ∷ ps) zero was now x at there = sym (some_is now x there)
+get_again (p ∷ ps) zero was now x at there = sym (same_Some now x there)
 get_again (p ∷ ps) (suc k) was now x at there = get_again ps k was now x at there
 
 -- the shard that was put a sample, behind a mark where that was asked for
@@ -117,7 +117,7 @@ put_cut true k s lane old mid new at cut put =
       is = put.is ∙ ap (λ qs. set qs k put.now) cut ∙ set_twice old k (marked lane) put.now;
     }
 put_cut false k s lane old mid new at cut put =
-    let was : put.was ≡ lane = sym (some_is lane put.was (sym at ∙ ap (λ qs. slice_get qs k) (sym cut) ∙ put.at)) in
+    let was : put.was ≡ lane = sym (same_Some lane put.was (sym at ∙ ap (λ qs. slice_get qs k) (sym cut) ∙ put.at)) in
     record {
       now = put.now;
       items = put.items ∙ ap (λ (l : ShardHistory). l.put ++ item_as put.was s ∷ []) was;
@@ -193,7 +193,7 @@ counted_fresh (Some limit) rooms epoch n ls full len few fresh = record {
 
 get_marked : (ls : List ShardHistory) (k : ℕ) (l : ShardHistory) → slice_get (map marked ls) k ≡ Some l → (p : ShardHistory) × (l ≡ marked p)
 get_marked [] k l at = absurd (let none : None ≡ Some l = at in cc)
-get_marked (p ∷ ps) zero l at = (p, sym (some_is (marked p) l at))
+get_marked (p ∷ ps) zero l at = (p, sym (same_Some (marked p) l at))
 get_marked (p ∷ ps) (suc k) l at = get_marked ps k l at
 
 pub counted_marked : (limit : Option ℕ) (rooms after : List ℕ) (ls now : List ShardHistory) → AreCounted limit rooms ls → AreFull limit after → now ≡ map marked ls → AreCounted limit after now

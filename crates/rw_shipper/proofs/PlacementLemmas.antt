@@ -4,6 +4,7 @@ use Rattle.std.specs.Prelude.{◌==◌, set, slice_get}
 use Rattle.std.proofs.lemmas.List.{length-set}
 use Rattle.std.proofs.lemmas.List.Elements.{filter-append}
 use Rattle.std.proofs.lemmas.Bool.{eq-eqb, eqb-true}
+use Rattle.std.proofs.lemmas.Option.{same_Some}
 use Rattle.rw_worker.specs.Setups.{Setup}
 use Rattle.rw_plain_queue.specs.Items.{Placed, samples_in}
 use Rattle.rw_fleet.specs.ShardHistories.{ShardHistory, AreSame, AreFresh, IsPut, put_as}
@@ -13,15 +14,12 @@ use Rattle.rw_feeder.specs.Feeders.{sent_by}
 use Rattle.rw_feeder.specs.Logs.{Sent}
 use Rattle.rw_shipper.specs.Placement.{as_sent, put_in, shard_of, of_shard, IsKept, AreKept, IsDealt, Places, joined, IsPlacing, ArePlaced}
 
-pub some_is : {A : Type 0} (a b : A) → Some a ≡ Some b → a ≡ b
-some_is a b e = cc
-
 same_get : (ps qs : List ShardHistory) (k : ℕ) (q : ShardHistory) → AreSame ps qs → slice_get qs k ≡ Some q → (p : ShardHistory) × (slice_get ps k ≡ Some p) × (q.setup ≡ p.setup) × (put_in q ≡ put_in p)
 same_get [] [] k q h e = absurd (let n : None ≡ Some q = e in cc)
 same_get [] (y ∷ ys) k q h e = absurd h
 same_get (x ∷ xs) [] k q h e = absurd h
 same_get (x ∷ xs) (y ∷ ys) zero q h e =
-    let is : y ≡ q = some_is y q e in (x, refl, ap (λ (f : ShardHistory). f.setup) (sym is) ∙ h.0, ap (λ (f : ShardHistory). put_in f) (sym is) ∙ ap (map as_sent) h.1)
+    let is : y ≡ q = same_Some y q e in (x, refl, ap (λ (f : ShardHistory). f.setup) (sym is) ∙ h.0, ap (λ (f : ShardHistory). put_in f) (sym is) ∙ ap (map as_sent) h.1)
 same_get (x ∷ xs) (y ∷ ys) (suc k) q h e = same_get xs ys k q h.2 e
 
 kept_one : (q : ShardHistory) → IsKept q q
@@ -44,7 +42,7 @@ kept_on (p ∷ ps) (q ∷ qs) (r ∷ rs) h g = (kept_both p q r h.0 g.0, kept_on
 -- one shard has more
 kept_set : (qs : List ShardHistory) (k : ℕ) (was now : ShardHistory) → slice_get qs k ≡ Some was → IsKept was now → AreKept qs (set qs k now)
 kept_set [] k was now at h = tt
-kept_set (q ∷ qs) zero was now at h = (subst (λ p. IsKept p now) (sym (some_is q was at)) h, kept_self qs)
+kept_set (q ∷ qs) zero was now at h = (subst (λ p. IsKept p now) (sym (same_Some q was at)) h, kept_self qs)
 kept_set (q ∷ qs) (suc k) was now at h = (kept_one q, kept_set qs k was now at h)
 
 pub kept_put : (k : ℕ) (x : RoutedSample) (old new : List ShardHistory) → IsPut k x old new → AreKept old new

@@ -2,6 +2,7 @@
 use Rattle.std.proofs.Common.{◌≡◌, inl, inr, ℕ, ℤ, zero, suc, ◌+◌, ◌<◌, ◌≤◌, List, [], ◌∷◌, ◌++◌, length, map, Some, None, refl, sym, ap, ◌∙◌, subst, append_assoc, append-nil, arith}
 use Rattle.std.specs.Prelude.{◌%◌, Bool, true, false, set, slice_get, Option, Result, Ok, Err, OnOk, IfSome, is_err, is_some}
 use Rattle.std.proofs.lemmas.List.{length-set, map-append}
+use Rattle.std.proofs.lemmas.Option.{same_Some}
 use Rattle.rw_worker.specs.Transcript.{Exchange}
 use Rattle.rw_shipper.specs.declared.report.Report.{Report}
 use Rattle.rw_types.specs.declared.entry.Entry.{Entry}
@@ -22,7 +23,7 @@ use Rattle.rw_fleet.proofs.LaneLemmas.{same_length}
 use Rattle.rw_router.specs.declared.sample.RoutedSample.{RoutedSample}
 use Rattle.rw_feeder.specs.Feeders.{Sorting, HasPlaced, HasRead, sent_by}
 use Rattle.rw_router.specs.Fates.{Fate, Drops, Filters, Sends, fate}
-use Rattle.rw_feeder.specs.Logs.{Sent, gather_from, kept_sample, sent_by_fate, sent_of, sent}
+use Rattle.rw_feeder.specs.Logs.{Sent, kept_sample, sent_by_fate, sent_of, sent}
 use Rattle.rw_shipper.specs.Placement.{shard_of, IsPlacing, ArePlaced, AreKept}
 use Rattle.rw_wal_format.specs.Pieces.{Piece, reading}
 use Rattle.rw_wal_format.specs.Segments.{segment}
@@ -33,24 +34,17 @@ use Rattle.rw_shipper.specs.Reports.{abandoned_in, end_of, IsAbandoned, IsAbando
 use Rattle.rw_shipper.specs.Shipping.{Shipping, PlacesAll, IsReady, IsReckoned, IsRead, GoesOn, HasCompared, Ends, HasStopped}
 use Rattle.rw_batch_bytes.specs.Rooms.{Counting, AreFull}
 use Rattle.rw_shipper.specs.Cutting.{AreCounted}
-use Rattle.rw_shipper.proofs.PlacementLemmas.{some_is, placing_put, placing_closed, placing_whole, placing_opened, placing_begun, placing_same, kept_self, kept_on, kept_put}
+use Rattle.rw_shipper.proofs.PlacementLemmas.{placing_put, placing_closed, placing_whole, placing_opened, placing_begun, placing_same, kept_self, kept_on, kept_put}
 use Rattle.rw_shipper.proofs.CutLemmas.{kept_same, counted_fresh, counted_marked}
 use Rattle.rw_shipper.proofs.BelowLemmas.{placing_below}
-
-module _ {A : Type 0} (f : List Entry → Entry → List A) where
-  from_push : (before es : List Entry) (e : Entry) → gather_from f before (es ++ e ∷ []) ≡ gather_from f before es ++ f (before ++ es) e
-  from_push before [] e = append-nil (f before e) ∙ ap (λ b. f b e) (sym (append-nil before))
-  from_push before (x ∷ xs) e =
-      ap (λ l. f before x ++ l) (from_push (before ++ x ∷ []) xs e)
-      ∙ ap (λ b. f before x ++ (gather_from f (before ++ x ∷ []) xs ++ f b e)) (append_assoc before (x ∷ []) xs)
-      ∙ sym (append_assoc (f before x) (gather_from f (before ++ x ∷ []) xs) (f (before ++ x ∷ xs) e))
+use Rattle.rw_types.proofs.GatherLemmas.{gather-push}
 
 -- the samples with those of the entry that was placed
 placed_samples : (old new : Sorting) (e : Entry) (samples : List Sent) → HasPlaced old new → old.hand ≡ e ∷ [] → sent_of old.choice old.placed e ≡ samples → sent new.choice new.placed ≡ sent old.choice old.placed ++ samples
 placed_samples old new e samples placed hand is =
     ap (λ (s : Sorting). sent s.choice s.placed) placed
     ∙ ap (λ h. sent old.choice (old.placed ++ h)) hand
-    ∙ from_push (sent_of old.choice) [] old.placed e
+    ∙ gather-push (sent_of old.choice) old.placed e
     ∙ ap (λ l. sent old.choice old.placed ++ l) is
 
 module _ {T : Type 0} where
@@ -125,7 +119,7 @@ module _ {T : Type 0} where
 
 marks_set : (qs : List ShardHistory) (k : ℕ) (was now : ShardHistory) → slice_get qs k ≡ Some was → marks_of now ≡ marks_of was → map marks_of (set qs k now) ≡ map marks_of qs
 marks_set [] k was now at same = refl
-marks_set (q ∷ qs) zero was now at same = ap (λ ms. ms ∷ map marks_of qs) (same ∙ ap marks_of (sym (some_is q was at)))
+marks_set (q ∷ qs) zero was now at same = ap (λ ms. ms ∷ map marks_of qs) (same ∙ ap marks_of (sym (same_Some q was at)))
 marks_set (q ∷ qs) (suc k) was now at same = ap (λ ms. marks_of q ∷ ms) (marks_set qs k was now at same)
 
 put_length : (k : ℕ) (l : RoutedSample) (old new : List ShardHistory) → IsPut k l old new → length new ≡ length old
@@ -296,10 +290,6 @@ is_abandoned placed samples (outcome.Complete end) h = h
 is_abandoned placed samples (outcome.Abandoned p l) h = tt
 is_abandoned placed samples (outcome.Damaged f) h = h
 
-pub none_of : {A : Type 0} (o : Option A) → is_some o ≡ false → o ≡ None
-none_of None e = refl
-none_of (Some x) e = absurd (cc)
-
 pub if_some : {A : Type 0} (o : Option A) (P : Type 0) → (is_some o ≡ true → P) → IfSome o (λ _. P)
 if_some None P h = tt
 if_some (Some x) P h = h refl
@@ -311,7 +301,7 @@ ends_apart placed (Some f) h = h
 module _ {T : Type 0} where
   at_finished : (js : List (StoppedShard T)) (k : ℕ) (j : StoppedShard T) → slice_get js k ≡ Some j → slice_get (map finished_of js) k ≡ Some j.finished
   at_finished [] k j at = absurd (let at' : None ≡ Some j = at in cc)
-  at_finished (x ∷ xs) zero j at = ap (λ (y : StoppedShard T). Some y.finished) (some_is x j at)
+  at_finished (x ∷ xs) zero j at = ap (λ (y : StoppedShard T). Some y.finished) (same_Some x j at)
   at_finished (x ∷ xs) (suc k) j at = at_finished xs k j at
 
   -- the work that was to end with all, and was abandoned, has a queue that was cut

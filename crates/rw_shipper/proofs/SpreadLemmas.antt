@@ -2,6 +2,7 @@
 use Rattle.std.proofs.Common.{◌≡◌, ◌⊎◌, inl, inr, ℕ, ℤ, zero, suc, ◌+◌, ◌<◌, ◌≤◌, Bool, true, false, List, [], ◌∷◌, ◌++◌, length, Some, None, cond, refl, sym, ap, ◌∙◌, subst, length-append, zero-add, arith}
 use Rattle.std.specs.Prelude.{◌==◌, filter, slice_get, ⊤}
 use Rattle.std.proofs.lemmas.Bool.{eq-eqb, eqb-true}
+use Rattle.std.proofs.lemmas.Option.{same_Some}
 use Rattle.rw_types.specs.declared.entry.Entry.{Entry}
 use Rattle.rw_types.specs.declared.entry.Entry.TheVariants as entry
 use Rattle.rw_relabel.specs.declared.choice.Choice.{Choice}
@@ -10,7 +11,7 @@ use Rattle.rw_router.specs.Fates.{Fate, Drops, Filters, Sends, fate}
 use Rattle.rw_feeder.specs.Logs.{Sent, gather_from, sent_by_fate, sent_of, sent}
 use Rattle.rw_shipper.specs.Placement.{put_in, shard_of, IsDealt, Places, joined, ArePlaced}
 use Rattle.rw_shipper.specs.Spread.{IsOneOf, AllAbove, Rise, IsShard, IsSpread}
-use Rattle.rw_shipper.proofs.PlacementLemmas.{get_some, some_is}
+use Rattle.rw_shipper.proofs.PlacementLemmas.{get_some}
 
 one_left : (x : Sent) (xs ys : List Sent) → IsOneOf x xs → IsOneOf x (xs ++ ys)
 one_left x [] ys h = absurd h
@@ -120,7 +121,7 @@ part_of b zero (x ∷ xs) lanes samples h at = record {
   number = b;
   number_is = omega arith;
   part = h.0;
-  dealt = subst (λ ls. IsDealt b ls h.0) (some_is x lanes at) h.3;
+  dealt = subst (λ ls. IsDealt b ls h.0) (same_Some x lanes at) h.3;
   among = λ y one. subst (IsOneOf y) (sym h.2) (one_left y h.0 h.1 one);
   rises = λ r. rise_left h.0 h.1 (subst Rise h.2 r);
 }
@@ -161,7 +162,7 @@ later_one : (b e f j k : ℕ) (es : List (List ShardHistory)) (samples : List Se
 later_one b e f j k [] samples lanes others l m x y h r s t one two lt = absurd (let at : None ≡ Some lanes = s.0 in cc)
 later_one b e zero j k (z ∷ zs) samples lanes others l m x y h r s t one two lt = absurd (omega arith)
 later_one b zero (suc f) j k (z ∷ zs) samples lanes others l m x y h r s t one two lt =
-    let d = subst (λ ls. IsDealt b ls h.0) (some_is z lanes s.0) h.3 in
+    let d = subst (λ ls. IsDealt b ls h.0) (same_Some z lanes s.0) h.3 in
     let p = part_of (suc b) f zs others h.1 h.4 t.0 in
     rise_across h.0 h.1 x y (subst Rise h.2 r) (shard_one b j lanes h.0 l x d s.1 one).0 (p.among y (shard_one p.number k others p.part m y p.dealt t.1 two).0)
 later_one b (suc e) (suc f) j k (z ∷ zs) samples lanes others l m x y h r s t one two lt =

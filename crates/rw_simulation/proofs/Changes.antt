@@ -1,6 +1,7 @@
 -- One shard of the machine is changed.
-use Rattle.std.proofs.Common.{◌≡◌, ℕ, zero, suc, Bool, true, false, List, [], ◌∷◌, ◌++◌, Some, None, slice_get, refl, sym, ap, ◌∙◌, ◌⊎◌, inl, inr, ◌&&◌, length}
+use Rattle.std.proofs.Common.{◌≡◌, ℕ, zero, suc, false, List, [], ◌∷◌, ◌++◌, Some, None, slice_get, refl, sym, ap, ◌∙◌, ◌⊎◌, inl, inr, ◌&&◌, length}
 use Rattle.std.specs.List.{list_all}
+use Rattle.std.proofs.lemmas.Bool.{and_right}
 use Rattle.rw_machine.specs.Shards.{Shard, is_drained}
 use Rattle.rw_machine.specs.Worlds.{Setup, World, is_over, is_finished, all_drained}
 use Rattle.rw_machine.specs.Steps.{change}
@@ -34,14 +35,10 @@ pub run-append : (c : Setup) (hs gs : List Happening) (w : World) → run_freely
 run-append c [] gs w = refl
 run-append c (h ∷ hs) gs w = run-append c hs gs (happens_freely c w h)
 
-both_false : (a b : Bool) → b ≡ false → (a && b) ≡ false
-both_false true b e = e
-both_false false b e = refl
-
 pub not-all : (i : ℕ) (ss : List Shard) (s : Shard) → slice_get ss i ≡ Some s → is_drained s ≡ false → list_all is_drained ss ≡ false
 not-all i [] s e d = let no : None ≡ Some s → ⊥ = λ h. cc in absurd (no e)
 not-all zero (x ∷ xs) s e d = let same : x ≡ s = cc in ap (λ b. b && list_all is_drained xs) (ap is_drained same ∙ d)
-not-all (suc i) (x ∷ xs) s e d = both_false (is_drained x) (list_all is_drained xs) (not-all i xs s e d)
+not-all (suc i) (x ∷ xs) s e d = and_right (is_drained x) (list_all is_drained xs) (not-all i xs s e d)
 
 -- the work of shard i goes on: nothing is killed, and nothing is closed or it is not drained
 abbrev pub Goes : World → Shard → Type 0
@@ -49,4 +46,4 @@ Goes w s = (w.killed ≡ false) × ((w.closed ≡ None) ⊎ (is_drained s ≡ fa
 
 pub not-over : (w : World) (i : ℕ) (s : Shard) → slice_get w.shards i ≡ Some s → Goes w s → is_over w ≡ false
 not-over w i s e (k, inl n) = rw (k, n) refl
-not-over w i s e (k, inr d) = rw k (both_false (is_finished w) (all_drained w) (not-all i w.shards s e d))
+not-over w i s e (k, inr d) = rw k (and_right (is_finished w) (all_drained w) (not-all i w.shards s e d))

@@ -16,7 +16,7 @@ use Rattle.rw_simulation.specs.WorkerRuns.{queued, happenings, steps_names, IsAf
 use Rattle.rw_simulation.specs.EpochRuns.{Coming, StartsByTaking, IsReady}
 use Rattle.rw_simulation.proofs.Changes.{change-same}
 use Rattle.rw_simulation.proofs.WorkerSteps.{moved}
-use Rattle.rw_simulation.proofs.WorkerLists.{after-is, numbered-after, ended-after}
+use Rattle.rw_simulation.proofs.WorkerLists.{after-is, numbered-after, ended-after, no_items as some_item}
 use Rattle.rw_simulation.proofs.WorkerRuns.{worker-run}
 
 -- the steps up to the next take, and those from it on
@@ -77,9 +77,6 @@ after_both w (x ∷ xs) ys = after_both (after_step x w) xs ys
 numbered_all : (i : ℕ) (w : Working) (ss : List Step) → AreSteps w ss → IsShardNumbered i w.core → IsShardNumbered i (after w ss).core
 numbered_all i w [] h n = n
 numbered_all i w (s ∷ ss) h n = numbered_all i (after_step s w) ss h.1 (subst (IsShardNumbered i) (sym (after-is s w.core w.ledger h.0)) (numbered-after i s w.core h.0 n))
-
-some_item : (x : Item) (xs : List Item) → x ∷ xs ≡ [] → ⊥
-some_item x xs e = cc
 
 -- steps that take nothing do not end the shard
 ended_all : (w : Working) (ss : List Step) → AreSteps w ss → items_of ss ≡ [] → (after w ss).core.ended ≡ w.core.ended

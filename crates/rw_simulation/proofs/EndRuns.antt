@@ -1,7 +1,8 @@
 -- At the end of an epoch each shard is put its End, and its worker makes all the steps that are left.
-use Rattle.std.proofs.Common.{◌≡◌, ℕ, zero, suc, ◌+◌, ◌<◌, ◌≤◌, ◌==◌, ◌&&◌, Bool, true, false, not, cond, List, [], ◌∷◌, ◌++◌, map, length, Option, None, Some, slice_get, refl, sym, ap, ◌∙◌, subst, append-nil, length-append, arith, ◌⊎◌, inl, inr}
+use Rattle.std.proofs.Common.{◌≡◌, ℕ, zero, suc, ◌+◌, ◌<◌, ◌≤◌, ◌==◌, ◌&&◌, Bool, true, false, not, cond, List, [], ◌∷◌, ◌++◌, map, length, Option, Some, slice_get, refl, sym, ap, ◌∙◌, subst, append-nil, length-append, arith, ◌⊎◌, inl, inr}
 use Rattle.std.specs.List.{list_all}
-use Rattle.std.proofs.lemmas.Bool.{lt-ltb, eq-eqb}
+use Rattle.std.proofs.lemmas.Bool.{lt-ltb, eq-eqb, both_ways}
+use Rattle.std.proofs.lemmas.Option.{same_Some, none-some}
 use Rattle.rw_plain_queue.specs.Items.{Placed}
 use Rattle.rw_plain_queue.specs.Items as items
 use Rattle.rw_plain_queue.specs.History.{EndIsLast}
@@ -28,15 +29,6 @@ use Rattle.rw_simulation.proofs.WorkerRuns.{worker-run}
 use Rattle.rw_simulation.proofs.FreeLaws.{keeps-lists}
 use Rattle.rw_simulation.proofs.Eager.{has-room}
 use Rattle.rw_simulation.proofs.EpochRuns.{stay, go-on, each-update, get_within}
-
-some_is : {X : Type 0} {x y : X} → Some x ≡ Some y → x ≡ y
-some_is e = cc
-
-none_is_some : {X : Type 0} (x : X) → None ≡ Some x → ⊥
-none_is_some x e = cc
-
-both_ways : (b : Bool) → b ≡ true → b ≡ false → ⊥
-both_ways b h k = let never : true ≡ false = sym h ∙ k in cc
 
 -- the shard has come to its fate
 pub record HasCome (s : Shard) (f : ShardFate) : Type 0 where
@@ -170,7 +162,7 @@ module _ (c : Setup) (epoch n : ℕ) (fates : ℕ → ShardFate) (kind : Kind) (
       can_end : CanEnd (shard_end kind s) steps
       can_end = record {
         kept = kept_count c s kind (h.lists_are m s at);
-        ended = λ e. absurd (both_ways s.core.ended e p.way.ready.running);
+        ended = λ e. absurd (both_ways s.core.ended p.way.ready.running e);
         last = short_last (items_of steps) (few p.way.ready.eager);
       }
 
@@ -194,13 +186,13 @@ module _ (c : Setup) (epoch n : ℕ) (fates : ℕ → ShardFate) (kind : Kind) (
       }
 
   end-one : (m : ℕ) (w : World) (s : Shard) → m < n → ClosedBelow m w → slice_get w.shards m ≡ Some s → (p : IsPut c epoch m s (fates m)) → (ps : List Item) → p.way.coming.puts ≡ ps → Reaches c w (ClosedBelow (suc m))
-  end-one m w s lt h at p [] is = absurd (none_is_some kind (sym (ap end_in is) ∙ p.way.end ∙ ends m lt))
+  end-one m w s lt h at p [] is = absurd (none-some kind (sym (ap end_in is) ∙ p.way.end ∙ ends m lt))
   end-one m w s lt h at p (item.Sample place t word labels ∷ ps) is = absurd (subst IsAtEnd is p.at_end)
   end-one m w s lt h at p (item.Flush ∷ ps) is = absurd (subst IsAtEnd is p.at_end)
   end-one m w s lt h at p (item.End other ∷ ps) is = end-it m w s h at p (is ∙ alone)
     where
       kind_is : other ≡ kind
-      kind_is = some_is (sym (ap end_in is) ∙ p.way.end ∙ ends m lt)
+      kind_is = same_Some _ _ (sym (ap end_in is) ∙ p.way.end ∙ ends m lt)
 
       last : ps ≡ []
       last = subst IsAtEnd is p.at_end
@@ -243,7 +235,7 @@ module _ (c : Setup) (epoch n : ℕ) (fates : ℕ → ShardFate) (kind : Kind) (
       zero_plus n = omega arith
 
 pub below : (ss : List Shard) (k : ℕ) (s : Shard) → slice_get ss k ≡ Some s → k < length ss
-below [] k s e = absurd (none_is_some s e)
+below [] k s e = absurd (none-some s e)
 below (x ∷ xs) zero s e = omega arith
 below (x ∷ xs) (suc k) s e = let lt = below xs k s e in omega arith
 

@@ -15,7 +15,7 @@ use Rattle.rw_shard_core.specs.Shard.{placed}
 use Rattle.rw_worker.specs.Steps.{working, after}
 use Rattle.rw_router.specs.Fates.{Fate, Drops, Filters, Sends, fate}
 use Rattle.rw_feeder.specs.Logs.{Sent, kept_sample, sent_by_fate, sent_of, gather_from, filtered, filtered_of}
-use Rattle.rw_feeder.proofs.GatherLemmas.{gather_push}
+use Rattle.rw_types.proofs.GatherLemmas.{gather-push}
 use Rattle.rw_shipper.specs.Placement.{as_sent, shard_of, of_shard}
 use Rattle.rw_machine.specs.Shards.{Shard, has_room, shard_put}
 use Rattle.rw_machine.specs.Worlds.{Setup, World, log}
@@ -205,7 +205,7 @@ module _ (c : Setup) (pieces : List Piece) (epoch n : ℕ) (fates : ℕ → Shar
   counted_more : (before : List Entry) (e : Entry) (m : ℕ) → m ≡ length (filtered c.choice before) → m + length (filtered_of c.choice before e) ≡ length (filtered c.choice (before ++ e ∷ []))
   counted_more before e m h =
       ap (λ (k : ℕ). k + length (filtered_of c.choice before e)) h
-      ∙ sym (ap length (gather_push (filtered_of c.choice) before e) ∙ length-append (filtered c.choice before) (filtered_of c.choice before e))
+      ∙ sym (ap length (gather-push (filtered_of c.choice) before e) ∙ length-append (filtered c.choice before) (filtered_of c.choice before e))
 
   abbrev More : List Entry → Entry → List Entry → World → Type 0
   More before e es = IsUnderWay c pieces epoch n fates (before ++ e ∷ []) es

@@ -1,6 +1,6 @@
 -- What a shard of the fleet was put, and did, is what a shard of the machine may be put and do.
-use Rattle.std.proofs.Common.{◌≡◌, ℕ, zero, suc, ◌+◌, ◌<◌, ◌≤◌, Bool, true, false, not, ◌||◌, nat_le, List, [], ◌∷◌, map, length, Option, Some, None, slice_get, refl, sym, ap, ◌∙◌, subst, arith, inl}
-use Rattle.std.proofs.lemmas.Bool.{lt-leb}
+use Rattle.std.proofs.Common.{◌≡◌, ℕ, zero, suc, ◌+◌, ◌<◌, ◌≤◌, true, false, not, ◌||◌, nat_le, List, [], ◌∷◌, map, length, Option, Some, None, slice_get, refl, sym, ap, ◌∙◌, subst, arith, inl}
+use Rattle.std.proofs.lemmas.Bool.{lt-leb, both_ways}
 use Rattle.std.proofs.lemmas.List.{map-append}
 use Rattle.std.specs.FinMap.{empty}
 use Rattle.rw_types.specs.declared.entry.Entry.{Entry}
@@ -40,15 +40,12 @@ next_of epoch k n (End kind ∷ xs) named numbered last = last [] xs kind refl
 fresh_takes : (n : ℕ) → 1 ≤ n → not (nat_le n 0 || false) ≡ true
 fresh_takes n some = rw (lt-leb n 0 some) refl
 
-both_ways : (b : Bool) → b ≡ true → b ≡ false → ⊥
-both_ways b h k = let never : true ≡ false = sym h ∙ k in cc
-
 starts_fresh : (c : Setup) (epoch k : ℕ) (ss : List Step) → 1 ≤ c.batch → AreSteps (new_working c.target epoch k c.batch) ss → StartsByTaking ss
 starts_fresh c epoch k [] some h = tt
 starts_fresh c epoch k (Takes x ∷ ss) some h = tt
 starts_fresh c epoch k (Freezes ∷ ss) some h = let never : false ≡ true = h.0.1 in cc
 starts_fresh c epoch k (Sends e ∷ ss) some h = let never : false ≡ true = h.0.0 in cc
-starts_fresh c epoch k (Waits ∷ ss) some h = absurd (both_ways (not (nat_le c.batch 0 || false)) (fresh_takes c.batch some) h.0)
+starts_fresh c epoch k (Waits ∷ ss) some h = absurd (both_ways (not (nat_le c.batch 0 || false)) h.0 (fresh_takes c.batch some))
 
 run-on-the-way : (c : Setup) (epoch k : ℕ) (l : ShardHistory) (steps : List Step) (rest : List Item) → 1 ≤ c.batch → IsShardRun c epoch k l steps rest → IsOnTheWay c epoch k (new_shard (new_core c.target epoch k c.batch)) (put_in l) (fate_of l steps rest)
 run-on-the-way c epoch k l steps rest some h = record {

@@ -1,7 +1,7 @@
 -- The laws of the machine whose receiver is free.
 use Rattle.std.proofs.Common.{ℕ, List, [], ◌∷◌, Option, Some, None, slice_get}
 use Rattle.rw_machine.specs.Worlds.{Setup, Request, World, is_over, start, log}
-use Rattle.rw_machine.specs.Steps.{act, happens}
+use Rattle.rw_machine.specs.Steps.{act, happens, turned_away}
 use Rattle.rw_machine.specs.declared.event.Event.{Event}
 use Rattle.rw_machine.proofs.Steps.{unless}
 use Rattle.rw_machine.proofs.Counts.{Count, count_act, count_start}
@@ -10,32 +10,32 @@ use Rattle.rw_machine.proofs.Lists as lists
 use Rattle.rw_machine.proofs.Ids.{Ids, act_ids, ids_start}
 use Rattle.rw_machine.proofs.Requests.{Carries, act_carries, carries_start, carries_is, same_bytes}
 use Rattle.rw_machine.proofs.Classes.{Classes, classes_act, classes_at, accounted, not_below}
-use Rattle.rw_simulation.specs.Freely.{Happening, Of, Answered, answer_by, run_freely}
+use Rattle.rw_simulation.specs.Freely.{Happening, Of, Answered, run_freely}
 use Rattle.rw_simulation.specs.FreeLaws.{KeepsLaws, world_of}
 
 -- a fact goes through a free schedule
-pub always_freely : (I : World → Type 0) (c : Setup) → ((w : World) (e : Event) → I w → I (act c w e)) → ((w : World) (status : ℕ) (o : Option Request) → I w → I (answer_by w status o)) → (hs : List Happening) (w : World) → I w → I (run_freely c hs w)
+pub always_freely : (I : World → Type 0) (c : Setup) → ((w : World) (e : Event) → I w → I (act c w e)) → ((w : World) (status : ℕ) (o : Option Request) → I w → I (turned_away w status o)) → (hs : List Happening) (w : World) → I w → I (run_freely c hs w)
 always_freely I c keep answer [] w at = at
 always_freely I c keep answer (Of e ∷ hs) w at = always_freely I c keep answer hs (happens c w e) (unless I c w e (is_over w) at (keep w e at))
-always_freely I c keep answer (Answered k status ∷ hs) w at = always_freely I c keep answer hs (answer_by w status (slice_get w.requests k)) (answer w status (slice_get w.requests k) at)
+always_freely I c keep answer (Answered k status ∷ hs) w at = always_freely I c keep answer hs (turned_away w status (slice_get w.requests k)) (answer w status (slice_get w.requests k) at)
 
-count_answer : (c : Setup) (w : World) (status : ℕ) (o : Option Request) → Count c w → Count c (answer_by w status o)
+count_answer : (c : Setup) (w : World) (status : ℕ) (o : Option Request) → Count c w → Count c (turned_away w status o)
 count_answer c w status None at = at
 count_answer c w status (Some r) at = record { placed_in = at.placed_in; is = at.is }
 
-lists_answer : (c : Setup) (w : World) (status : ℕ) (o : Option Request) → lists.All c w → lists.All c (answer_by w status o)
+lists_answer : (c : Setup) (w : World) (status : ℕ) (o : Option Request) → lists.All c w → lists.All c (turned_away w status o)
 lists_answer c w status None at = at
 lists_answer c w status (Some r) at = at
 
-ids_answer : (w : World) (status : ℕ) (o : Option Request) → Ids w → Ids (answer_by w status o)
+ids_answer : (w : World) (status : ℕ) (o : Option Request) → Ids w → Ids (turned_away w status o)
 ids_answer w status None at = at
 ids_answer w status (Some r) at = at
 
-carries_answer : (c : Setup) (w : World) (status : ℕ) (o : Option Request) → Carries c w → Carries c (answer_by w status o)
+carries_answer : (c : Setup) (w : World) (status : ℕ) (o : Option Request) → Carries c w → Carries c (turned_away w status o)
 carries_answer c w status None at = at
 carries_answer c w status (Some r) at = at
 
-classes_answer : (c : Setup) (w : World) (status : ℕ) (o : Option Request) → Classes c w → Classes c (answer_by w status o)
+classes_answer : (c : Setup) (w : World) (status : ℕ) (o : Option Request) → Classes c w → Classes c (turned_away w status o)
 classes_answer c w status None at = at
 classes_answer c w status (Some r) at = record { placed_in = at.placed_in; below = at.below; above = at.above; kept = at.kept }
 

@@ -1,6 +1,7 @@
 -- The marks that are left at the end of an epoch are put.
 use Rattle.std.proofs.Common.{◌≡◌, ℕ, zero, suc, ◌+◌, ◌<◌, ◌≤◌, List, [], ◌∷◌, ◌++◌, map, length, None, Some, slice_get, refl, sym, ap, ◌∙◌, subst, arith, ◌⊎◌, inl, inr, ◌==◌, true, false}
 use Rattle.std.proofs.lemmas.Bool.Decides.{eqb_tells}
+use Rattle.std.proofs.lemmas.Option.{same_Some}
 use Rattle.rw_types.specs.declared.entry.Entry.{Entry}
 use Rattle.rw_wal_format.specs.Pieces.{Piece}
 use Rattle.rw_plain_queue.specs.Items.{samples_in}
@@ -20,9 +21,6 @@ use Rattle.rw_simulation.proofs.WorkerSteps.{moved}
 use Rattle.rw_simulation.proofs.Eager.{GoesThrough, with_item, put-one, has-room}
 use Rattle.rw_simulation.proofs.EpochRuns.{stay, go-on, each-update, flush-run, way-after, get_within, epoch-run}
 
-some_is : {s t : Shard} → Some s ≡ Some t → s ≡ t
-some_is e = cc
-
 some_sent : (x : Sent) (xs : List Sent) → x ∷ xs ≡ [] → ⊥
 some_sent x xs e = cc
 
@@ -40,7 +38,7 @@ module _ (c : Setup) (pieces : List Piece) (epoch n : ℕ) (fates : ℕ → Shar
 
       at_own : k ≡ m → IsPut c epoch k t (fates k)
       at_own same =
-          let shard_is : s ≡ t = some_is (sym at ∙ ap (slice_get w.shards) (sym same) ∙ e) in
+          let shard_is : s ≡ t = same_Some _ _ (sym at ∙ ap (slice_get w.shards) (sym same) ∙ e) in
           subst (λ (j : ℕ). IsPut c epoch j t (fates j)) (sym same) (subst (λ (u : Shard). IsPut c epoch m u (fates m)) shard_is own)
 
       by_case : (((k == m) ≡ true) × (k ≡ m)) ⊎ (((k == m) ≡ false) × (k ≡ m → ⊥)) → IsPut c epoch k t (fates k)

@@ -2,7 +2,8 @@
 use Rattle.std.proofs.Common.{◌≡◌, ℕ, zero, suc, ◌+◌, ◌-◌, ◌<◌, ◌≤◌, ◌==◌, ◌&&◌, Bool, true, false, cond, List, [], ◌∷◌, ◌++◌, map, length, drop, Option, None, Some, is_some, slice_get, refl, sym, ap, ◌∙◌, subst, append-nil, append_assoc, length-append, arith, ◌⊎◌, inl, inr}
 use Rattle.std.specs.List.{list_all}
 use Rattle.std.proofs.lemmas.List.{length-drop}
-use Rattle.std.proofs.lemmas.Bool.{eq-eqb, eqb-true}
+use Rattle.std.proofs.lemmas.Bool.{eq-eqb, eqb-true, and_parts}
+use Rattle.std.proofs.lemmas.Option.{same_Some, none-some}
 use Rattle.rw_types.specs.declared.entry.Entry.{Entry}
 use Rattle.rw_types.specs.declared.place.Place.{Place}
 use Rattle.rw_wal_format.specs.Pieces.{Piece, entries, fault}
@@ -30,6 +31,7 @@ use Rattle.rw_fleet.specs.ShardHistories.{ShardHistory, IsSetUp, AreSetUp, AreSa
 use Rattle.rw_fleet.specs.Work.{IsWorked, AreWorked, AreResolved, AreEndedBy, IsEndedBy, lane_of, finished_of, put_of, put_by, taken_of, is_compared, is_resolved, positions_in}
 use Rattle.rw_fleet.specs.declared.joined.StoppedShard.{StoppedShard}
 use Rattle.rw_fleet.specs.declared.joined.Finished.{Finished}
+use Rattle.rw_fleet.proofs.LaneLemmas.{same_length}
 use Rattle.rw_feeder.specs.Feeders.{HasRead}
 use Rattle.rw_feeder.specs.Logs.{Sent, sent, sent_of, gather_from, filtered}
 use Rattle.rw_shipper.specs.Placement.{IsDealt, Places, joined}
@@ -42,7 +44,7 @@ use Rattle.rw_machine.specs.Steps.{happens, mark, unless_over}
 use Rattle.rw_machine.specs.declared.event.Event.TheVariants as event
 use Rattle.rw_machine.specs.Promises.{CanWork}
 use Rattle.rw_machine.proofs.Lists as lists
-use Rattle.rw_machine.proofs.Steps.{AllOf, all_left, all_right, and_left, and_right}
+use Rattle.rw_machine.proofs.Steps.{AllOf, all_left, all_right}
 use Rattle.rw_simulation.specs.Freely.{Happening, Of, run_freely}
 use Rattle.rw_simulation.specs.FreeLaws.{world_of}
 use Rattle.rw_simulation.specs.EpochRuns.{ShardFate, end_in, IsAllPut, Reaches}
@@ -60,12 +62,6 @@ use Rattle.rw_simulation.proofs.StoppedShards.{compared-is-run, same_items}
 use Rattle.rw_simulation.proofs.EpochRuns.{one_at_most}
 use Rattle.rw_simulation.proofs.EndRuns.{HasCome, IsResolvedFate, ClosedBelow, end-all, drained-all, below}
 
-some_is : {X : Type 0} {x y : X} → Some x ≡ Some y → x ≡ y
-some_is e = cc
-
-none_is_some : {X : Type 0} (x : X) → None ≡ Some x → ⊥
-none_is_some x e = cc
-
 -- ---- an End that was taken
 stays_ended : (st : Step) (c : Core) → c.ended ≡ true → (core_after st c).ended ≡ true
 stays_ended (Takes (Sample place t word labels)) c h = h
@@ -80,7 +76,7 @@ all_ended w [] h e = e
 all_ended w (s ∷ ss) h e = all_ended (after_step s w) ss h.1 (ap (λ (k : Core). k.ended) (after-is s w.core w.ledger h.0) ∙ stays_ended s w.core e)
 
 ended_in : (w : Working) (ss : List Step) (k : Kind) → AreSteps w ss → end_in (items_of ss) ≡ Some k → (after w ss).core.ended ≡ true
-ended_in w [] k h e = absurd (none_is_some k e)
+ended_in w [] k h e = absurd (none-some k e)
 ended_in w (Takes (Sample place t word labels) ∷ ss) k h e = ended_in (after_step (Takes (Sample place t word labels)) w) ss k h.1 e
 ended_in w (Takes Flush ∷ ss) k h e = ended_in (after_step (Takes Flush) w) ss k h.1 e
 ended_in w (Takes (End other) ∷ ss) k h e = all_ended (after_step (Takes (End other)) w) ss h.1 refl
@@ -122,13 +118,13 @@ feed-all c (p ∷ ps) w k n =
     fed_one = ap (unless_over c w (event.Feed p)) (over_not w k n) ∙ rw n refl
 
 ended_by_at : (kd : Kind) (puts : List (List Item)) (k : ℕ) (put : List Item) → AreEndedBy kd puts → slice_get puts k ≡ Some put → IsEndedBy kd put
-ended_by_at kd [] k put h e = absurd (none_is_some put e)
-ended_by_at kd (x ∷ xs) zero put h e = let is : x ≡ put = some_is e in subst (IsEndedBy kd) is h.0
+ended_by_at kd [] k put h e = absurd (none-some put e)
+ended_by_at kd (x ∷ xs) zero put h e = let is : x ≡ put = same_Some _ _ e in subst (IsEndedBy kd) is h.0
 ended_by_at kd (x ∷ xs) (suc k) put h e = ended_by_at kd xs k put h.1 e
 
 get_map : {X Y : Type 0} (f : X → Y) (xs : List X) (k : ℕ) (x : X) → slice_get xs k ≡ Some x → slice_get (map f xs) k ≡ Some (f x)
-get_map f [] k x e = absurd (none_is_some x e)
-get_map f (y ∷ ys) zero x e = ap Some (ap f (some_is e))
+get_map f [] k x e = absurd (none-some x e)
+get_map f (y ∷ ys) zero x e = ap Some (ap f (same_Some _ _ e))
 get_map f (y ∷ ys) (suc k) x e = get_map f ys k x e
 
 map_both : {X Y : Type 0} (f : X → Y) (xs ys : List X) → map f (xs ++ ys) ≡ map f xs ++ map f ys
@@ -136,8 +132,8 @@ map_both f [] ys = refl
 map_both f (x ∷ xs) ys = ap (λ zs. f x ∷ zs) (map_both f xs ys)
 
 map_get : {X Y : Type 0} (f : X → Y) (xs : List X) (k : ℕ) (y : Y) → slice_get (map f xs) k ≡ Some y → (x : X) × (slice_get xs k ≡ Some x) × (f x ≡ y)
-map_get f [] k y e = absurd (none_is_some y e)
-map_get f (x ∷ xs) zero y e = (x, refl, some_is e)
+map_get f [] k y e = absurd (none-some y e)
+map_get f (x ∷ xs) zero y e = (x, refl, same_Some _ _ e)
 map_get f (x ∷ xs) (suc k) y e = map_get f xs k y e
 
 map_length : {X Y : Type 0} (f : X → Y) (xs : List X) → length (map f xs) ≡ length xs
@@ -230,7 +226,7 @@ module _ {T : Type 0} (tells : T → Type 0) (seen : T → List Exchange) (is_fo
       (subst (λ (n : ℕ). n ≤ j.finished.resolved) (map_length (λ (p : Place). p.pos) (places_in (put_of j.finished.ends)) ∙ place_count (put_of j.finished.ends))
       (none_behind (length (positions_in (put_of j.finished.ends))) j.finished.resolved (length j.abandoned.items)
       (ap length h.worked.abandoned ∙ length-drop j.finished.resolved (positions_in (put_of j.finished.ends)))
-      (eqb-true (length j.abandoned.items) 0 (and_right (is_compared j.finished.ends) (length j.abandoned.items == 0) h.resolved))))
+      (eqb-true (length j.abandoned.items) 0 (and_parts (is_compared j.finished.ends) (length j.abandoned.items == 0) h.resolved).1)))
 
   -- the steps that the workers report
   abbrev steps_in : (js : List (StoppedShard T)) → AllOf Sound js → ℕ → List Step
@@ -246,8 +242,8 @@ module _ {T : Type 0} (tells : T → Type 0) (seen : T → List Exchange) (is_fo
     steps : sound.worked.report.steps ≡ steps_in js all k
 
   find : (js : List (StoppedShard T)) (all : AllOf Sound js) (k : ℕ) (l : ShardHistory) → slice_get (map lane_of js) k ≡ Some l → Found js all k l
-  find [] all k l e = absurd (none_is_some l e)
-  find (j ∷ js) all zero l e = record { j = j; at = refl; lane = some_is e; sound = all.0; steps = refl }
+  find [] all k l e = absurd (none-some l e)
+  find (j ∷ js) all zero l e = record { j = j; at = refl; lane = same_Some _ _ e; sound = all.0; steps = refl }
   find (j ∷ js) all (suc k) l e = let h = find js all.1 k l e in record { j = h.j; at = h.at; lane = h.lane; sound = h.sound; steps = h.steps }
 
   -- the machine has come to its report, with these shards at the end
@@ -271,7 +267,7 @@ module _ {T : Type 0} (tells : T → Type 0) (seen : T → List Exchange) (is_fo
     fates = fate_at (map lane_of js) (λ k. steps_in js sound k) (λ k. [])
 
     is-compared : (j : StoppedShard T) → Sound j → is_compared j.finished.ends ≡ true
-    is-compared j h = and_left (is_compared j.finished.ends) (length j.abandoned.items == 0) h.resolved
+    is-compared j h = (and_parts (is_compared j.finished.ends) (length j.abandoned.items == 0) h.resolved).0
 
     lane-at : (k : ℕ) (l : ShardHistory) → slice_get (map lane_of js) k ≡ Some l → IsShardRun c epoch k l (steps k) []
     lane-at k l e = subst (λ ss. IsShardRun c epoch k l ss []) f.steps (subst (λ (x : ShardHistory). IsShardRun c epoch k x f.sound.worked.report.steps []) f.lane (compared-is-run tells seen is_for f.j c epoch k f.sound.worked own (is-compared f.j f.sound)))
@@ -348,7 +344,7 @@ module _ {T : Type 0} (tells : T → Type 0) (seen : T → List Exchange) (is_fo
         g = find js sound k l.0 l.1
 
         same : g.j ≡ j
-        same = some_is (sym g.at ∙ at)
+        same = same_Some _ _ (sym g.at ∙ at)
 
   -- ---- the last epoch
   module _ (epoch : ℕ) (js : List (StoppedShard T)) (sound : AllOf Sound js) (some_lanes : 1 ≤ length (map lane_of js)) (by : AreEndedBy kind.Orderly (map put_into (map lane_of js))) (before es : List Entry) (dealt : IsDealt epoch (map lane_of js) (gather_from (sent_of c.choice) before es)) (pieces : List Piece) (w : World) (b : Begins c pieces epoch (length (map lane_of js)) before w) (all : entries pieces ≡ before ++ es) where
@@ -594,17 +590,11 @@ dealt-once (ls ∷ later) lanes samples some e p h = subst (λ xs. IsDealt 0 xs 
 
 -- the same shards
 same_epoch : (ps qs : List ShardHistory) → AreSame ps qs → InEpoch0 ps → InEpoch0 qs
-same_epoch [] [] same h k l e = absurd (none_is_some l e)
+same_epoch [] [] same h k l e = absurd (none-some l e)
 same_epoch [] (q ∷ qs) same h k l e = absurd same
 same_epoch (p ∷ ps) [] same h k l e = absurd same
-same_epoch (p ∷ ps) (q ∷ qs) same h zero l e = let is : q ≡ l = some_is e in ap (λ (x : ShardHistory). x.setup.queue.epoch) (sym is) ∙ ap (λ (u : setups.Setup). u.queue.epoch) same.0 ∙ h 0 p refl
+same_epoch (p ∷ ps) (q ∷ qs) same h zero l e = let is : q ≡ l = same_Some _ _ e in ap (λ (x : ShardHistory). x.setup.queue.epoch) (sym is) ∙ ap (λ (u : setups.Setup). u.queue.epoch) same.0 ∙ h 0 p refl
 same_epoch (p ∷ ps) (q ∷ qs) same h (suc k) l e = same_epoch ps qs same.2 (λ j x at. h (suc j) x at) k l e
-
-same_count : (ps qs : List ShardHistory) → AreSame ps qs → length qs ≡ length ps
-same_count [] [] same = refl
-same_count [] (q ∷ qs) same = absurd same
-same_count (p ∷ ps) [] same = absurd same
-same_count (p ∷ ps) (q ∷ qs) same = ap suc (same_count ps qs same.2)
 
 same_ends : {T : Type 0} (kd : Kind) (js : List (StoppedShard T)) → AreEndedBy kd (map put_by (map finished_of js)) → AreEndedBy kd (map put_into (map lane_of js))
 same_ends kd [] h = h
@@ -618,7 +608,7 @@ stops-in-first-epoch {T} tells seen is_for s r c fed h machine work fed_are firs
     same = subst (λ (js : List (StoppedShard T)). AreSame s.fleet.current (map lane_of js)) (sym (h.all.1 ∙ ap (λ (xs : List (StoppedShard T)). xs ++ h.all.0) first.ended)) h.all.2
 
     count : length (map lane_of h.joined) ≡ c.shards
-    count = same_count s.fleet.current (map lane_of h.joined) same ∙ first.count
+    count = same_length s.fleet.current (map lane_of h.joined) same ∙ first.count
 
     dealt : IsDealt 0 (map lane_of h.joined) (sent s.log.choice s.log.placed)
     dealt = dealt-once h.samples.0 (map lane_of h.joined) (sent s.log.choice s.log.placed) (subst (λ (m : ℕ). 1 ≤ m) (sym count) work.shards) h.samples.1 h.samples.2 (same_epoch s.fleet.current (map lane_of h.joined) same first.epoch)

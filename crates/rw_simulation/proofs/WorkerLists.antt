@@ -1,6 +1,6 @@
 -- What a worker's step leaves of its shard: its number, and the lengths of its lists.
 use Rattle.std.proofs.Common.{◌≡◌, ℕ, suc, ◌+◌, Bool, true, false, not, ◌&&◌, ◌==◌, List, [], ◌∷◌, ◌++◌, map, length, Result, Ok, Err, refl, sym, ap, ◌∙◌, length-append, arith}
-use Rattle.std.proofs.lemmas.Bool.{ne_eqb}
+use Rattle.std.proofs.lemmas.Bool.{ne_eqb, not-true, and_parts}
 use Rattle.rw_ledger.specs.Names.{Named}
 use Rattle.rw_retry.specs.Judgements.{judgement_of}
 use Rattle.rw_retry.specs.declared.judgement.Judgement.{Judgement}
@@ -14,7 +14,6 @@ use Rattle.rw_worker.specs.declared.transport.Reply.{Reply}
 use Rattle.rw_worker.specs.declared.transport.Lost.{Lost}
 use Rattle.rw_worker.specs.Steps.{working, Step, Takes, Freezes, Sends, Waits, MayStep, after_step, answered, items_of}
 use Rattle.rw_machine.specs.Shards.{Shard, Queued, is_drained, samples_in}
-use Rattle.rw_machine.proofs.Steps.{and_right, not_true}
 use Rattle.rw_machine.proofs.Others.{no_batch}
 use Rattle.rw_simulation.specs.WorkerRuns.{queued, AreOf, IsShardNumbered, CanEnd}
 use Rattle.rw_simulation.proofs.WorkerSteps.{sent-is, sent_core, sent_awaits, sent_answers, send_parts}
@@ -66,7 +65,7 @@ numbered-after i (Sends e) c may h = by_answer e.answer
 abbrev pub count : Core → List Queued → ℕ
 count c q = length c.resolved + (length c.batch + (length c.builder + length (samples_in q)))
 
-no_items : (x : Item) (xs : List Item) → x ∷ xs ≡ [] → ⊥
+pub no_items : (x : Item) (xs : List Item) → x ∷ xs ≡ [] → ⊥
 no_items x xs e = cc
 
 some_length : (xs : List Placed) → is_empty xs ≡ false → (n : ℕ) × (length xs ≡ suc n)
@@ -89,7 +88,7 @@ goes-on s (Takes x) ss acts may h = by_ended s.core.ended refl
     by_ended true e = absurd (no_items x (items_of ss) (h.ended e))
     by_ended false e = rw e refl
 goes-on s Freezes ss acts may h =
-    let n = some_length s.core.builder (not_true (is_empty s.core.builder) (and_right (is_empty s.core.batch) (not (is_empty s.core.builder)) (and_right (not s.core.killed) (is_empty s.core.batch && not (is_empty s.core.builder)) may.1))) in
+    let n = some_length s.core.builder (not-true (is_empty s.core.builder) (and_parts (is_empty s.core.batch) (not (is_empty s.core.builder)) (and_parts (not s.core.killed) (is_empty s.core.batch && not (is_empty s.core.builder)) may.1).1).1) in
     let m = n.1 in let k = h.kept in not_drained s (λ e. omega arith)
 goes-on s (Sends x) ss acts may h =
     let n = some_length s.core.batch (send_parts s.core may.0).some in

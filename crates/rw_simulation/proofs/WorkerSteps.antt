@@ -2,15 +2,14 @@
 use Rattle.std.proofs.Common.{◌≡◌, ℕ, true, false, not, ◌&&◌, List, [], ◌∷◌, ◌++◌, length, Some, Result, Ok, Err, slice_get, refl, sym, ap, ◌∙◌, append-nil}
 use Rattle.std.specs.Ordering.{nat_cmp}
 use Rattle.std.specs.FinMap.{FinMap}
+use Rattle.std.proofs.lemmas.Bool.{not-true, and_parts}
 use Rattle.rw_ledger.specs.declared.ledger.Reason.{Reason}
 use Rattle.rw_ledger.specs.Names.{Named}
 use Rattle.rw_retry.specs.Judgements.{judgement_of}
-use Rattle.rw_retry.specs.declared.judgement.Judgement.{Judgement}
-use Rattle.rw_retry.specs.declared.judgement.Judgement.TheVariants.{Done, Again, Refused}
 use Rattle.rw_plain_queue.specs.Items.{Placed}
 use Rattle.rw_plain_queue.specs.declared.item.Item.{Item}
 use Rattle.rw_plain_queue.specs.declared.item.Item.TheVariants.{Sample, Flush, End}
-use Rattle.rw_shard_core.specs.Shard.{Core, can_take, take_item, freeze, can_send, send, awaits, is_answer, is_empty, batch_id, settle, settle_names, lose, reply, reply_names}
+use Rattle.rw_shard_core.specs.Shard.{Core, can_take, take_item, freeze, can_send, send, awaits, is_answer, is_empty, batch_id, settle, lose, reply, reply_names}
 use Rattle.rw_worker.specs.declared.transport.Reply.{Reply}
 use Rattle.rw_worker.specs.declared.transport.Lost.{Lost}
 use Rattle.rw_worker.specs.Transcript.{exchange_of}
@@ -18,13 +17,13 @@ use Rattle.rw_worker.specs.Steps.{Takes, Freezes, Sends, MayStep}
 use Rattle.rw_machine.specs.Shards.{Shard, Queued, shard_take, shard_freeze, shard_send, shard_lost, take_front, with_core}
 use Rattle.rw_machine.specs.Worlds.{Setup, Request, World, is_over}
 use Rattle.rw_machine.specs.Worlds as worlds
-use Rattle.rw_machine.specs.Steps.{change, happens, unless_over, names_after, request_by, send_batch, take_reply, reply_to}
+use Rattle.rw_machine.specs.Steps.{change, happens, unless_over, names_after, request_by, send_batch, take_reply, reply_to, turned_away}
 use Rattle.rw_machine.specs.declared.event.Event.TheVariants as event
-use Rattle.rw_machine.proofs.Steps.{and_left, and_right, not_true}
 use Rattle.rw_machine.proofs.Live.{same_id_own}
-use Rattle.rw_simulation.specs.Freely.{Answered, run_freely, happens_freely, answer_by}
+use Rattle.rw_simulation.specs.Freely.{Answered, run_freely, happens_freely}
 use Rattle.rw_simulation.specs.WorkerRuns.{queued, step_happenings, answer_happenings, IsAfter, IsShardNumbered, AreOf}
 use Rattle.rw_simulation.proofs.Changes.{change-is, change-get, change-twice, get-last, Goes, not-over}
+use Rattle.rw_shard_core.proofs.NamingLemmas.{settle_names-room}
 
 pub take-is : (s : Shard) (x : Item) (rest : List Queued) → s.queue ≡ queued x ∷ rest → can_take s.core ≡ true → shard_take s ≡ record s { queue = rest; core = take_item x s.core }
 take-is s x rest q can = rw can (ap (λ xs. take_front xs s) q ∙ front x)
@@ -80,9 +79,9 @@ pub record SendParts (c : Core) : Type 0 where
   pub some : is_empty c.batch ≡ false
 
 pub send_parts : (c : Core) → can_send c ≡ true → SendParts c
-send_parts c can = let both = and_right (not c.killed) (not (is_empty c.batch) && not c.waiting) can in record {
-  alive = not_true c.killed (and_left (not c.killed) (not (is_empty c.batch) && not c.waiting) can);
-  some = not_true (is_empty c.batch) (and_left (not (is_empty c.batch)) (not c.waiting) both);
+send_parts c can = let both = (and_parts (not c.killed) (not (is_empty c.batch) && not c.waiting) can).1 in record {
+  alive = not-true c.killed (and_parts (not c.killed) (not (is_empty c.batch) && not c.waiting) can).0;
+  some = not-true (is_empty c.batch) (and_parts (not (is_empty c.batch)) (not c.waiting) both).0;
 }
 
 pub sent_awaits : (c : Core) → can_send c ≡ true → awaits (sent_core c) ≡ true
@@ -94,11 +93,6 @@ sent_answers c can = rw (sent_awaits c can) (same_id_own (batch_id c.batch))
 batch_shard : (i : ℕ) (xs : List Placed) → is_empty xs ≡ false → AreOf i xs → (batch_id xs).shard ≡ i
 batch_shard i [] some h = absurd (cc)
 batch_shard i (x ∷ xs) some h = h.0
-
-settle_same : (j : Judgement) (status : ℕ) (batch : List Placed) (l : Named) → (settle_names j status batch l).names ≡ (settle_names j status batch (record { names = l.names; room = 0 })).names
-settle_same Done status batch l = refl
-settle_same Again status batch l = refl
-settle_same Refused status batch l = refl
 
 module _ (c : Setup) (w : World) (i : ℕ) (s : Shard) (e : slice_get w.shards i ≡ Some s) (goes : Goes w s) (numbered : IsShardNumbered i s.core) (can : can_send s.core ≡ true) where
   abbrev request : Request
@@ -134,7 +128,7 @@ module _ (c : Setup) (w : World) (i : ℕ) (s : Shard) (e : slice_get w.shards i
   back status = record out { replies = w.replies ++ answer status ∷ [] }
 
   back_is : (status : ℕ) → happens_freely c out (Answered (length w.requests) status) ≡ back status
-  back_is status = ap (answer_by out status) (get-last w.requests request)
+  back_is status = ap (turned_away out status) (get-last w.requests request)
 
   abbrev settled_shard : ℕ → Shard
   settled_shard status = record s { core = settle (judgement_of status) (sent_core s.core) }
@@ -164,7 +158,7 @@ module _ (c : Setup) (w : World) (i : ℕ) (s : Shard) (e : slice_get w.shards i
         ∙ ap (λ v. happens c v (event.Reply (length w.replies))) (back_is r.status)
         ∙ reply_is r.status
         ∙ ap (λ (t : Shard). moved w i t (names_after r.status s.core.batch w.names) (w.requests ++ request ∷ []) (w.replies ++ answer r.status ∷ [])) (ap (λ (xs : List Queued). record s { queue = xs; core = settle (judgement_of r.status) (sent_core s.core) }) q ∙ ap (λ (k : Core). record s { queue = rest; core = k }) core_is);
-    ledger_is = ap (λ (k : Core). (reply_names (batch_id k.batch) r.status k l).names) (sent-is s.core can) ∙ rw (sent_answers s.core can) (settle_same (judgement_of r.status) r.status s.core.batch l);
+    ledger_is = ap (λ (k : Core). (reply_names (batch_id k.batch) r.status k l).names) (sent-is s.core can) ∙ rw (sent_answers s.core can) (settle_names-room (judgement_of r.status) r.status s.core.batch l);
     sent = ap (λ (x : List ℕ). x ∷ []) (sym may.1);
   }
     where

@@ -1,7 +1,7 @@
 -- The machine of events with a free receiver: somebody may answer a request by any status.
-use Rattle.std.specs.Prelude.{ℕ, List, [], ◌∷◌, Option, Some, None, slice_get}
-use Rattle.rw_machine.specs.Worlds.{Setup, Request, World}
-use Rattle.rw_machine.specs.Steps.{answered, happens}
+use Rattle.std.specs.Prelude.{ℕ, List, [], ◌∷◌, slice_get}
+use Rattle.rw_machine.specs.Worlds.{Setup, World}
+use Rattle.rw_machine.specs.Steps.{happens, turned_away}
 use Rattle.rw_machine.specs.declared.event.Event.{Event}
 
 -- an event of the machine, or an answer to the request with this number, whoever makes it
@@ -9,13 +9,9 @@ pub data Happening : Type 0 where
   Of : (e : Event) → Happening
   Answered : (k : ℕ) → (status : ℕ) → Happening
 
-abbrev pub answer_by : World → ℕ → Option Request → World
-answer_by w status None = w
-answer_by w status (Some r) = answered w r.id (record { status = status; head = w.head })
-
 abbrev pub happens_freely : Setup → World → Happening → World
 happens_freely c w (Of e) = happens c w e
-happens_freely c w (Answered k status) = answer_by w status (slice_get w.requests k)
+happens_freely c w (Answered k status) = turned_away w status (slice_get w.requests k)
 
 -- a whole schedule
 abbrev pub run_freely : Setup → List Happening → World → World

@@ -12,7 +12,7 @@ use Rattle.rw_text.proofs.SplitLemmas.{split_unique}
 
 -- ---- names
 
-tail_same : (xs ys : List ℕ) (x : ℕ) → x ∷ xs ≡ x ∷ ys → xs ≡ ys
+pub tail_same : (xs ys : List ℕ) (x : ℕ) → x ∷ xs ≡ x ∷ ys → xs ≡ ys
 tail_same xs ys x e = cc
 
 pub name_text-bare : (name : List ℕ) → is_metric_name name ≡ true → name_text name ≡ name

@@ -1,6 +1,6 @@
 mod AddressLemmas
 mod EscapeLemmas
-mod GrowingLemmas
+pub mod GrowingLemmas
 mod LabelLemmas
 pub mod LineLemmas
 mod NumberLemmas

@@ -1,5 +1,5 @@
 -- The parts of a line are told apart by single spaces.
-use Rattle.std.proofs.Common.{◌≡◌, ◌<◌, ◌^◌, ◌==◌, ℕ, ℤ, List, [], ◌∷◌, ◌++◌, drop, All, false, codes, refl, sym, ap, ◌∙◌, subst, inl, inr, arith, ne_eqb, FitsSigned, w64}
+use Rattle.std.proofs.Common.{◌≡◌, ◌<◌, ◌^◌, ◌==◌, ℕ, ℤ, List, [], ◌∷◌, ◌++◌, drop, All, false, codes, refl, sym, ap, ◌∙◌, subst, inl, inr, arith, ne_eqb, FitsSigned, w64, append_assoc}
 use Rattle.std.proofs.Math.ListN.{get_or}
 use Rattle.std.proofs.lemmas.List.Elements.{All-nil, All-cons}
 use Rattle.std.proofs.lemmas.Str.Parse.{digit_from_value}
@@ -10,6 +10,7 @@ use Rattle.rw_text.specs.LineText.{Line, series, sample, raw, IsSeries, IsSample
 use Rattle.rw_text.specs.Numbers.{IsNumber, IsInteger}
 use Rattle.rw_text.specs.ValueText.{IsValue}
 use Rattle.rw_text.proofs.SplitLemmas.{split_unique}
+use Rattle.rw_text.specs.RecordLines.{lines}
 
 abbrev pub NoSpace : List ℕ → Type 0
 NoSpace text = All (λ b. (b == 32) ≡ false) text
@@ -128,3 +129,7 @@ not_raw text rest e none (sample r t w) l = raw_no_sample rest l.says.0 (sym e �
 not_raw text rest e none (raw bytes) l =
     let same : l.says.0 ≡ rest = ap (drop 4) (sym l.says.1 ∙ e) in
     none bytes (subst (λ (x : List ℕ). IsRaw x bytes) same l.says.2)
+
+-- one line more
+pub next_parts : (text rest line more : List ℕ) (front : List (List ℕ)) → lines text ≡ front ++ lines rest → lines rest ≡ line ∷ lines more → lines text ≡ (front ++ line ∷ []) ++ lines more
+next_parts text rest line more front e f = e ∙ ap (λ (t : List (List ℕ)). front ++ t) f ∙ sym (append_assoc front (line ∷ []) (lines more))

@@ -16,7 +16,7 @@ use Rattle.rw_text.specs.LabelText.{labels_text, label_text}
 use Rattle.rw_text.specs.LineText.{Line, series, sample, raw, IsSeries, IsSample, IsLine}
 use Rattle.rw_text.specs.Numbers.{IsNumber, IsInteger}
 use Rattle.rw_text.specs.ValueText.{IsValue, hex_word_text, value_text, number_or_digits}
-use Rattle.rw_text.proofs.LabelLemmas.{label_some, more_text, no_comma, label_unique, labels_text-cons, labels_text-nil}
+use Rattle.rw_text.proofs.LabelLemmas.{label_some, more_text, no_comma, label_unique, labels_text-cons, labels_text-nil, tail_same}
 use Rattle.rw_text.proofs.LineLemmas.{raw_no_sample, raw_no_series, series_no_sample, series_parts, sample_parts, time_parts, number_without_space, integer_without_space}
 use Rattle.rw_text.proofs.ValueLemmas.{decoded, has_room, word_again}
 
@@ -29,15 +29,12 @@ number_one text m n h i = sym h.value ∙ i.value
 no_minus : (digits : List ℕ) (n : ℕ) → IsNumber (45 ∷ digits) n → ⊥
 no_minus digits n h = let range = digit_from_value 45 h.digits.1.0 in omega (arith, range.0)
 
-same_tail : (xs ys : List ℕ) (x : ℕ) → x ∷ xs ≡ x ∷ ys → xs ≡ ys
-same_tail xs ys x e = cc
-
 pub integer_one : (text : List ℕ) (y z : ℤ) → IsInteger text y → IsInteger text z → y ≡ z
 integer_one text y z (inl (m, h, e)) (inl (n, i, f)) = e ∙ ap pos (number_one text m n h i) ∙ sym f
 integer_one text y z (inl (m, h, e)) (inr (n, digits, f, i, g)) = absurd (no_minus digits m (subst (λ (t : List ℕ). IsNumber t m) f h))
 integer_one text y z (inr (m, digits, f, h, e)) (inl (n, i, g)) = absurd (no_minus digits n (subst (λ (t : List ℕ). IsNumber t n) f i))
 integer_one text y z (inr (m, digits, f, h, e)) (inr (n, others, g, i, k)) =
-    let same : digits ≡ others = same_tail digits others 45 (sym f ∙ g) in
+    let same : digits ≡ others = tail_same digits others 45 (sym f ∙ g) in
     e ∙ ap (λ (x : ℕ). neg_ℤ (pos x)) (number_one others m n (subst (λ (t : List ℕ). IsNumber t m) same h) i) ∙ sym k
 
 pub number_printed : (n : ℕ) → n < 2 ^ 64 → IsNumber (decimal n) n
@@ -89,7 +86,7 @@ more_one [] [] e = refl
 more_one [] (m ∷ ms) e = absurd (no_comma (label_text m ++ more_text ms) [] (sym e))
 more_one (l ∷ ls) [] e = absurd (no_comma (label_text l ++ more_text ls) [] e)
 more_one (l ∷ ls) (m ∷ ms) e =
-    let p = label_unique l m (more_text ls) (more_text ms) (same_tail (label_text l ++ more_text ls) (label_text m ++ more_text ms) 44 e) in
+    let p = label_unique l m (more_text ls) (more_text ms) (tail_same (label_text l ++ more_text ls) (label_text m ++ more_text ms) 44 e) in
     ap₂ (λ (x : Label) (xs : Labels). x ∷ xs) p.0 (more_one ls ms p.1)
 
 more_some : (ls : Labels) → 1 ≤ length (more_text ls)
@@ -98,7 +95,7 @@ more_some (l ∷ ls) = omega arith
 
 not_empty : (l : Label) (ls : Labels) → labels_text [] ≡ labels_text (l ∷ ls) → ⊥
 not_empty (name, value) ls e =
-    let inner : 125 ∷ [] ≡ label_text (name, value) ++ more_text ls = same_tail (125 ∷ []) (label_text (name, value) ++ more_text ls) 123 (sym labels_text-nil ∙ e ∙ labels_text-cons (name, value) ls) in
+    let inner : 125 ∷ [] ≡ label_text (name, value) ++ more_text ls = tail_same (125 ∷ []) (label_text (name, value) ++ more_text ls) 123 (sym labels_text-nil ∙ e ∙ labels_text-cons (name, value) ls) in
     let len : 1 ≡ length (label_text (name, value) ++ more_text ls) = ap length inner in
     omega (arith, len, length-append (label_text (name, value)) (more_text ls), label_some name value, more_some ls)
 
@@ -107,7 +104,7 @@ labels_one [] [] e = refl
 labels_one [] (m ∷ ms) e = absurd (not_empty m ms e)
 labels_one (l ∷ ls) [] e = absurd (not_empty l ls (sym e))
 labels_one (l ∷ ls) (m ∷ ms) e =
-    let p = label_unique l m (more_text ls) (more_text ms) (same_tail (label_text l ++ more_text ls) (label_text m ++ more_text ms) 123 (sym (labels_text-cons l ls) ∙ e ∙ labels_text-cons m ms)) in
+    let p = label_unique l m (more_text ls) (more_text ms) (tail_same (label_text l ++ more_text ls) (label_text m ++ more_text ms) 123 (sym (labels_text-cons l ls) ∙ e ∙ labels_text-cons m ms)) in
     ap₂ (λ (x : Label) (xs : Labels). x ∷ xs) p.0 (more_one ls ms p.1)
 
 -- ---- lines

@@ -1,5 +1,5 @@
 -- Labels are printed one after the other.
-use Rattle.std.proofs.Common.{◌≡◌, ℕ, List, [], ◌∷◌, ◌++◌, length, map, flat_map, arith, Result, Ok, Err, OnOk, OnErr, refl, sym, ◌∙◌, ap, append_assoc}
+use Rattle.std.proofs.Common.{◌≡◌, ℕ, List, [], ◌∷◌, ◌++◌, map, flat_map, Result, Ok, Err, OnOk, refl, sym, ◌∙◌, ap, append_assoc}
 use Rattle.rw_types.specs.Labels.{Label}
 use Rattle.rw_text.specs.LabelText.{label_text, labels_text}
 use Rattle.rw_text.proofs.LabelLemmas.{more_text, labels_text-cons}
@@ -28,11 +28,3 @@ printed_none out begun whole e h = h ∙ ap (λ (t : List ℕ). t ++ 125 ∷ [])
 pub also_ok : {T E P Q : Type 0} (r : Result T E) → OnOk r P → (P → Q) → OnOk r Q
 also_ok (Ok x) h f = f h
 also_ok (Err e) h f = tt
-
-pub also_on_err : {T E P : Type 0} (r : Result T E) → P → OnErr r P
-also_on_err (Ok x) h = tt
-also_on_err (Err e) h = h
-
-pub empty_from_length : {A : Type 0} (xs : List A) → length xs ≡ 0 → xs ≡ []
-empty_from_length [] e = refl
-empty_from_length (x ∷ xs) e = absurd (omega arith)

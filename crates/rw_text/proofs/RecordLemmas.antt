@@ -1,6 +1,6 @@
 -- The lines of a text, and the records of lines.
 use Rattle.std.proofs.Common.{◌≡◌, ◌<◌, ◌-◌, ◌*◌, ◌==◌, ℕ, List, [], ◌∷◌, ◌++◌, length, take, drop, All, false, refl, sym, ap, ◌∙◌, arith}
-use Rattle.std.proofs.lemmas.List.{take_all, length-drop}
+use Rattle.std.proofs.lemmas.List.{take_all, length-drop, nil_from_length}
 use Rattle.std.proofs.lemmas.List.Elements.{All-nil, All-cons, All-head, All-tail}
 use Rattle.std.proofs.Common.{ne_eqb}
 use Rattle.std.specs.List.{onto_first}
@@ -29,10 +29,6 @@ no_end (b ∷ bs) none =
     All-cons (λ b. (b == 10) ≡ false) b bs (ne_eqb b 10 (λ e. none [] bs (ap (λ (x : ℕ). x ∷ bs) e)))
     (no_end bs (λ front rest e. none (b ∷ front) rest (ap (λ (t : List ℕ). b ∷ t) e)))
 
-empty_from_length : {A : Type 0} (xs : List A) → length xs ≡ 0 → xs ≡ []
-empty_from_length [] e = refl
-empty_from_length (x ∷ xs) e = absurd (omega arith)
-
 pub lines_of_one : (text rest : List ℕ) → 0 < length text → ((front later : List ℕ) → text ≡ front ++ 10 ∷ later → ⊥) → rest ≡ [] → lines text ≡ text ∷ lines rest
 lines_of_one [] rest some none e = absurd (omega arith)
 lines_of_one (b ∷ bs) rest some none e = lines-last b bs (no_end (b ∷ bs) none) ∙ ap (λ (t : List ℕ). (b ∷ bs) ∷ lines t) (sym e)
@@ -40,7 +36,7 @@ lines_of_one (b ∷ bs) rest some none e = lines-last b bs (no_end (b ∷ bs) no
 pub nothing_left : (text : List ℕ) → take (length text - length text) (drop (length text) text) ≡ []
 nothing_left text =
     take_all (length text - length text) (drop (length text) text) (omega (arith, length-drop (length text) text))
-    ∙ empty_from_length (drop (length text) text) (omega (arith, length-drop (length text) text))
+    ∙ nil_from_length (drop (length text) text) (omega (arith, length-drop (length text) text))
 
 -- a line has one record at most
 pub record_one : (line rec other : List ℕ) → IsRecordOf line rec → IsRecordOf line other → rec ≡ other

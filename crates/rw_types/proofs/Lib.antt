@@ -1,9 +1,12 @@
+pub mod AnswerLemmas
+pub mod GatherLemmas
 pub mod HashLemmas
 pub mod JudgeLemmas
 pub mod KnownLemmas
 pub mod NameLemmas
 pub mod OrderLemmas
 pub mod TextLemmas
+pub mod TimeLemmas
 pub mod WordLaws
 pub mod WordReads
 pub mod WordValues

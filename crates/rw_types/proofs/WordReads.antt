@@ -2,6 +2,7 @@
 use Rattle.std.proofs.Common.{◌≡◌, ℕ, ◌+◌, ◌-◌, ◌*◌, ◌/◌, ◌%◌, ◌^◌, ◌<◌, ◌≤◌, ℤ, pos, Some, None, Bool, true, false, if◌then◌else◌, eqb, leb, eq-eqb, ne_eqb, nat_abs, unsigned_abs, int_lt, refl, sym, ap, ◌∙◌, subst, inl, inr, ◌⊎◌, arith, pow_pos, pow_mono, mul-div_cancel}
 use Rattle.std.proofs.lemmas.Bool.{cases_lt, lt-leb}
 use Rattle.std.proofs.lemmas.Nat.{div-mul-add, mod-mul-add}
+use Rattle.std.proofs.lemmas.Option.{same_Some}
 use Rattle.rw_types.specs.Words.{highest_bit, magnitude_word, word_of_int}
 use Rattle.rw_types.proofs.WordLaws.{IsTop, top_of, fraction_of, fraction_below, word_small}
 
@@ -28,9 +29,6 @@ unfolding sign_of
 sign_is true = refl
 sign_is false = refl
 
-some_same : (a b : ℕ) → Some a ≡ Some b → a ≡ b
-some_same a b e = cc
-
 none_some : (w : ℕ) → None ≡ Some w → ⊥
 none_some w e = cc
 
@@ -41,7 +39,7 @@ reads_word m w e = elim (cases_lt 0 (nat_abs m)) [
       (let z' : nat_abs m ≡ 0 = omega arith in
       let t : eqb (nat_abs m) 0 ≡ true = eq-eqb (nat_abs m) 0 z' in
       let f : word_of_int m ≡ Some 0 = rw t refl in
-      inl (z', some_same w 0 (sym e ∙ f)))
+      inl (z', same_Some w 0 (sym e ∙ f)))
   | inl p ↦ elim (cases_lt (2 ^ 53) (nat_abs m)) [
     | inl g ↦
         (let t : eqb (nat_abs m) 0 ≡ false = ne_eqb (nat_abs m) 0 (omega arith) in
@@ -51,7 +49,7 @@ reads_word m w e = elim (cases_lt 0 (nat_abs m)) [
     | inr s ↦
         (let t = top_of (nat_abs m) p s in
         let f = word_small m (nat_abs m) (magnitude_word (nat_abs m)) refl p s refl in
-        let v : w ≡ (if int_lt m (pos 0) then 2 ^ 63 else 0) + magnitude_word (nat_abs m) = some_same _ _ (sym e ∙ f) in
+        let v : w ≡ (if int_lt m (pos 0) then 2 ^ 63 else 0) + magnitude_word (nat_abs m) = same_Some _ _ (sym e ∙ f) in
         let v' : w ≡ sign_of (int_lt m (pos 0)) * 2 ^ 63 + ((1023 + highest_bit (nat_abs m)) * 2 ^ 52 + fraction_of (nat_abs m)) = v ∙ ap (λ (x : ℕ). x + magnitude_word (nat_abs m)) (sign_is (int_lt m (pos 0))) in
         let d = digits (sign_of (int_lt m (pos 0))) (highest_bit (nat_abs m)) (fraction_of (nat_abs m)) t.small (fraction_below (nat_abs m) (highest_bit (nat_abs m)) t s) in
         inr (record { exponent = ap (λ (x : ℕ). x / 2 ^ 52 % 2048) v' ∙ d.0; fraction = ap (λ (x : ℕ). x % 2 ^ 52) v' ∙ d.1; top = t; small = s }))

@@ -1,6 +1,7 @@
 -- The whole number of a word is read from it.
 use Rattle.std.proofs.Common.{◌≡◌, ℕ, suc, ◌+◌, ◌-◌, ◌/◌, ◌%◌, ◌^◌, ◌≤◌, ℤ, pos, negsuc, neg_ℤ, Option, Some, None, Bool, true, false, if◌then◌else◌, eq-eqb, ne_eqb, nat_abs, int_lt, refl, sym, ap, ◌∙◌, subst, inl, inr, ◌⊎◌, arith}
 use Rattle.std.proofs.lemmas.Bool.{eqb-true, le-ltb, false≢true, false_from_ne_true}
+use Rattle.std.proofs.lemmas.Option.{same_Some}
 use Rattle.rw_types.specs.Words.{highest_bit, magnitude_word, word_of_int, size_of_word, has_word, int_of_word}
 use Rattle.rw_types.proofs.WordLaws.{fraction_none, word_small}
 use Rattle.rw_types.proofs.WordReads.{Reads, reads_word, size_at}
@@ -44,9 +45,6 @@ signed_part m = if int_lt m (pos 0) then 2 ^ 63 else 0
 no_sign : (n : ℕ) → signed_part (pos n) ≡ 0
 no_sign n = rw (le-ltb n 0 (omega arith)) refl
 
-some_is : (a b : ℕ) → Some a ≡ Some b → a ≡ b
-some_is a b e = cc
-
 -- a negative number and the positive one of its size have other words
 positive_is_other : (j w : ℕ) → word_of_int (negsuc j) ≡ Some w → has_word (word_of_int (pos (suc j))) w ≡ false
 positive_is_other j w e = elim (reads_word (negsuc j) w e) [
@@ -54,7 +52,7 @@ positive_is_other j w e = elim (reads_word (negsuc j) w e) [
   | inr r ↦
       let up : word_of_int (pos (suc j)) ≡ Some (signed_part (pos (suc j)) + magnitude_word (suc j)) = word_small (pos (suc j)) (suc j) (magnitude_word (suc j)) refl (omega arith) r.small refl in
       let down : word_of_int (negsuc j) ≡ Some (signed_part (negsuc j) + magnitude_word (suc j)) = word_small (negsuc j) (suc j) (magnitude_word (suc j)) refl (omega arith) r.small refl in
-      let is : 2 ^ 63 + magnitude_word (suc j) ≡ w = some_is (signed_part (negsuc j) + magnitude_word (suc j)) w (sym down ∙ e) in
+      let is : 2 ^ 63 + magnitude_word (suc j) ≡ w = same_Some (signed_part (negsuc j) + magnitude_word (suc j)) w (sym down ∙ e) in
       missing (word_of_int (pos (suc j))) (signed_part (pos (suc j)) + magnitude_word (suc j)) w up (λ f. omega (arith, f, is, no_sign (suc j)))
 ]
 

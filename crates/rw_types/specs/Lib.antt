@@ -1,3 +1,4 @@
+pub mod Gathering
 pub mod Hashing
 pub mod LabelOrder
 pub mod Labels

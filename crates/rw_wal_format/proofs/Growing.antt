@@ -285,7 +285,7 @@ reading-append page ps more p = pieces_grow page [] ps more p
 cut_after : (page : ℕ) (text a b : List ℕ) (ps : List Piece) → reading_after page text (bytes a ∷ bytes b ∷ ps) ≡ reading_after page text (bytes (a ++ b) ∷ ps)
 cut_after page text a b ps = ap (λ (t : List ℕ). reading_after page t ps) (append_assoc text a b)
 
-cuts_after : (page : ℕ) (text : List ℕ) (front : List Piece) (a b : List ℕ) (ps : List Piece)
+pub cuts_after : (page : ℕ) (text : List ℕ) (front : List Piece) (a b : List ℕ) (ps : List Piece)
     → reading_after page text (front ++ bytes a ∷ bytes b ∷ ps) ≡ reading_after page text (front ++ bytes (a ++ b) ∷ ps)
 cuts_after page text [] a b ps = cut_after page text a b ps
 cuts_after page text (bytes t ∷ front) a b ps = cuts_after page (text ++ t) front a b ps

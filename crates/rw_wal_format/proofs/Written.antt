@@ -83,7 +83,7 @@ frame_item kind left d rest h g b =
     ∙ fragment_whole kind left (length d) (crc32c_of d) (d ++ rest) h (crc_fits d b)
     ∙ data_whole kind left d rest g
 
-length-frame : (kind : Kind) (d : List ℕ) → length (frame kind d) ≡ 7 + length d
+pub length-frame : (kind : Kind) (d : List ℕ) → length (frame kind d) ≡ 7 + length d
 unfolding frame
 length-frame kind d = omega arith
 

@@ -1,8 +1,8 @@
 -- Items read one after the other.
-use Rattle.std.proofs.Common.{◌≡◌, ℤ, Bool, true, false, ◌==◌, drop, get_or, ℕ, zero, suc, ◌+◌, ◌-◌, ◌<◌, ◌≤◌, List, [], ◌∷◌, ◌++◌, length, Option, Some, None, refl, sym, ap, ◌∙◌, arith, append_assoc, append-nil, length-append, length-drop, take, take_all}
+use Rattle.std.proofs.Common.{◌≡◌, Bool, true, false, ◌==◌, drop, get_or, ℕ, zero, suc, ◌+◌, ◌-◌, ◌<◌, ◌≤◌, List, [], ◌∷◌, ◌++◌, length, Option, Some, None, refl, sym, ap, ◌∙◌, arith, append_assoc, append-nil, length-append, length-drop, take, take_all}
 use Rattle.std.proofs.lemmas.Bool.{ne_eqb}
 use Rattle.std.proofs.Math.Dec.{eqb, eqb-suc-zero}
-use Rattle.rw_wal_format.specs.Records.{◌then◌, all_of, label_at, label_list_at, series_entries, sample_entries, record_entries, samples_at, sample_at}
+use Rattle.rw_wal_format.specs.Records.{◌then◌, all_of, label_at, label_list_at, series_entries, sample_entries, record_entries}
 use Rattle.rw_wal_tail.specs.Unread.{BadFormOnly}
 use Rattle.rw_types.specs.declared.entry.Entry.{Entry}
 use Rattle.rw_types.specs.Labels.{Labels}
@@ -74,11 +74,6 @@ module _ (item : List ℕ → Option (Entry × List ℕ)) (bytes : List ℕ) whe
 pub bad_form : (e : Unread) (P Q : Type 0) → (P → Q) → BadFormOnly e P → BadFormOnly e Q
 bad_form OutOfMemory P Q f h = tt
 bad_form BadForm P Q f h = f h
-
--- where there is a sample, the samples are all that stand there
-pub some_samples : (base : ℕ) (start : ℤ) (bs : List ℕ) → 0 < length bs → samples_at base start bs ≡ all_of (sample_at base start) (length bs) bs
-some_samples base start [] h = absurd (omega arith)
-some_samples base start (b ∷ bs) h = refl
 
 -- ---- tests
 

@@ -8,3 +8,4 @@ mod PlaceSteps
 mod StepLaws
 mod FedLaws
 mod CopyLaws
+pub mod AnswerLemmas

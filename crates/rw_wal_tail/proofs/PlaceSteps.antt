@@ -1,7 +1,6 @@
 -- The steps of a reader leave the place where its reading stops as it is.
 use Rattle.std.proofs.Common.{◌≡◌, ℕ, ◌+◌, ◌<◌, ◌^◌, List, [], ◌∷◌, length, Option, Some, None, Bool, true, false, refl, sym, ap, ◌∙◌, arith, subst, ltb, lt-ltb, le-ltb, nat_lt, inl, inr, ◌⊎◌}
-use Rattle.std.proofs.lemmas.Bool.{cases_lt}
-use Rattle.std.specs.Prelude.{◌&&◌}
+use Rattle.std.proofs.lemmas.Bool.{cases_lt, and_parts}
 use borrow.Author.Tests.{ltb-true}
 use Rattle.rw_wal_format.specs.Segments as grammar
 use Rattle.rw_wal_format.specs.Segments.{Kind, fragment, item_at, left_after, inside}
@@ -15,14 +14,9 @@ use Rattle.rw_wal_tail.specs.Placed.{stop_at, place_held, front_of, place_from}
 use Rattle.rw_wal_tail.specs.Steps.{still_place, SamePlace, TakesPlace, CanStep}
 use Rattle.rw_wal_tail.proofs.PlaceLaws.{held_zeros, held_fragment, held_torn, held_begun, held_marked, held_fed, at_nothing, at_begun}
 
-both_true : (a b : Bool) → (a && b) ≡ true → (a ≡ true) × (b ≡ true)
-both_true true true e = (refl, refl)
-both_true true false e = absurd cc
-both_true false b e = absurd cc
-
 -- what can be counted is small
 pub small : (h : Held) → can_count h ≡ true → (h.offset < 2 ^ 60) × (h.ends < 2 ^ 60)
-small h e = let b = both_true (nat_lt h.offset (2 ^ 60)) (nat_lt h.ends (2 ^ 60)) e in (ltb-true h.offset (2 ^ 60) b.0, ltb-true h.ends (2 ^ 60) b.1)
+small h e = let b = and_parts (nat_lt h.offset (2 ^ 60)) (nat_lt h.ends (2 ^ 60)) e in (ltb-true h.offset (2 ^ 60) b.0, ltb-true h.ends (2 ^ 60) b.1)
 
 place_is : (r : Reader) (ends : ℕ) (later : List Piece) → r.fault ≡ None
     → still_place r ends later ≡ place_from None r.left (open_data r.is_open r.begun.items) r.input ends later

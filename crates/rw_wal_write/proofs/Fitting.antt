@@ -6,7 +6,8 @@ use Rattle.rw_wal_format.specs.Segments.{full, first, middle, last}
 use Rattle.rw_wal_format.specs.Pieces.{page_size}
 use Rattle.rw_wal_format.specs.Writing.{frame, padding, frames, log_bytes, room}
 use Rattle.rw_wal_write.specs.Segment.{IsPlace}
-use Rattle.rw_wal_write.proofs.Underway.{left_at, next_page, frames_more, frames_end, length-frame}
+use Rattle.rw_wal_write.proofs.Underway.{left_at, next_page, frames_more, frames_end}
+use Rattle.rw_wal_format.proofs.Written.{length-frame}
 
 length-zeros : (n : ℕ) → length (replicate {A = ℕ} n 0) ≡ n
 length-zeros zero = refl

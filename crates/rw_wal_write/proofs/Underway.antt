@@ -7,14 +7,11 @@ use Rattle.rw_wal_format.specs.Pieces.{page_size}
 use Rattle.rw_wal_format.specs.Writing.{frame, padding, frames, log_bytes}
 use Rattle.rw_wal_write.specs.Sinks.{TakesAll, TakesPart, Takes}
 use Rattle.rw_wal_write.proofs.Taking.{takes_none, takes_both, takes_more, takes_part_after, takes_part_before}
+use Rattle.rw_wal_format.proofs.Written.{length-frame}
 
 -- the bytes left in the page at an offset
 abbrev pub left_at : ℕ → ℕ
 left_at offset = page_size - offset % page_size
-
-pub length-frame : (kind : Kind) (d : List ℕ) → length (frame kind d) ≡ 7 + length d
-unfolding frame
-length-frame kind d = omega arith
 
 -- a fragment that fills its page, and the fragments of the rest
 pub frames_more : (k left : ℕ) (goes_on : Bool) (d : List ℕ) → left - 7 < length d

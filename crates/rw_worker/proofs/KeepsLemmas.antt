@@ -1,9 +1,10 @@
 -- What holds of a worker's shard after each step.
 use Rattle.std.proofs.Common.{◌≡◌, ℕ, ◌+◌, ◌-◌, ◌<◌, ◌≤◌, Bool, true, false, true≢false, not, ◌&&◌, ◌||◌, nat_le, List, [], ◌∷◌, ◌++◌, length, Result, Ok, Err, refl, sym, ap, ◌∙◌, subst, append_assoc, append-nil, length-append, zero-add, arith, cond}
-use Rattle.std.proofs.lemmas.Bool.{eq-eqb}
+use Rattle.std.proofs.lemmas.Bool.{eq-eqb, not-true}
 use Rattle.std.proofs.lemmas.Bool.Decides.{nat_tests}
 use Rattle.std.specs.Ordering.{nat_cmp}
 use Rattle.std.specs.FinMap.{FinMap, empty}
+use Rattle.std.proofs.Math.Bool.{or-false}
 use Rattle.rw_ledger.specs.Names.{Named}
 use Rattle.rw_ledger.specs.declared.ledger.Reason.{Reason}
 use Rattle.rw_retry.specs.Judgements.{judgement_of}
@@ -15,7 +16,6 @@ use Rattle.rw_plain_queue.specs.declared.item.Item.{Item}
 use Rattle.rw_plain_queue.specs.declared.item.Item.TheVariants.{Sample, Flush, End}
 use Rattle.rw_shard_core.specs.Shard.{Core, is_empty, is_due, can_take, take_item, placed, can_freeze, freeze, freeze_room, can_send, send, request_for, batch_id, same_id, is_answer, awaits, lose, settle, settle_names, reply, reply_names}
 use Rattle.rw_shard_core.specs.declared.config.Target.{Target}
-use Rattle.rw_shard_core.proofs.KeptLemmas.{samples_in-append}
 use Rattle.rw_worker.specs.declared.transport.Reply.{Reply}
 use Rattle.rw_worker.specs.declared.transport.Lost.{Lost}
 use Rattle.rw_worker.specs.Cut.{cutting, close, one_of, cut_by}
@@ -24,6 +24,8 @@ use Rattle.rw_worker.specs.Steps.{Working, working, new_working, Step, Takes, Fr
 use Rattle.rw_worker.proofs.StepLemmas.{items-append, exchanges-append}
 use Rattle.rw_worker.proofs.CutLemmas.{fill}
 use Rattle.rw_worker.proofs.TranscriptLemmas.{transcript-take, transcript-again, transcript-settle}
+use Rattle.rw_shard_core.proofs.EmptyLemmas.{nil_from_empty, is_empty-push}
+use Rattle.rw_plain_queue.proofs.Histories.{samples_in-append}
 
 pub record Keeps (target : Target) (epoch shard n : ℕ) (items : List Item) (exchanges : List Exchange) (w : Working) : Type 0 where
   pub some : 0 < n
@@ -40,10 +42,6 @@ pub record Keeps (target : Target) (epoch shard n : ℕ) (items : List Item) (ex
   pub due_some : is_due w.core ≡ true → is_empty w.core.builder ≡ false
   pub room : w.ledger.room ≡ length w.core.batch
   pub worked : IsWorked n items exchanges w
-
-pub none_of : (xs : List Placed) → is_empty xs ≡ true → xs ≡ []
-none_of [] e = refl
-none_of (x ∷ xs) e = absurd (cc)
 
 -- the samples that are not settled, and those that wait for more
 pub unsettled-due : (c : Core) → is_empty c.batch ≡ true → is_due c ≡ true → unsettled c ≡ c.builder
@@ -89,18 +87,6 @@ send_parts true e w h = absurd (cc)
 send_parts false true w h = absurd (cc)
 send_parts false false w h = (refl, refl)
 
-or_false : (b : Bool) → (b || false) ≡ b
-or_false true = refl
-or_false false = refl
-
-pushed_some : (xs : List Placed) (x : Placed) → is_empty (xs ++ x ∷ []) ≡ false
-pushed_some [] x = refl
-pushed_some (y ∷ ys) x = refl
-
-not_true : (b : Bool) → not b ≡ true → b ≡ false
-not_true true h = absurd (cc)
-not_true false h = refl
-
 -- a builder that a mark closes
 closed : (xs : List Placed) → cond (not (is_empty xs)) xs [] ≡ xs
 closed [] = refl
@@ -117,7 +103,7 @@ abbrev with_mark : Core → Bool → Core
 with_mark c ended = record c { marked = not (is_empty c.builder); ended = ended }
 
 sample_due : (c : Core) (x : Placed) (n : ℕ) → c.full ≡ n → c.marked ≡ false → is_due (with_sample c x) ≡ nat_le n (length (c.builder ++ x ∷ []))
-sample_due c x n full m = rw (full, m) (or_false (nat_le n (length (c.builder ++ x ∷ []))))
+sample_due c x n full m = rw (full, m) (or-false (nat_le n (length (c.builder ++ x ∷ []))))
 
 sample_unsettled : (c : Core) (x : Placed) (n : ℕ) → is_empty c.batch ≡ true → c.full ≡ n → c.marked ≡ false → unsettled (with_sample c x) ≡ cond (nat_le n (length (c.builder ++ x ∷ []))) (c.builder ++ x ∷ []) []
 sample_unsettled c x n e full m = rw e (ap (λ b. cond b (c.builder ++ x ∷ []) []) (sample_due c x n full m))
@@ -165,7 +151,7 @@ module _ (target : Target) (epoch shard n : ℕ) (items : List Item) (es : List 
         whole = h.whole;
         fits = h.fits;
         one = h.one;
-        due_some = λ d. not_true (is_empty c.builder) (sym (mark_due c ended p.1) ∙ d);
+        due_some = λ d. not-true (is_empty c.builder) (sym (mark_due c ended p.1) ∙ d);
         room = h.room;
         worked = transcript-take c.target n items es c.builder c.resolved l.names x (unsettled (with_mark c ended)) (growing (with_mark c ended)) (still n items es (working c l) h.worked can)
             (λ bs. by bs c.builder ∙ ap (λ ys. cutting (bs ++ one_of ys) []) (sym (mark_unsettled c ended p.0 p.1)) ∙ ap (λ r. cutting (bs ++ one_of (unsettled (with_mark c ended))) r) (sym (mark_growing c ended p.0 p.1)));
@@ -188,9 +174,9 @@ module _ (target : Target) (epoch shard n : ℕ) (items : List Item) (es : List 
         idle = h.idle;
         taken_is = ap (λ xs. xs ++ y ∷ []) h.taken_is ∙ ap (λ zs. samples_in items ++ zs) (sym sample) ∙ sym (samples_in-append items (x ∷ []));
         whole = ap (λ xs. xs ++ y ∷ []) h.whole ∙ append_assoc c.resolved (c.batch ++ c.builder) (y ∷ []) ∙ ap (λ zs. c.resolved ++ zs) (append_assoc c.batch c.builder (y ∷ []));
-        fits = let none = ap length (none_of c.batch p.0) in let left = room_left c.full n (length c.builder) h.full_is p.1 in let longer = length-append c.builder (y ∷ []) in omega arith;
+        fits = let none = ap length (nil_from_empty c.batch p.0) in let left = room_left c.full n (length c.builder) h.full_is p.1 in let longer = length-append c.builder (y ∷ []) in omega arith;
         one = λ e. absurd (true≢false (sym p.0 ∙ e));
-        due_some = λ d. pushed_some c.builder y;
+        due_some = λ d. is_empty-push c.builder y;
         room = h.room;
         worked = transcript-take c.target n items es c.builder c.resolved l.names x (unsettled (with_sample c y)) (growing (with_sample c y)) (still n items es (working c l) h.worked can)
             (λ bs. by bs c.builder ∙ fill (nat_le n (length ys)) bs ys ∙ ap (λ zs. cutting (bs ++ one_of zs) (cond (nat_le n (length ys)) [] ys)) (sym u) ∙ ap (λ r. cutting (bs ++ one_of (unsettled (with_sample c y))) r) (sym g));
@@ -209,7 +195,7 @@ module _ (target : Target) (epoch shard n : ℕ) (items : List Item) (es : List 
   frozen_is can = rw can refl
 
   not_due : 0 < n → c.full ≡ n → is_due frozen.core ≡ true → ⊥
-  not_due some full d = below n some (sym (ap (λ (k : ℕ). nat_le k 0) full) ∙ sym (or_false (nat_le c.full 0)) ∙ d)
+  not_due some full d = below n some (sym (ap (λ (k : ℕ). nat_le k 0) full) ∙ sym (or-false (nat_le c.full 0)) ∙ d)
     where
       below : (k : ℕ) → 0 < k → nat_le k 0 ≡ true → ⊥
       below k lt e = grind (arith, nat_tests)
@@ -218,7 +204,7 @@ module _ (target : Target) (epoch shard n : ℕ) (items : List Item) (es : List 
   pub keeps-freeze : Before → is_due c ≡ true → can_freeze c ≡ true → Keeps target epoch shard n items es (working (freeze c) (freeze_room c l))
   keeps-freeze h due can =
       let p = freeze_parts c.killed (is_empty c.batch) (is_empty c.builder) can in
-      let none = none_of c.batch p.0 in
+      let none = nil_from_empty c.batch p.0 in
       let same : unsettled frozen.core ≡ unsettled c = unsettled-open frozen.core p.1 ∙ sym (unsettled-due c p.0 due) in
       let rest : growing frozen.core ≡ growing c = growing-open frozen.core p.1 ∙ sym (growing-due c p.0 due) in
       subst (λ (w : Working). Keeps target epoch shard n items es w) (sym (frozen_is can)) (record {
@@ -416,7 +402,7 @@ keeps-start target epoch shard n some = record {
   whole = refl;
   fits = omega arith;
   one = λ e. refl;
-  due_some = λ d. absurd (fresh n some (sym (or_false (nat_le n 0)) ∙ d));
+  due_some = λ d. absurd (fresh n some (sym (or-false (nat_le n 0)) ∙ d));
   room = refl;
   worked = subst (λ (r : List Placed). IsTranscriptOf target n [] [] (unsettled (new_working target epoch shard n).core) r [] empty) (sym (nothing_grows (nat_le n 0 || false)))
       (subst (λ (u : List Placed). IsTranscriptOf target n [] [] u [] [] empty) (sym (nothing_due (nat_le n 0 || false))) none);

@@ -1,9 +1,8 @@
 -- No sample that waits is named.
-use Rattle.std.proofs.Common.{◌≡◌, ℕ, zero, suc, ◌<◌, false, List, [], ◌∷◌, ◌++◌, length, None, Some, All, cond, ap, ◌∙◌, arith}
-use Rattle.std.proofs.lemmas.Bool.Decides.{nat_tests}
-use Rattle.std.specs.Cmp.{nat_cmp_total, unsigned_tied}
+use Rattle.std.proofs.Common.{◌≡◌, ℕ, zero, suc, ◌<◌, List, [], ◌∷◌, ◌++◌, length, None, Some, All, cond, ap, ◌∙◌, arith}
+use Rattle.std.specs.Cmp.{nat_cmp_total}
 use Rattle.std.specs.Prelude.{fold, slice_index_or}
-use Rattle.std.specs.Ordering.{nat_cmp, eq_by_cmp}
+use Rattle.std.specs.Ordering.{nat_cmp}
 use Rattle.std.specs.FinMap.{FinMap, get, insert, get-insert}
 use Rattle.rw_ledger.specs.declared.ledger.Reason.{Reason}
 use Rattle.rw_ledger.specs.declared.ledger.Reason.TheVariants as Why
@@ -13,6 +12,8 @@ use Rattle.rw_retry.specs.declared.judgement.Judgement.TheVariants.{Done, Again,
 use Rattle.rw_plain_queue.specs.Items.{Placed}
 use Rattle.rw_shard_core.specs.Shard.{AreInRow, positions, name_all}
 use Rattle.rw_worker.specs.Transcript.{Settled, samples_of, names_after, with_names}
+use Rattle.rw_types.proofs.TimeLemmas.{nat_cmp-apart}
+use Rattle.rw_shard_core.proofs.NamingLemmas.{AreInRow-rest}
 
 -- all these samples stand before this position
 abbrev pub AreBelow : ℕ → List Placed → Type 0
@@ -41,22 +42,13 @@ row_below [] y ys h = tt
 row_below (x ∷ []) y ys h = (h.0.1, tt)
 row_below (x ∷ z ∷ zs) y ys h = (first_below x (z ∷ zs) y ys h, row_below (z ∷ zs) y ys h.1)
 
-row_rest : (xs ys : List Placed) → AreInRow (xs ++ ys) → AreInRow ys
-row_rest [] ys h = h
-row_rest (x ∷ []) [] h = tt
-row_rest (x ∷ []) (y ∷ ys) h = h.1
-row_rest (x ∷ w ∷ ws) ys h = row_rest (w ∷ ws) ys h.1
-
-apart : (p q : ℕ) → p < q → eq_by_cmp nat_cmp q p ≡ false
-apart p q lt = unsigned_tied q p ∙ grind (arith, nat_tests)
-
 -- names for samples before a position do not name it
 name_before : (status p : ℕ) (xs : List Placed) (names : FinMap nat_cmp Reason) → AreBelow p xs → get names p ≡ None → get (name_all status (positions xs) names) p ≡ None
 name_before status p [] names h none = none
 name_before status p (x ∷ xs) names h none =
     let reason : Reason = Why.Status status in
     name_before status p xs (insert names x.place.pos reason) h.1
-    (get-insert nat_cmp_total names x.place.pos reason p ∙ ap (λ b. cond b (Some reason) (get names p)) (apart x.place.pos p h.0) ∙ none)
+    (get-insert nat_cmp_total names x.place.pos reason p ∙ ap (λ b. cond b (Some reason) (get names p)) (nat_cmp-apart x.place.pos p h.0) ∙ none)
 
 settled_before : (j : Judgement) (p : ℕ) (b : Settled) (names : FinMap nat_cmp Reason) → AreBelow p b.samples → get names p ≡ None → get (names_after j b names) p ≡ None
 settled_before Done p b names h none = none
@@ -78,4 +70,4 @@ all_unnamed done names none y (z ∷ zs) rest below row (suc k) d lt =
 -- where those alone are named that stand before all others of a row, none of these is
 pub unnamed : (done batch rest : List Placed) (names : FinMap nat_cmp Reason) → ((p : ℕ) → AreBelow p done → get names p ≡ None) → AreInRow (done ++ (batch ++ rest)) → All (λ p. get names p ≡ None) (positions batch)
 unnamed done [] rest names none row = λ k d lt. absurd (omega arith)
-unnamed done (y ∷ ys) rest names none row = all_unnamed done names none y ys rest (row_below done y (ys ++ rest) row) (row_rest done (y ∷ (ys ++ rest)) row)
+unnamed done (y ∷ ys) rest names none row = all_unnamed done names none y ys rest (row_below done y (ys ++ rest) row) (AreInRow-rest done (y ∷ (ys ++ rest)) row)

@@ -31,9 +31,10 @@ use Rattle.rw_worker.specs.Report.{is_hard, drain_of, IsOrderly, StopsAtHard, Is
 use Rattle.rw_worker.proofs.StepLemmas.{steps-push, after-push, items-append, exchanges-append}
 use Rattle.rw_worker.proofs.PauseLemmas.{pauses-push, retries-push, same-pause, counted-after, counted-same}
 use Rattle.rw_worker.proofs.TranscriptLemmas.{adds-append}
-use Rattle.rw_worker.proofs.KeepsLemmas.{Keeps, keeps-steps, keeps-start, answered-builder, can_take-parts, can_take-not_due, none_of, frozen-builder}
+use Rattle.rw_worker.proofs.KeepsLemmas.{Keeps, keeps-steps, keeps-start, answered-builder, can_take-parts, can_take-not_due, frozen-builder}
 use Rattle.rw_worker.proofs.NameLemmas.{unnamed, names_before, AreBelow}
 use Rattle.rw_worker.proofs.TakeLemmas.{may-take, few}
+use Rattle.rw_shard_core.proofs.EmptyLemmas.{nil_from_empty}
 
 -- nothing was added
 pub adds-none : {X : Type 0} (a : Type 0) (old : List X) → Adds a a old old []
@@ -432,7 +433,7 @@ module _ {T P : Type 0} (tells : T → Type 0) (seen : T → List Exchange) (wai
       all : Going d s p → s.core.builder ≡ [] → s.core.resolved ≡ samples_in d.taken
       all k none =
           let kept = keeps-of d s p k in
-          let batch = none_of s.core.batch (can_take-parts s.core can).0 in
+          let batch = nil_from_empty s.core.batch (can_take-parts s.core can).0 in
           sym (append-nil s.core.resolved) ∙ ap (λ xs. s.core.resolved ++ xs) (sym none) ∙ ap (λ xs. s.core.resolved ++ (xs ++ s.core.builder)) (sym batch) ∙ sym kept.whole ∙ kept.taken_is
 
       at : (j : Kind) → At (intake.Ended j d) s p → Ran (report_of (end.Ended j d) None s) p

@@ -1,5 +1,6 @@
 -- A sample is put into the queue of its series' shard.
 use Rattle.std.proofs.Common.{◌≡◌, ℕ, ℤ, suc, ◌+◌, Bool, true, false, cond, is_some, Option, None, Some, refl, sym, ap, ◌∙◌, add-one}
+use Rattle.std.proofs.lemmas.Bool.{cond-false, cond-true}
 use Rattle.rw_types.specs.Labels.{Labels}
 use Rattle.rw_types.specs.declared.entry.Entry.{Entry}
 use Rattle.rw_series_cache.specs.Numbers.{number_of}
@@ -16,22 +17,14 @@ place_is m e draining at =
     ap (λ b. record m { world = cond b m.world (place_entry m.setup m.world (next_entry m)) }) draining
     ∙ ap (λ o. record m { world = place_entry m.setup m.world o }) at
 
-if_no : {X : Type 0} (b : Bool) (x y : X) → b ≡ false → cond b x y ≡ y
-if_no true x y e = absurd (cc)
-if_no false x y e = refl
-
-if_yes : {X : Type 0} (b : Bool) (x y : X) → b ≡ true → cond b x y ≡ x
-if_yes true x y e = refl
-if_yes false x y e = absurd (cc)
-
 -- without room all stays
 pub no_room : (c : Setup) (w : World) (i : ℕ) (l : Labels) (t : ℤ) (word : ℕ) (o : Option Shard) → room_at c.capacity o ≡ false → put_if_room c w i l t word o ≡ w
 no_room c w i l t word None e = refl
-no_room c w i l t word (Some s) e = if_no (has_room c.capacity s) _ w e
+no_room c w i l t word (Some s) e = cond-false (has_room c.capacity s) _ w e
 
 pub put_next_is : (v : Sending) (i pos series : ℕ) (t : ℤ) (word : ℕ) (l : Labels) (o : Option Shard) → room_at v.capacity o ≡ true → (put_to v i pos series t word l o).next ≡ pos + 1
 put_next_is v i pos series t word l None e = absurd (cc)
-put_next_is v i pos series t word l (Some s) e = ap (λ (x : Sending). x.next) (if_yes (has_room v.capacity s) (record v { shards = change i (shard_put (sample_at v i pos series t word l s)) v.shards; next = pos + 1 }) v e)
+put_next_is v i pos series t word l (Some s) e = ap (λ (x : Sending). x.next) (cond-true (has_room v.capacity s) (record v { shards = change i (shard_put (sample_at v i pos series t word l s)) v.shards; next = pos + 1 }) v e)
 
 put_target_if : (b : Bool) (v w : Sending) → w.target ≡ v.target → (cond b w v).target ≡ v.target
 put_target_if true v w e = e
@@ -50,7 +43,7 @@ pub put_seen : (u : Machine) (v v' : Sending) (i number : ℕ) (t : ℤ) (word :
     }) (record u { world = put_if_room u.setup u.world i l t word o })
 put_seen u v v' i number t word l None room e n tg cp bt ep sh nm = absurd (cc)
 put_seen u v v' i number t word l (Some s) room e n tg cp bt ep sh nm =
-    let made : v' ≡ record v { shards = change i (shard_put (sample_at v i u.world.placed number t word l s)) v.shards; next = u.world.placed + 1 } = e ∙ if_yes (has_room v.capacity s) (record v { shards = change i (shard_put (sample_at v i u.world.placed number t word l s)) v.shards; next = u.world.placed + 1 }) v room in
+    let made : v' ≡ record v { shards = change i (shard_put (sample_at v i u.world.placed number t word l s)) v.shards; next = u.world.placed + 1 } = e ∙ cond-true (has_room v.capacity s) (record v { shards = change i (shard_put (sample_at v i u.world.placed number t word l s)) v.shards; next = u.world.placed + 1 }) v room in
     let same : sample_at v i u.world.placed number t word l s ≡ next_sample u.world i l t word s = rw (sym ep, n) refl in
     let shards : v'.shards ≡ change i (shard_put (next_sample u.world i l t word s)) u.world.shards =
     ap (λ (x : Sending). x.shards) made ∙ ap (λ (x : Placed). change i (shard_put x) v.shards) same ∙ ap (change i (shard_put (next_sample u.world i l t word s))) (sym sh) in
@@ -65,4 +58,4 @@ put_seen u v v' i number t word l (Some s) room e n tg cp bt ep sh nm =
       setup = record u.setup { target = v'.target; capacity = v'.capacity; batch = v'.batch };
       world = record u.world { epoch = v'.epoch; shards = v'.shards; names = v'.names; placed = u.world.placed + 1 };
     }) (record u { world = next }) = rw (target, capacity, batch, epoch, shards, names, add-one u.world.placed) refl in
-    put ∙ ap (λ (w : World). record u { world = w }) (sym (if_yes (has_room u.setup.capacity s) next u.world has))
+    put ∙ ap (λ (w : World). record u { world = w }) (sym (cond-true (has_room u.setup.capacity s) next u.world has))

@@ -24,6 +24,7 @@ use Rattle.rw_world_parts.specs.Sending.{room_at}
 use Rattle.rw_world_parts.specs.Guards.{is_open, is_ready, may_take, may_flush, IsOpen, waiting_id_at}
 use Rattle.rw_world_parts.specs.Positions.{ahead_of}
 use Rattle.rw_world_parts.specs.declared.log.Ahead.TheVariants as ahead
+use Rattle.rw_machine.proofs.Settles.{hit}
 
 newest_snoc : (id : BatchId) (k : ℕ) (rs : List Request) (r : Request) (f : ℕ) → newest_from id k (rs ++ r ∷ []) f ≡ cond (same_id id r.id) (k + length rs) (newest_from id k rs f)
 newest_snoc id k [] r f = let n : k ≡ k + 0 = omega arith in ap (λ m. cond (same_id id r.id) m f) n
@@ -54,17 +55,6 @@ newest_found id sent i k d n lt e h = sym (e ∙ ap (λ j. newest_from id 0 (tak
 pub newest_passed : (id : BatchId) (sent : List Request) (i k : ℕ) (d : Request) → i ≡ k + 1 → k < length sent → newest_from id 0 sent 0 ≡ newest_from id 0 (take i sent) 0 →
     same_id id (get_or sent k d).id ≡ false → newest_from id 0 sent 0 ≡ newest_from id 0 (take k sent) 0
 newest_passed id sent i k d n lt e h = e ∙ ap (λ j. newest_from id 0 (take j sent) 0) n ∙ newest_more id sent k d lt ∙ ap (λ b. cond b k (newest_from id 0 (take k sent) 0)) h
-
--- the first shard that passes
-hit : (p : Shard → Bool) (ss : List Shard) → position_or_len p ss < length ss → (s : Shard) × (slice_get ss (position_or_len p ss) ≡ Some s) × (p s ≡ true)
-hit p [] lt = absurd (omega arith)
-hit p (x ∷ ss) lt = by_test (p x) refl lt (hit p ss)
-  where
-    by_test : (b : Bool) → p x ≡ b → cond (not b) (1 + position_or_len p ss) 0 < suc (length ss) → (position_or_len p ss < length ss → (s : Shard) × (slice_get ss (position_or_len p ss) ≡ Some s) × (p s ≡ true)) → (s : Shard) × (slice_get (x ∷ ss) (cond (not (p x)) (1 + position_or_len p ss) 0) ≡ Some s) × (p s ≡ true)
-    by_test true e lt rest = (x, ap (λ (b : Bool). slice_get (x ∷ ss) (cond (not b) (1 + position_or_len p ss) 0)) e, e)
-    by_test false e lt rest =
-        let r = rest (let z : 1 + position_or_len p ss < suc (length ss) = lt in omega arith) in
-        (r.0, ap (λ (b : Bool). slice_get (x ∷ ss) (cond (not b) (1 + position_or_len p ss) 0)) e ∙ ap (slice_get (x ∷ ss)) (let z : 1 + position_or_len p ss ≡ suc (position_or_len p ss) = omega arith in z) ∙ r.1, r.2)
 
 found_if : (b : Bool) (n i : ℕ) → cond b (Some n) None ≡ Some i → (b ≡ true) × (n ≡ i)
 found_if true n i e = (refl, cc)

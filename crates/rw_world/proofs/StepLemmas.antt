@@ -8,6 +8,7 @@ use Rattle.rw_machine.specs.declared.event.Event.{Event}
 use Rattle.rw_machine.specs.declared.event.Event.TheVariants as event
 use Rattle.rw_world.specs.Machine.{Machine, is_arrive}
 use Rattle.rw_world.specs.Reached.{IsReached}
+use Rattle.rw_machine.proofs.Settles.{run_append}
 
 stays : (c : Setup) (w : World) (e : Event) (b : Bool) → is_arrive e ≡ false → b ≡ true → unless_over c w e b ≡ w
 stays c w (event.Arrive k how) b a o = absurd (cc)
@@ -29,13 +30,6 @@ goes_on : (c : Setup) (w : World) (e : Event) (b : Bool) → b ≡ false → unl
 goes_on c w (event.Arrive k how) b o = refl
 goes_on c w e true o = absurd (cc)
 goes_on c w e false o = refl
-
-pub goes_on_acts : (c : Setup) (w : World) (e : Event) → is_over w ≡ false → happens c w e ≡ act c w e
-goes_on_acts c w e o = goes_on c w e (is_over w) o
-
-pub run_append : (c : Setup) (xs ys : List Event) (w : World) → run c (xs ++ ys) w ≡ run c ys (run c xs w)
-run_append c [] ys w = refl
-run_append c (x ∷ xs) ys w = run_append c xs ys (happens c w x)
 
 -- one more event
 pub run_more : (c : Setup) (es : List Event) (w : World) (i : ℕ) (d : Event) → i < length es → run c (take (i + 1) es) w ≡ happens c (run c (take i es) w) (get_or es i d)

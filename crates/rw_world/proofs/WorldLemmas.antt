@@ -12,7 +12,7 @@ use Rattle.rw_relabel.specs.declared.choice.Choice.{Choice}
 use Rattle.rw_series_cache.specs.Known.{standing_of}
 use Rattle.rw_series_cache.specs.Numbers.{with_series, with_entry, series_of}
 use Rattle.rw_series_cache.specs.Cached.{Taken}
-use Rattle.rw_series_cache.proofs.KnownLemmas.{series_of-definitions_of}
+use Rattle.rw_series_cache.proofs.KnownLemmas.{series_of-definitions_of, series_of-none}
 use Rattle.rw_router.specs.Routing.{Routing, Knows}
 use Rattle.rw_shard_core.specs.Shard.{can_send, new_core}
 use Rattle.rw_shard_core.specs.declared.config.Target.{Target}
@@ -37,10 +37,6 @@ fold_snoc f z (y ∷ ys) x = fold_snoc f (f z y) ys x
 pub series_defined : (choice : Choice) (definitions : List Entry) (r : ℕ) (l : Labels) → series_of choice (definitions ++ Def r l ∷ []) ≡ with_series (series_of choice definitions) (standing_of choice (Some l))
 unfolding series_of
 series_defined choice definitions r l = fold_snoc (with_entry choice) [] definitions (Def r l)
-
-pub no_series : (choice : Choice) → series_of choice [] ≡ []
-unfolding series_of
-no_series choice = refl
 
 -- the series of the definitions
 pub same_series : (before : List Entry) (cache : Taken) → Knows before cache → series_of cache.choice before ≡ series_of cache.choice cache.definitions
@@ -148,7 +144,7 @@ pub started : (cfg : ConfigFields) (l : Limits) (v : Sending) (pieces : List Pie
     (record { setup = setup_of cfg l; world = start (setup_of cfg l) })
 started cfg l v pieces router requests replies head a b d z e f g =
     let seen = new_seen (setup_of cfg l) cfg.target cfg.capacity cfg.batch 0 0 cfg.shards refl refl in
-    rw (a, b, d, z, e, f, g) (rw (seen, no_series (choice_of cfg)) refl)
+    rw (a, b, d, z, e, f, g) (rw (seen, series_of-none (choice_of cfg)) refl)
 
 pub parts : (f a : Bool) → (not f && a) ≡ true → (f ≡ false) × (a ≡ true)
 parts true a e = absurd (cc)

@@ -1,5 +1,5 @@
 -- The requests of a sender, and the answers of a receiver to them.
-use Rattle.std.specs.Prelude.{◌≡◌, ℕ, ◌<◌, ◌^◌, ◌⊎◌, List, length, All, Option, None, Some, slice_get}
+use Rattle.std.specs.Prelude.{◌≡◌, ℕ, ◌<◌, ◌^◌, ◌⊎◌, List, length, All, Some, slice_get}
 use Rattle.rw_shard_core.specs.declared.config.Target.{Target}
 use Rattle.rw_shard_core.specs.Shard.{IsReadAgain}
 use Rattle.rw_head.specs.Head.{State, Answer, answer}
@@ -15,11 +15,6 @@ pub record IsServed (target : Target) (host path : List ℕ) (requests : List Re
   pub host_is : target.host ≡ host
   pub path_is : target.path ≡ path
   pub sent : All (IsSentTo host path) requests
-
--- a request is answered with this status, and the head stays
-abbrev pub turned_away : World → ℕ → Option Request → World
-turned_away w status None = w
-turned_away w status (Some r) = answered w r.id (record { status = status; head = w.head })
 
 -- what the endpoint answers to these bytes: they are one request, and the head answers its body; or its head is refused with a status
 abbrev pub IsAnswerTo : List ℕ → ℕ → State → List ℕ → Answer → Type 0

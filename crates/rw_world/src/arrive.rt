@@ -3,9 +3,9 @@
 ghost use Rattle.std.specs.Prelude.{◌≡◌, ◌<◌, length, slice_get, OnOk, OnErr};
 ghost use Rattle.std.specs.Option.{option_map};
 ghost use Rattle.rw_machine.specs.Worlds.{Request};
-ghost use Rattle.rw_machine.specs.Steps.{arrive};
+ghost use Rattle.rw_machine.specs.Steps.{arrive, turned_away};
 ghost use Rattle.rw_machine.specs.declared.event.How.TheVariants.{Plain};
-ghost use Rattle.rw_world.specs.Arriving.{turned_away, AnswersBytes};
+ghost use Rattle.rw_world.specs.Arriving.{AnswersBytes};
 
 use crate::engine::Engine;
 use http::StatusCode;

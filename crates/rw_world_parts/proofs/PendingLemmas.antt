@@ -15,6 +15,7 @@ use Rattle.rw_shard_core.specs.Shard as core
 use Rattle.rw_machine.specs.Shards.{samples_in, pending}
 use Rattle.rw_world_parts.specs.Held.{Held, queued_of}
 use Rattle.rw_world_parts.specs.Sending.{all_pending}
+use Rattle.rw_world_parts.proofs.SendingLemmas.{positions-append}
 
 pub none_more : (xs : List ℕ) → xs ≡ xs ++ []
 none_more xs = sym (append-nil xs)
@@ -50,10 +51,6 @@ shards_more old hs i h lt e =
 pub shard_step : (now so_far old : List ℕ) (hs : List Held) (i : ℕ) (h : Held) → i < length hs → h ≡ get_or hs i h → now ≡ so_far ++ positions (pending h.shard) → so_far ≡ old ++ all_pending (take i hs) → now ≡ old ++ all_pending (take (i + 1) hs)
 shard_step now so_far old hs i h lt at e so = e ∙ ap (λ xs. xs ++ positions (pending h.shard)) so ∙ shards_more old hs i h lt at
 
-positions_join : (xs ys : List Placed) → positions (xs ++ ys) ≡ positions xs ++ positions ys
-positions_join [] ys = refl
-positions_join (x ∷ xs) ys = ap (λ ps. x.place.pos ∷ ps) (positions_join xs ys)
-
 queued_positions : (items : List Item) → positions (samples_in (map queued_of items)) ≡ positions_of (places_in items)
 queued_positions [] = refl
 queued_positions (Sample place t word labels ∷ items) = ap (λ ps. place.pos ∷ ps) (queued_positions items)
@@ -62,7 +59,7 @@ queued_positions (End kind ∷ items) = queued_positions items
 
 -- what a shard has: in its core, and then in its queue
 pending_positions : (c : Core) (items : List Item) → positions (core.pending c ++ samples_in (map queued_of items)) ≡ positions_of (places_of (core.pending c)) ++ positions_of (places_in items)
-pending_positions c items = positions_join (core.pending c) (samples_in (map queued_of items)) ∙ ap (λ ps. positions (core.pending c) ++ ps) (queued_positions items)
+pending_positions c items = positions-append (core.pending c) (samples_in (map queued_of items)) ∙ ap (λ ps. positions (core.pending c) ++ ps) (queued_positions items)
 
 pub both_added : {X E : Type 0} (r : Result X E) (old middle now : List ℕ) (c : Core) (ps : List Place) (items : List Item) → middle ≡ old ++ positions_of ps → ps ≡ places_of (core.pending c) → OnOk r (now ≡ middle ++ positions_of (places_in items)) → OnOk r (now ≡ old ++ positions (core.pending c ++ samples_in (map queued_of items)))
 both_added (Ok x) old middle now c ps items m p e =

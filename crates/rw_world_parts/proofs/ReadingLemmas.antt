@@ -1,5 +1,5 @@
 -- What is taken from a reader, entry by entry.
-use Rattle.std.proofs.Common.{◌≡◌, ◌≢◌, ℕ, zero, suc, ◌+◌, ◌<◌, ◌≤◌, Bool, true, false, cond, List, [], ◌∷◌, ◌++◌, length, take, Option, None, Some, Result, Ok, Err, ◌⊎◌, ⊎_elim, refl, sym, ap, ◌∙◌, length-append, arith}
+use Rattle.std.proofs.Common.{◌≡◌, ℕ, zero, suc, ◌+◌, ◌≤◌, true, false, List, [], ◌∷◌, ◌++◌, length, take, Option, None, Some, Result, Ok, Err, ◌⊎◌, ⊎_elim, refl, sym, ap, ◌∙◌, length-append, arith}
 use Rattle.std.proofs.lemmas.List.{take_more}
 use Rattle.std.proofs.lemmas.Option.{slice_get_within, get_or_from_slice_get}
 use Rattle.std.proofs.lemmas.Bool.Decides.{nat_tests}
@@ -9,8 +9,9 @@ use Rattle.rw_wal_format.specs.Segments.{segment}
 use Rattle.rw_wal_format.specs.Pieces.{entries, fault, reading}
 use Rattle.rw_wal_format.specs.declared.tail_fault.TailFault.{TailFault}
 use Rattle.rw_wal_format.specs.declared.tail_fault.TailFault.TheVariants.{OutOfMemory}
-use Rattle.rw_wal_tail.specs.Fed.{Fed, next_of, end_of, answered, is_out_of_memory}
+use Rattle.rw_wal_tail.specs.Fed.{Fed, next_of, answered, is_out_of_memory}
 use Rattle.rw_world_parts.specs.Reading.{Drains, HasRead}
+use Rattle.rw_wal_tail.proofs.AnswerLemmas.{next_is, end_is, fault_is, has_some, answered_same}
 
 pub nothing_read : HasRead (record { pieces = []; given = 0; skipped = 0; fault = None }) [] None
 unfolding reading segment
@@ -21,14 +22,6 @@ pub taken_more : {X : Type 0} (xs : List X) (n : ℕ) (x : X) → slice_get xs n
 taken_more xs n x e =
     let lt = slice_get_within xs n x e in
     take_more xs n x lt ∙ ap (λ y. take n xs ++ y ∷ []) (get_or_from_slice_get xs n x x e)
-
-end_none : (o : Option TailFault) (e : Entry) → Ok (Some e) ≡ end_of o → ⊥
-end_none None e h = cc
-end_none (Some f) e h = cc
-
-next_is : (b : Bool) (o : Option Entry) (f : Option TailFault) (e : Entry) → Ok (Some e) ≡ cond b (Ok o) (end_of f) → o ≡ Some e
-next_is true o f e h = cc
-next_is false o f e h = absurd (end_none f e h)
 
 -- what a reader may answer
 abbrev pub Said : Type 0
@@ -51,21 +44,6 @@ drained_more t t' taken e said d is a m = let n : t' ≡ answered t (Ok (Some e)
     } in
     (out, pieces))
     a
-
-end_is : (b : Bool) (o : Option Entry) (f : Option TailFault) → Ok None ≡ cond b (Ok o) (end_of f) → (b ≡ true → o ≢ None) → (b ≡ false) × (f ≡ None)
-end_is true o f h some = absurd (some refl cc)
-end_is false o None h some = (refl, refl)
-end_is false o (Some f) h some = absurd (cc)
-
-fault_is : (b : Bool) (o : Option Entry) (f : Option TailFault) (g : TailFault) → Err g ≡ cond b (Ok o) (end_of f) → (b ≡ false) × (f ≡ Some g)
-fault_is true o f g h = absurd (cc)
-fault_is false o None g h = absurd (cc)
-fault_is false o (Some f) g h = (refl, cc)
-
-has_some : {X : Type 0} (xs : List X) (n : ℕ) → n < length xs → slice_get xs n ≢ None
-has_some [] n lt = λ e. omega arith
-has_some (x ∷ xs) zero lt = λ e. cc
-has_some (x ∷ xs) (suc n) lt = has_some xs n (omega arith)
 
 take_whole : {X : Type 0} (n : ℕ) (xs : List X) → length xs ≤ n → take n xs ≡ xs
 take_whole zero [] le = refl
@@ -95,11 +73,6 @@ drained_none t t' taken said d is a n = ⊎_elim
     } in
     (out, pieces))
     a
-
-answered_same : (t : Fed) (f : TailFault) → ((answered t (Err f)).pieces ≡ t.pieces) × ((answered t (Err f)).given ≡ t.given)
-unfolding answered
-answered_same t OutOfMemory = (refl, refl)
-answered_same t f = (refl, refl)
 
 -- whatever was answered but an entry, the pieces stay
 pub error_pieces : (t t' : Fed) (said : Said) (f : TailFault) → said ≡ Err f → t' ≡ answered t said → t'.pieces ≡ t.pieces

@@ -23,6 +23,7 @@ use Rattle.rw_machine.specs.Steps.{change}
 use Rattle.rw_world_parts.specs.Held.{Held, sample_for}
 use Rattle.rw_world_parts.specs.Sending.{Sending, times, waiting, allowed, replied, room_at, sample_at, put_to, IsShardAt, IsSending}
 use Rattle.rw_world_parts.proofs.SendingLemmas.{positions-append, times-append, here, waiting-set, waiting-get, open-set, open-get, samples_in-queue, same_at, each-set, quiet_kept, changed_is, still_quiet, again_quiet}
+use Rattle.rw_shard_core.proofs.NamingLemmas.{settle_names-room}
 
 shard_times : (p : ℕ) (b u q : List Placed) → times p (positions ((b ++ u) ++ q)) ≡ times p (positions b) + (times p (positions u) + times p (positions q))
 shard_times p b u q =
@@ -156,12 +157,6 @@ reply_kept_all id status target capacity batch epoch hs next l l' i h h' s at e 
 pub shard_seen : (hs : List Held) (ss : List Shard) (i : ℕ) (h : Held) → slice_get hs i ≡ Some h → map (λ (x : Held). x.shard) hs ≡ ss → slice_get ss i ≡ Some h.shard
 shard_seen hs ss i h at e = ap (λ xs. slice_get xs i) (sym e) ∙ slice_get-map (λ (x : Held). x.shard) hs i ∙ ap (option_map (λ (x : Held). x.shard)) at
 
--- the names after a reply do not depend on the room
-settled_names : (j : Judgement) (status : ℕ) (xs : List Placed) (l : Named) → (settle_names j status xs l).names ≡ (settle_names j status xs (record { names = l.names; room = 0 })).names
-settled_names Done status xs l = refl
-settled_names Again status xs l = refl
-settled_names Refused status xs l = refl
-
 change_nothing : (i : ℕ) (ss : List Shard) → change i (λ s. s) ss ≡ ss
 change_nothing i [] = refl
 change_nothing zero (s ∷ ss) = refl
@@ -174,7 +169,7 @@ replied_is_if : (b : Bool) (j : Judgement) (id : BatchId) (status : ℕ) (hs : L
     ≡ cond b (record v { names = (settle_names j status h.shard.core.batch (record { names = v.names; room = 0 })).names; shards = change id.shard (with_core (settle j)) v.shards }) v
 replied_is_if true j id status hs h h' l l' u v at e names same is was =
     ap (λ (m : FinMap nat_cmp Reason). record u { shards = map (λ (x : Held). x.shard) (set hs id.shard h'); names = m })
-    (names ∙ settled_names j status h.shard.core.batch l ∙ ap (λ (m : FinMap nat_cmp Reason). (settle_names j status h.shard.core.batch (record { names = m; room = 0 })).names) (sym was ∙ ap (λ (w : Sending). w.names) same))
+    (names ∙ settle_names-room j status h.shard.core.batch l ∙ ap (λ (m : FinMap nat_cmp Reason). (settle_names j status h.shard.core.batch (record { names = m; room = 0 })).names) (sym was ∙ ap (λ (w : Sending). w.names) same))
     ∙ ap (λ (w : Sending). record w { names = (settle_names j status h.shard.core.batch (record { names = v.names; room = 0 })).names })
     (changed_is (with_core (settle j)) hs id.shard h h' u v at e same is)
 replied_is_if false j id status hs h h' l l' u v at e names same is was =

@@ -15,6 +15,7 @@ use Rattle.rw_plain_queue.specs.declared.item.Kind.{Kind}
 use Rattle.rw_machine.specs.Steps.{change}
 use Rattle.rw_world_parts.specs.Held.{Held, put_mark, flushed}
 use Rattle.rw_world_parts.specs.Sending.{Sending, new_held, times, waiting, open_samples, IsShardAt, IsSending}
+use Rattle.rw_shard_core.proofs.EmptyLemmas.{nil_from_empty}
 
 pub positions-append : (xs ys : List Placed) → positions (xs ++ ys) ≡ positions xs ++ positions ys
 positions-append [] ys = refl
@@ -239,10 +240,6 @@ again_quiet s = let k = same_if true s.core false in core_quiet s (again s.core)
 pub send_quiet : (s : Shard) → Quiet s (shard_send s) × ((shard_send s).core.batch ≡ s.core.batch)
 send_quiet s = let k = same_if (can_send s.core) s.core true in (core_quiet s (send s.core) k.0 k.1, k.0.batch)
 
-nothing : (xs : List Placed) → is_empty xs ≡ true → xs ≡ []
-nothing [] e = refl
-nothing (x ∷ xs) e = absurd (cc)
-
 guard : (k e f : Bool) → (not k && (e && not f)) ≡ true → e ≡ true
 guard true e f h = absurd (cc)
 guard false true f h = refl
@@ -254,7 +251,7 @@ freeze_if : (b : Bool) (s : Shard) (l : Named) → can_freeze s.core ≡ b →
     let m : Named = cond b (record l { room = l.room + length s.core.builder }) l in
     Quiet s t × (length t.core.batch + l.room ≤ length s.core.batch + m.room) × (m.names ≡ l.names)
 freeze_if true s l e =
-    let none : s.core.batch ≡ [] = nothing s.core.batch (guard s.core.killed (is_empty s.core.batch) (is_empty s.core.builder) e) in
+    let none : s.core.batch ≡ [] = nil_from_empty s.core.batch (guard s.core.killed (is_empty s.core.batch) (is_empty s.core.builder) e) in
     let t : Shard = record s { core = record s.core { builder = []; marked = false; batch = s.core.builder; waiting = false } } in
     let same : pending t ≡ pending s = ap (λ zs. zs ++ samples_in s.queue) (append-nil s.core.builder ∙ ap (λ b. b ++ s.core.builder) (sym none)) in
     (record { target = refl; full = refl; epoch = refl; number = refl; put = refl; fewer = same_pending s t same }, omega arith, refl)
@@ -282,7 +279,7 @@ pub quiet_same : (target : Target) (capacity batch epoch : ℕ) (hs : List Held)
     IsSending target capacity batch epoch (set hs i h') next l
 quiet_same target capacity batch epoch hs next l i h h' t s at e q b = quiet_kept target capacity batch epoch hs next l l i h h' t s at e q refl (same_batch h.shard t l b)
 
--- no shard of that number: nothing changes
+-- no shard of that number: nil_from_empty changes
 pub past_is : (f : Shard → Shard) (hs : List Held) (n i : ℕ) (v : Sending) → n ≡ length hs → n ≤ i → map (λ (h : Held). h.shard) hs ≡ v.shards → v ≡ record v { shards = change i f v.shards }
 past_is f hs n i v len le e =
     let m : length v.shards ≡ length hs = ap length (sym e) ∙ length-map hs (λ (h : Held). h.shard) in
@@ -294,7 +291,7 @@ pub changed_is : (f : Shard → Shard) (hs : List Held) (i : ℕ) (h h' : Held) 
 changed_is f hs i h h' u v at e same is =
     ap (λ ss. record u { shards = ss }) (change-set f hs i h h' at e ∙ ap (change i f) (sym is)) ∙ ap (λ (w : Sending). record w { shards = change i f w.shards }) same
 
--- nothing changes
+-- nil_from_empty changes
 pub set_same : {X : Type 0} (xs : List X) (i : ℕ) (x : X) → slice_get xs i ≡ Some x → set xs i x ≡ xs
 set_same [] i x e = refl
 set_same (y ∷ ys) zero x e = let same : y ≡ x = cc in rw same refl

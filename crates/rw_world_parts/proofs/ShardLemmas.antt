@@ -1,5 +1,5 @@
 -- What a shard keeps, as items are put and taken.
-use Rattle.std.proofs.Common.{◌≡◌, ℕ, zero, suc, ◌+◌, ◌<◌, ◌≤◌, ◌^◌, Bool, true, false, ◌&&◌, cond, eqb, List, [], ◌∷◌, ◌++◌, length, map, Option, None, Some, All, IfSome, refl, sym, ap, ◌∙◌, append_assoc, length-append, arith}
+use Rattle.std.proofs.Common.{◌≡◌, ℕ, suc, ◌+◌, ◌<◌, ◌≤◌, ◌^◌, Bool, true, false, ◌&&◌, cond, eqb, List, [], ◌∷◌, ◌++◌, length, map, Option, None, Some, All, IfSome, refl, sym, ap, ◌∙◌, append_assoc, length-append, arith}
 use Rattle.std.proofs.lemmas.List.{append-nil, map-append}
 use Rattle.std.proofs.lemmas.Bool.Decides.{nat_tests}
 use Rattle.std.proofs.lemmas.List.Elements.{All-append}
@@ -13,15 +13,10 @@ use Rattle.rw_plain_queue.specs.declared.item.Item.{Item}
 use Rattle.rw_plain_queue.specs.declared.item.Item.TheVariants.{Sample, Flush, End}
 use Rattle.rw_shard_core.specs.Shard.{Core, IsCore, is_empty, pending, last_of, IsNext, AreInRow, MayTake, placed, take_item, is_answer, settle, reply}
 use Rattle.rw_world_parts.specs.Held.{held_of, queued_of, samples_of, IsShard}
+use Rattle.rw_plain_queue.proofs.Histories.{samples_in-append}
+use Rattle.rw_shard_core.proofs.KeptLemmas.{AreInRow-push, All-one}
 
-pub samples_in-append : (xs ys : List Item) → samples_in (xs ++ ys) ≡ samples_in xs ++ samples_in ys
-samples_in-append [] ys = refl
-samples_in-append (Sample place t word labels ∷ xs) ys =
-    ap (λ zs. record { place = place; t = t; word = word; labels = labels.value } ∷ zs) (samples_in-append xs ys)
-samples_in-append (Flush ∷ xs) ys = samples_in-append xs ys
-samples_in-append (End kind ∷ xs) ys = samples_in-append xs ys
-
--- what was put, with one more item
+-- what was put, with All-one more item
 pub put_more : (q q' : Queue) (x : Item) → q' ≡ record q { items = q.items ++ x ∷ [] } → samples_in (put_in q') ≡ samples_in (put_in q) ++ samples_in (x ∷ [])
 put_more q q' x e =
     ap (λ (p : Queue). samples_in (put_in p)) e ∙ ap samples_in (sym (append_assoc q.taken q.items (x ∷ []))) ∙ samples_in-append (put_in q) (x ∷ [])
@@ -31,20 +26,11 @@ last_of-append [] y = refl
 last_of-append (x ∷ []) y = refl
 last_of-append (x ∷ w ∷ ws) y = last_of-append (w ∷ ws) y
 
-AreInRow-push : (xs : List Placed) (x : Placed) → AreInRow xs → IfSome (last_of xs) (λ y. IsNext y x) → AreInRow (xs ++ x ∷ [])
-AreInRow-push [] x h n = tt
-AreInRow-push (y ∷ []) x h n = (n, tt)
-AreInRow-push (y ∷ z ∷ zs) x h n = (h.0, AreInRow-push (z ∷ zs) x h.1 n)
-
 -- the row of a beginning, and the step behind it
 next_after : (xs : List Placed) (x : Placed) (ys : List Placed) → AreInRow (xs ++ x ∷ ys) → IfSome (last_of xs) (λ y. IsNext y x)
 next_after [] x ys h = tt
 next_after (y ∷ []) x ys h = h.0
 next_after (y ∷ z ∷ zs) x ys h = next_after (z ∷ zs) x ys h.1
-
-one : (P : Placed → Type 0) (x : Placed) → P x → All P (x ∷ [])
-one P x p zero d lt = p
-one P x p (suc k) d lt = absurd (omega arith)
 
 at_place : (P : Placed → Type 0) (xs : List Placed) (x : Placed) (ys : List Placed) → All P (xs ++ x ∷ ys) → P x
 at_place P [] x ys h = h 0 x (omega arith)
@@ -90,7 +76,7 @@ put_sample_kept q q' c count taken x y s e sample ep sh seq few later =
       counted = sym (ap length same ∙ len);
       counted_taken = s.counted_taken;
       few = omega arith;
-      named = rw same (All-append (λ (z : Placed). (z.place.epoch ≡ c.epoch) × (z.place.shard ≡ c.shard)) old (y ∷ []) s.named (one (λ (z : Placed). (z.place.epoch ≡ c.epoch) × (z.place.shard ≡ c.shard)) y (ep, sh)));
+      named = rw same (All-append (λ (z : Placed). (z.place.epoch ≡ c.epoch) × (z.place.shard ≡ c.shard)) old (y ∷ []) s.named (All-one (λ (z : Placed). (z.place.epoch ≡ c.epoch) × (z.place.shard ≡ c.shard)) y (ep, sh)));
       in_row = rw same (AreInRow-push old y s.in_row next);
       numbered = rw (same, last_of-append old y, len) (ap (λ n. n + 1) seq);
     } in
@@ -121,7 +107,7 @@ taken_front q q' x k n e =
       killed = ap (λ (p : Queue). p.killed) a;
     }
 
--- what was put, where this one is the next to be taken
+-- what was put, where this All-one is the next to be taken
 split_put : (q q' : Queue) (x : Item) → Front q q' x → samples_in (put_in q) ≡ samples_in q.taken ++ (samples_in (x ∷ []) ++ samples_in q'.items)
 split_put q q' x f =
     samples_in-append q.taken q.items ∙ ap (λ ys. samples_in q.taken ++ samples_in ys) f.items ∙ ap (λ zs. samples_in q.taken ++ zs) (samples_in-append (x ∷ []) q'.items)
@@ -247,7 +233,7 @@ drained_is q c count taken s k =
     let w : length c.taken ≡ length c.resolved + length (pending c) = ap length k.whole ∙ length-append c.resolved (pending c) in
     rw (← s.counted) (drained_by c.ended (is_empty (pending c)) (length c.resolved) (length (pending c)) taken count (s.counted_taken ∙ w) (taken_few q c count taken s) l.0 l.1)
 
--- what is seen of the shard with one more item
+-- what is seen of the shard with All-one more item
 pub held_more : (q q' : Queue) (x : Item) (end_put : Bool) (c : Core) (ys : List Placed) → samples_in (put_in q') ≡ ys → q' ≡ record q { items = q.items ++ x ∷ [] } →
     held_of q' end_put c ≡ record { capacity = q.capacity; shard = record { put = ys; queue = map queued_of q.items ++ queued_of x ∷ []; end_put = end_put; core = c } }
 held_more q q' x end_put c ys put e =

@@ -1,13 +1,14 @@
 use Rattle.std.proofs.Common.{◌∙◌, ap, subst}
 use Rattle.std.specs.FinMap.{insert}
 use Rattle.std.proofs.Math.Facts.{to_z-of_z}
+use Rattle.std.proofs.lemmas.Result.{on_ok_weaker}
 use Rattle.rw_inspect.specs.Counting.{JudgedAs}
-use Rattle.rw_inspect.proofs.PlacedLemmas.{placed_filtered, placed_rising, placed_trouble, when_ok}
+use Rattle.rw_inspect.proofs.PlacedLemmas.{placed_filtered, placed_rising, placed_trouble}
 use Rattle.rw_inspect.proofs.counter.place.Goals as goal
 
 pub returns-in-InTrouble-clause-ok : goal.returns-in-InTrouble-clause-ok
 returns-in-InTrouble-clause-ok c =
-    when_ok c.push.result _ _
+    on_ok_weaker c.push.result
     (λ pushed. record {
       placed = λ before word cached at.
           let judged = subst (JudgedAs before c.args.reference c.args.t) c.in-InTrouble.is (subst (λ z. JudgedAs before c.args.reference z c.judge.result) (to_z-of_z c.ranges.t) (c.judge.ensures.judged before cached)) in

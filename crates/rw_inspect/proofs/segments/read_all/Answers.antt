@@ -1,8 +1,9 @@
 use Rattle.std.proofs.Common.{◌≡◌, ◌∷◌, ◌∙◌, length, map, refl, sym, ap, subst, arith}
 use Rattle.std.specs.Vec.Iter.{into_iter_items}
 use Rattle.rw_inspect.specs.Inspecting.{AllSure, source_of}
-use Rattle.rw_inspect.proofs.InspectLemmas.{Going, first_row, going_more, going_none, no_more, not_some, stops_at_end, stops_at_fault}
+use Rattle.rw_inspect.proofs.InspectLemmas.{Going, first_row, going_more, going_none, no_more, stops_at_end, stops_at_fault}
 use Rattle.rw_inspect.proofs.segments.read_all.Goals as goal
+use Rattle.rw_types.proofs.AnswerLemmas.{None-from_not_some}
 
 pub loop-segment-init : goal.loop-segment-init
 loop-segment-init g c =
@@ -22,7 +23,7 @@ loop-segment-preserved g c =
     let going = c.loop-segment.invariant.going in
     let first = first_row _ _ _ _ going.inspected.rows_are c.loop-segment.rows.ok.0 c.is_empty-is_first.ensures in
     record {
-      going = going_more _ _ _ _ _ _ _ _ _ _ _ _ going (ap (map (source_of g.S.Source.remaining)) steps) first c.in_ok-row.ensures.ok (not_some _ (sym c.is_some.ensures ∙ c.if-is_some.false)) c.in_ok-add_row.ensures;
+      going = going_more _ _ _ _ _ _ _ _ _ _ _ _ going (ap (map (source_of g.S.Source.remaining)) steps) first c.in_ok-row.ensures.ok (None-from_not_some _ (sym c.is_some.ensures ∙ c.if-is_some.false)) c.in_ok-add_row.ensures;
       task = c.in_ok-row.ensures.task ∙ c.loop-segment.invariant.task;
       room = c.loop-segment.invariant.room;
       counted = let counted = c.loop-segment.invariant.counted in

@@ -1,8 +1,9 @@
 use Rattle.std.proofs.Common.{Ok, ap}
-use Rattle.rw_log_shipping.proofs.PartLemmas.{also_on_err, part_halted}
+use Rattle.rw_log_shipping.proofs.PartLemmas.{part_halted}
 use Rattle.rw_log_shipping.proofs.SegmentLemmas.{feeding_none, feeding_more}
 use Rattle.rw_log_shipping.proofs.StepLemmas.{stays, stays_on}
 use Rattle.rw_log_shipping.proofs.shipping.ship_segment.Goals as goal
+use Rattle.rw_types.proofs.AnswerLemmas.{OnErr-always}
 
 pub loop-init : goal.loop-init
 loop-init g c = record { stays = stays _; short = λ h. h; feeding = feeding_none _ _; sound = c.requires; sure = λ h. h }
@@ -19,4 +20,4 @@ loop-preserved g c =
     }
 
 pub returns-in_err-ship_piece-clause-part : goal.returns-in_err-ship_piece-clause-part
-returns-in_err-ship_piece-clause-part g c = also_on_err _ (part_halted _ _ _ _ _ _ c.loop.invariant.feeding c.in_err-ship_piece.ensures.part)
+returns-in_err-ship_piece-clause-part g c = OnErr-always _ (part_halted _ _ _ _ _ _ c.loop.invariant.feeding c.in_err-ship_piece.ensures.part)

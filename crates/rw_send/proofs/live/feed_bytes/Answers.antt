@@ -1,13 +1,14 @@
 use Rattle.std.proofs.Common.{Ok, Err}
 use Rattle.rw_wal_format.specs.Pieces.{bytes}
 use Rattle.rw_send.proofs.FollowLemmas.{fed_piece, part_piece}
-use Rattle.rw_log_shipping.proofs.PartLemmas.{also_on_err, joins_or_not}
+use Rattle.rw_log_shipping.proofs.PartLemmas.{joins_or_not}
 use Rattle.rw_log_shipping.proofs.ShortLemmas.{short_fed}
 use Rattle.rw_send.proofs.live.feed_bytes.Goals as goal
+use Rattle.rw_types.proofs.AnswerLemmas.{OnErr-always}
 
 pub returns-in_err-feed-clause-part : goal.returns-in_err-feed-clause-part
 returns-in_err-feed-clause-part g c =
-    also_on_err _ (part_piece _ _ _ (joins_or_not c.args.shipper.now.log c.feed.new.self.log (bytes c.args.piece.items) c.in_err-feed.field-0.0 (c.in_err-feed.ensures.pieces c.requires.live)))
+    OnErr-always _ (part_piece _ _ _ (joins_or_not c.args.shipper.now.log c.feed.new.self.log (bytes c.args.piece.items) c.in_err-feed.field-0.0 (c.in_err-feed.ensures.pieces c.requires.live)))
 
 pub returns-in_err-feed-clause-short : goal.returns-in_err-feed-clause-short
 returns-in_err-feed-clause-short g c =

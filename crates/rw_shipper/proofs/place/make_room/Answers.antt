@@ -2,7 +2,8 @@ use mir.Val.{SFits}
 use mir.Syntax.{w64}
 use Rattle.std.proofs.Common.{rules, ◌≡◌, ℕ, ℤ, true, false, refl, subst}
 use Rattle.std.proofs.lemmas.Int.{to_z-of_z}
-use Rattle.std.specs.Prelude.{Option, Result, Ok, Err, OnOk, None}
+use Rattle.std.specs.Prelude.{Option, None}
+use Rattle.std.proofs.lemmas.Result.{on_ok_weaker}
 use Rattle.rw_types.specs.Labels.{Labels}
 use Rattle.rw_batch_bytes.specs.Sizes.{bytes_of}
 use Rattle.rw_batch_bytes.specs.Rooms.{Counts}
@@ -10,10 +11,6 @@ use Rattle.rw_fleet.proofs.LaneLemmas.{same_self, same_length}
 use Rattle.rw_shipper.proofs.PlacementLemmas.{get_some}
 use Rattle.rw_shipper.proofs.CutLemmas.{room_made}
 use Rattle.rw_shipper.proofs.place.make_room.Goals as goal
-
-on_ok_map : {A E : Type 0} (r : Result A E) (P Q : Type 0) → (P → Q) → OnOk r P → OnOk r Q
-on_ok_map (Ok x) P Q f h = f h
-on_ok_map (Err e) P Q f h = tt
 
 same_bytes : (l m : Labels) (w : ℕ) (z t : ℤ) → l ≡ m → z ≡ t → bytes_of l (w, z) ≡ bytes_of m (w, t)
 same_bytes l m w z t h g = λ i. bytes_of (h i) (w, g i)
@@ -27,7 +24,7 @@ returns-then-count-clause-ok g c =
     let bytes = same_bytes _ _ c.args.sample.now.word _ _ c.deref.ensures (to_z-of_z w64 c.args.sample.now.t fits) in
     let counts = subst (λ n. Counts c.args.cuts.now.limit c.args.shard n c.args.cuts.now.rooms c.count.new.self.rooms true) bytes
     (subst (Counts c.args.cuts.now.limit c.args.shard _ c.args.cuts.now.rooms c.count.new.self.rooms) c.if-count.true c.count.ensures.counts) in
-    on_ok_map c.mark_one.result _ _ (λ m. room_made c.args.cuts.now c.count.new.self c.args.shard _ true m.was c.args.fleet.now.current c.mark_one.new.self.current c.requires.counted m.at counts m.is) c.mark_one.ensures.ok
+    on_ok_weaker c.mark_one.result (λ m. room_made c.args.cuts.now c.count.new.self c.args.shard _ true m.was c.args.fleet.now.current c.mark_one.new.self.current c.requires.counted m.at counts m.is) c.mark_one.ensures.ok
 
 pub returns-then-count-clause-len : goal.returns-then-count-clause-len
 returns-then-count-clause-len g c = same_length c.args.fleet.now.current c.mark_one.new.self.current c.mark_one.ensures.same

@@ -1,8 +1,9 @@
 use Rattle.std.proofs.Common.{refl}
 use Rattle.rw_plain_queue.specs.Items.{Placed, samples_in}
 use Rattle.rw_shard_core.specs.Shard.{placed}
-use Rattle.rw_shard_core.proofs.KeptLemmas.{samples_in-append, can_take_parts, kept_follows, kept_take, parts_take}
+use Rattle.rw_shard_core.proofs.KeptLemmas.{can_take_parts, kept_follows, kept_take, parts_take}
 use Rattle.rw_shard_core.proofs.shard.ShardCore.take.Goals as goal
+use Rattle.rw_plain_queue.proofs.Histories.{samples_in-append}
 
 pub take-requires-clause-sample : goal.take-requires-clause-sample
 take-requires-clause-sample c =
