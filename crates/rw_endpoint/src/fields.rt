@@ -38,7 +38,8 @@ fn first_length(buf: &[u8], headers: &[HeaderSpan]) -> Option<u64>
 /// Whether each `Content-Length` announces this length.
 fn are_lengths(buf: &[u8], headers: &[HeaderSpan], n: u64) -> bool
     requires { All (IsHeaderWithin (length buf.now)) headers.now }
-    ensures { result ≡ each_value (codes "content-length") (is_length n) (map (header_bytes buf.now) headers.now) }
+    ensures { result ≡ each_value (codes "content-length") (is_length n)
+        (map (header_bytes buf.now) headers.now) }
 {
     for header in headers {
         if is_same(header.name.of(buf), b"content-length") {
@@ -71,7 +72,8 @@ pub(crate) fn announced(buf: &[u8], headers: &[HeaderSpan]) -> Option<u64>
 /// Whether the fields name no content coding but `identity`.
 pub(crate) fn are_identity(buf: &[u8], headers: &[HeaderSpan]) -> bool
     requires { All (IsHeaderWithin (length buf.now)) headers.now }
-    ensures { result ≡ each_value (codes "content-encoding") is_identity (map (header_bytes buf.now) headers.now) }
+    ensures { result ≡ each_value (codes "content-encoding") is_identity
+        (map (header_bytes buf.now) headers.now) }
 {
     for header in headers {
         if is_same(header.name.of(buf), b"content-encoding") {
@@ -86,7 +88,8 @@ pub(crate) fn are_identity(buf: &[u8], headers: &[HeaderSpan]) -> bool
 /// Whether the fields name no media type but that of a write request.
 pub(crate) fn are_protobuf(buf: &[u8], headers: &[HeaderSpan]) -> bool
     requires { All (IsHeaderWithin (length buf.now)) headers.now }
-    ensures { result ≡ each_value (codes "content-type") is_protobuf (map (header_bytes buf.now) headers.now) }
+    ensures { result ≡ each_value (codes "content-type") is_protobuf
+        (map (header_bytes buf.now) headers.now) }
 {
     for header in headers {
         if is_same(header.name.of(buf), b"content-type") {
@@ -101,7 +104,8 @@ pub(crate) fn are_protobuf(buf: &[u8], headers: &[HeaderSpan]) -> bool
 /// Whether the sender asks to close the connection.
 pub(crate) fn has_close(buf: &[u8], headers: &[HeaderSpan]) -> bool
     requires { All (IsHeaderWithin (length buf.now)) headers.now }
-    ensures { result ≡ some_value (codes "connection") is_close (map (header_bytes buf.now) headers.now) }
+    ensures { result ≡ some_value (codes "connection") is_close
+        (map (header_bytes buf.now) headers.now) }
 {
     for header in headers {
         if is_same(header.name.of(buf), b"connection") {

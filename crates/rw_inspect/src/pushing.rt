@@ -35,7 +35,8 @@ pub(crate) fn push_right_time(
     time: Option<i64>,
 ) -> Result<(), AllocError>
     requires { width ≤ 24 }
-    ensures { OnOk result (out.new.items ≡ out.old.items ++ right_text width (time_text (codes "-") time)) }
+    ensures { OnOk result (out.new.items
+        ≡ out.old.items ++ right_text width (time_text (codes "-") time)) }
 {
     let mut buffer = Buffer::new();
     match time {

@@ -349,7 +349,8 @@ fn note_receive_part(
 ) -> Result<(), AllocError>
     requires { table_view empty.now ≡ no_members }
     ensures { OnOk result (noted notes.new.items ≡ lesser (noted notes.old.items)
-        (part_fault receive_fault (section (get_member (codes "receive") (table_view document.now))))) }
+        (part_fault receive_fault
+        (section (get_member (codes "receive") (table_view document.now))))) }
 {
     match section(document, "receive", empty) {
         None => note_part(alloc, notes, "receive", "a table, [receive]"),
@@ -364,7 +365,8 @@ fn note_rules_part(
     document: &Table,
 ) -> Result<(), AllocError>
     ensures { OnOk result (noted notes.new.items ≡ lesser (noted notes.old.items)
-        (part_fault (with_rules_fault None) (list_at (get_member (codes "rule") (table_view document.now))))) }
+        (part_fault (with_rules_fault None)
+        (list_at (get_member (codes "rule") (table_view document.now))))) }
 {
     match list_at(document, "rule") {
         None => note_part(alloc, notes, "rule", "a list of tables, each [[rule]]"),

@@ -170,7 +170,8 @@ pub(crate) fn host_or_default(
     table: &Table,
     key: &str,
 ) -> Result<HostName, AllocError>
-    ensures { IfOk result (λ h. h ≡ found_or (codes "localhost:9090") (text_at is_host_name (get_member key.now (table_view table.now)))) }
+    ensures { IfOk result (λ h. h ≡ found_or (codes "localhost:9090")
+        (text_at is_host_name (get_member key.now (table_view table.now)))) }
 {
     match HostName::check(String::from_str(alloc, text_or(table, key, ""))?) {
         Some(host) => Ok(host),
@@ -204,7 +205,8 @@ pub(crate) fn path_or_default(
     table: &Table,
     key: &str,
 ) -> Result<RequestPath, AllocError>
-    ensures { IfOk result (λ p. p ≡ found_or (codes "/api/v1/write") (text_at is_request_path (get_member key.now (table_view table.now)))) }
+    ensures { IfOk result (λ p. p ≡ found_or (codes "/api/v1/write")
+        (text_at is_request_path (get_member key.now (table_view table.now)))) }
 {
     match RequestPath::check(String::from_str(alloc, text_or(table, key, ""))?) {
         Some(path) => Ok(path),

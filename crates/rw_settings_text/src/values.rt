@@ -68,7 +68,8 @@ fn push_quoted(alloc: Global, out: &mut String, text: &str) -> Result<(), AllocE
 
 /// The texts as values, with commas between them.
 fn joined(alloc: Global, texts: &[String]) -> Result<String, AllocError>
-    ensures { IfOk result (λ t. string_bytes t ≡ join_by string_text (codes ", ") (map string_bytes texts.now)) }
+    ensures { IfOk result (λ t. string_bytes t
+        ≡ join_by string_text (codes ", ") (map string_bytes texts.now)) }
 {
     let mut joined = String::new(alloc);
     for (i, text) in texts.iter().enumerate() {

@@ -20,7 +20,8 @@ pub struct Target {
 impl Target {
     /// `localhost:9090` and `/api/v1/write`: the receiver of a Prometheus on this machine.
     pub fn standard(alloc: Global) -> Result<Target, AllocError>
-        ensures { IfOk result (λ t. t ≡ record { host = codes "localhost:9090"; path = codes "/api/v1/write" }) }
+        ensures { IfOk result (λ t. t
+            ≡ record { host = codes "localhost:9090"; path = codes "/api/v1/write" }) }
     {
         Ok(Target {
             host: HostName::local_prometheus(alloc)?,

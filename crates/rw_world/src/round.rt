@@ -132,7 +132,8 @@ impl Engine {
     fn mark(&self) -> Next
         ensures { events_of result
             ≡ first_of_these (if is_finished self.now.world || is_some self.now.world.draining
-            then at_first (may_flush self.now.setup.capacity) (λ i. event.Flush i ∷ []) self.now.world
+            then at_first (may_flush self.now.setup.capacity) (λ i. event.Flush i ∷ [])
+            self.now.world
             else None) (event.Restart ∷ []) }
     {
         if !self.is_ending() {
