@@ -12,5 +12,4 @@ abbrev text_input : String Global × String Global → fed.HashWrites
 text_input t = fed.str (string_bytes t.0) ++ fed.str (string_bytes t.1)
 
 pub input_of_texts : (ts : List (String Global × String Global)) → fed.slice text_input ts ≡ labels_input (map text_label ts)
-unfolding labels_input
 input_of_texts ts = ap₂ (λ n w. fed.usize n ++ w) (sym (length-map ts text_label)) (sym (flat_map-map label_input text_label ts))

@@ -1,6 +1,8 @@
--- What a label set feeds to a hash function.
-use Rattle.std.specs.Prelude.{◌≡◌, IsTrue, ◌++◌}
+-- What a label set feeds to a hash function: a hash of its texts that was made once.
+use Rattle.std.specs.Prelude.{◌≡◌, ℕ, IsTrue, ◌++◌}
+use Rattle.std.specs.List.{fold}
 use Rattle.std.specs.Hash as fed
+use Rattle.std.specs.Hash.FoldHasher as folding
 use Rattle.std.proofs.Common.{ap}
 use Rattle.rw_types.specs.Labels.{Label, Labels}
 use Rattle.rw_types.specs.LabelOrder.{labels_eq, same_if_equal}
@@ -9,9 +11,16 @@ use Rattle.rw_types.specs.LabelOrder.{labels_eq, same_if_equal}
 abbrev pub label_input : Label → fed.HashWrites
 label_input l = fed.str l.0 ++ fed.str l.1
 
-unfoldable pub labels_input : Labels → fed.HashWrites
+abbrev pub labels_input : Labels → fed.HashWrites
 labels_input ls = fed.slice label_input ls
 
+-- what std's own hasher of tables makes of all labels
+unfoldable pub labels_hash : Labels → ℕ
+labels_hash ls = folding.finish (fold folding.write folding.initial (labels_input ls))
+
+abbrev pub hash_input : Labels → fed.HashWrites
+hash_input ls = fed.u64 (labels_hash ls)
+
 -- labels that compare as equal are fed alike
-pub same_input : (x y : Labels) → IsTrue (labels_eq x y) → labels_input x ≡ labels_input y
-same_input x y e = ap labels_input (same_if_equal x y e)
+pub same_input : (x y : Labels) → IsTrue (labels_eq x y) → hash_input x ≡ hash_input y
+same_input x y e = ap hash_input (same_if_equal x y e)

@@ -4,6 +4,7 @@ ghost use Rattle.std.specs.Prelude.{◌≡◌, ◌≢◌, ◌↔◌, Some, IfOk,
 ghost use Rattle.std.specs.Str.{is_utf8};
 ghost use Rattle.std.specs.List.{list_all};
 ghost use Rattle.std.specs.Ordering.{is_eq};
+ghost use Rattle.rw_types.specs.Hashing.{labels_hash};
 ghost use Rattle.rw_types.specs.LabelOrder.{labels_cmp};
 ghost use Rattle.rw_types.specs.Labels.{Labels, IsLabelSet, bytes_label, text_label, is_text, text_len, label_fault};
 ghost use Rattle.rw_types.specs.declared.label_fault.LabelFault.TheVariants.{OutOfMemory, BadName};
@@ -15,7 +16,7 @@ use crate::names::Names;
 use crate::raw_labels::RawLabels;
 use std::alloc::{AllocError, Global};
 use std::cmp::Ordering;
-use std::hash::{Hash, Hasher};
+use std::hash::{FoldHasher, Hash, Hasher};
 use std::marker::Model;
 
 /// The labels that identify one series: sorted by name in byte order, no name twice, no name or value empty, at most `MAX_LABELS` labels and
@@ -25,10 +26,13 @@ use std::marker::Model;
 #[derive(Debug, Drop)]
 pub struct LabelSet {
     labels: Vec<(String, String)>,
+    /// The hash of all texts, kept so that a map looks at one number.
+    hash: u64,
 }
 
 impl Model for LabelSet {
-    ghost use Rattle.std.specs.Prelude.{ℕ, List, map};
+    ghost use Rattle.std.specs.Prelude.{◌≡◌, ℕ, List, map};
+    ghost use Rattle.rw_types.specs.Hashing.{labels_hash};
     ghost use Rattle.rw_types.specs.Labels.{IsLabelSet, text_label};
     ghost use Rattle.rw_types.specs.declared.names.Names.TheVariants.{Utf8};
 
@@ -36,7 +40,17 @@ impl Model for LabelSet {
 
     ghost view = { λ s. map text_label s.labels.items };
 
-    ghost invariant = { λ s. IsLabelSet Utf8 (map text_label s.labels.items) };
+    ghost invariant = { λ s. IsLabelSet Utf8 (map text_label s.labels.items)
+        × (s.hash ≡ labels_hash (map text_label s.labels.items)) };
+}
+
+/// The hash that a label set of these labels keeps.
+fn hash_of(labels: &[(String, String)]) -> u64
+    ensures { result ≡ labels_hash (map text_label labels.now) }
+{
+    let mut state = FoldHasher::default();
+    labels.hash(&mut state);
+    state.finish()
 }
 
 /// The bytes as a text.
@@ -144,9 +158,16 @@ impl LabelSet {
     pub fn empty(alloc: Global) -> LabelSet
         ensures { result ≡ [] }
     {
-        LabelSet {
-            labels: Vec::new(alloc),
-        }
+        LabelSet::of(Vec::new(alloc))
+    }
+
+    /// The label set of these labels.
+    fn of(labels: Vec<(String, String)>) -> LabelSet
+        requires { IsLabelSet Utf8 (map text_label labels.items) }
+        ensures { result ≡ map text_label labels.items }
+    {
+        let hash = hash_of(&labels);
+        LabelSet { labels, hash }
     }
 
     /// Overwrites the set with the label set of `labels`, in the memory that it has as far as that goes. `names` says which names are accepted.
@@ -163,8 +184,10 @@ impl LabelSet {
         }
         if replace_all(&mut self.labels, labels).is_err() {
             self.labels.clear();
+            self.hash = hash_of(&self.labels);
             return Err(LabelFault::OutOfMemory);
         }
+        self.hash = hash_of(&self.labels);
         Ok(())
     }
 
@@ -198,9 +221,7 @@ impl LabelSet {
         if let Some(fault) = fault_of(names, labels) {
             return Err(fault);
         }
-        Ok(LabelSet {
-            labels: texts_of(alloc, labels)?,
-        })
+        Ok(LabelSet::of(texts_of(alloc, labels)?))
     }
 
     /// The labels as (name, value), sorted by name in byte order.
@@ -270,14 +291,14 @@ impl Ord for LabelSet {
 }
 
 impl Hash for LabelSet {
-    ghost use Rattle.rw_types.specs.Hashing.{labels_input, same_input};
+    ghost use Rattle.rw_types.specs.Hashing.{hash_input, same_input};
 
-    ghost hash_input = { labels_input };
+    ghost hash_input = { hash_input };
 
     ghost respects_eq = { same_input };
 
     fn hash<H: Hasher>(&self, state: &mut H) {
-        self.as_slice().hash(state);
+        state.write_u64(self.hash);
     }
 }
 

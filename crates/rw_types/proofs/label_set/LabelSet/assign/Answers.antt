@@ -3,5 +3,5 @@ use Rattle.rw_types.specs.Labels.{text_label}
 use Rattle.rw_types.proofs.NameLemmas.{of_any_names}
 use Rattle.rw_types.proofs.label_set.LabelSet.assign.Goals as goal
 
-pub invariant_of-self-else-is_err : goal.invariant_of-self-else-is_err
-invariant_of-self-else-is_err c = of_any_names c.args.names (map text_label c.replace_all.new.labels.items) (search rules)
+pub invariant_of-self-2 : goal.invariant_of-self-2
+invariant_of-self-2 c = (of_any_names c.args.names (map text_label c.replace_all.new.labels.items) (search rules), search rules)
