@@ -6,15 +6,8 @@ use Rattle.std.specs.BTreeMap.{is_at}
 use Rattle.std.proofs.lemmas.List.{get_or_append_left, get_or_push, length_push}
 use Rattle.std.proofs.lemmas.Bool.{lt-ltb, le-ltb, cases_lt}
 use Rattle.std.proofs.lemmas.Option.{get_or_from_slice_get, slice_get-get_or}
-use Rattle.std.specs.Cmp.{both_tied}
-use Rattle.std.specs.Cmp.Derive.Mapped.{lex_map}
-use Rattle.std.specs.Cmp.Lexicographic.{lists_ties, texts_ties, slice_cmp, pointwise}
-use Rattle.std.specs.Global.{Global}
-use Rattle.std.specs.Ordering.{nat_cmp, on, eq_by_cmp, is_eq}
-use Rattle.std.specs.Prelude.{String, string_bytes}
-use Rattle.std.specs.String.{string_eq}
-use Rattle.rw_types.specs.Labels.{Labels, text_label}
-use Rattle.rw_types.specs.LabelOrder.{label_cmp, labels_cmp, labels_eq}
+use Rattle.rw_types.specs.Labels.{Labels}
+use Rattle.rw_types.specs.LabelOrder.{labels_cmp, labels_eq}
 use Rattle.rw_types.proofs.OrderLemmas.{same_if_equal, equal_if_same}
 use Rattle.rw_head.specs.Names.{AreNamed, below}
 
@@ -46,17 +39,6 @@ stands_nowhere index names l h none = by_case (get labels_cmp index l) refl
 pub differs : (names : List Labels) (k : ℕ) (x l : Labels) → k < length names → x ≡ get_or names k x → false ≡ labels_eq x l → get_or names k [] ≡ l → ⊥
 differs names k x l lt here e same =
     let yes : labels_eq x l ≡ true = equal_if_same x l (here ∙ get_or_any names k x [] lt ∙ same) in cc
-
--- texts that are the same are the same labels
-texts_tie : (x y : String Global × String Global) → (string_eq x.0 y.0 && string_eq x.1 y.1) ≡ eq_by_cmp (on text_label label_cmp) x y
-texts_tie x y =
-    both_tied _ _ (slice_cmp nat_cmp (string_bytes x.0) (string_bytes y.0)) (slice_cmp nat_cmp (string_bytes x.1) (string_bytes y.1))
-    (texts_ties (string_bytes x.0) (string_bytes y.0)) (texts_ties (string_bytes x.1) (string_bytes y.1))
-
-pub same_texts : (xs ys : List (String Global × String Global)) → true ≡ pointwise (λ x y. string_eq x.0 y.0 && string_eq x.1 y.1) xs ys → map text_label xs ≡ map text_label ys
-same_texts xs ys e =
-    let tie = e ∙ lists_ties (on text_label label_cmp) texts_tie xs ys ∙ ap is_eq (sym (lex_map text_label label_cmp xs ys)) in
-    same_if_equal (map text_label xs) (map text_label ys) (sym tie)
 
 -- it is the entries that count
 pub AreNamed-same : (index new : Index) (names : List Labels) → new.entries ≡ index.entries → AreNamed index names → AreNamed new names
