@@ -1,7 +1,8 @@
 -- The parts of a request in a row.
 use Rattle.std.proofs.Common.{◌≡◌, ℕ, List, ◌++◌, codes, append_assoc}
 use Rattle.httparse.specs.Ascii.{crlf_bytes}
-use Rattle.rw_shard_core.specs.SentRequest.{line, request_head}
+use Rattle.rw_types.specs.Requests.{line}
+use Rattle.rw_shard_core.specs.SentRequest.{request_head}
 
 -- seven parts behind others
 in_a_row : (x a b c d e f g : List ℕ) → ((((((x ++ a) ++ b) ++ c) ++ d) ++ e) ++ f) ++ g ≡ x ++ (a ++ (b ++ (c ++ (d ++ (e ++ (f ++ g))))))

@@ -1,10 +1,7 @@
 -- The request that carries a message (Remote-Write 1.0, "Protocol"; RFC 9112, sections 2 to 6).
 use Rattle.std.specs.Prelude.{ℕ, List, [], ◌∷◌, ◌++◌, codes, decimal, length}
 use Rattle.std.specs.List.{flat_map}
-use Rattle.httparse.specs.Ascii.{crlf_bytes}
-
-abbrev pub line : List ℕ → List ℕ
-line text = text ++ crlf_bytes
+use Rattle.rw_types.specs.Requests.{line}
 
 -- the lines of a head, with these digits as the length of the body, and the empty line that ends it
 abbrev pub head_lines : List ℕ → List ℕ → List ℕ → List (List ℕ)
