@@ -5,7 +5,7 @@ use Rattle.std.specs.FinMap.{FinMap, empty, insert}
 use Rattle.rw_types.specs.Labels.{Labels}
 use Rattle.rw_types.specs.declared.entry.Entry.{Entry}
 use Rattle.rw_types.specs.declared.entry.Entry.TheVariants.{Def, Sample}
-pub use Rattle.rw_types.specs.Gathering.{gather_from, gather}
+use Rattle.rw_types.specs.Gathering.{gather}
 use Rattle.rw_ledger.specs.declared.ledger.Reason.{Reason}
 use Rattle.rw_relabel.specs.declared.choice.Choice.{Choice}
 use Rattle.rw_series_cache.specs.Numbers.{series_of, number_of}

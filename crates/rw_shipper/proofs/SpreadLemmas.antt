@@ -5,10 +5,11 @@ use Rattle.std.proofs.lemmas.Bool.{eq-eqb, eqb-true}
 use Rattle.std.proofs.lemmas.Option.{same_Some}
 use Rattle.rw_types.specs.declared.entry.Entry.{Entry}
 use Rattle.rw_types.specs.declared.entry.Entry.TheVariants as entry
+use Rattle.rw_types.specs.Gathering.{gather_from}
 use Rattle.rw_relabel.specs.declared.choice.Choice.{Choice}
 use Rattle.rw_fleet.specs.ShardHistories.{ShardHistory}
 use Rattle.rw_router.specs.Fates.{Fate, Drops, Filters, Sends, fate}
-use Rattle.rw_feeder.specs.Logs.{Sent, gather_from, sent_by_fate, sent_of, sent}
+use Rattle.rw_feeder.specs.Logs.{Sent, sent_by_fate, sent_of, sent}
 use Rattle.rw_shipper.specs.Placement.{put_in, shard_of, IsDealt, Places, joined, ArePlaced}
 use Rattle.rw_shipper.specs.Spread.{IsOneOf, AllAbove, Rise, IsShard, IsSpread}
 use Rattle.rw_shipper.proofs.PlacementLemmas.{get_some}

@@ -5,6 +5,7 @@ use Rattle.std.proofs.lemmas.List.{map-append}
 use Rattle.std.specs.FinMap.{empty}
 use Rattle.rw_types.specs.declared.entry.Entry.{Entry}
 use Rattle.rw_types.specs.declared.place.Place.{Place}
+use Rattle.rw_types.specs.Gathering.{gather_from}
 use Rattle.rw_wal_format.specs.Pieces.{Piece}
 use Rattle.rw_plain_queue.specs.Items.{places_in}
 use Rattle.rw_plain_queue.specs.History.{EndIsLast}
@@ -14,7 +15,7 @@ use Rattle.rw_shard_core.specs.Shard.{new_core}
 use Rattle.rw_worker.specs.Setups.{start_of}
 use Rattle.rw_worker.specs.Steps.{Working, Step, Takes, Freezes, Sends, Waits, AreSteps, after, items_of, new_working}
 use Rattle.rw_fleet.specs.ShardHistories.{ShardHistory}
-use Rattle.rw_feeder.specs.Logs.{Sent, sent_of, gather_from}
+use Rattle.rw_feeder.specs.Logs.{Sent, sent_of}
 use Rattle.rw_shipper.specs.Placement.{put_in, of_shard}
 use Rattle.rw_machine.specs.Shards.{Shard, new_shard}
 use Rattle.rw_machine.specs.Worlds.{Setup, World, new_shards}

@@ -1,6 +1,7 @@
 -- What is still to come of a shard while an epoch runs.
 use Rattle.std.specs.Prelude.{◌≡◌, ◌⊎◌, ℕ, suc, ◌≤◌, false, List, [], ◌∷◌, ◌++◌, length, map, Option, None, Some, slice_get, ⊤}
 use Rattle.rw_types.specs.declared.entry.Entry.{Entry}
+use Rattle.rw_types.specs.Gathering.{gather_from}
 use Rattle.rw_wal_format.specs.Pieces.{Piece, entries}
 use Rattle.rw_series_cache.specs.Numbers.{series_of}
 use Rattle.rw_ledger.specs.Names.{Named}
@@ -9,7 +10,7 @@ use Rattle.rw_plain_queue.specs.declared.item.Item.{Item}
 use Rattle.rw_plain_queue.specs.declared.item.Item.TheVariants.{Sample, Flush, End}
 use Rattle.rw_plain_queue.specs.declared.item.Kind.{Kind}
 use Rattle.rw_worker.specs.Steps.{Working, working, Step, Takes, Freezes, Sends, Waits, AreSteps, after, items_of}
-use Rattle.rw_feeder.specs.Logs.{Sent, sent_of, gather_from, filtered}
+use Rattle.rw_feeder.specs.Logs.{Sent, sent_of, filtered}
 use Rattle.rw_shipper.specs.Placement.{as_sent, of_shard}
 use Rattle.rw_machine.specs.Shards.{Shard, Queued}
 use Rattle.rw_machine.specs.Worlds.{Setup, World}

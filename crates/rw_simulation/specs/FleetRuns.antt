@@ -1,6 +1,7 @@
 -- What a shard of the fleet is to the machine, by what is known of it once its worker has ended.
 use Rattle.std.specs.Prelude.{◌≡◌, ℕ, ◌≤◌, false, List, [], ◌++◌, length, map, Option, Some, None, slice_get}
 use Rattle.rw_types.specs.declared.entry.Entry.{Entry}
+use Rattle.rw_types.specs.Gathering.{gather_from}
 use Rattle.rw_wal_format.specs.Pieces.{Piece, entries}
 use Rattle.rw_series_cache.specs.Numbers.{series_of}
 use Rattle.rw_plain_queue.specs.Items.{samples_in}
@@ -9,7 +10,7 @@ use Rattle.rw_plain_queue.specs.declared.item.Item.{Item}
 use Rattle.rw_worker.specs.Setups.{start_of}
 use Rattle.rw_worker.specs.Steps.{Step, AreSteps, after, items_of, new_working}
 use Rattle.rw_fleet.specs.ShardHistories.{ShardHistory}
-use Rattle.rw_feeder.specs.Logs.{sent_of, gather_from, filtered}
+use Rattle.rw_feeder.specs.Logs.{sent_of, filtered}
 use Rattle.rw_shipper.specs.Placement.{IsDealt}
 use Rattle.rw_machine.specs.Worlds.{Setup, World, new_shards}
 use Rattle.rw_simulation.specs.WorkerRuns.{queued}
