@@ -13,9 +13,11 @@ use Rattle.std.proofs.lemmas.List.Sorted.{searchable_from_sorted}
 use Rattle.std.proofs.lemmas.Nat.{div-mul-add}
 use Rattle.std.proofs.Math.Bool.{or-false}
 use Rattle.rw_head.specs.Order.{Point, is_later, holds}
-use Rattle.rw_head.specs.Lists.{Rises}
+use Rattle.rw_head.specs.Lists.{IsEarlier}
 use Rattle.rw_head.specs.Blocks.{joined, first_blocks, sealed_of, open_of, AreFull, AreBlocks, Begins, begins_after, first_time, Begun}
 use Rattle.rw_head.proofs.OrderLemmas.{above_at, eq_apart_above, holds_nowhere, not_less}
+use Rattle.rw_types.specs.Rising.{Rises}
+use Rattle.rw_types.proofs.RisingLemmas.{AllByRecursion-right, Rises-left, Rises-right}
 use Rattle.rw_types.proofs.TimeLemmas.{int_lt-asymm, int_lt-irrefl, int_lt-trans}
 
 -- ---- full blocks
@@ -126,26 +128,10 @@ later_block f t (y ∷ z ∷ zs) x h e =
     one_back n = omega arith
 
 -- ---- parts of a list that rises
-all_behind : (P : Point → Type 0) (xs ys : List Point) → AllByRecursion P (xs ++ ys) → AllByRecursion P ys
-all_behind P [] ys h = h
-all_behind P (x ∷ xs) ys h = all_behind P xs ys h.1
-
-all_before : (P : Point → Type 0) (xs ys : List Point) → AllByRecursion P (xs ++ ys) → AllByRecursion P xs
-all_before P [] ys h = tt
-all_before P (x ∷ xs) ys h = (h.0, all_before P xs ys h.1)
-
-pub Rises-behind : (xs ys : List Point) → Rises (xs ++ ys) → Rises ys
-Rises-behind [] ys h = h
-Rises-behind (x ∷ xs) ys h = Rises-behind xs ys h.1
-
-pub Rises-before : (xs ys : List Point) → Rises (xs ++ ys) → Rises xs
-Rises-before [] ys h = tt
-Rises-before (x ∷ xs) ys h = (all_before (λ y. int_lt x.0 y.0 ≡ true) xs ys h.0, Rises-before xs ys h.1)
-
-pub Rises-block : (bs : List (List Point)) (n : ℕ) → Rises (joined bs) → n < length bs → Rises (get_or bs n [])
+pub Rises-block : (bs : List (List Point)) (n : ℕ) → Rises IsEarlier (joined bs) → n < length bs → Rises IsEarlier (get_or bs n [])
 Rises-block [] n h lt = absurd (omega arith)
-Rises-block (b ∷ bs) zero h lt = Rises-before b (joined bs) h
-Rises-block (b ∷ bs) (suc n) h lt = Rises-block bs n (Rises-behind b (joined bs) h) (omega arith)
+Rises-block (b ∷ bs) zero h lt = Rises-left IsEarlier b (joined bs) h
+Rises-block (b ∷ bs) (suc n) h lt = Rises-block bs n (Rises-right IsEarlier b (joined bs) h) (omega arith)
 
 -- ---- where a sample stands
 or_assoc : (a b c : Bool) → (a || (b || c)) ≡ ((a || b) || c)
@@ -156,12 +142,12 @@ holds-append : (s : Point) (xs ys : List Point) → holds s (xs ++ ys) ≡ (hold
 holds-append s [] ys = refl
 holds-append s (x ∷ xs) ys = ap (λ b. (int_eq x.0 s.0 && (x.1 == s.1)) || b) (holds-append s xs ys) ∙ or_assoc (int_eq x.0 s.0 && (x.1 == s.1)) (holds s xs) (holds s ys)
 
-above_each : (t : ℤ) (x : Point) (xs : List Point) (i : ℕ) (d : Point) → Rises (x ∷ xs) → int_lt t x.0 ≡ true → i < length (x ∷ xs) → int_lt t (get_or (x ∷ xs) i d).0 ≡ true
+above_each : (t : ℤ) (x : Point) (xs : List Point) (i : ℕ) (d : Point) → Rises IsEarlier (x ∷ xs) → int_lt t x.0 ≡ true → i < length (x ∷ xs) → int_lt t (get_or (x ∷ xs) i d).0 ≡ true
 above_each t x xs zero d h e lt = e
 above_each t x xs (suc i) d h e lt = int_lt-trans t x.0 (get_or xs i d).0 e (above_at x.0 xs i d h.0 (omega arith))
 
 -- what begins after a timestamp does not hold it
-pub holds_after : (s : Point) (xs : List Point) → Rises xs → begins_after s.0 xs ≡ true → holds s xs ≡ false
+pub holds_after : (s : Point) (xs : List Point) → Rises IsEarlier xs → begins_after s.0 xs ≡ true → holds s xs ≡ false
 holds_after s [] h e = refl
 holds_after s (x ∷ xs) h e = holds_nowhere s (x ∷ xs) (λ i d lt. eq_apart_above (get_or (x ∷ xs) i d).0 s.0 (above_each s.0 x xs i d h e lt) _ refl)
 
@@ -170,10 +156,10 @@ seam_apart a b t true lt above e = absurd (let same : a ≡ t = (Decides-int_eq 
 seam_apart a b t false lt above e = refl
 
 all_seam : (P : Point → Type 0) (xs : List Point) (y : Point) (ys : List Point) → AllByRecursion P (xs ++ y ∷ ys) → P y
-all_seam P xs y ys h = let at = all_behind P xs (y ∷ ys) h in at.0
+all_seam P xs y ys h = let at = AllByRecursion-right P xs (y ∷ ys) h in at.0
 
 -- what stands before samples that begin at a timestamp or before it does not hold it
-pub holds_before : (s : Point) (xs ys : List Point) → Rises (xs ++ ys) → begins_after s.0 ys ≡ false → holds s xs ≡ false
+pub holds_before : (s : Point) (xs ys : List Point) → Rises IsEarlier (xs ++ ys) → begins_after s.0 ys ≡ false → holds s xs ≡ false
 holds_before s [] ys h e = refl
 holds_before s (x ∷ xs) [] h e = absurd cc
 holds_before s (x ∷ xs) (y ∷ ys) h e =
@@ -191,28 +177,28 @@ Begun-rest t b bs n h = record {
   after = λ k le lt. h.after (suc k) (omega arith) (omega arith);
 }
 
-pub in_no_block : (s : Point) (bs : List (List Point)) → AreFull bs → Rises (joined bs) → Begun s.0 bs 0 → holds s (joined bs) ≡ false
+pub in_no_block : (s : Point) (bs : List (List Point)) → AreFull bs → Rises IsEarlier (joined bs) → Begun s.0 bs 0 → holds s (joined bs) ≡ false
 in_no_block s [] h r g = refl
 in_no_block s (b ∷ bs) h r g =
     holds_after s (b ++ joined bs) r (begins_with s.0 b (joined bs) (λ none. omega (arith, none, h.0)) ∙ g.after 0 (omega arith) (omega arith))
 
-pub in_block : (s : Point) (bs : List (List Point)) (n : ℕ) → AreFull bs → Rises (joined bs) → Begun s.0 bs (suc n) → holds s (joined bs) ≡ holds s (get_or bs n [])
+pub in_block : (s : Point) (bs : List (List Point)) (n : ℕ) → AreFull bs → Rises IsEarlier (joined bs) → Begun s.0 bs (suc n) → holds s (joined bs) ≡ holds s (get_or bs n [])
 in_block s [] n h r g = absurd (omega (arith, g.within))
 in_block s (b ∷ bs) zero h r g =
     holds-append s b (joined bs)
-    ∙ ap (λ c. holds s b || c) (in_no_block s bs h.1 (Rises-behind b (joined bs) r) (Begun-rest s.0 b bs 0 g)) ∙ or-false (holds s b)
+    ∙ ap (λ c. holds s b || c) (in_no_block s bs h.1 (Rises-right IsEarlier b (joined bs) r) (Begun-rest s.0 b bs 0 g)) ∙ or-false (holds s b)
 in_block s (b ∷ []) (suc n) h r g = absurd (omega (arith, g.within))
 in_block s (b ∷ c ∷ cs) (suc n) h r g =
     holds-append s b (c ++ joined cs)
     ∙ ap (λ a. a || holds s (c ++ joined cs)) (holds_before s b (c ++ joined cs) r (begins_with s.0 c (joined cs) (λ none. omega (arith, none, h.1.0)) ∙ g.before 1 (omega arith)))
-    ∙ in_block s (c ∷ cs) n h.1 (Rises-behind b (c ++ joined cs) r) (Begun-rest s.0 b (c ∷ cs) (suc n) g)
+    ∙ in_block s (c ∷ cs) n h.1 (Rises-right IsEarlier b (c ++ joined cs) r) (Begun-rest s.0 b (c ∷ cs) (suc n) g)
 
 -- the open block alone holds what it begins with or before
-pub in_open : (s : Point) (xs ys : List Point) → Rises (xs ++ ys) → begins_after s.0 ys ≡ false → holds s (xs ++ ys) ≡ holds s ys
+pub in_open : (s : Point) (xs ys : List Point) → Rises IsEarlier (xs ++ ys) → begins_after s.0 ys ≡ false → holds s (xs ++ ys) ≡ holds s ys
 in_open s xs ys h e = holds-append s xs ys ∙ ap (λ b. b || holds s ys) (holds_before s xs ys h e)
 
-pub in_sealed : (s : Point) (xs ys : List Point) → Rises (xs ++ ys) → begins_after s.0 ys ≡ true → holds s (xs ++ ys) ≡ holds s xs
-in_sealed s xs ys h e = holds-append s xs ys ∙ ap (λ b. holds s xs || b) (holds_after s ys (Rises-behind xs ys h) e) ∙ or-false (holds s xs)
+pub in_sealed : (s : Point) (xs ys : List Point) → Rises IsEarlier (xs ++ ys) → begins_after s.0 ys ≡ true → holds s (xs ++ ys) ≡ holds s xs
+in_sealed s xs ys h e = holds-append s xs ys ∙ ap (λ b. holds s xs || b) (holds_after s ys (Rises-right IsEarlier xs ys h) e) ∙ or-false (holds s xs)
 
 -- ---- the search among first timestamps
 first_in : (P : Point → Type 0) (xs ys : List Point) → length xs ≢ 0 → AllByRecursion P (xs ++ ys) → (t : ℤ) → ((x : Point) → P x → int_lt t x.0 ≡ true) → int_lt t (first_time xs) ≡ true
@@ -222,22 +208,22 @@ first_in P (x ∷ xs) ys h all t k = k x all.0
 first_above : {X : Type 0} (f : X → List Point) (t : ℤ) (xs : List X) (j : ℕ) (d : X) → AreFull (map f xs) → AllByRecursion (λ y. int_lt t y.0 ≡ true) (joined (map f xs)) → j < length xs → int_lt t (first_time (f (get_or xs j d))) ≡ true
 first_above f t [] j d h all lt = absurd (omega arith)
 first_above f t (x ∷ xs) zero d h all lt = first_in (λ y. int_lt t y.0 ≡ true) (f x) (joined (map f xs)) (λ none. omega (arith, none, h.0)) all t (λ x e. e)
-first_above f t (x ∷ xs) (suc j) d h all lt = first_above f t xs j d h.1 (all_behind (λ y. int_lt t y.0 ≡ true) (f x) (joined (map f xs)) all) (omega arith)
+first_above f t (x ∷ xs) (suc j) d h all lt = first_above f t xs j d h.1 (AllByRecursion-right (λ y. int_lt t y.0 ≡ true) (f x) (joined (map f xs)) all) (omega arith)
 
-above_first : (b ys : List Point) → length b ≢ 0 → Rises (b ++ ys) → AllByRecursion (λ y. int_lt (first_time b) y.0 ≡ true) ys
+above_first : (b ys : List Point) → length b ≢ 0 → Rises IsEarlier (b ++ ys) → AllByRecursion (λ y. int_lt (first_time b) y.0 ≡ true) ys
 above_first [] ys h r = absurd (h refl)
-above_first (x ∷ b) ys h r = all_behind (λ y. int_lt x.0 y.0 ≡ true) b ys r.0
+above_first (x ∷ b) ys h r = AllByRecursion-right (λ y. int_lt x.0 y.0 ≡ true) b ys r.0
 
 -- later blocks begin later
-firsts_rise : {X : Type 0} (f : X → List Point) (xs : List X) (i j : ℕ) (d : X) → AreFull (map f xs) → Rises (joined (map f xs)) → i < j → j < length xs
+firsts_rise : {X : Type 0} (f : X → List Point) (xs : List X) (i j : ℕ) (d : X) → AreFull (map f xs) → Rises IsEarlier (joined (map f xs)) → i < j → j < length xs
     → int_lt (first_time (f (get_or xs i d))) (first_time (f (get_or xs j d))) ≡ true
 firsts_rise f [] i j d h r lt within = absurd (omega arith)
 firsts_rise f (x ∷ xs) i zero d h r lt within = absurd (omega arith)
 firsts_rise f (x ∷ xs) zero (suc j) d h r lt within =
     first_above f (first_time (f x)) xs j d h.1 (above_first (f x) (joined (map f xs)) (λ none. omega (arith, none, h.0)) r) (omega arith)
-firsts_rise f (x ∷ xs) (suc i) (suc j) d h r lt within = firsts_rise f xs i j d h.1 (Rises-behind (f x) (joined (map f xs)) r) (omega arith) (omega arith)
+firsts_rise f (x ∷ xs) (suc i) (suc j) d h r lt within = firsts_rise f xs i j d h.1 (Rises-right IsEarlier (f x) (joined (map f xs)) r) (omega arith) (omega arith)
 
-pub searchable_blocks : {X : Type 0} (f : X → List Point) (xs : List X) (t : ℤ) → AreFull (map f xs) → Rises (joined (map f xs)) → IsNonDecreasingBy (λ y. ordering_index (int_cmp (first_time (f y)) t)) xs
+pub searchable_blocks : {X : Type 0} (f : X → List Point) (xs : List X) (t : ℤ) → AreFull (map f xs) → Rises IsEarlier (joined (map f xs)) → IsNonDecreasingBy (λ y. ordering_index (int_cmp (first_time (f y)) t)) xs
 searchable_blocks f xs t h r = searchable_from_sorted int_cmp_total (λ x. first_time (f x)) xs t
     (λ k d low high. not_less (first_time (f (get_or xs (k + 1) d))) (first_time (f (get_or xs k d)))
     (int_lt-asymm (first_time (f (get_or xs k d))) (first_time (f (get_or xs (k + 1) d))) (firsts_rise f xs k (k + 1) d h r (omega arith) high)))
@@ -280,7 +266,7 @@ equal_of : (a b : ℤ) → int_cmp a b ≡ Equal → a ≡ b
 equal_of a b e = (Decides-int_eq a b).0 (ap is_eq e)
 
 -- a block that begins at the timestamp
-pub begun_there : {X : Type 0} (f : X → List Point) (xs : List X) (t u : ℤ) (i : ℕ) → u ≡ t → AreFull (map f xs) → Rises (joined (map f xs)) → i < length xs
+pub begun_there : {X : Type 0} (f : X → List Point) (xs : List X) (t u : ℤ) (i : ℕ) → u ≡ t → AreFull (map f xs) → Rises IsEarlier (joined (map f xs)) → i < length xs
     → ((d : X) → int_cmp (first_time (f (get_or xs i d))) u ≡ Equal) → Begun t (map f xs) (i + 1)
 begun_there f xs t u i same h r lt at = record {
   within = omega (arith, length-map-of f xs);

@@ -5,17 +5,18 @@ use Rattle.std.proofs.lemmas.List.{append-nil, length_push, length-map}
 use Rattle.std.proofs.lemmas.List.Sums.{sum_by-cons}
 use Rattle.rw_types.specs.Labels.{Labels}
 use Rattle.rw_types.specs.LabelOrder.{labels_eq}
+use Rattle.rw_types.specs.Rising.{Rises}
 use Rattle.rw_write_request.specs.Message.{TimeSeries, WriteRequest}
 use Rattle.rw_head.specs.declared.verdict.Verdict.{Verdict}
 use Rattle.rw_head.specs.Order.{Point, point_of, points, is_later, holds, accept_one, accept}
 use Rattle.rw_head.specs.Store.{Store, list_of, with_list, total, HasNoEmptyList}
 use Rattle.rw_head.specs.Verdicts.{LabelLimits, refusal, accepted, taken_unless, taken, taken_all}
-use Rattle.rw_head.specs.Lists.{Rises, Stores, has_samples}
+use Rattle.rw_head.specs.Lists.{IsEarlier, Stores, has_samples}
 use Rattle.rw_head.specs.Growth.{sample_count, EachRises, IsReady, HoldsNoneRefused}
 use Rattle.rw_types.proofs.OrderLemmas.{same_if_equal}
 use Rattle.rw_head.specs.Blocks.{Begins, KeepsBlocks}
 use Rattle.rw_head.proofs.BlockLemmas.{sealed_begins}
-use Rattle.rw_head.proofs.OrderLemmas.{Rises-push, accept-none}
+use Rattle.rw_head.proofs.OrderLemmas.{Rises-later, accept-none}
 use Rattle.rw_head.proofs.StoreLemmas.{no_points, list_of-with_list, list_of-empty, HasNoEmptyList-empty, HasNoEmptyList-with_list, with_list-same, total-with_list}
 use Rattle.rw_head.proofs.VerdictLemmas.{taken_all-err}
 
@@ -29,7 +30,7 @@ begins_twice xs ys zs a b = (a.0 ++ b.0, sym (append_assoc xs a.0 b.0) ∙ ap (�
 pub record Extends (xs ys : List Point) (n : ℕ) : Type 0 where
   pub longer : length xs ≤ length ys
   pub few : length ys ≤ length xs + n
-  pub rises : Rises xs → Rises ys
+  pub rises : Rises IsEarlier xs → Rises IsEarlier ys
   pub begins : Begins xs ys
 
 extends_one : (xs : List Point) (s : Point) (ys : List Point) (later stands : Bool) → is_later s.0 xs ≡ later
@@ -39,7 +40,7 @@ extends_one xs s ys true stands e given =
     subst (λ zs. Extends xs zs 1) same (record {
       longer = omega (arith, length_push xs s);
       few = omega (arith, length_push xs s);
-      rises = λ h. Rises-push xs s.0 s.1 h e;
+      rises = λ h. Rises-later xs s.0 s.1 h e;
       begins = (s ∷ [], refl);
     })
 extends_one xs s ys false true e given =
@@ -77,12 +78,12 @@ pub record Grown (old new : Store) (n : ℕ) : Type 0 where
   pub begins : (l : Labels) → Begins (list_of old l) (list_of new l)
 
 EachRises-empty : EachRises empty
-EachRises-empty l = subst Rises (sym (list_of-empty l)) tt
+EachRises-empty l = subst (Rises IsEarlier) (sym (list_of-empty l)) tt
 
 unchanged : (s : Store) (n : ℕ) → EachRises s → HasNoEmptyList s → Grown s s n
 unchanged s n h k = record { more = omega arith; few = omega arith; rises = h; filled = k; begins = λ l. begins_itself (list_of s l) }
 
-rises_at_each : (b : Bool) (ys zs : List Point) → Rises ys → Rises zs → Rises (cond b ys zs)
+rises_at_each : (b : Bool) (ys zs : List Point) → Rises IsEarlier ys → Rises IsEarlier zs → Rises IsEarlier (cond b ys zs)
 rises_at_each true ys zs h k = h
 rises_at_each false ys zs h k = k
 
@@ -98,7 +99,7 @@ put_grown l [] s n h k e =
 put_grown l (y ∷ ys) s n h k e = record {
   more = omega (arith, total-with_list l y ys s, e.longer);
   few = omega (arith, total-with_list l y ys s, e.few);
-  rises = λ q. subst Rises (sym (list_of-with_list l (y ∷ ys) s q)) (rises_at_each (labels_eq q l) (y ∷ ys) (list_of s q) (e.rises (h l)) (h q));
+  rises = λ q. subst (Rises IsEarlier) (sym (list_of-with_list l (y ∷ ys) s q)) (rises_at_each (labels_eq q l) (y ∷ ys) (list_of s q) (e.rises (h l)) (h q));
   filled = HasNoEmptyList-with_list l (y ∷ ys) s k;
   begins = λ q. subst (Begins (list_of s q)) (sym (list_of-with_list l (y ∷ ys) s q)) (begins_at_each l q (y ∷ ys) s (labels_eq q l) refl e.begins);
 }

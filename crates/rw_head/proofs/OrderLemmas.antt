@@ -7,31 +7,19 @@ use Rattle.std.proofs.lemmas.Bool.{cases_lt}
 use Rattle.std.proofs.Math.ListN.{drop_of_length-le}
 use Rattle.std.proofs.lemmas.List.{length_push}
 use Rattle.std.proofs.lemmas.List.Sorted.{searchable_from_sorted}
-use Rattle.std.proofs.Common.{slice_get, ⊎_elim, cond, ◌≡◌, ℕ, ◌+◌, ◌-◌, ◌<◌, ◌≤◌, zero, suc, ℤ, int_lt, int_eq, eqb, List, [], ◌∷◌, ◌++◌, take, drop, length, get_or, Option, Some, None, Bool, true, false, ◌&&◌, ◌||◌, refl, sym, ◌∙◌, ap, subst, arith}
+use Rattle.std.proofs.Common.{slice_get, ⊎_elim, cond, ◌≡◌, ℕ, ◌+◌, ◌-◌, ◌<◌, ◌≤◌, zero, suc, ℤ, int_lt, int_eq, eqb, List, [], ◌∷◌, ◌++◌, drop, length, get_or, Option, Some, None, Bool, true, false, ◌&&◌, ◌||◌, refl, sym, ◌∙◌, ap, subst, arith}
 use Rattle.std.specs.List.{AllByRecursion, AllWithin}
 use Rattle.std.proofs.Math.Seq.{drop-cons}
 use Rattle.std.proofs.lemmas.Bool.Decides.{Decides-int_eq}
 use Rattle.rw_write_request.specs.Message.{Sample}
 use Rattle.rw_head.specs.Order.{Point, point_of, points, is_later, holds, accept_one, accept}
-use Rattle.rw_head.specs.Lists.{Rises}
+use Rattle.rw_head.specs.Lists.{IsEarlier}
+use Rattle.rw_types.specs.Rising.{Rises}
+use Rattle.rw_types.proofs.RisingLemmas.{AllByRecursion-at, Rises-at, Rises-push}
 use Rattle.rw_types.proofs.TimeLemmas.{int_lt-asymm, int_lt-irrefl, int_lt-trans}
 
--- what is above one of two is above the lower one
-all_above : (a b : ℤ) (xs : List Point) → int_lt a b ≡ true → AllByRecursion (λ y. int_lt b y.0 ≡ true) xs → AllByRecursion (λ y. int_lt a y.0 ≡ true) xs
-all_above a b [] h all = tt
-all_above a b (x ∷ xs) h all = (int_lt-trans a b x.0 h all.0, all_above a b xs h all.1)
-
-all_push : (P : Point → Type 0) (xs : List Point) (x : Point) → AllByRecursion P xs → P x → AllByRecursion P (xs ++ x ∷ [])
-all_push P [] x all h = (h, tt)
-all_push P (y ∷ ys) x all h = (all.0, all_push P ys x all.1 h)
-
-all_take : (P : Point → Type 0) (n : ℕ) (xs : List Point) → AllByRecursion P xs → AllByRecursion P (take n xs)
-all_take P zero xs all = tt
-all_take P (suc n) [] all = tt
-all_take P (suc n) (x ∷ xs) all = (all.0, all_take P n xs all.1)
-
 -- what is later than the last of a list that rises is later than its first
-later_than_first : (t : ℤ) (x : Point) (xs : List Point) → Rises (x ∷ xs) → is_later t (x ∷ xs) ≡ true → int_lt x.0 t ≡ true
+later_than_first : (t : ℤ) (x : Point) (xs : List Point) → Rises IsEarlier (x ∷ xs) → is_later t (x ∷ xs) ≡ true → int_lt x.0 t ≡ true
 later_than_first t x [] h e = e
 later_than_first t x (y ∷ ys) h e = int_lt-trans x.0 y.0 t h.0.0 (later_than_first t y ys h.1 e)
 
@@ -39,29 +27,17 @@ later_rest : (t : ℤ) (x : Point) (xs : List Point) → is_later t (x ∷ xs) �
 later_rest t x [] e = refl
 later_rest t x (y ∷ ys) e = e
 
--- a later sample keeps the order
-pub Rises-push : (xs : List Point) (t : ℤ) (w : ℕ) → Rises xs → is_later t xs ≡ true → Rises (xs ++ (t, w) ∷ [])
-Rises-push [] t w h e = (tt, tt)
-Rises-push (x ∷ xs) t w h e =
-    (all_push (λ y. int_lt x.0 y.0 ≡ true) xs (t, w) h.0 (later_than_first t x xs h e), Rises-push xs t w h.1 (later_rest t x xs e))
+earlier_each : (t : ℤ) (w : ℕ) (xs : List Point) → Rises IsEarlier xs → is_later t xs ≡ true → AllByRecursion (λ y. IsEarlier y (t, w)) xs
+earlier_each t w [] h e = tt
+earlier_each t w (x ∷ xs) h e = (later_than_first t x xs h e, earlier_each t w xs h.1 (later_rest t x xs e))
 
-pub Rises-take : (n : ℕ) (xs : List Point) → Rises xs → Rises (take n xs)
-Rises-take zero xs h = tt
-Rises-take (suc n) [] h = tt
-Rises-take (suc n) (x ∷ xs) h = (all_take (λ y. int_lt x.0 y.0 ≡ true) n xs h.0, Rises-take n xs h.1)
+-- a later sample keeps the order
+pub Rises-later : (xs : List Point) (t : ℤ) (w : ℕ) → Rises IsEarlier xs → is_later t xs ≡ true → Rises IsEarlier (xs ++ (t, w) ∷ [])
+Rises-later xs t w h e = Rises-push IsEarlier xs (t, w) h (earlier_each t w xs h e)
 
 -- a sample at a place behind the first is later than the first
 pub above_at : (a : ℤ) (xs : List Point) (i : ℕ) (d : Point) → AllByRecursion (λ y. int_lt a y.0 ≡ true) xs → i < length xs → int_lt a (get_or xs i d).0 ≡ true
-above_at a [] i d all h = absurd (omega arith)
-above_at a (x ∷ xs) zero d all h = all.0
-above_at a (x ∷ xs) (suc i) d all h = above_at a xs i d all.1 (omega arith)
-
--- places in order have timestamps in order
-pub rises_at : (xs : List Point) (i j : ℕ) (d : Point) → Rises xs → i < j → j < length xs → int_lt (get_or xs i d).0 (get_or xs j d).0 ≡ true
-rises_at [] i j d h lt within = absurd (omega arith)
-rises_at (x ∷ xs) i zero d h lt within = absurd (omega arith)
-rises_at (x ∷ xs) zero (suc j) d h lt within = above_at x.0 xs j d h.0 (omega arith)
-rises_at (x ∷ xs) (suc i) (suc j) d h lt within = rises_at xs i j d h.1 (omega arith) (omega arith)
+above_at a xs i d all h = AllByRecursion-at (λ (y : Point). int_lt a y.0 ≡ true) xs i d all h
 
 eq_apart : (a b : ℤ) → int_lt a b ≡ true → (c : Bool) → int_eq a b ≡ c → c ≡ false
 eq_apart a b h true e = absurd (let same : a ≡ b = (Decides-int_eq a b).0 e in let off : int_lt a a ≡ true = subst (λ x. int_lt a x ≡ true) (sym same) h in cc (int_lt-irrefl a))
@@ -78,7 +54,7 @@ holds_nowhere s (x ∷ xs) none =
     ap (λ b. (b && eqb x.1 s.1) || holds s xs) (none 0 x (omega arith)) ∙ holds_nowhere s xs (λ i d h. none (suc i) d (omega arith))
 
 -- where one has it, its word decides
-pub holds_at : (s : Point) (xs : List Point) (i : ℕ) (d : Point) → Rises xs → i < length xs → int_eq (get_or xs i d).0 s.0 ≡ true → holds s xs ≡ eqb (get_or xs i d).1 s.1
+pub holds_at : (s : Point) (xs : List Point) (i : ℕ) (d : Point) → Rises IsEarlier xs → i < length xs → int_eq (get_or xs i d).0 s.0 ≡ true → holds s xs ≡ eqb (get_or xs i d).1 s.1
 holds_at s [] i d h within e = absurd (omega arith)
 holds_at s (x ∷ xs) zero d h within e =
     let same : x.0 ≡ s.0 = (Decides-int_eq x.0 s.0).0 e in
@@ -115,7 +91,7 @@ later_of_last t (x ∷ y ∷ ys) last e = later_of_last t (y ∷ ys) last (e ∙
     one_back : (n : ℕ) → suc (suc n) - 1 ≡ suc (suc n - 1)
     one_back n = omega arith
 
-pub found_there : (t u : ℤ) (w : ℕ) (xs : List Point) (i : ℕ) → u ≡ t → Rises xs → i < length xs → ((d : Point) → int_cmp (get_or xs i d).0 u ≡ Equal) → (x : Point) → x ≡ get_or xs i x
+pub found_there : (t u : ℤ) (w : ℕ) (xs : List Point) (i : ℕ) → u ≡ t → Rises IsEarlier xs → i < length xs → ((d : Point) → int_cmp (get_or xs i d).0 u ≡ Equal) → (x : Point) → x ≡ get_or xs i x
     → eqb (get_or xs i x).1 w ≡ holds (t, w) xs
 found_there t u w xs i same h within at x here =
     sym (holds_at (t, w) xs i x h within (ap is_eq (ap (int_cmp (get_or xs i x).0) (sym same) ∙ at x)))
@@ -135,14 +111,14 @@ not_less a b e = ap (λ l. is_lt (cond l Less (cond (int_lt b a) Greater Equal))
     by_test false = refl
 
 -- timestamps that rise can be searched
-pub searchable : (xs : List Point) (t : ℤ) → Rises xs → IsNonDecreasingBy (λ y. ordering_index (int_cmp y.0 t)) xs
+pub searchable : (xs : List Point) (t : ℤ) → Rises IsEarlier xs → IsNonDecreasingBy (λ y. ordering_index (int_cmp y.0 t)) xs
 searchable xs t h = searchable_from_sorted int_cmp_total (λ p. p.0) xs t
-    (λ k d low high. not_less (get_or xs (k + 1) d).0 (get_or xs k d).0 (int_lt-asymm (get_or xs k d).0 (get_or xs (k + 1) d).0 (rises_at xs k (k + 1) d h (omega arith) high)))
+    (λ k d low high. not_less (get_or xs (k + 1) d).0 (get_or xs k d).0 (int_lt-asymm (get_or xs k d).0 (get_or xs (k + 1) d).0 (Rises-at IsEarlier xs k (k + 1) d h (omega arith) high)))
 
 -- the list after a later sample that is pushed
-pub pushed : (kept : ℕ) (xs ys : List Point) (t : ℤ) (w : ℕ) → ys ≡ xs ++ (t, w) ∷ [] → is_later t xs ≡ true → (kept ≤ length xs) × Rises xs → (kept ≤ length ys) × Rises ys
+pub pushed : (kept : ℕ) (xs ys : List Point) (t : ℤ) (w : ℕ) → ys ≡ xs ++ (t, w) ∷ [] → is_later t xs ≡ true → (kept ≤ length xs) × Rises IsEarlier xs → (kept ≤ length ys) × Rises IsEarlier ys
 pushed kept xs ys t w e later h =
-    (omega (arith, ap length e, length_push xs (t, w), h.0), subst Rises (sym e) (Rises-push xs t w h.1 later))
+    (omega (arith, ap length e, length_push xs (t, w), h.0), subst (Rises IsEarlier) (sym e) (Rises-later xs t w h.1 later))
 
 -- a sample that is refused refuses all
 pub refused_at : (ss : List Sample) (i : ℕ) (s : Sample) (u : ℤ) (xs : List Point) (all : Option (List Point)) → u ≡ s.1 → i < length ss → s ≡ get_or ss i s

@@ -2,7 +2,7 @@
 use Rattle.std.specs.Prelude.{◌≡◌, ◌≢◌, ℕ, ◌+◌, ◌^◌, ◌<◌, ◌≤◌, int_lt, Bool, true, false, if◌then◌else◌, nat_eq, List, [], ◌∷◌, ◌++◌, length, map, slice_index, slice_index_or, Option, Some, None, Result, Ok, Err}
 use Rattle.std.specs.BTreeMap.{BTreeMap, get, Updates}
 use Rattle.std.specs.FinMap.{empty}
-use Rattle.std.specs.List.{AllByRecursion, list_any}
+use Rattle.std.specs.List.{list_any}
 use Rattle.rw_types.specs.Labels.{Labels}
 use Rattle.rw_types.specs.LabelOrder.{labels_cmp, labels_eq}
 use Rattle.rw_head.specs.declared.verdict.Verdict.{Verdict}
@@ -10,10 +10,9 @@ use Rattle.rw_head.specs.declared.verdict.Verdict.TheVariants.{OutOfOrder, NoMem
 use Rattle.rw_head.specs.Order.{Point}
 use Rattle.rw_head.specs.Store.{Store, with_list, total}
 
--- timestamps that rise
-abbrev pub Rises : List Point → Type 0
-Rises [] = Unit {0}
-Rises (x ∷ xs) = AllByRecursion (λ y. int_lt x.0 y.0 ≡ true) xs × Rises xs
+-- the first has the earlier timestamp
+abbrev pub IsEarlier : Point → Point → Type 0
+IsEarlier x y = int_lt x.0 y.0 ≡ true
 
 -- the samples that are kept, and these with those of the message so far
 pub record Lists : Type 0 where

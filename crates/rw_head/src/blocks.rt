@@ -1,8 +1,9 @@
 //! The samples of a series in blocks.
 
 ghost use Rattle.std.specs.Prelude.{◌≡◌, ◌+◌, ◌-◌, ◌^◌, ◌<◌, ◌≤◌, ◌++◌, ◌∷◌, [], IfOk, OnOk, OnErr, length, map, take, vec_capacity};
+ghost use Rattle.rw_types.specs.Rising.{Rises};
 ghost use Rattle.rw_head.specs.Order.{is_later, holds};
-ghost use Rattle.rw_head.specs.Lists.{Rises};
+ghost use Rattle.rw_head.specs.Lists.{IsEarlier};
 ghost use Rattle.rw_head.specs.Blocks.{joined, AreFull, Begun, begins_after, sealed_of, open_of};
 
 use crate::block::Block;
@@ -55,7 +56,7 @@ fn begins_after(samples: &[(i64, Word)], t: i64) -> bool
 
 /// Whether the sample stands among these.
 fn holds(samples: &[(i64, Word)], t: i64, word: Word) -> bool
-    requires { Rises samples.now }
+    requires { Rises IsEarlier samples.now }
     ensures { result ≡ holds (t, word) samples.now }
 {
     match samples.binary_search_by_key(&t, |sample| sample.0) {
@@ -66,7 +67,7 @@ fn holds(samples: &[(i64, Word)], t: i64, word: Word) -> bool
 
 /// How many of the blocks begin at `t` or before it.
 fn count_begun(sealed: &[Box<Block>], t: i64) -> usize
-    requires rises { Rises (joined (map (λ b. b.value) sealed.now)) }
+    requires rises { Rises IsEarlier (joined (map (λ b. b.value) sealed.now)) }
     requires full { AreFull (map (λ b. b.value) sealed.now) }
     ensures { Begun t (map (λ b. b.value) sealed.now) result }
 {
@@ -168,7 +169,7 @@ impl Blocks {
 
     /// Whether the sample stands among these. First its block is found by where the blocks begin.
     pub(crate) fn holds(&self, t: i64, word: Word) -> bool
-        requires { Rises self.now }
+        requires { Rises IsEarlier self.now }
         ensures { result ≡ holds (t, word) self.now }
     {
         if !begins_after(&self.rest, t) {

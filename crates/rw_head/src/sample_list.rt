@@ -23,13 +23,14 @@ pub(crate) struct SampleList {
 
 impl Model for SampleList {
     ghost use Rattle.std.specs.Prelude.{◌≤◌, length, take};
-    ghost use Rattle.rw_head.specs.Lists.{Lists, Rises};
+    ghost use Rattle.rw_types.specs.Rising.{Rises};
+    ghost use Rattle.rw_head.specs.Lists.{IsEarlier, Lists};
 
     ghost Value = { Lists };
 
     ghost view = { λ s. record { kept = take s.kept s.samples; staged = s.samples } };
 
-    ghost invariant = { λ s. (s.kept ≤ length s.samples) × Rises s.samples };
+    ghost invariant = { λ s. (s.kept ≤ length s.samples) × Rises IsEarlier s.samples };
 }
 
 impl SampleList {

@@ -5,6 +5,7 @@ pub mod JudgeLemmas
 pub mod KnownLemmas
 pub mod NameLemmas
 pub mod OrderLemmas
+pub mod RisingLemmas
 pub mod TextLemmas
 pub mod TimeLemmas
 pub mod WordLaws

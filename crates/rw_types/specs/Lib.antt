@@ -4,4 +4,5 @@ pub mod LabelOrder
 pub mod Labels
 pub mod Memory
 pub mod Requests
+pub mod Rising
 pub mod Words
