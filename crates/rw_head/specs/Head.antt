@@ -14,6 +14,10 @@ pub record State : Type 0 where
   pub limits : LabelLimits
   pub busy : ℕ
 
+-- the body spells a message
+abbrev pub IsMessage : List ℕ → Type 0
+IsMessage body = (m : WriteRequest) × (read body ≡ Ok m)
+
 -- 204 No Content, 400 Bad Request or 503 Service Unavailable
 abbrev pub status_of : Verdict → ℕ
 status_of (Stored n) = 204

@@ -2,6 +2,7 @@
 use Rattle.std.specs.Prelude.{◌≡◌, ◌≢◌, ℕ, ◌+◌, ◌-◌, ◌^◌, ◌≤◌, List, length, Ok}
 use Rattle.rw_write_request.specs.Message.{WriteRequest}
 use Rattle.rw_write_request.specs.Read.{read}
+use Rattle.rw_head.specs.Head.{IsMessage}
 use Rattle.rw_head.specs.Store.{Store, total, label_sets}
 use Rattle.rw_head.specs.Growth.{EachRises, sample_count}
 
@@ -9,11 +10,12 @@ use Rattle.rw_head.specs.Growth.{EachRises, sample_count}
 abbrev pub HasStored : List ℕ → ℕ → ℕ → Type 0
 HasStored body old new = (m : WriteRequest) × (read body ≡ Ok m) × (new ≤ old + sample_count m)
 
--- The number never falls. It grows only where the body was taken, and then by at most the samples of its message.
+-- The number never falls. It grows only where the body was taken, and then by at most the samples of its message. Memory is refused to messages alone.
 pub record HasAsked (old : ℕ) (body : List ℕ) (status new : ℕ) : Type 0 where
   pub never_falls : old ≤ new
   pub refused : status ≢ 204 → new ≡ old
   pub taken : status ≡ 204 → HasStored body old new
+  pub readable : status ≡ 503 → IsMessage body
 
 -- a head has samples of so many label sets, and at least so many samples, in lists whose timestamps rise
 pub record HasLabelSets (least count : ℕ) : Type 0 where
