@@ -3,7 +3,8 @@ use Rattle.std.proofs.Common.{◌≡◌, ℕ, suc, ◌+◌, ◌≤◌, List, [],
 use Rattle.rw_plain_queue.specs.declared.item.Item.{Item}
 use Rattle.rw_plain_queue.specs.declared.item.Item.TheVariants as item
 use Rattle.rw_plain_queue.specs.Items.{samples_in, places_in}
-use Rattle.rw_shard_channel.specs.Ends.{IsBeginning, Feeding, Draining}
+use Rattle.rw_types.specs.Beginnings.{Begins}
+use Rattle.rw_shard_channel.specs.Ends.{Feeding, Draining}
 use Rattle.rw_fleet.specs.Work.{positions_in}
 use Rattle.rw_fleet.proofs.PutLemmas.{positions_length}
 use Rattle.rw_plain_queue.proofs.Histories.{places_in-append}
@@ -21,7 +22,7 @@ samples_places (item.Flush ∷ xs) = samples_places xs
 samples_places (item.End k ∷ xs) = samples_places xs
 
 -- no more samples are left than items
-pub places_within : (feed f : Feeding) (drain d : Draining) → f ≡ feed → d ≡ drain → IsBeginning drain.taken feed.put → length feed.put ≤ length drain.taken + feed.queue.capacity → length (places_in f.put) ≤ length (places_in d.taken) + feed.queue.capacity
+pub places_within : (feed f : Feeding) (drain d : Draining) → f ≡ feed → d ≡ drain → Begins drain.taken feed.put → length feed.put ≤ length drain.taken + feed.queue.capacity → length (places_in f.put) ≤ length (places_in d.taken) + feed.queue.capacity
 places_within feed f drain d same_feed same_drain h most =
     let a = ap (λ (x : Feeding). length (places_in x.put)) same_feed in
     let b = ap (λ (x : Draining). length (places_in x.taken)) same_drain in

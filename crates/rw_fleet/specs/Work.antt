@@ -7,7 +7,8 @@ use Rattle.rw_plain_queue.specs.declared.item.Item.{Item}
 use Rattle.rw_plain_queue.specs.declared.item.Item.TheVariants as item
 use Rattle.rw_plain_queue.specs.declared.item.Kind.{Kind}
 use Rattle.rw_plain_queue.specs.declared.item.Kind.TheVariants.{Hard}
-use Rattle.rw_shard_channel.specs.Ends.{Feeding, QueueId, IsBeginning}
+use Rattle.rw_types.specs.Beginnings.{Begins}
+use Rattle.rw_shard_channel.specs.Ends.{Feeding, QueueId}
 use Rattle.rw_worker.specs.Report.{IsReport, drain_of}
 use Rattle.rw_worker.specs.Transcript.{Exchange}
 use Rattle.rw_worker.specs.declared.report.TakingEnd.{TakingEnd}
@@ -38,7 +39,7 @@ taken_of (Apart f end) = (drain_of end).taken
 
 -- what was taken is a beginning of what was put
 abbrev pub IsTakenOf : Ends → Type 0
-IsTakenOf ends = IsBeginning (taken_of ends) (put_of ends)
+IsTakenOf ends = Begins (taken_of ends) (put_of ends)
 
 -- the positions of the samples among items
 abbrev pub positions_in : List Item → List ℕ

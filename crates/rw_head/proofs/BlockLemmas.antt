@@ -14,8 +14,9 @@ use Rattle.std.proofs.lemmas.Nat.{div-mul-add}
 use Rattle.std.proofs.Math.Bool.{or-false}
 use Rattle.rw_head.specs.Order.{Point, is_later, holds}
 use Rattle.rw_head.specs.Lists.{IsEarlier}
-use Rattle.rw_head.specs.Blocks.{joined, first_blocks, sealed_of, open_of, AreFull, AreBlocks, Begins, begins_after, first_time, Begun}
+use Rattle.rw_head.specs.Blocks.{joined, first_blocks, sealed_of, open_of, AreFull, AreBlocks, begins_after, first_time, Begun}
 use Rattle.rw_head.proofs.OrderLemmas.{above_at, eq_apart_above, holds_nowhere, not_less}
+use Rattle.rw_types.specs.Beginnings.{Begins}
 use Rattle.rw_types.specs.Rising.{Rises}
 use Rattle.rw_types.proofs.RisingLemmas.{AllByRecursion-right, Rises-left, Rises-right}
 use Rattle.rw_types.proofs.TimeLemmas.{int_lt-asymm, int_lt-irrefl, int_lt-trans}
@@ -442,7 +443,7 @@ sealed_more xs more =
     subst (λ bs. Begins bs (first_blocks (length (xs ++ more) / 120) (xs ++ more))) (first_front n xs more (omega arith)) (first_more n (length (xs ++ more) / 120) (xs ++ more) (more_blocks xs more))
 
 pub sealed_begins : (xs ys : List Point) → Begins xs ys → Begins (sealed_of xs) (sealed_of ys)
-sealed_begins xs ys h = subst (λ zs. Begins (sealed_of xs) (sealed_of zs)) h.1 (sealed_more xs h.0)
+sealed_begins xs ys h = subst (λ zs. Begins (sealed_of xs) (sealed_of zs)) (sym h.1) (sealed_more xs h.0)
 
 drop-none : (k : ℕ) → drop k (let none : List Point = [] in none) ≡ []
 drop-none zero = refl

@@ -1,8 +1,10 @@
 -- A message that is taken adds samples, at most its own, and keeps each list in order.
-use Rattle.std.proofs.Common.{◌≡◌, ℕ, ◌+◌, ◌≤◌, List, [], ◌∷◌, ◌++◌, length, Option, Some, None, Bool, true, false, cond, Result, Ok, Err, refl, sym, ◌∙◌, ap, subst, append_assoc, arith}
+use Rattle.std.proofs.Common.{◌≡◌, ℕ, ◌+◌, ◌≤◌, List, [], ◌∷◌, ◌++◌, length, Option, Some, None, Bool, true, false, cond, Result, Ok, Err, refl, sym, ◌∙◌, ap, subst, arith}
 use Rattle.std.specs.FinMap.{empty}
-use Rattle.std.proofs.lemmas.List.{append-nil, length_push, length-map}
+use Rattle.std.proofs.lemmas.List.{length_push, length-map}
 use Rattle.std.proofs.lemmas.List.Sums.{sum_by-cons}
+use Rattle.rw_types.specs.Beginnings.{Begins}
+use Rattle.rw_types.proofs.BeginningLemmas.{begins_itself, begins_twice}
 use Rattle.rw_types.specs.Labels.{Labels}
 use Rattle.rw_types.specs.LabelOrder.{labels_eq}
 use Rattle.rw_types.specs.Rising.{Rises}
@@ -14,17 +16,11 @@ use Rattle.rw_head.specs.Verdicts.{LabelLimits, refusal, accepted, taken_unless,
 use Rattle.rw_head.specs.Lists.{IsEarlier, Stores, has_samples}
 use Rattle.rw_head.specs.Growth.{sample_count, EachRises, IsReady, HoldsNoneRefused}
 use Rattle.rw_types.proofs.OrderLemmas.{same_if_equal}
-use Rattle.rw_head.specs.Blocks.{Begins, KeepsBlocks}
+use Rattle.rw_head.specs.Blocks.{KeepsBlocks}
 use Rattle.rw_head.proofs.BlockLemmas.{sealed_begins}
 use Rattle.rw_head.proofs.OrderLemmas.{Rises-later, accept-none}
 use Rattle.rw_head.proofs.StoreLemmas.{no_points, list_of-with_list, list_of-empty, HasNoEmptyList-empty, HasNoEmptyList-with_list, with_list-same, total-with_list}
 use Rattle.rw_head.proofs.VerdictLemmas.{taken_all-err}
-
-begins_itself : (xs : List Point) → Begins xs xs
-begins_itself xs = ([], append-nil xs)
-
-begins_twice : (xs ys zs : List Point) → Begins xs ys → Begins ys zs → Begins xs zs
-begins_twice xs ys zs a b = (a.0 ++ b.0, sym (append_assoc xs a.0 b.0) ∙ ap (λ ws. ws ++ b.0) a.1 ∙ b.1)
 
 -- at most n samples were appended, in order
 pub record Extends (xs ys : List Point) (n : ℕ) : Type 0 where

@@ -1,6 +1,7 @@
 -- The samples of a series in blocks of 120: full ones, one after the other, and an open one behind them.
 use Rattle.std.specs.Prelude.{◌≡◌, ℕ, zero, suc, ℤ, pos, ◌/◌, ◌*◌, ◌^◌, ◌<◌, ◌≤◌, int_lt, Bool, true, false, List, [], ◌∷◌, ◌++◌, length, take, drop, slice_index_or}
 use Rattle.std.specs.List.{AllByRecursion}
+use Rattle.rw_types.specs.Beginnings.{Begins}
 use Rattle.rw_types.specs.Labels.{Labels}
 use Rattle.rw_head.specs.Order.{Point}
 use Rattle.rw_head.specs.Store.{Store, list_of}
@@ -22,10 +23,6 @@ sealed_of xs = first_blocks (length xs / 120) xs
 -- the samples behind them
 unfoldable pub open_of : List Point → List Point
 open_of xs = drop (length xs / 120 * 120) xs
-
--- the first list is a beginning of the second one
-abbrev pub Begins : {A : Type 0} → List A → List A → Type 0
-Begins {A} xs ys = (more : List A) × (xs ++ more ≡ ys)
 
 -- The full blocks of each label set stay as they are, in their places: those that it had are a beginning of those that it has.
 abbrev pub KeepsBlocks : Store → Store → Type 0

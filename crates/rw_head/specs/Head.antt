@@ -15,8 +15,8 @@ pub record State : Type 0 where
   pub busy : ℕ
 
 -- the body spells a message
-abbrev pub IsMessage : List ℕ → Type 0
-IsMessage body = (m : WriteRequest) × (read body ≡ Ok m)
+abbrev pub SpellsMessage : List ℕ → Type 0
+SpellsMessage body = (m : WriteRequest) × (read body ≡ Ok m)
 
 -- 204 No Content, 400 Bad Request or 503 Service Unavailable
 abbrev pub status_of : Verdict → ℕ

@@ -6,7 +6,7 @@ ghost use Rattle.rw_head.specs.declared.verdict.Verdict.TheVariants.{NoMemory};
 ghost use Rattle.rw_head.specs.Store.{list_of, total, label_sets, HasNoEmptyList};
 ghost use Rattle.rw_head.specs.Verdicts.{taken_all, apply};
 ghost use Rattle.rw_write_request.specs.Read.{read};
-ghost use Rattle.rw_head.specs.Head.{status_of, judged_body, answer, IsMessage, IsStatus};
+ghost use Rattle.rw_head.specs.Head.{status_of, judged_body, answer, SpellsMessage, IsStatus};
 ghost use Rattle.rw_head.specs.Lists.{StoreGives};
 ghost use Rattle.rw_head.specs.Blocks.{joined, sealed_of, AreFull, KeepsBlocks};
 ghost use Rattle.rw_head.specs.Growth.{sample_count, EachRises, HasTaken, HoldsNoneRefused};
@@ -140,7 +140,7 @@ impl Head {
             → status_of result ≡ status_of (judged_body self.old (read body.now)).verdict }
         ensures store { result ≢ NoMemory
             → self.new.store ≡ (judged_body self.old (read body.now)).store }
-        ensures readable { result ≡ NoMemory → IsMessage body.now }
+        ensures readable { result ≡ NoMemory → SpellsMessage body.now }
         ensures limits { self.new.limits ≡ self.old.limits }
         ensures busy { self.new.busy ≡ self.old.busy }
         ensures refused { status_of result ≢ 204 → self.new.store ≡ self.old.store }
@@ -166,7 +166,7 @@ impl Head {
         ensures status { result ≢ 503 → result ≡ (answer self.old body.now).status }
         ensures head { result ≢ 503 → self.new ≡ (answer self.old body.now).head }
         ensures no_memory { result ≡ 503 → (self.new ≡ self.old) × (self.old.busy ≡ 0) }
-        ensures readable { result ≡ 503 → IsMessage body.now }
+        ensures readable { result ≡ 503 → SpellsMessage body.now }
         ensures statuses { IsStatus result }
         ensures refused { result ≢ 204 → self.new.store ≡ self.old.store }
         ensures taken { result ≡ 204 → HasTaken body.now self.old.store self.new.store }

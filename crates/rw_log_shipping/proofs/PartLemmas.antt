@@ -6,7 +6,7 @@ use Rattle.rw_feeder.specs.Feeders.{Sorting}
 use Rattle.rw_shipper.specs.Shipping.{Joins}
 use Rattle.rw_shipper.specs.declared.shipper.FeedFault.{FeedFault}
 use Rattle.rw_shipper.specs.declared.shipper.FeedFault.TheVariants as feed
-use Rattle.rw_log_shipping.specs.Segments.{IsAllOf, IsLogOf, IsBeginningOf, Begins, IsFed, IsFedPart, IsFedMore}
+use Rattle.rw_log_shipping.specs.Segments.{IsAllOf, IsLogOf, IsBeginningOf, OpensSegment, IsFed, IsFedPart, IsFedMore}
 use Rattle.rw_log_shipping.proofs.SegmentLemmas.{IsFeeding, IsGoing, more_none, more_bytes, feeding_more, going_more, going_to_end}
 
 -- ---- a segment
@@ -35,8 +35,8 @@ pub more_or_not : (before after : Option (List ℕ)) (text : List ℕ) (old new 
 more_or_not before after text old new c (inl e) = inl e
 more_or_not before after text old new c (inr e) = inr (record { text = text; consumed = c; pieces = e })
 
-pub begun_or_not : (first : Bool) (old new : Sorting) (e : FeedFault) → first ≡ false → Joins old new next_segment (Err e) → (new.pieces ≡ old.pieces) ⊎ Begins first old.pieces new.pieces
-begun_or_not first old new e later h = subst (λ (b : Bool). (new.pieces ≡ old.pieces) ⊎ Begins b old.pieces new.pieces) (sym later) (joins_or_not old new next_segment e h)
+pub begun_or_not : (first : Bool) (old new : Sorting) (e : FeedFault) → first ≡ false → Joins old new next_segment (Err e) → (new.pieces ≡ old.pieces) ⊎ OpensSegment first old.pieces new.pieces
+begun_or_not first old new e later h = subst (λ (b : Bool). (new.pieces ≡ old.pieces) ⊎ OpensSegment b old.pieces new.pieces) (sym later) (joins_or_not old new next_segment e h)
 
 -- ---- segment by segment
 
@@ -59,7 +59,7 @@ abbrev begun_of : Bool → List Piece → List Piece
 begun_of true ps = ps
 begun_of false ps = ps ++ next_segment ∷ []
 
-begins_so : (first : Bool) (ps : List Piece) → Begins first ps (begun_of first ps)
+begins_so : (first : Bool) (ps : List Piece) → OpensSegment first ps (begun_of first ps)
 begins_so true ps = refl
 begins_so false ps = refl
 
@@ -68,7 +68,7 @@ begins_begun all true ps b = b
 begins_begun all false ps b = begins_fewer all ps (next_segment ∷ []) b
 
 from_next : (all : List (Option (List ℕ))) (l : Option (List ℕ)) (ls : List (Option (List ℕ))) (first : Bool) (ps begun : List Piece)
-    → ((qs : List Piece) → IsGoing all ls false qs → IsBeginningOf all qs) → IsGoing all (l ∷ ls) first ps → Begins first ps begun → IsBeginningOf all begun
+    → ((qs : List Piece) → IsGoing all ls false qs → IsBeginningOf all qs) → IsGoing all (l ∷ ls) first ps → OpensSegment first ps begun → IsBeginningOf all begun
 from_next all l ls first ps begun next g b =
     let whole : List Piece = begun ++ bytes (known l) ∷ [] in
     begins_fewer all begun (bytes (known l) ∷ []) (next whole (going_more all l ls first ps begun whole g b (fed_bytes l (known l) begun (all_known l))))
@@ -77,11 +77,11 @@ pub begins_on : (all left : List (Option (List ℕ))) (first : Bool) (ps : List 
 begins_on all [] first ps g = ([], subst (IsLogOf all) (sym (append-nil ps)) (going_to_end all first ps g))
 begins_on all (l ∷ ls) first ps g = begins_begun all first ps (from_next all l ls first ps (begun_of first ps) (λ qs h. begins_on all ls false qs h) g (begins_so first ps))
 
-begin_halted : (all : List (Option (List ℕ))) (l : Option (List ℕ)) (ls : List (Option (List ℕ))) (first : Bool) (ps new : List Piece) → IsGoing all (l ∷ ls) first ps → (new ≡ ps) ⊎ Begins first ps new → IsBeginningOf all new
+begin_halted : (all : List (Option (List ℕ))) (l : Option (List ℕ)) (ls : List (Option (List ℕ))) (first : Bool) (ps new : List Piece) → IsGoing all (l ∷ ls) first ps → (new ≡ ps) ⊎ OpensSegment first ps new → IsBeginningOf all new
 begin_halted all l ls first ps new g (inl e) = subst (IsBeginningOf all) (sym e) (begins_on all (l ∷ ls) first ps g)
 begin_halted all l ls first ps new g (inr b) = from_next all l ls first ps new (begins_on all ls false) g b
 
-segment_halted : (all : List (Option (List ℕ))) (l : Option (List ℕ)) (ls : List (Option (List ℕ))) (first : Bool) (ps begun new : List Piece) → IsGoing all (l ∷ ls) first ps → Begins first ps begun → IsFedPart l begun new
+segment_halted : (all : List (Option (List ℕ))) (l : Option (List ℕ)) (ls : List (Option (List ℕ))) (first : Bool) (ps begun new : List Piece) → IsGoing all (l ∷ ls) first ps → OpensSegment first ps begun → IsFedPart l begun new
     → IsBeginningOf all new
 segment_halted all l ls first ps begun new g b h =
     let whole : IsFed l begun (new ++ bytes h.rest ∷ []) = record {
@@ -100,11 +100,11 @@ here : {S : Type 0} (remaining : S → Option (List ℕ)) (all items rest : List
 here {S} remaining all items rest x first ps steps g = subst (λ (xs : List S). IsGoing (map remaining all) (map remaining xs) first ps) steps g
 
 pub halted_at_begin : {S : Type 0} (remaining : S → Option (List ℕ)) (all items rest : List S) (x : S) (first : Bool) (ps new : List Piece) → items ≡ x ∷ rest
-    → IsGoing (map remaining all) (map remaining items) first ps → (new ≡ ps) ⊎ Begins first ps new → IsBeginningOf (map remaining all) new
+    → IsGoing (map remaining all) (map remaining items) first ps → (new ≡ ps) ⊎ OpensSegment first ps new → IsBeginningOf (map remaining all) new
 halted_at_begin remaining all items rest x first ps new steps g h =
     begin_halted (map remaining all) (remaining x) (map remaining rest) first ps new (here remaining all items rest x first ps steps g) h
 
 pub halted_within : {S : Type 0} (remaining : S → Option (List ℕ)) (all items rest : List S) (x : S) (first : Bool) (ps begun new : List Piece) → items ≡ x ∷ rest
-    → IsGoing (map remaining all) (map remaining items) first ps → Begins first ps begun → IsFedPart (remaining x) begun new → IsBeginningOf (map remaining all) new
+    → IsGoing (map remaining all) (map remaining items) first ps → OpensSegment first ps begun → IsFedPart (remaining x) begun new → IsBeginningOf (map remaining all) new
 halted_within remaining all items rest x first ps begun new steps g b h =
     segment_halted (map remaining all) (remaining x) (map remaining rest) first ps begun new (here remaining all items rest x first ps steps g) b h

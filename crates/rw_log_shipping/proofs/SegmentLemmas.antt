@@ -3,7 +3,7 @@ use Rattle.std.proofs.Common.{◌≡◌, ℕ, Bool, true, false, List, [], ◌�
 use Rattle.std.specs.Io.KnownBytes.{Consumes, IsAtEnd}
 use Rattle.rw_wal_format.specs.Pieces.{Piece, bytes, next_segment}
 use Rattle.rw_types.proofs.KnownLemmas.{consumes_consumes, consumes-none}
-use Rattle.rw_log_shipping.specs.Segments.{texts_after, texts, IsAllOf, AreAllOf, IsLogOf, Begins, IsMore, IsFed, IsFedMore}
+use Rattle.rw_log_shipping.specs.Segments.{texts_after, texts, IsAllOf, AreAllOf, IsLogOf, OpensSegment, IsMore, IsFed, IsFedMore}
 
 -- ---- one segment
 
@@ -100,7 +100,7 @@ going_first all = record { done = []; split = refl; is_first = tt; is_log = refl
 pub going_to_end : (all : List (Option (List ℕ))) (first : Bool) (pieces : List Piece) → IsGoing all [] first pieces → IsLogOf all pieces
 going_to_end all first pieces g = subst (λ (ls : List (Option (List ℕ))). IsLogOf ls pieces) (sym (g.split ∙ append-nil g.done)) g.is_log
 
-then_fed : (done : List (Option (List ℕ))) (first : Bool) (left : Option (List ℕ)) (old begun new : List Piece) → IsFirst first done → IsLogOf done old → Begins first old begun → IsFed left begun new
+then_fed : (done : List (Option (List ℕ))) (first : Bool) (left : Option (List ℕ)) (old begun new : List Piece) → IsFirst first done → IsLogOf done old → OpensSegment first old begun → IsFed left begun new
     → IsLogOf (done ++ left ∷ []) new
 then_fed [] true left old begun new f is_log b h = log_first left new (subst (λ (ps : List Piece). IsFed left ps new) (b ∙ is_log) h)
 then_fed [] false left old begun new f is_log b h = absurd f
@@ -112,7 +112,7 @@ not_first [] left = tt
 not_first (l ∷ ls) left = tt
 
 pub going_more : (all : List (Option (List ℕ))) (left : Option (List ℕ)) (lefts : List (Option (List ℕ))) (first : Bool) (old begun new : List Piece)
-    → IsGoing all (left ∷ lefts) first old → Begins first old begun → IsFed left begun new → IsGoing all lefts false new
+    → IsGoing all (left ∷ lefts) first old → OpensSegment first old begun → IsFed left begun new → IsGoing all lefts false new
 going_more all left lefts first old begun new g b h = record {
   done = g.done ++ left ∷ [];
   split = g.split ∙ sym (append_assoc g.done (left ∷ []) lefts);
@@ -121,7 +121,7 @@ going_more all left lefts first old begun new g b h = record {
 }
 
 pub going_step : {S : Type 0} (remaining : S → Option (List ℕ)) (all items rest : List S) (x : S) (first : Bool) (old begun new last : List Piece)
-    → items ≡ x ∷ rest → IsGoing (map remaining all) (map remaining items) first old → Begins first old begun → IsFed (remaining x) begun new → last ≡ new
+    → items ≡ x ∷ rest → IsGoing (map remaining all) (map remaining items) first old → OpensSegment first old begun → IsFed (remaining x) begun new → last ≡ new
     → IsGoing (map remaining all) (map remaining rest) false last
 going_step {S} remaining all items rest x first old begun new last steps g b h same =
     let there : IsGoing (map remaining all) (remaining x ∷ map remaining rest) first old = subst (λ (xs : List S). IsGoing (map remaining all) (map remaining xs) first old) steps g in

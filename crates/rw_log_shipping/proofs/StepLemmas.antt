@@ -1,15 +1,11 @@
 -- Segments that are shipped one after another.
-use Rattle.std.proofs.Common.{◌≡◌, ◌≢◌, ◌⊎◌, ℕ, ◌+◌, Bool, true, false, nat_lt, List, [], ◌∷◌, length, map, Option, inl, inr, refl, sym, ap, ◌∙◌, subst, append-nil, arith}
+use Rattle.std.proofs.Common.{◌≡◌, ◌⊎◌, ℕ, Bool, false, nat_lt, List, [], ◌∷◌, length, map, Option, inl, inr, refl, sym, ap, ◌∙◌, subst, append-nil, arith}
 use Rattle.std.proofs.lemmas.Bool.{lt-ltb}
 use Rattle.rw_wal_format.specs.Pieces.{Piece}
 use Rattle.rw_fleet.specs.Fleets.{Shards}
-use Rattle.rw_fleet.specs.ShardHistories.{AreFresh}
-use Rattle.rw_fleet.specs.Loads.{IsLoad}
-use Rattle.rw_fleet.specs.Work.{AreResolved}
-use Rattle.rw_fleet.specs.declared.load.Load.{Load}
 use Rattle.rw_shipper.specs.Shipping.{Shipping, HasCompared}
-use Rattle.rw_log_shipping.specs.Segments.{Begins, IsAllOf, IsFed, IsFedPart}
-use Rattle.rw_log_shipping.specs.Steps.{AreShipped, AreShippedPart, HasHalted, HasPutAll, IsKept, IsNextEpoch, IsSet, IsShipped, StaysOpen, is_some_more, wanted_under}
+use Rattle.rw_log_shipping.specs.Segments.{OpensSegment, IsAllOf, IsFed, IsFedPart}
+use Rattle.rw_log_shipping.specs.Steps.{AreShipped, AreShippedPart, HasHalted, HasPutAll, IsKept, IsSet, IsShipped, StaysOpen, is_some_more}
 use Rattle.rw_log_shipping.proofs.PartLemmas.{part_of}
 use Rattle.rw_log_shipping.proofs.SegmentLemmas.{feeding_none}
 
@@ -37,7 +33,7 @@ some_more f [] left e = ap (nat_lt 0) (sym e)
 some_more f (x ∷ xs) left e = sym (lt-ltb 0 left (omega (arith, e)))
 
 pub is_shipped : {T : Type 0} (fewest most : ℕ) (first : Bool) (left : Option (List ℕ)) (more : Bool) (begun : List Piece) (old fed new : Shipping T)
-    → Begins first old.log.pieces begun → IsFed left begun fed.log.pieces → HasPutAll fed → StaysOpen old fed → IsSet more fewest most fed new → IsShipped fewest most first left more old new
+    → OpensSegment first old.log.pieces begun → IsFed left begun fed.log.pieces → HasPutAll fed → StaysOpen old fed → IsSet more fewest most fed new → IsShipped fewest most first left more old new
 is_shipped fewest most first left more begun old fed new begins is_fed put stays set =
     record { begun = begun; begins = begins; fed = fed; is_fed = is_fed; put = put; stays = stays; set = set }
 
@@ -60,21 +56,21 @@ pub part_halts : {T S : Type 0} (remaining : S → Option (List ℕ)) (fewest mo
 part_halts {T} {S} remaining fewest most items rest x first old last steps h =
     subst (λ (xs : List S). AreShippedPart fewest most first (map remaining xs) old last) (sym steps) (inl h)
 
-begun_part : (first : Bool) (left : Option (List ℕ)) (old new : List Piece) → (new ≡ old) ⊎ Begins first old new → (new ≡ old) ⊎ ((begun : List Piece) × Begins first old begun × IsFedPart left begun new)
+begun_part : (first : Bool) (left : Option (List ℕ)) (old new : List Piece) → (new ≡ old) ⊎ OpensSegment first old new → (new ≡ old) ⊎ ((begun : List Piece) × OpensSegment first old begun × IsFedPart left begun new)
 begun_part first left old new (inl e) = inl e
 begun_part first left old new (inr b) = inr (new, b, part_of left left new new (feeding_none left new))
 
-pub halts_at_begin : {T : Type 0} (first : Bool) (left : Option (List ℕ)) (old new : Shipping T) → (new.log.pieces ≡ old.log.pieces) ⊎ Begins first old.log.pieces new.log.pieces → StaysOpen old new
+pub halts_at_begin : {T : Type 0} (first : Bool) (left : Option (List ℕ)) (old new : Shipping T) → (new.log.pieces ≡ old.log.pieces) ⊎ OpensSegment first old.log.pieces new.log.pieces → StaysOpen old new
     → HasHalted first left old new
 halts_at_begin first left old new h stays = record { fed = new; part = begun_part first left old.log.pieces new.log.pieces h; stays = stays; log = refl; fleet = inl refl }
 
-pub halts_within : {T : Type 0} (first : Bool) (left : Option (List ℕ)) (begun : List Piece) (old new : Shipping T) → Begins first old.log.pieces begun → IsFedPart left begun new.log.pieces → StaysOpen old new
+pub halts_within : {T : Type 0} (first : Bool) (left : Option (List ℕ)) (begun : List Piece) (old new : Shipping T) → OpensSegment first old.log.pieces begun → IsFedPart left begun new.log.pieces → StaysOpen old new
     → HasHalted first left old new
 halts_within first left begun old new begins part stays = record { fed = new; part = inr (begun, begins, part); stays = stays; log = refl; fleet = inl refl }
 
 fed_part : (left : Option (List ℕ)) (old new : List Piece) → IsFed left old new → IsFedPart left old new
 fed_part left old new f = record { text = f.text; rest = []; more = f.more; pieces = f.pieces; is_more = f.is_more; part = subst (IsAllOf left) (sym (append-nil f.text)) f.all }
 
-pub halts_behind : {T : Type 0} (first : Bool) (left : Option (List ℕ)) (begun : List Piece) (old fed new : Shipping T) → Begins first old.log.pieces begun → IsFed left begun fed.log.pieces → StaysOpen old fed
+pub halts_behind : {T : Type 0} (first : Bool) (left : Option (List ℕ)) (begun : List Piece) (old fed new : Shipping T) → OpensSegment first old.log.pieces begun → IsFed left begun fed.log.pieces → StaysOpen old fed
     → new.log ≡ fed.log → (new.fleet ≡ fed.fleet) ⊎ HasCompared fed.fleet new.fleet → HasHalted first left old new
 halts_behind first left begun old fed new begins is_fed stays log fleet = record { fed = fed; part = inr (begun, begins, fed_part left begun fed.log.pieces is_fed); stays = stays; log = log; fleet = fleet }

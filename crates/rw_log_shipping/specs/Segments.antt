@@ -43,9 +43,9 @@ abbrev pub IsBeginningOf : List (Option (List ℕ)) → List Piece → Type 0
 IsBeginningOf lefts pieces = (later : List Piece) × IsLogOf lefts (pieces ++ later)
 
 -- before a segment's bytes stands word of it, unless it is the first
-abbrev pub Begins : Bool → List Piece → List Piece → Type 0
-Begins true old new = new ≡ old
-Begins false old new = new ≡ old ++ next_segment ∷ []
+abbrev pub OpensSegment : Bool → List Piece → List Piece → Type 0
+OpensSegment true old new = new ≡ old
+OpensSegment false old new = new ≡ old ++ next_segment ∷ []
 
 -- more pieces are the bytes of a segment that goes on
 pub record IsMore (text : List ℕ) (more : List Piece) : Type 0 where

@@ -9,7 +9,7 @@ use Rattle.rw_fleet.specs.declared.load.Load.{Load}
 use Rattle.rw_reshard.specs.Wanted.{wanted}
 use Rattle.rw_shard_core.specs.declared.config.ConfigFields.{ConfigFields}
 use Rattle.rw_shipper.specs.Shipping.{Shipping, HasCompared, PlacesAll}
-use Rattle.rw_log_shipping.specs.Segments.{Begins, IsFed, IsFedPart}
+use Rattle.rw_log_shipping.specs.Segments.{OpensSegment, IsFed, IsFedPart}
 
 -- more may have been put to the same shards
 pub record StaysOpen {T : Type 0} (old new : Shipping T) : Type 0 where
@@ -53,7 +53,7 @@ HasPutAll s = (s.log.placed ≡ entries s.log.pieces) × PlacesAll s.log s.fleet
 -- all that a reader had left was fed, behind word of a next segment unless it is the first, and then the number of shards was set, where more is to come
 pub record IsShipped {T : Type 0} (fewest most : ℕ) (first : Bool) (left : Option (List ℕ)) (more : Bool) (old new : Shipping T) : Type 0 where
   pub begun : List Piece
-  pub begins : Begins first old.log.pieces begun
+  pub begins : OpensSegment first old.log.pieces begun
   pub fed : Shipping T
   pub is_fed : IsFed left begun fed.log.pieces
   pub put : HasPutAll fed
@@ -72,7 +72,7 @@ AreShipped {T} fewest most first (left ∷ lefts) old new = (next : Shipping T) 
 -- the reading halted before a segment or within it, or the number of shards could not be set behind it
 pub record HasHalted {T : Type 0} (first : Bool) (left : Option (List ℕ)) (old new : Shipping T) : Type 0 where
   pub fed : Shipping T
-  pub part : (fed.log.pieces ≡ old.log.pieces) ⊎ ((begun : List Piece) × Begins first old.log.pieces begun × IsFedPart left begun fed.log.pieces)
+  pub part : (fed.log.pieces ≡ old.log.pieces) ⊎ ((begun : List Piece) × OpensSegment first old.log.pieces begun × IsFedPart left begun fed.log.pieces)
   pub stays : StaysOpen old fed
   pub log : new.log ≡ fed.log
   pub fleet : (new.fleet ≡ fed.fleet) ⊎ HasCompared fed.fleet new.fleet

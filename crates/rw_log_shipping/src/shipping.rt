@@ -2,7 +2,7 @@
 
 ghost use Rattle.std.specs.Prelude.{◌≡◌, ◌≤◌, ◌⊎◌, [], length, map, true, false, None, Ok, Err, IfOk, IfErr, OnOk, OnErr, vec_len};
 ghost use Rattle.std.specs.Io.KnownBytes.{Consumes, IsAtEnd};
-ghost use Rattle.rw_log_shipping.specs.Segments.{AreShort, AreSure, Begins, IsBeginningOf, IsFed, IsFedMore, IsFedPart, IsLogOf};
+ghost use Rattle.rw_log_shipping.specs.Segments.{AreShort, AreSure, OpensSegment, IsBeginningOf, IsFed, IsFedMore, IsFedPart, IsLogOf};
 ghost use Rattle.rw_log_shipping.specs.Halting.{IsHalted};
 ghost use Rattle.rw_log_shipping.specs.Steps.{AreShipped, AreShippedPart, IsKept, StaysOpen};
 ghost use Rattle.rw_log_shipping.specs.declared.halt.Halt.TheVariants.{Unreadable};
@@ -115,9 +115,9 @@ pub fn begin_segment<R: Wait, C: Connect + Drop>(
     ensures stays { StaysOpen shipper.old shipper.new }
     ensures short { AreShort shipper.old.log.pieces → AreShort shipper.new.log.pieces }
     ensures sound { OnOk result (shipper.new.fault ≡ None) }
-    ensures begun { OnOk result (Begins is_first shipper.old.log.pieces shipper.new.log.pieces) }
+    ensures begun { OnOk result (OpensSegment is_first shipper.old.log.pieces shipper.new.log.pieces) }
     ensures part { OnErr result ((shipper.new.log.pieces ≡ shipper.old.log.pieces)
-        ⊎ Begins is_first shipper.old.log.pieces shipper.new.log.pieces) }
+        ⊎ OpensSegment is_first shipper.old.log.pieces shipper.new.log.pieces) }
     ensures halted { IfErr result (IsHalted shipper.new) }
     ensures unread { result ≡ Err Unreadable → ⊥ }
 {

@@ -102,7 +102,7 @@ owed_placed c w at one l = owed_points c w l one at.placed_in w.placed (omega ar
 
 -- what the head holds is a beginning
 beginning : (c : Setup) (w : World) → Inv c w → HasOneClassEach c w → (l : Labels) → IsKept c l → HoldsBeginning c w l
-beginning c w at one l k = (tail.0 ++ u, whole)
+beginning c w at one l k = (tail.0 ++ u, sym whole)
   where
     part : List (ℤ × ℕ)
     part = map pair_of (owed_by (get w.names) (at.done l))
@@ -174,7 +174,7 @@ kept_or_none c l = by_fault (label_fault c.choice.names l) refl
 
 -- where a label set has no samples the head holds none
 nothing_held : (c : Setup) (w : World) → HoldsNothingElse c w → (l : Labels) → ((es : List Entry) → logged_points c l es ≡ []) → HoldsBeginning c w l
-nothing_held c w nothing l none = (map pair_of (owed w.names (logged_points c l (log w))), ap (λ ps. ps ++ map pair_of (owed w.names (logged_points c l (log w)))) (nothing l (none (log w))))
+nothing_held c w nothing l none = (map pair_of (owed w.names (logged_points c l (log w))), sym (ap (λ ps. ps ++ map pair_of (owed w.names (logged_points c l (log w)))) (nothing l (none (log w)))))
 
 all_of_kept : (c : Setup) (w : World) → Inv c w → HasOneClassEach c w → all_drained w ≡ true → (l : Labels) → IsKept c l → HoldsAll c w w.placed l
 all_of_kept c w at one all l k =

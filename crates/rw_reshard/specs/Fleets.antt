@@ -1,5 +1,6 @@
 -- The shards of a sender, epoch by epoch.
 use Rattle.std.specs.Prelude.{◌≡◌, ℕ, ◌+◌, ◌≤◌, List, ◌++◌, length, take, drop, Some, slice_get}
+use Rattle.rw_types.specs.Beginnings.{Begins}
 
 -- the shards of an epoch, and those that were made for the next one, which is to have so many
 pub record Shards (S : Type 0) : Type 0 where
@@ -23,13 +24,9 @@ AreNew {S} is_new epoch shards = (k : ℕ) (s : S) → slice_get shards k ≡ So
 abbrev pub AreAllNew : {S : Type 0} → (ℕ → ℕ → S → Type 0) → ℕ → ℕ → List S → Type 0
 AreAllNew is_new epoch n shards = (length shards ≡ n) × AreNew is_new epoch shards
 
--- new shards of an epoch that go on from those that were made before
-abbrev pub GoOn : {S : Type 0} → List S → List S → Type 0
-GoOn {S} before after = (more : List S) × (after ≡ before ++ more)
-
 -- the same fleet, but for more shards that were made for the next epoch
 pub record GoesOn {S : Type 0} (is_new : ℕ → ℕ → S → Type 0) (before after : Shards S) : Type 0 where
   pub same : (after.epoch ≡ before.epoch) × (after.running ≡ before.running) × (after.wanted ≡ before.wanted)
   pub fresh : AreNew is_new (1 + before.epoch) after.made
   pub within : length after.made ≤ before.wanted
-  pub more : GoOn before.made after.made
+  pub more : Begins before.made after.made

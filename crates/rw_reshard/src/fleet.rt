@@ -4,7 +4,8 @@ ghost use Rattle.std.specs.Prelude.{◌≡◌, ◌↔◌, ◌≤◌, ◌<◌, �
 ghost use Rattle.std.specs.Borrow.{sem};
 ghost use Rattle.std.specs.List.{list_all};
 ghost use Rattle.rw_reshard.specs.Lends.{lends_shards};
-ghost use Rattle.rw_reshard.specs.Fleets.{Shards, AreNew, AreAllNew, GoOn, GoesOn};
+ghost use Rattle.rw_types.specs.Beginnings.{Begins};
+ghost use Rattle.rw_reshard.specs.Fleets.{Shards, AreNew, AreAllNew, GoesOn};
 ghost use Rattle.rw_reshard.specs.declared.fleet.NextFault.TheVariants.{NotDrained};
 
 use crate::shard::{Make, Shard};
@@ -67,7 +68,7 @@ fn make_shard<M: Make>(make: &mut M, epoch: u64, shards: &mut Vec<M::S>) -> Resu
     requires fresh { AreNew M.is_new epoch shards.old.items }
     ensures len { OnOk result (length shards.new.items ≡ 1 + length shards.old.items) }
     ensures fresh { AreNew M.is_new epoch shards.new.items }
-    ensures goes_on { GoOn shards.old.items shards.new.items }
+    ensures goes_on { Begins shards.old.items shards.new.items }
     ensures err { OnErr result (shards.new.items ≡ shards.old.items) }
 {
     shards.reserve(1)?;
@@ -89,7 +90,7 @@ fn make_shards<M: Make>(
     ensures all { OnOk result (length shards.new.items ≡ wanted) }
     ensures fresh { AreNew M.is_new epoch shards.new.items }
     ensures within { length shards.new.items ≤ wanted }
-    ensures goes_on { GoOn shards.old.items shards.new.items }
+    ensures goes_on { Begins shards.old.items shards.new.items }
 {
     while shards.len() < wanted as usize {
         make_shard(make, epoch, shards)?;
@@ -195,7 +196,7 @@ impl<S: Shard> Fleet<S, Draining> {
         ensures begun { IfOk result
             (λ r. (r.0.epoch ≡ 1 + self.epoch) × (r.0.wanted ≡ self.wanted) × (r.0.made ≡ [])) }
         ensures all { IfOk result (λ r. AreAllNew M.is_new (1 + self.epoch) self.wanted r.0.running
-            × GoOn self.made r.0.running) }
+            × Begins self.made r.0.running) }
         ensures not_drained { IfErr result
             (λ e. (e.1 ≡ NotDrained) ↔ (list_all S.is_drained self.running ≡ false)) }
         ensures kept { IfErr result (λ e. e.1 ≡ NotDrained → e.0 ≡ self) }

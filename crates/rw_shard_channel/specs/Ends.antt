@@ -1,5 +1,5 @@
 -- What contracts see of the ends of a queue.
-use Rattle.std.specs.Prelude.{◌≡◌, ℕ, List, ◌++◌}
+use Rattle.std.specs.Prelude.{ℕ, List}
 use Rattle.atomic_table.specs.Seated.{TableId}
 use Rattle.atomic_table.specs.declared.badge.Badge.{Badge}
 use Rattle.crossbeam_channel.specs.declared.flavors.array.Key.{Key}
@@ -40,7 +40,3 @@ pub record Draining : Type 0 where
 pub record Passing : Type 0 where
   pub queue : QueueId
   pub items : List Item
-
--- the first list is a beginning of the second
-abbrev pub IsBeginning : List Item → List Item → Type 0
-IsBeginning taken put = (rest : List Item) × (put ≡ taken ++ rest)

@@ -2,7 +2,7 @@
 
 ghost use Rattle.std.specs.Prelude.{◌≡◌, ◌+◌, ◌≤◌, length};
 ghost use Rattle.rw_plain_queue.specs.History.{IsHistory, IsEnded};
-ghost use Rattle.rw_shard_channel.specs.Ends.{IsBeginning};
+ghost use Rattle.rw_types.specs.Beginnings.{Begins};
 
 use crate::block::Block;
 use crate::ends::{Drain, Feed};
@@ -65,7 +65,7 @@ pub fn compare<R>(_rt: &R, feed: Feed<Ended>, drain: Drain<Ended>) -> Whole
 pub fn begins<S: Stage, T: Stage>(feed: Feed<S>, drain: Drain<T>) -> (Feed<S>, Drain<T>)
     requires { feed.queue ≡ drain.queue }
     ensures same { (result.0 ≡ feed) × (result.1 ≡ drain) }
-    ensures begins { IsBeginning drain.taken feed.put }
+    ensures begins { Begins drain.taken feed.put }
     ensures within { length feed.put ≤ length drain.taken + feed.queue.capacity }
 {
     let Feed {

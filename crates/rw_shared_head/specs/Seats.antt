@@ -2,7 +2,7 @@
 use Rattle.std.specs.Prelude.{◌≡◌, ◌≢◌, ℕ, ◌+◌, ◌-◌, ◌^◌, ◌≤◌, List, length, Ok}
 use Rattle.rw_write_request.specs.Message.{WriteRequest}
 use Rattle.rw_write_request.specs.Read.{read}
-use Rattle.rw_head.specs.Head.{IsMessage}
+use Rattle.rw_head.specs.Head.{SpellsMessage}
 use Rattle.rw_head.specs.Store.{Store, total, label_sets}
 use Rattle.rw_head.specs.Growth.{EachRises, sample_count}
 
@@ -15,7 +15,7 @@ pub record HasAsked (old : ℕ) (body : List ℕ) (status new : ℕ) : Type 0 wh
   pub never_falls : old ≤ new
   pub refused : status ≢ 204 → new ≡ old
   pub taken : status ≡ 204 → HasStored body old new
-  pub readable : status ≡ 503 → IsMessage body
+  pub readable : status ≡ 503 → SpellsMessage body
 
 -- a head has samples of so many label sets, and at least so many samples, in lists whose timestamps rise
 pub record HasLabelSets (least count : ℕ) : Type 0 where

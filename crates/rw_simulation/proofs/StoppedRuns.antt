@@ -1,5 +1,5 @@
 -- A shipper that was stopped in order, and left nothing, is a run of the machine.
-use Rattle.std.proofs.Common.{◌≡◌, ℕ, zero, suc, ◌+◌, ◌-◌, ◌<◌, ◌≤◌, ◌==◌, ◌&&◌, Bool, true, false, cond, List, [], ◌∷◌, ◌++◌, map, length, drop, Option, None, Some, is_some, slice_get, refl, sym, ap, ◌∙◌, subst, append-nil, append_assoc, length-append, arith, ◌⊎◌, inl, inr}
+use Rattle.std.proofs.Common.{◌≡◌, ℕ, zero, suc, ◌+◌, ◌-◌, ◌<◌, ◌≤◌, ◌==◌, Bool, true, false, cond, List, [], ◌∷◌, ◌++◌, map, length, drop, Option, None, Some, is_some, slice_get, refl, sym, ap, ◌∙◌, subst, append-nil, append_assoc, arith, ◌⊎◌, inl, inr}
 use Rattle.std.specs.List.{list_all}
 use Rattle.std.proofs.lemmas.List.{length-drop}
 use Rattle.std.proofs.lemmas.Bool.{eq-eqb, eqb-true, and_parts}
@@ -12,7 +12,6 @@ use Rattle.rw_wal_format.specs.declared.tail_fault.TailFault.{TailFault}
 use Rattle.rw_wal_tail.specs.Fed.{piece_of}
 use Rattle.rw_wal_tail.specs.declared.piece.Piece as piece
 use Rattle.rw_relabel.specs.declared.choice.Choice.{Choice}
-use Rattle.rw_series_cache.specs.Numbers.{series_of}
 use Rattle.rw_series_cache.proofs.KnownLemmas.{series_of-none}
 use Rattle.rw_plain_queue.specs.Items.{samples_in, places_in}
 use Rattle.rw_plain_queue.specs.History.{EndIsLast, IsEnded}
@@ -27,9 +26,9 @@ use Rattle.rw_shard_core.specs.declared.outcome.Outcome.TheVariants as outcome
 use Rattle.rw_worker.specs.Transcript.{Exchange}
 use Rattle.rw_worker.specs.Setups.{start_of}
 use Rattle.rw_worker.specs.Setups as setups
-use Rattle.rw_worker.specs.Steps.{Working, working, Step, Takes, Freezes, Sends, Waits, AreSteps, after, after_step, items_of}
+use Rattle.rw_worker.specs.Steps.{Working, Step, Takes, Freezes, Sends, Waits, AreSteps, after, after_step, items_of}
 use Rattle.rw_fleet.specs.ShardHistories.{ShardHistory, IsSetUp, AreSetUp, AreSame, put_into}
-use Rattle.rw_fleet.specs.Work.{IsWorked, AreWorked, AreResolved, AreEndedBy, IsEndedBy, lane_of, finished_of, put_of, put_by, taken_of, is_compared, is_resolved, positions_in}
+use Rattle.rw_fleet.specs.Work.{IsWorked, AreWorked, AreResolved, AreEndedBy, IsEndedBy, lane_of, finished_of, put_of, put_by, is_compared, is_resolved, positions_in}
 use Rattle.rw_fleet.specs.declared.joined.StoppedShard.{StoppedShard}
 use Rattle.rw_fleet.specs.declared.joined.Finished.{Finished}
 use Rattle.rw_fleet.proofs.LaneLemmas.{same_length}
@@ -40,7 +39,7 @@ use Rattle.rw_shipper.specs.Reports.{IsAbandoned}
 use Rattle.rw_shipper.specs.Shipping.{Shipping, HasStopped, Ends}
 use Rattle.rw_shipper.specs.declared.report.Report.{Report}
 use Rattle.rw_machine.specs.Shards.{Shard, is_drained, shard_end, shard_flush}
-use Rattle.rw_machine.specs.Worlds.{Setup, World, Complete, start, log, new_shards, ended_as, report}
+use Rattle.rw_machine.specs.Worlds.{Setup, World, Complete, start, log, ended_as, report}
 use Rattle.rw_machine.specs.Steps.{happens, mark, unless_over}
 use Rattle.rw_machine.specs.declared.event.Event.TheVariants as event
 use Rattle.rw_machine.specs.Promises.{CanWork}
@@ -49,7 +48,7 @@ use Rattle.rw_machine.proofs.Steps.{AllOf, all_left, all_right}
 use Rattle.rw_simulation.specs.Freely.{Happening, Of, run_freely}
 use Rattle.rw_simulation.specs.FreeLaws.{world_of}
 use Rattle.rw_simulation.specs.EpochRuns.{ShardFate, end_in, IsAllPut, Reaches}
-use Rattle.rw_simulation.specs.FleetRuns.{IsShardRun, fate_of, fate_by, fate_at, IsBeginning}
+use Rattle.rw_simulation.specs.FleetRuns.{IsShardRun, fate_by, fate_at}
 use Rattle.rw_simulation.specs.StoppedShards.{IsShardOf}
 use Rattle.rw_machine.specs.Endings.{ending_of}
 use Rattle.rw_simulation.specs.StoppedRuns.{IsSetAs, HasNumbers, AreNumbers, EndInTurn, IsAlike, IsRun, StopsAsRun, StopsInFirstEpoch}

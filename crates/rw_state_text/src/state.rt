@@ -3,7 +3,7 @@
 ghost use Rattle.std.specs.Prelude.{◌≡◌, ◌∷◌, [], ◌++◌, decimal, flat_map, OnOk, OnErr};
 ghost use Rattle.std.specs.FinMap.{entries};
 ghost use Rattle.std.specs.Option.{option_map};
-ghost use Rattle.rw_text.specs.Growing.{Grown};
+ghost use Rattle.rw_types.specs.Beginnings.{Begins};
 ghost use Rattle.rw_machine.specs.Endings.{ending_of};
 ghost use Rattle.rw_state_text.specs.StateText.{point_text, received_text, store_text, reason_text, dropped_text, filtered_text, abandoned_text, ending_text, work_text};
 
@@ -17,7 +17,7 @@ use std::alloc::AllocError;
 /// Adds ` T=VALUE`.
 fn push_point(out: &mut Vec<u8>, point: &(i64, Word)) -> Result<(), AllocError>
     ensures ok { OnOk result (out.new.items ≡ out.old.items ++ point_text point.now) }
-    ensures err { OnErr result (Grown out.old.items out.new.items) }
+    ensures err { OnErr result (Begins out.old.items out.new.items) }
 {
     out.extend_from_slice(b" ")?;
     push_integer(out, point.0)?;
@@ -28,7 +28,7 @@ fn push_point(out: &mut Vec<u8>, point: &(i64, Word)) -> Result<(), AllocError>
 /// Adds ` T=VALUE` for each sample.
 fn push_points(out: &mut Vec<u8>, points: &[(i64, Word)]) -> Result<(), AllocError>
     ensures ok { OnOk result (out.new.items ≡ out.old.items ++ flat_map point_text points.now) }
-    ensures err { OnErr result (Grown out.old.items out.new.items) }
+    ensures err { OnErr result (Begins out.old.items out.new.items) }
 {
     for point in points {
         push_point(out, point)?;
@@ -45,7 +45,7 @@ pub fn push_received(
 ) -> Result<(), AllocError>
     ensures ok { OnOk result
         (out.new.items ≡ out.old.items ++ received_text labels.now samples.now) }
-    ensures err { OnErr result (Grown out.old.items out.new.items) }
+    ensures err { OnErr result (Begins out.old.items out.new.items) }
 {
     if samples.is_empty() {
         return Ok(());
@@ -60,7 +60,7 @@ pub fn push_received(
 /// may stand in `out`.
 pub fn push_store(out: &mut Vec<u8>, head: &Head) -> Result<(), AllocError>
     ensures ok { OnOk result (out.new.items ≡ out.old.items ++ store_text head.now.store) }
-    ensures err { OnErr result (Grown out.old.items out.new.items) }
+    ensures err { OnErr result (Begins out.old.items out.new.items) }
 {
     let mut label_sets = head.label_sets();
     while let Some(labels) = label_sets.next() {
@@ -73,7 +73,7 @@ pub fn push_store(out: &mut Vec<u8>, head: &Head) -> Result<(), AllocError>
 /// Adds a reason.
 fn push_reason(out: &mut Vec<u8>, reason: Reason) -> Result<(), AllocError>
     ensures ok { OnOk result (out.new.items ≡ out.old.items ++ reason_text reason) }
-    ensures err { OnErr result (Grown out.old.items out.new.items) }
+    ensures err { OnErr result (Begins out.old.items out.new.items) }
 {
     match reason {
         Reason::Status(status) => {
@@ -93,7 +93,7 @@ fn push_reason(out: &mut Vec<u8>, reason: Reason) -> Result<(), AllocError>
 /// an `Err` a part of it may stand in `out`.
 pub fn push_dropped(out: &mut Vec<u8>, name: &(u64, Reason)) -> Result<(), AllocError>
     ensures ok { OnOk result (out.new.items ≡ out.old.items ++ dropped_text name.now) }
-    ensures err { OnErr result (Grown out.old.items out.new.items) }
+    ensures err { OnErr result (Begins out.old.items out.new.items) }
 {
     out.extend_from_slice(b"dropped ")?;
     push_number(out, name.0)?;
@@ -105,7 +105,7 @@ pub fn push_dropped(out: &mut Vec<u8>, name: &(u64, Reason)) -> Result<(), Alloc
 /// Adds the lines of these dropped samples.
 fn push_all_dropped(out: &mut Vec<u8>, names: &[(u64, Reason)]) -> Result<(), AllocError>
     ensures ok { OnOk result (out.new.items ≡ out.old.items ++ flat_map dropped_text names.now) }
-    ensures err { OnErr result (Grown out.old.items out.new.items) }
+    ensures err { OnErr result (Begins out.old.items out.new.items) }
 {
     for name in names {
         push_dropped(out, name)?;
@@ -116,7 +116,7 @@ fn push_all_dropped(out: &mut Vec<u8>, names: &[(u64, Reason)]) -> Result<(), Al
 /// Appends the line that tells how many samples the rules have filtered: `filtered COUNT`. After an `Err` a part of it may stand in `out`.
 pub fn push_filtered(out: &mut Vec<u8>, count: u64) -> Result<(), AllocError>
     ensures ok { OnOk result (out.new.items ≡ out.old.items ++ filtered_text count) }
-    ensures err { OnErr result (Grown out.old.items out.new.items) }
+    ensures err { OnErr result (Begins out.old.items out.new.items) }
 {
     out.extend_from_slice(b"filtered ")?;
     push_number(out, count)?;
@@ -126,7 +126,7 @@ pub fn push_filtered(out: &mut Vec<u8>, count: u64) -> Result<(), AllocError>
 /// Adds the line of a sample that was put and not resolved: `abandoned POS`.
 fn push_abandoned(out: &mut Vec<u8>, pos: u64) -> Result<(), AllocError>
     ensures ok { OnOk result (out.new.items ≡ out.old.items ++ abandoned_text pos) }
-    ensures err { OnErr result (Grown out.old.items out.new.items) }
+    ensures err { OnErr result (Begins out.old.items out.new.items) }
 {
     out.extend_from_slice(b"abandoned ")?;
     push_number(out, pos)?;
@@ -137,7 +137,7 @@ fn push_abandoned(out: &mut Vec<u8>, pos: u64) -> Result<(), AllocError>
 fn push_all_abandoned(out: &mut Vec<u8>, samples: &[u64]) -> Result<(), AllocError>
     ensures ok { OnOk result
         (out.new.items ≡ out.old.items ++ flat_map abandoned_text samples.now) }
-    ensures err { OnErr result (Grown out.old.items out.new.items) }
+    ensures err { OnErr result (Begins out.old.items out.new.items) }
 {
     for pos in samples {
         push_abandoned(out, *pos)?;
@@ -149,7 +149,7 @@ fn push_all_abandoned(out: &mut Vec<u8>, samples: &[u64]) -> Result<(), AllocErr
 fn push_report(out: &mut Vec<u8>, report: &[u8], number: u64) -> Result<(), AllocError>
     ensures ok { OnOk result
         (out.new.items ≡ out.old.items ++ report.now ++ decimal number ++ 10 ∷ []) }
-    ensures err { OnErr result (Grown out.old.items out.new.items) }
+    ensures err { OnErr result (Begins out.old.items out.new.items) }
 {
     out.extend_from_slice(report)?;
     push_number(out, number)?;
@@ -161,7 +161,7 @@ fn push_report(out: &mut Vec<u8>, report: &[u8], number: u64) -> Result<(), Allo
 pub fn push_ending(out: &mut Vec<u8>, outcome: Option<&Outcome>) -> Result<(), AllocError>
     ensures ok { OnOk result (out.new.items
         ≡ out.old.items ++ ending_text (option_map (λ o. ending_of o.now) outcome.entry)) }
-    ensures err { OnErr result (Grown out.old.items out.new.items) }
+    ensures err { OnErr result (Begins out.old.items out.new.items) }
 {
     match outcome {
         None => out.extend_from_slice(b"report running\n"),
@@ -188,7 +188,7 @@ pub fn push_work(
         ≡ out.old.items
         ++ work_text (entries ledger.now.names) filtered
         (option_map (λ o. ending_of o.now) outcome.entry)) }
-    ensures err { OnErr result (Grown out.old.items out.new.items) }
+    ensures err { OnErr result (Begins out.old.items out.new.items) }
 {
     push_all_dropped(out, ledger.iter().as_slice())?;
     push_filtered(out, filtered)?;

@@ -1,6 +1,5 @@
 mod AddressLemmas
 mod EscapeLemmas
-pub mod GrowingLemmas
 mod LabelLemmas
 pub mod LineLemmas
 mod NumberLemmas

@@ -1,5 +1,4 @@
 pub mod Addresses
-pub mod Growing
 pub mod LabelText
 pub mod LineText
 pub mod Numbers

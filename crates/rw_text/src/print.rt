@@ -3,7 +3,7 @@
 ghost use Rattle.std.specs.Prelude.{◌≡◌, ◌++◌, ◌∷◌, [], OnOk, OnErr, map, flat_map};
 ghost use Rattle.rw_types.specs.Labels.{text_label};
 ghost use Rattle.rw_text.specs.LabelText.{escaped, quoted, name_text, label_text, labels_text};
-ghost use Rattle.rw_text.specs.Growing.{Grown};
+ghost use Rattle.rw_types.specs.Beginnings.{Begins};
 
 use crate::bytes::push_byte;
 use rw_types::{LabelSet, is_metric_name};
@@ -25,7 +25,7 @@ fn put_byte(out: &mut Vec<u8>, byte: u8) -> Result<(), AllocError>
 /// Adds the bytes of a text in quotes.
 fn put_bytes(out: &mut Vec<u8>, text: &[u8]) -> Result<(), AllocError>
     ensures ok { OnOk result (out.new.items ≡ out.old.items ++ flat_map escaped text.now) }
-    ensures err { OnErr result (Grown out.old.items out.new.items) }
+    ensures err { OnErr result (Begins out.old.items out.new.items) }
 {
     for byte in text {
         put_byte(out, *byte)?;
@@ -37,7 +37,7 @@ fn put_bytes(out: &mut Vec<u8>, text: &[u8]) -> Result<(), AllocError>
 #[tactic(auto, unfolding(crate::specs::LabelText::quoted))]
 fn put_quoted(out: &mut Vec<u8>, text: &[u8]) -> Result<(), AllocError>
     ensures ok { OnOk result (out.new.items ≡ out.old.items ++ quoted text.now) }
-    ensures err { OnErr result (Grown out.old.items out.new.items) }
+    ensures err { OnErr result (Begins out.old.items out.new.items) }
 {
     push_byte(out, b'"')?;
     put_bytes(out, text)?;
@@ -48,7 +48,7 @@ fn put_quoted(out: &mut Vec<u8>, text: &[u8]) -> Result<(), AllocError>
 #[tactic(auto, unfolding(crate::specs::LabelText::name_text))]
 fn put_name(out: &mut Vec<u8>, name: &[u8]) -> Result<(), AllocError>
     ensures ok { OnOk result (out.new.items ≡ out.old.items ++ name_text name.now) }
-    ensures err { OnErr result (Grown out.old.items out.new.items) }
+    ensures err { OnErr result (Begins out.old.items out.new.items) }
 {
     if is_metric_name(name) {
         return out.extend_from_slice(name);
@@ -59,7 +59,7 @@ fn put_name(out: &mut Vec<u8>, name: &[u8]) -> Result<(), AllocError>
 /// Adds a label.
 fn put_label(out: &mut Vec<u8>, label: &(String, String)) -> Result<(), AllocError>
     ensures ok { OnOk result (out.new.items ≡ out.old.items ++ label_text (text_label label.now)) }
-    ensures err { OnErr result (Grown out.old.items out.new.items) }
+    ensures err { OnErr result (Begins out.old.items out.new.items) }
 {
     put_name(out, label.0.as_bytes())?;
     push_byte(out, b'=')?;
@@ -70,7 +70,7 @@ fn put_label(out: &mut Vec<u8>, label: &(String, String)) -> Result<(), AllocErr
 fn put_next(out: &mut Vec<u8>, label: &(String, String)) -> Result<(), AllocError>
     ensures ok { OnOk result
         (out.new.items ≡ out.old.items ++ 44 ∷ label_text (text_label label.now)) }
-    ensures err { OnErr result (Grown out.old.items out.new.items) }
+    ensures err { OnErr result (Begins out.old.items out.new.items) }
 {
     push_byte(out, b',')?;
     put_label(out, label)
@@ -80,7 +80,7 @@ fn put_next(out: &mut Vec<u8>, label: &(String, String)) -> Result<(), AllocErro
 fn put_more(out: &mut Vec<u8>, labels: &[(String, String)]) -> Result<(), AllocError>
     ensures ok { OnOk result (out.new.items
         ≡ out.old.items ++ flat_map (λ l. 44 ∷ label_text (text_label l)) labels.now ++ 125 ∷ []) }
-    ensures err { OnErr result (Grown out.old.items out.new.items) }
+    ensures err { OnErr result (Begins out.old.items out.new.items) }
 {
     for label in labels {
         put_next(out, label)?;
@@ -92,7 +92,7 @@ fn put_more(out: &mut Vec<u8>, labels: &[(String, String)]) -> Result<(), AllocE
 fn put_labels(out: &mut Vec<u8>, labels: &[(String, String)]) -> Result<(), AllocError>
     ensures ok { OnOk result
         (out.new.items ≡ out.old.items ++ labels_text (map text_label labels.now)) }
-    ensures err { OnErr result (Grown out.old.items out.new.items) }
+    ensures err { OnErr result (Begins out.old.items out.new.items) }
 {
     push_byte(out, b'{')?;
     match labels.split_first() {

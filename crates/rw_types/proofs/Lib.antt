@@ -1,4 +1,5 @@
 pub mod AnswerLemmas
+pub mod BeginningLemmas
 pub mod GatherLemmas
 pub mod HashLemmas
 pub mod JudgeLemmas

@@ -1,3 +1,4 @@
+pub mod Beginnings
 pub mod Gathering
 pub mod Hashing
 pub mod LabelOrder

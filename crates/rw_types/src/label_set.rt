@@ -1,6 +1,6 @@
 //! Label sets, which identify series.
 
-ghost use Rattle.std.specs.Prelude.{◌≡◌, ◌≢◌, ◌↔◌, Some, IfOk, IfErr, IfSome, MatchOption, OnOk, map, take, true, string_bytes, length, vec_len, nat_lt, ◌||◌, ◌++◌, ◌≤◌, []};
+ghost use Rattle.std.specs.Prelude.{◌≡◌, ◌≢◌, ◌↔◌, Some, IfOk, IfErr, MatchOption, OnOk, map, take, true, string_bytes, length, vec_len, nat_lt, ◌||◌, ◌++◌, ◌≤◌, []};
 ghost use Rattle.std.specs.Str.{is_utf8};
 ghost use Rattle.std.specs.List.{list_all};
 ghost use Rattle.std.specs.Ordering.{is_eq};

@@ -12,7 +12,7 @@ use Rattle.rw_shard_core.specs.declared.config.Target.{Target}
 use Rattle.rw_shard_core.specs.Shard.{labelled, body_of, IsReadAgain, can_send, request_for}
 use Rattle.rw_machine.specs.Shards.{Shard}
 use Rattle.rw_shard_core.specs.SentRequest.{request_of, request_head}
-use Rattle.rw_head.specs.Head.{State, Answer, IsMessage, answer, answer_to, answered, judged_body}
+use Rattle.rw_head.specs.Head.{State, Answer, SpellsMessage, answer, answer_to, answered, judged_body}
 use Rattle.rw_head.specs.Store.{Store}
 use Rattle.rw_head.specs.Verdicts.{judged, taken_all}
 use Rattle.rw_head.specs.declared.verdict.Verdict.{Verdict}
@@ -68,7 +68,7 @@ read_answered old new batch status is a v =
     let same : answer old (body_of batch) ≡ answer_to old (Ok (message (map labelled batch))) = ap (answer_to old) is in
     ⊎_elim
     (λ (p : (status ≡ (answer old (body_of batch)).status) × (new ≡ (answer old (body_of batch)).head)). inl (p.0 ∙ ap (λ (x : Answer). x.status) same, p.1 ∙ ap (λ (x : Answer). x.head) same, verdict_code status v))
-    (λ (q : (status ≡ 503) × (new ≡ old) × (old.busy ≡ 0) × IsMessage (body_of batch)). inr (q.0, q.1))
+    (λ (q : (status ≡ 503) × (new ≡ old) × (old.busy ≡ 0) × SpellsMessage (body_of batch)). inr (q.0, q.1))
     a
 
 answered_by : (old new : State) (batch : List Placed) (r : Result ℕ AllocError) → IsReadAgain batch → IsAnswered HasAnswered (body_of batch) old r new → IsReplied (answer_to old (Ok (message (map labelled batch)))) old r new
