@@ -1,13 +1,15 @@
 -- A history with one item more, and the beginnings of a history.
-use Rattle.std.proofs.Common.{◌≡◌, inl, inr, ℕ, ◌<◌, ◌≤◌, ◌^◌, false, true≢false, List, [], ◌∷◌, ◌++◌, length, Some, refl, sym, ap, ◌∙◌, subst, append_assoc, append-nil, length-append, arith}
+use Rattle.std.proofs.Common.{◌≡◌, inl, inr, ℕ, ◌<◌, ◌≤◌, ◌^◌, false, true≢false, List, [], ◌∷◌, ◌++◌, length, Some, refl, sym, ap, ◌∙◌, append_assoc, append-nil, length-append, arith}
 use Rattle.std.specs.Prelude.{slice_get}
+use Rattle.rw_types.specs.Rising.{Rises}
+use Rattle.rw_types.proofs.RisingLemmas.{AllByRecursion-from_get, Rises-left, Rises-push}
 use Rattle.rw_types.specs.declared.place.Place.{Place}
 use Rattle.rw_plain_queue.specs.declared.item.Kind.{Kind}
 use Rattle.rw_plain_queue.specs.declared.item.Item.{Item}
 use Rattle.rw_plain_queue.specs.declared.item.Item.TheVariants.{Sample, Flush, End}
 use Rattle.rw_plain_queue.specs.Items.{places_in, is_end, samples_in}
-use Rattle.rw_plain_queue.specs.History.{IsNamed, IsNumbered, Rises, EndIsLast, IsFew, IsHistory, MayFollow, IsOpen, IsEnded}
-use Rattle.rw_plain_queue.proofs.Lists.{get_snoc, get_front, get_below, cut_snoc, no_front, cut_not_nil}
+use Rattle.rw_plain_queue.specs.History.{IsNamed, IsNumbered, StandsBefore, EndIsLast, IsFew, IsHistory, MayFollow, IsOpen, IsEnded}
+use Rattle.rw_plain_queue.proofs.Lists.{get_snoc, get_front, cut_snoc, no_front, cut_not_nil}
 
 pub places_in-append : (xs ys : List Item) → places_in (xs ++ ys) ≡ places_in xs ++ places_in ys
 places_in-append [] ys = refl
@@ -40,16 +42,7 @@ history-sample epoch shard put x p h open' one in_epoch in_shard next room later
     let same : places_in (put ++ x ∷ []) ≡ ps ++ p ∷ [] = places_in-append put (x ∷ []) ∙ ap (λ qs. ps ++ qs) one in record {
       named = rw same (λ k q e. elim (get_snoc ps p q k e) [ inl was ↦ h.named k q was | inr new ↦ (ap (λ (r : Place). r.epoch) (sym new.1) ∙ in_epoch, ap (λ (r : Place). r.shard) (sym new.1) ∙ in_shard) ]);
       numbered = rw same (λ k q e. elim (get_snoc ps p q k e) [ inl was ↦ h.numbered k q was | inr new ↦ ap (λ (r : Place). r.seq) (sym new.1) ∙ next ∙ sym new.0 ]);
-      rising = rw same (λ j k a b lt ea eb. elim (get_snoc ps p b k eb) [
-        | inl was ↦ elim (get_snoc ps p a j ea) [
-          | inl early ↦ h.rising j k a b lt early was
-          | inr early ↦ absurd (let below = get_below ps k b was in let at = early.0 in omega arith)
-        ]
-        | inr new ↦ elim (get_snoc ps p a j ea) [
-          | inl early ↦ subst (λ (r : Place). a.pos < r.pos) new.1 (later j a early)
-          | inr early ↦ absurd (let at = early.0 in let there = new.0 in omega arith)
-        ]
-      ]);
+      rising = rw same (Rises-push StandsBefore ps p h.rising (AllByRecursion-from_get (λ q. StandsBefore q p) ps later));
       ending = last-push put x open';
       few = room;
     }
@@ -71,7 +64,7 @@ pub history-nil : (epoch shard : ℕ) → IsHistory epoch shard []
 history-nil epoch shard = record {
   named = λ k p e. absurd (cc);
   numbered = λ k p e. absurd (cc);
-  rising = λ j k p q lt e. absurd (cc);
+  rising = tt;
   ending = λ before after kind e. absurd (cut_not_nil before after (End kind) e);
   few = omega arith;
 }
@@ -86,10 +79,10 @@ history-front epoch shard taken rest h =
     let all : places_in (taken ++ rest) ≡ ps ++ places_in rest = places_in-append taken rest in
     let named : IsNamed epoch shard (ps ++ places_in rest) = rw all at h.named in
     let numbered : IsNumbered (ps ++ places_in rest) = rw all at h.numbered in
-    let rising : Rises (ps ++ places_in rest) = rw all at h.rising in record {
+    let rising : Rises StandsBefore (ps ++ places_in rest) = rw all at h.rising in record {
       named = λ k p e. named k p (get_front ps (places_in rest) k p e);
       numbered = λ k p e. numbered k p (get_front ps (places_in rest) k p e);
-      rising = λ j k p q lt e e'. rising j k p q lt (get_front ps (places_in rest) j p e) (get_front ps (places_in rest) k q e');
+      rising = Rises-left StandsBefore ps (places_in rest) rising;
       ending = λ before after kind e. no_front after rest (h.ending before (after ++ rest) kind (ap (λ xs. xs ++ rest) e ∙ append_assoc before (End kind ∷ after) rest));
       few = let whole : length (ps ++ places_in rest) ≤ 2 ^ 60 = rw all at h.few in omega (arith, length-append ps (places_in rest));
     }

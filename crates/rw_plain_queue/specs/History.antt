@@ -1,5 +1,6 @@
 -- What may go through one queue (Remote-Write 1.0: the samples of a series go out in order): the items put, oldest first.
 use Rattle.std.specs.Prelude.{◌≡◌, ℕ, ◌<◌, ◌≤◌, ◌^◌, List, [], ◌∷◌, ◌++◌, length, Some, slice_get, ⊤}
+use Rattle.rw_types.specs.Rising.{Rises}
 use Rattle.rw_types.specs.declared.place.Place.{Place}
 use Rattle.rw_plain_queue.specs.declared.item.Kind.{Kind}
 use Rattle.rw_plain_queue.specs.declared.item.Item.{Item}
@@ -14,9 +15,9 @@ IsNamed epoch shard ps = (k : ℕ) (p : Place) → slice_get ps k ≡ Some p →
 abbrev pub IsNumbered : List Place → Type 0
 IsNumbered ps = (k : ℕ) (p : Place) → slice_get ps k ≡ Some p → p.seq ≡ k
 
--- the positions of the samples rise strictly
-abbrev pub Rises : List Place → Type 0
-Rises ps = (j k : ℕ) (p q : Place) → j < k → slice_get ps j ≡ Some p → slice_get ps k ≡ Some q → p.pos < q.pos
+-- the first has the lower position
+abbrev pub StandsBefore : Place → Place → Type 0
+StandsBefore p q = p.pos < q.pos
 
 -- nothing stands after an End
 abbrev pub EndIsLast : List Item → Type 0
@@ -30,7 +31,7 @@ IsFew put = length (places_in put) ≤ 2 ^ 60
 pub record IsHistory (epoch shard : ℕ) (put : List Item) : Type 0 where
   pub named : IsNamed epoch shard (places_in put)
   pub numbered : IsNumbered (places_in put)
-  pub rising : Rises (places_in put)
+  pub rising : Rises StandsBefore (places_in put)
   pub ending : EndIsLast put
   pub few : IsFew put
 

@@ -3,8 +3,9 @@ use Rattle.std.proofs.Common.{◌≡◌, ℕ, suc, ◌<◌, ◌≤◌, ◌^◌, 
 use Rattle.std.proofs.lemmas.List.{map-append, length-map}
 use Rattle.std.specs.Prelude.{slice_get}
 use Rattle.rw_types.specs.declared.place.Place.{Place}
+use Rattle.rw_types.proofs.RisingLemmas.{Rises-get}
 use Rattle.rw_plain_queue.specs.Items.{Placed, samples_in, places_in}
-use Rattle.rw_plain_queue.specs.History.{IsHistory}
+use Rattle.rw_plain_queue.specs.History.{IsHistory, StandsBefore}
 use Rattle.rw_plain_queue.specs.declared.item.Item.{Item}
 use Rattle.rw_plain_queue.specs.declared.item.Item.TheVariants.{Sample, Flush, End}
 use Rattle.rw_plain_queue.proofs.Histories.{places_in-append}
@@ -44,7 +45,7 @@ follows epoch shard items x next last ys h one is =
     let a : last.place.seq ≡ length qs = h.numbered (length qs) last.place at_last in
     let b : next.place.seq ≡ suc (length qs) = h.numbered (suc (length qs)) next.place at_next in
     let lt : length qs < suc (length qs) = omega arith in
-    (omega arith, h.rising (length qs) (suc (length qs)) last.place next.place lt at_last at_next)
+    (omega arith, Rises-get StandsBefore (places_in (items ++ x ∷ [])) (length qs) (suc (length qs)) last.place next.place h.rising lt at_last at_next)
 
 pub may-take : (epoch shard : ℕ) (items : List Item) (x : Item) (c : Core) → c.taken ≡ samples_in items → c.epoch ≡ epoch → c.shard ≡ shard → IsHistory epoch shard (items ++ x ∷ []) → MayTake x c
 may-take epoch shard items (Sample p t w l) c taken in_epoch in_shard h =
