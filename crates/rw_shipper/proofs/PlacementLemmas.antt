@@ -7,12 +7,14 @@ use Rattle.std.proofs.lemmas.Bool.{eq-eqb, eqb-true}
 use Rattle.std.proofs.lemmas.Option.{same_Some}
 use Rattle.rw_worker.specs.Setups.{Setup}
 use Rattle.rw_plain_queue.specs.Items.{Placed, samples_in}
-use Rattle.rw_fleet.specs.ShardHistories.{ShardHistory, AreSame, AreFresh, IsPut, put_as}
+use Rattle.rw_plain_queue.specs.declared.item.Kind.TheVariants.{Reshard}
+use Rattle.rw_fleet.specs.Work.{AreEndedBy}
+use Rattle.rw_fleet.specs.ShardHistories.{ShardHistory, put_into, AreSame, AreFresh, IsPut, put_as}
 use Rattle.rw_router.specs.declared.sample.RoutedSample.{RoutedSample}
 use Rattle.rw_fleet.proofs.LaneLemmas.{same_length}
 use Rattle.rw_feeder.specs.Feeders.{sent_by}
 use Rattle.rw_feeder.specs.Logs.{Sent}
-use Rattle.rw_shipper.specs.Placement.{as_sent, put_in, shard_of, of_shard, IsKept, AreKept, IsDealt, Places, joined, IsPlacing, ArePlaced}
+use Rattle.rw_shipper.specs.Placement.{as_sent, put_in, shard_of, of_shard, IsKept, AreKept, IsDealt, Places, joined, IsShardCount, AreTurned, IsPlacing, ArePlaced}
 
 same_get : (ps qs : List ShardHistory) (k : ℕ) (q : ShardHistory) → AreSame ps qs → slice_get qs k ≡ Some q → (p : ShardHistory) × (slice_get ps k ≡ Some p) × (q.setup ≡ p.setup) × (put_in q ≡ put_in p)
 same_get [] [] k q h e = absurd (let n : None ≡ Some q = e in cc)
@@ -72,23 +74,35 @@ joined_push : (es : List (List ShardHistory)) (qs : List ShardHistory) → joine
 joined_push [] qs = append-nil qs
 joined_push (x ∷ xs) qs = ap (λ l. x ++ l) (joined_push xs qs) ∙ sym (append_assoc x (joined xs) qs)
 
--- all shards of the epoch ended
-pub placing_closed : (e more : ℕ) (ended current closed all : List ShardHistory) (s : List Sent) → IsPlacing e ended current s → AreSame current closed → all ≡ ended ++ closed → more ≡ e + 1 → IsPlacing more all [] s
-placing_closed e more ended current closed all s h same is next = record {
+turned_push : (es : List (List ShardHistory)) (qs : List ShardHistory) → AreTurned es → IsShardCount (length qs) → AreEndedBy Reshard (map put_into qs) → AreTurned (es ++ qs ∷ [])
+turned_push [] qs t n by = (n, by, tt)
+turned_push (x ∷ xs) qs t n by = (t.0, t.1, turned_push xs qs t.2 n by)
+
+-- all shards of the epoch ended: it is one of the epochs
+pub whole_is : (e : ℕ) (ended current closed all : List ShardHistory) (s : List Sent) → (h : IsPlacing e ended current s) → all ≡ ended ++ closed → all ≡ joined (h.epochs ++ closed ∷ [])
+whole_is e ended current closed all s h is = is ∙ ap (λ l. l ++ closed) h.ended_is ∙ sym (joined_push h.epochs closed)
+
+pub whole_placed : (e : ℕ) (ended current closed : List ShardHistory) (s : List Sent) → (h : IsPlacing e ended current s) → AreSame current closed → Places 0 (h.epochs ++ closed ∷ []) s
+whole_placed e ended current closed s h same =
+    subst (Places 0 (h.epochs ++ closed ∷ [])) (sym h.all) (places_push 0 e h.epochs closed h.before h.fresh h.placed (h.numbered ∙ sym (zero-add (length h.epochs))) (dealt_same e current closed h.fresh h.dealt same))
+
+pub placing_whole : (e : ℕ) (ended current closed all : List ShardHistory) (s : List Sent) → IsPlacing e ended current s → AreSame current closed → all ≡ ended ++ closed → ArePlaced all s
+placing_whole e ended current closed all s h same is = (h.epochs ++ closed ∷ [], whole_is e ended current closed all s h is, whole_placed e ended current closed s h same)
+
+-- and the next epoch has no shard yet
+pub placing_closed : (e more : ℕ) (ended current closed all : List ShardHistory) (s : List Sent) → IsPlacing e ended current s → AreSame current closed → all ≡ ended ++ closed → IsShardCount (length current) → AreEndedBy Reshard (map put_into closed) → more ≡ e + 1
+    → IsPlacing more all [] s
+placing_closed e more ended current closed all s h same is number by next = record {
   epochs = h.epochs ++ closed ∷ [];
-  ended_is = is ∙ ap (λ l. l ++ closed) h.ended_is ∙ sym (joined_push h.epochs closed);
+  ended_is = whole_is e ended current closed all s h is;
   numbered = let a = h.numbered in omega (arith, length-append h.epochs (closed ∷ []));
+  turned = turned_push h.epochs closed h.turned (subst IsShardCount (sym (same_length current closed same)) number) by;
   before = s;
   fresh = [];
   all = sym (append-nil s);
-  placed = subst (Places 0 (h.epochs ++ closed ∷ [])) (sym h.all) (places_push 0 e h.epochs closed h.before h.fresh h.placed (h.numbered ∙ sym (zero-add (length h.epochs))) (dealt_same e current closed h.fresh h.dealt same));
+  placed = whole_placed e ended current closed s h same;
   dealt = record { each = λ k q at. absurd (let at' : None ≡ Some q = at in cc); none = λ _. refl };
 }
-
--- no shard is at work: all have ended
-pub placing_whole : (e : ℕ) (ended : List ShardHistory) (s : List Sent) → IsPlacing e ended [] s → ArePlaced ended s
-placing_whole e ended s h =
-    (h.epochs, h.ended_is, subst (Places 0 h.epochs) (sym (append-nil h.before) ∙ ap (λ l. h.before ++ l) (sym (h.dealt.none refl)) ∙ sym h.all) h.placed)
 
 -- the next epoch's shards, with nothing put
 pub placing_opened : (e : ℕ) (ended current : List ShardHistory) (s : List Sent) → IsPlacing e ended [] s → AreFresh e current → IsPlacing e ended current s
@@ -97,6 +111,7 @@ placing_opened e ended current s h new =
       epochs = h.epochs;
       ended_is = h.ended_is;
       numbered = h.numbered;
+      turned = h.turned;
       before = h.before;
       fresh = h.fresh;
       all = h.all;
@@ -173,6 +188,7 @@ placing_put e k ended qs after s x sample h put is here =
       epochs = h.epochs;
       ended_is = h.ended_is;
       numbered = h.numbered;
+      turned = h.turned;
       before = h.before;
       fresh = h.fresh ++ x' ∷ [];
       all = ap (λ l. l ++ x' ∷ []) h.all ∙ append_assoc h.before h.fresh (x' ∷ []);
@@ -186,6 +202,7 @@ placing_same e ended qs after s h same = record {
   epochs = h.epochs;
   ended_is = h.ended_is;
   numbered = h.numbered;
+  turned = h.turned;
   before = h.before;
   fresh = h.fresh;
   all = h.all;
@@ -199,6 +216,7 @@ placing_begun ended current a b = record {
   epochs = [];
   ended_is = a;
   numbered = refl;
+  turned = tt;
   before = [];
   fresh = [];
   all = refl;

@@ -1,5 +1,5 @@
 -- What a shipper keeps, with one entry more.
-use Rattle.std.proofs.Common.{◌≡◌, inl, inr, ℕ, ℤ, zero, suc, ◌+◌, ◌<◌, ◌≤◌, List, [], ◌∷◌, ◌++◌, length, map, Some, None, refl, sym, ap, ◌∙◌, subst, append_assoc, append-nil, arith}
+use Rattle.std.proofs.Common.{◌≡◌, inl, inr, ℕ, ℤ, zero, suc, ◌+◌, ◌<◌, ◌≤◌, List, [], ◌∷◌, ◌++◌, length, map, drop, Some, None, refl, sym, ap, ◌∙◌, subst, append_assoc, append-nil}
 use Rattle.std.specs.Prelude.{◌%◌, Bool, true, false, set, slice_get, Option, Result, Ok, Err, OnOk, IfSome, is_err, is_some}
 use Rattle.std.proofs.lemmas.List.{length-set, map-append}
 use Rattle.std.proofs.lemmas.Option.{same_Some}
@@ -10,9 +10,10 @@ use Rattle.rw_types.specs.declared.entry.Entry.TheVariants as entry
 use Rattle.rw_types.specs.declared.place.Place.{Place}
 use Rattle.rw_relabel.specs.declared.choice.Choice.{Choice}
 use Rattle.rw_plain_queue.specs.Items.{places_in}
+use Rattle.rw_plain_queue.specs.declared.item.Kind.{Kind}
 use Rattle.rw_plain_queue.specs.declared.item.Kind.TheVariants.{Reshard}
-use Rattle.rw_fleet.specs.ShardHistories.{ShardHistory, AreFresh, AreSame, IsPut, marked, marks_of}
-use Rattle.rw_fleet.specs.Work.{lane_of, finished_of, AreResolved, HasCut}
+use Rattle.rw_fleet.specs.ShardHistories.{ShardHistory, put_into, AreFresh, AreSame, IsPut, marked, marks_of}
+use Rattle.rw_fleet.specs.Work.{AreEndedBy, lane_of, put_by, finished_of, AreResolved, HasCut}
 use Rattle.rw_fleet.specs.declared.running.Fault.{Fault}
 use Rattle.rw_fleet.specs.Fleets.{Shards, AreAll, EndBy, HasClosed}
 use Rattle.rw_fleet.specs.declared.joined.Finished.{Finished}
@@ -24,7 +25,7 @@ use Rattle.rw_router.specs.declared.sample.RoutedSample.{RoutedSample}
 use Rattle.rw_feeder.specs.Feeders.{Sorting, HasPlaced, HasRead, sent_by}
 use Rattle.rw_router.specs.Fates.{Fate, Drops, Filters, Sends, fate}
 use Rattle.rw_feeder.specs.Logs.{Sent, kept_sample, sent_by_fate, sent_of, sent}
-use Rattle.rw_shipper.specs.Placement.{shard_of, IsPlacing, ArePlaced, AreKept}
+use Rattle.rw_shipper.specs.Placement.{shard_of, IsShardCount, IsPlacing, ArePlaced, AreKept}
 use Rattle.rw_wal_format.specs.Pieces.{Piece, reading}
 use Rattle.rw_wal_format.specs.Segments.{segment}
 use Rattle.rw_wal_format.specs.declared.tail_fault.TailFault.{TailFault}
@@ -178,17 +179,26 @@ module _ {T : Type 0} where
       subst (λ n. o.pos < n) (sent_pos old.choice old.placed e (sent_by l) is) (placing_below was.epoch (length old.placed) j (map lane_of was.ended) was.current old.choice old.placed lane h refl at k o there)
 
 module _ {T : Type 0} where
+  -- the shards behind the first ones have ended so
+  pub ends_behind : (kind : Kind) (xs ys : List (StoppedShard T)) → AreEndedBy kind (drop (length xs) (map put_by (map finished_of (xs ++ ys)))) → AreEndedBy kind (map put_into (map lane_of ys))
+  ends_behind kind [] [] h = tt
+  ends_behind kind [] (y ∷ ys) h = (h.0, ends_behind kind [] ys h.1)
+  ends_behind kind (x ∷ xs) ys h = ends_behind kind xs ys h
+
+  pub ends_last : (kind : Kind) (was : Shards T) (all : List (StoppedShard T)) → (ended : AreAll was all) → EndBy kind was (map finished_of all) → AreEndedBy kind (map put_into (map lane_of ended.0))
+  ends_last kind was all ended by = ends_behind kind was.ended ended.0 (subst (λ (js : List (StoppedShard T)). EndBy kind was (map finished_of js)) ended.1 by)
+
+  pub all_is : (was : Shards T) (all : List (StoppedShard T)) → (ended : AreAll was all) → map lane_of all ≡ map lane_of was.ended ++ map lane_of ended.0
+  all_is was all ended = ap (map lane_of) ended.1 ∙ map-append lane_of was.ended ended.0
+
   -- all shards at work have ended
-  pub places_closed : (log : Sorting) (was : Shards T) (more : ℕ) (all : List (StoppedShard T)) → PlacesAll log was → AreAll was all → more ≡ was.epoch + 1 → IsPlacing more (map lane_of all) [] (sent log.choice log.placed)
-  places_closed log was more all h ended next =
-      placing_closed was.epoch more (map lane_of was.ended) was.current (map lane_of ended.0) (map lane_of all) (sent log.choice log.placed) h ended.2 (ap (map lane_of) ended.1 ∙ map-append lane_of was.ended ended.0) next
-
   pub places_whole : (log : Sorting) (was : Shards T) (all : List (StoppedShard T)) → PlacesAll log was → AreAll was all → ArePlaced (map lane_of all) (sent log.choice log.placed)
-  places_whole log was all h ended = placing_whole (was.epoch + 1) (map lane_of all) (sent log.choice log.placed) (places_closed log was (was.epoch + 1) all h ended refl)
+  places_whole log was all h ended = placing_whole was.epoch (map lane_of was.ended) was.current (map lane_of ended.0) (map lane_of all) (sent log.choice log.placed) h ended.2 (all_is was all ended)
 
-  pub places_shut : (log : Sorting) (was closed : Shards T) → PlacesAll log was → HasClosed was closed → PlacesAll log closed
-  places_shut log was closed h shut =
-      subst (λ ls. IsPlacing closed.epoch (map lane_of closed.ended) ls (sent log.choice log.placed)) (sym shut.2) (places_closed log was closed.epoch closed.ended h shut.3 shut.1)
+  pub places_shut : (log : Sorting) (was closed : Shards T) (f : Option Fault) → PlacesAll log was → IsReady log was f → f ≡ None → HasClosed was closed → PlacesAll log closed
+  places_shut log was closed f h ready none shut =
+      subst (λ ls. IsPlacing closed.epoch (map lane_of closed.ended) ls (sent log.choice log.placed)) (sym shut.2)
+      (placing_closed was.epoch closed.epoch (map lane_of was.ended) was.current (map lane_of shut.3.0) (map lane_of closed.ended) (sent log.choice log.placed) h shut.3.2 (all_is was closed.ended shut.3) (subst (IsReady log was) none ready).1 (ends_last Reshard was closed.ended shut.3 shut.4) shut.1)
 
   -- and the next ones are opened
   pub places_opened : (log : Sorting) (closed opened : Shards T) → PlacesAll log closed → closed.current ≡ [] → opened ≡ record closed { current = opened.current } → AreFresh opened.epoch opened.current → PlacesAll log opened
@@ -211,9 +221,9 @@ module _ {T : Type 0} where
       subst (λ (f : Shards T). PlacesAll log f) (sym is) (placing_same was.epoch (map lane_of was.ended) was.current now.current (sent log.choice log.placed) h same)
 
   -- a shipper that had not failed has not failed with the next shards
-  pub ready_next : (log : Sorting) (was now : Shards T) (f : Option Fault) (n : ℕ) → IsReady log was f → length now.current ≡ n → 1 ≤ n → IsReady log now f
-  ready_next log was now None n h len some = (h.0, omega arith)
-  ready_next log was now (Some f) n h len some = tt
+  pub ready_next : (log : Sorting) (was now : Shards T) (f : Option Fault) (n : ℕ) → IsReady log was f → length now.current ≡ n → IsShardCount n → IsReady log now f
+  ready_next log was now None n h len number = (h.0, subst IsShardCount (sym len) number)
+  ready_next log was now (Some f) n h len number = tt
 
   -- what is counted where the next epoch begins, and behind a mark in each queue
   pub reckoned_fresh : (cuts : Counting) (now : Shards T) (f : Option Fault) (n : ℕ) → AreFull cuts.limit cuts.rooms → length now.current ≡ n → n ≤ 1000 → AreFresh now.epoch now.current → IsReckoned cuts now f
@@ -225,7 +235,7 @@ module _ {T : Type 0} where
   reckoned_marked old new was now (Some f) h same full is = tt
 
   pub ready_same : (log : Sorting) (was now : Shards T) (f : Option Fault) → IsReady log was f → AreSame was.current now.current → IsReady log now f
-  ready_same log was now None h same = (h.0, let n = same_length was.current now.current same in let some = h.1 in omega arith)
+  ready_same log was now None h same = (h.0, subst IsShardCount (sym (same_length was.current now.current same)) h.1)
   ready_same log was now (Some f) h same = tt
 
 module _ {T : Type 0} (tells : T → Type 0) (seen : T → List Exchange) (is_for : ℕ → ℕ → T → Type 0) where

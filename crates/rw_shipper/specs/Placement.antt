@@ -1,7 +1,9 @@
 -- Where the samples of a log went (Remote-Write 1.0: the samples of a series go out in order): each to the shard of its series, epoch after epoch.
-use Rattle.std.specs.Prelude.{◌≡◌, ℕ, suc, ◌%◌, ◌==◌, List, [], ◌∷◌, ◌++◌, length, map, filter, Some, slice_get, ⊤}
+use Rattle.std.specs.Prelude.{◌≡◌, ℕ, suc, ◌≤◌, ◌%◌, ◌==◌, List, [], ◌∷◌, ◌++◌, length, map, filter, Some, slice_get, ⊤}
 use Rattle.rw_plain_queue.specs.Items.{Placed, samples_in}
-use Rattle.rw_fleet.specs.ShardHistories.{ShardHistory}
+use Rattle.rw_plain_queue.specs.declared.item.Kind.TheVariants.{Reshard}
+use Rattle.rw_fleet.specs.ShardHistories.{ShardHistory, put_into}
+use Rattle.rw_fleet.specs.Work.{AreEndedBy}
 use Rattle.rw_feeder.specs.Logs.{Sent}
 
 -- a sample that was put, without the shard's numbers
@@ -44,11 +46,21 @@ abbrev pub joined : List (List ShardHistory) → List ShardHistory
 joined [] = []
 joined (lanes ∷ later) = lanes ++ joined later
 
+-- an epoch has 1 to 1000 shards
+abbrev pub IsShardCount : ℕ → Type 0
+IsShardCount n = (1 ≤ n) × (n ≤ 1000)
+
+-- each of these epochs had so many shards, and they were ended because their number changed
+abbrev pub AreTurned : List (List ShardHistory) → Type 0
+AreTurned [] = ⊤
+AreTurned (lanes ∷ later) = IsShardCount (length lanes) × AreEndedBy Reshard (map put_into lanes) × AreTurned later
+
 -- the shards that ended and those of this epoch were put these samples
 pub record IsPlacing (epoch : ℕ) (ended : List ShardHistory) (current : List ShardHistory) (samples : List Sent) : Type 0 where
   pub epochs : List (List ShardHistory)
   pub ended_is : ended ≡ joined epochs
   pub numbered : epoch ≡ length epochs
+  pub turned : AreTurned epochs
   pub before : List Sent
   pub fresh : List Sent
   pub all : samples ≡ before ++ fresh

@@ -1,5 +1,5 @@
 -- What contracts see of a shipper.
-use Rattle.std.specs.Prelude.{◌≡◌, ◌⊎◌, ◌<◌, List, [], ◌∷◌, ◌++◌, length, map, Option, Some, None, Result, Ok, Err, ⊤, ℕ}
+use Rattle.std.specs.Prelude.{◌≡◌, ◌⊎◌, List, [], ◌∷◌, ◌++◌, length, map, Option, Some, None, Result, Ok, Err, ⊤, ℕ}
 use Rattle.rw_worker.specs.Transcript.{Exchange}
 use Rattle.rw_fleet.specs.ShardHistories.{AreSetUp, marks_of}
 use Rattle.rw_plain_queue.specs.declared.item.Kind.TheVariants.{Reshard}
@@ -18,7 +18,7 @@ use Rattle.rw_feeder.specs.Feeders.{Sorting, HasRead}
 use Rattle.rw_feeder.specs.Logs.{sent, named, dropped, filtered}
 use Rattle.rw_batch_bytes.specs.Rooms.{Counting}
 use Rattle.rw_shipper.specs.Cutting.{AreCounted}
-use Rattle.rw_shipper.specs.Placement.{IsPlacing, ArePlaced, AreKept}
+use Rattle.rw_shipper.specs.Placement.{IsShardCount, IsPlacing, ArePlaced, AreKept}
 use Rattle.rw_shipper.specs.declared.place.Progress.{Progress}
 use Rattle.rw_shipper.specs.declared.place.Progress.TheVariants.{Placed, End}
 use Rattle.rw_shipper.specs.declared.place.Progress.TheVariants as progress
@@ -38,9 +38,9 @@ pub record Shipping (T : Type 0) : Type 0 where
 abbrev pub PlacesAll : {T : Type 0} → Sorting → Shards T → Type 0
 PlacesAll log fleet = IsPlacing fleet.epoch (map lane_of fleet.ended) fleet.current (sent log.choice log.placed)
 
--- while it has not failed no entry waits, and there is a shard
+-- while it has not failed no entry waits, and there are shards
 abbrev pub IsReady : {T : Type 0} → Sorting → Shards T → Option Fault → Type 0
-IsReady log fleet None = (log.hand ≡ []) × (0 < length fleet.current)
+IsReady log fleet None = (log.hand ≡ []) × IsShardCount (length fleet.current)
 IsReady log fleet (Some f) = ⊤
 
 -- while it has not failed what the queues were put since their last marks is counted

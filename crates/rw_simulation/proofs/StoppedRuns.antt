@@ -1,5 +1,5 @@
 -- A shipper that was stopped in order, and left nothing, is a run of the machine.
-use Rattle.std.proofs.Common.{◌≡◌, ℕ, zero, suc, ◌+◌, ◌-◌, ◌<◌, ◌≤◌, ◌==◌, Bool, true, false, cond, List, [], ◌∷◌, ◌++◌, map, length, drop, Option, None, Some, is_some, slice_get, refl, sym, ap, ◌∙◌, subst, append-nil, append_assoc, arith, ◌⊎◌, inl, inr}
+use Rattle.std.proofs.Common.{◌≡◌, ℕ, zero, suc, ◌+◌, ◌-◌, ◌<◌, ◌≤◌, ◌==◌, Bool, true, false, cond, List, [], ◌∷◌, ◌++◌, map, length, Option, None, Some, is_some, slice_get, refl, sym, ap, ◌∙◌, subst, append-nil, append_assoc, arith, ◌⊎◌, inl, inr}
 use Rattle.std.specs.List.{list_all}
 use Rattle.std.proofs.lemmas.List.{length-drop}
 use Rattle.std.proofs.lemmas.Bool.{eq-eqb, eqb-true, and_parts}
@@ -25,19 +25,21 @@ use Rattle.rw_shard_core.specs.declared.outcome.Outcome.{Outcome}
 use Rattle.rw_shard_core.specs.declared.outcome.Outcome.TheVariants as outcome
 use Rattle.rw_worker.specs.Transcript.{Exchange}
 use Rattle.rw_worker.specs.Setups.{start_of}
-use Rattle.rw_worker.specs.Setups as setups
 use Rattle.rw_worker.specs.Steps.{Working, Step, Takes, Freezes, Sends, Waits, AreSteps, after, after_step, items_of}
-use Rattle.rw_fleet.specs.ShardHistories.{ShardHistory, IsSetUp, AreSetUp, AreSame, put_into}
-use Rattle.rw_fleet.specs.Work.{IsWorked, AreWorked, AreResolved, AreEndedBy, IsEndedBy, lane_of, finished_of, put_of, put_by, is_compared, is_resolved, positions_in}
+use Rattle.rw_fleet.specs.ShardHistories.{ShardHistory, IsSetUp, AreSetUp, put_into}
+use Rattle.rw_fleet.specs.Work.{IsWorked, AreWorked, AreResolved, AreEndedBy, IsEndedBy, lane_of, finished_of, put_of, is_compared, is_resolved, positions_in}
 use Rattle.rw_fleet.specs.declared.joined.StoppedShard.{StoppedShard}
 use Rattle.rw_fleet.specs.declared.joined.Finished.{Finished}
+use Rattle.rw_fleet.specs.Fleets.{EndBy}
 use Rattle.rw_fleet.proofs.LaneLemmas.{same_length}
 use Rattle.rw_feeder.specs.Feeders.{HasRead}
 use Rattle.rw_feeder.specs.Logs.{Sent, sent, sent_of, filtered}
-use Rattle.rw_shipper.specs.Placement.{IsDealt, Places, joined}
+use Rattle.rw_shipper.specs.Placement.{IsDealt, IsShardCount, AreTurned, Places, joined}
 use Rattle.rw_shipper.specs.Reports.{IsAbandoned}
 use Rattle.rw_shipper.specs.Shipping.{Shipping, HasStopped, Ends}
 use Rattle.rw_shipper.specs.declared.report.Report.{Report}
+use Rattle.rw_shipper.proofs.PlacementLemmas.{whole_is, whole_placed}
+use Rattle.rw_shipper.proofs.ShippingLemmas.{all_is, ends_last}
 use Rattle.rw_machine.specs.Shards.{Shard, is_drained, shard_end, shard_flush}
 use Rattle.rw_machine.specs.Worlds.{Setup, World, Complete, start, log, ended_as, report}
 use Rattle.rw_machine.specs.Steps.{happens, mark, unless_over}
@@ -51,7 +53,7 @@ use Rattle.rw_simulation.specs.EpochRuns.{ShardFate, end_in, IsAllPut, Reaches}
 use Rattle.rw_simulation.specs.FleetRuns.{IsShardRun, fate_by, fate_at}
 use Rattle.rw_simulation.specs.StoppedShards.{IsShardOf}
 use Rattle.rw_machine.specs.Endings.{ending_of}
-use Rattle.rw_simulation.specs.StoppedRuns.{IsSetAs, HasNumbers, AreNumbers, EndInTurn, IsAlike, IsRun, StopsAsRun, StopsInFirstEpoch}
+use Rattle.rw_simulation.specs.StoppedRuns.{IsSetAs, HasNumbers, AreNumbers, EndInTurn, first_number, IsAlike, IsRun, StopsAsRun, StopsInOrder}
 use Rattle.rw_simulation.proofs.Changes.{run-append}
 use Rattle.rw_simulation.proofs.ReshardRuns.{Begins, reshard-run}
 use Rattle.rw_simulation.proofs.WorkerLists.{core_after, after-is, ended-after, last_tail}
@@ -439,7 +441,7 @@ module _ {T : Type 0} (tells : T → Type 0) (seen : T → List Exchange) (is_fo
       same : lanes ≡ map lane_of js
       same = sym (e ∙ append-nil lanes)
   epochs-run lanes (next ∷ later) epoch js before es pieces w sound e p some numbers turn b all =
-      with-rest (epochs-run next later (suc epoch) sp.later (before ++ pt.now) pt.later pieces r2.world (all_right Sound sp.first sp.later both) sp.later_is (subst (Places (suc epoch) (next ∷ later)) (sym pt.rest_is) p.4) numbers.0 numbers.2 turn.1 r2.holds
+      with-rest (epochs-run next later (suc epoch) sp.later (before ++ pt.now) pt.later pieces r2.world (all_right Sound sp.first sp.later both) sp.later_is (subst (Places (suc epoch) (next ∷ later)) (sym pt.rest_is) p.4) numbers.0.0 numbers.1 turn.1 r2.holds
       (begins ∙ sym (append_assoc before pt.now pt.later)))
     where
       sp : Split lane_of js lanes (joined (next ∷ later))
@@ -473,7 +475,7 @@ module _ {T : Type 0} (tells : T → Type 0) (seen : T → List Exchange) (is_fo
       r1 = put-all epoch kind.Reshard sp.first now some_now by before pt.now dealt pieces pt.later w (subst (λ (ls : List ShardHistory). Begins c pieces epoch (length ls) before w) same b) begins
 
       r2 : Reaches c r1.world (Begins c pieces (suc epoch) (length next) (before ++ pt.now))
-      r2 = reshard-run c pieces epoch (length (map lane_of sp.first)) (length next) (fates epoch kind.Reshard sp.first now some_now by before pt.now dealt) (before ++ pt.now) work.capacity numbers.0 numbers.1
+      r2 = reshard-run c pieces epoch (length (map lane_of sp.first)) (length next) (fates epoch kind.Reshard sp.first now some_now by before pt.now dealt) (before ++ pt.now) work.capacity numbers.0.0 numbers.0.1
           (fate-end epoch kind.Reshard sp.first now some_now by before pt.now dealt) (fate-resolved epoch kind.Reshard sp.first now some_now by before pt.now dealt) r1.world r1.holds
           (subst (lists.All c) r1.is (keeps-lists c r1.events w b.lists_are))
 
@@ -548,73 +550,31 @@ stops-as-run {T} tells seen is_for s r c fed h epochs machine work fed_are e p n
     by_outcome (outcome.Damaged f) is ended left = finish tells seen is_for c s r fed h machine.0 machine.1 work fed_are epochs e placed numbers turn ended.1 (Some f) ended.0 (ap ending_of is)
     by_outcome (outcome.Abandoned count samples) is ended left = absurd (left tt)
 
--- ---- there was one epoch
-abbrev InEpoch0 : List ShardHistory → Type 0
-InEpoch0 ls = (k : ℕ) (l : ShardHistory) → slice_get ls k ≡ Some l → l.setup.queue.epoch ≡ 0
+-- ---- the epochs that the shipper knows, and the last one
+turn_of : (es : List (List ShardHistory)) (last : List ShardHistory) → AreTurned es → AreEndedBy kind.Orderly (map put_into last) → EndInTurn (es ++ last ∷ [])
+turn_of [] last t h = h
+turn_of (x ∷ []) last t h = (t.1, h)
+turn_of (x ∷ y ∷ ys) last t h = (t.1, turn_of (y ∷ ys) last t.2 h)
 
-none_later : (e : ℕ) (later : List (List ShardHistory)) (samples : List Sent) → 1 ≤ e → Places e later samples → InEpoch0 (joined later) → (joined later ≡ []) × (samples ≡ [])
-none_later e [] samples some p h = (refl, p)
-none_later e ((l ∷ ls) ∷ later) samples some p h =
-    let own : l.setup.queue.epoch ≡ e = (p.3.each 0 l refl).0 in
-    let first : l.setup.queue.epoch ≡ 0 = h 0 l refl in
-    absurd (omega arith)
-none_later e ([] ∷ later) samples some p h =
-    let rest = none_later (suc e) later p.1 (more e some) p.4 h in
-    (rest.0, p.2 ∙ ap (λ xs. xs ++ p.1) (p.3.none refl) ∙ rest.1)
+later_numbers : (es : List (List ShardHistory)) (last : List ShardHistory) → AreTurned es → IsShardCount (length last) → AreNumbers (es ++ last ∷ [])
+later_numbers [] last t n = (n, tt)
+later_numbers (x ∷ xs) last t n = (t.0, later_numbers xs last t.2 n)
+
+numbers_of : (c : Setup) (es : List (List ShardHistory)) (current last : List ShardHistory) → length last ≡ length current → AreTurned es → IsShardCount (length last) → first_number es current ≡ c.shards → HasNumbers c (es ++ last ∷ [])
+numbers_of c [] current last same t n e = (same ∙ e, tt)
+numbers_of c (x ∷ xs) current last same t n e = (e, later_numbers xs last t.2 n)
+
+pub stops-in-order : {T : Type 0} (tells : T → Type 0) (seen : T → List Exchange) (is_for : ℕ → ℕ → T → Type 0) (s : Shipping T) (r : Report T) → StopsInOrder tells seen is_for s r
+stops-in-order {T} tells seen is_for s r c fed h p machine work fed_are number first ends left =
+    stops-as-run tells seen is_for s r c fed h (p.epochs ++ last ∷ []) machine work fed_are
+    (whole_is s.fleet.epoch (map lane_of s.fleet.ended) s.fleet.current last (map lane_of h.joined) (sent s.log.choice s.log.placed) p (all_is s.fleet h.joined h.all))
+    (whole_placed s.fleet.epoch (map lane_of s.fleet.ended) s.fleet.current last (sent s.log.choice s.log.placed) p h.all.2)
+    (numbers_of c p.epochs s.fleet.current last same p.turned (subst IsShardCount (sym same) number) first)
+    (turn_of p.epochs last p.turned (ends_last kind.Orderly s.fleet h.joined h.all (subst (λ (fs : List (Finished T)). EndBy kind.Orderly s.fleet fs) h.workers ends)))
+    left
   where
-    more : (e : ℕ) → 1 ≤ e → 1 ≤ suc e
-    more e h = omega arith
+    last : List ShardHistory
+    last = map lane_of h.all.0
 
-get_behind : {X : Type 0} (xs ys : List X) (k : ℕ) → slice_get (xs ++ ys) (length xs + k) ≡ slice_get ys k
-get_behind [] ys k = ap (slice_get ys) (zero_plus k)
-  where
-    zero_plus : (k : ℕ) → 0 + k ≡ k
-    zero_plus k = omega arith
-get_behind (x ∷ xs) ys k = ap (slice_get (x ∷ (xs ++ ys))) (next (length xs) k) ∙ get_behind xs ys k
-  where
-    next : (n k : ℕ) → suc n + k ≡ suc (n + k)
-    next n k = omega arith
-
-dealt-once : (epochs : List (List ShardHistory)) (lanes : List ShardHistory) (samples : List Sent) → 1 ≤ length lanes → lanes ≡ joined epochs → Places 0 epochs samples → InEpoch0 lanes → IsDealt 0 lanes samples
-dealt-once [] lanes samples some e p h = let none : length lanes ≡ 0 = ap length e in absurd (omega arith)
-dealt-once (ls ∷ later) lanes samples some e p h = subst (λ xs. IsDealt 0 xs samples) (sym runs) (subst (IsDealt 0 ls) (sym samples_are) p.3)
-  where
-    rest : (joined later ≡ []) × (p.1 ≡ [])
-    rest = none_later 1 later p.1 (omega arith) p.4 (λ k l at. h (length ls + k) l (ap (λ xs. slice_get xs (length ls + k)) e ∙ get_behind ls (joined later) k ∙ at))
-
-    runs : lanes ≡ ls
-    runs = e ∙ ap (λ xs. ls ++ xs) rest.0 ∙ append-nil ls
-
-    samples_are : samples ≡ p.0
-    samples_are = p.2 ∙ ap (λ xs. p.0 ++ xs) rest.1 ∙ append-nil p.0
-
--- the same shards
-same_epoch : (ps qs : List ShardHistory) → AreSame ps qs → InEpoch0 ps → InEpoch0 qs
-same_epoch [] [] same h k l e = absurd (none-some l e)
-same_epoch [] (q ∷ qs) same h k l e = absurd same
-same_epoch (p ∷ ps) [] same h k l e = absurd same
-same_epoch (p ∷ ps) (q ∷ qs) same h zero l e = let is : q ≡ l = same_Some _ _ e in ap (λ (x : ShardHistory). x.setup.queue.epoch) (sym is) ∙ ap (λ (u : setups.Setup). u.queue.epoch) same.0 ∙ h 0 p refl
-same_epoch (p ∷ ps) (q ∷ qs) same h (suc k) l e = same_epoch ps qs same.2 (λ j x at. h (suc j) x at) k l e
-
-same_ends : {T : Type 0} (kd : Kind) (js : List (StoppedShard T)) → AreEndedBy kd (map put_by (map finished_of js)) → AreEndedBy kd (map put_into (map lane_of js))
-same_ends kd [] h = h
-same_ends kd (j ∷ js) h = (h.0, same_ends kd js h.1)
-
-pub stops-in-first-epoch : {T : Type 0} (tells : T → Type 0) (seen : T → List Exchange) (is_for : ℕ → ℕ → T → Type 0) (s : Shipping T) (r : Report T) → StopsInFirstEpoch tells seen is_for s r
-stops-in-first-epoch {T} tells seen is_for s r c fed h machine work fed_are first ends left =
-    stops-as-run tells seen is_for s r c fed h (map lane_of h.joined ∷ []) machine work fed_are (sym (append-nil (map lane_of h.joined))) placed (count, tt) (same_ends kind.Orderly h.joined ended) left
-  where
-    same : AreSame s.fleet.current (map lane_of h.joined)
-    same = subst (λ (js : List (StoppedShard T)). AreSame s.fleet.current (map lane_of js)) (sym (h.all.1 ∙ ap (λ (xs : List (StoppedShard T)). xs ++ h.all.0) first.ended)) h.all.2
-
-    count : length (map lane_of h.joined) ≡ c.shards
-    count = same_length s.fleet.current (map lane_of h.joined) same ∙ first.count
-
-    dealt : IsDealt 0 (map lane_of h.joined) (sent s.log.choice s.log.placed)
-    dealt = dealt-once h.samples.0 (map lane_of h.joined) (sent s.log.choice s.log.placed) (subst (λ (m : ℕ). 1 ≤ m) (sym count) work.shards) h.samples.1 h.samples.2 (same_epoch s.fleet.current (map lane_of h.joined) same first.epoch)
-
-    placed : Places 0 (map lane_of h.joined ∷ []) (sent s.log.choice s.log.placed)
-    placed = (sent s.log.choice s.log.placed, [], sym (append-nil (sent s.log.choice s.log.placed)), dealt, refl)
-
-    ended : AreEndedBy kind.Orderly (map put_by (map finished_of h.joined))
-    ended = subst (λ (fs : List (Finished T)). AreEndedBy kind.Orderly (map put_by fs)) h.workers (subst (λ (js : List (StoppedShard T)). AreEndedBy kind.Orderly (drop (length js) (map put_by r.workers.items))) first.ended ends)
+    same : length last ≡ length s.fleet.current
+    same = same_length s.fleet.current last h.all.2

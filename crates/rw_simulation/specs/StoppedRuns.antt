@@ -1,5 +1,5 @@
 -- A shipper that was stopped in order, and left nothing, is a run of the machine of events.
-use Rattle.std.specs.Prelude.{◌≡◌, ◌≤◌, ℕ, List, [], ◌∷◌, ◌++◌, length, map, Some, slice_get, ⊤}
+use Rattle.std.specs.Prelude.{◌≡◌, ℕ, List, [], ◌∷◌, ◌++◌, length, map, Some, slice_get, ⊤}
 use Rattle.rw_wal_tail.specs.Fed.{piece_of}
 use Rattle.rw_wal_tail.specs.declared.piece.Piece.{Piece}
 use Rattle.rw_shard_core.specs.declared.config.ConfigFields.{ConfigFields}
@@ -11,9 +11,9 @@ use Rattle.rw_fleet.specs.Work.{AreEndedBy, lane_of, put_of}
 use Rattle.rw_fleet.specs.Fleets.{EndBy}
 use Rattle.rw_fleet.specs.declared.joined.Finished.{Finished}
 use Rattle.rw_feeder.specs.Logs.{sent}
-use Rattle.rw_shipper.specs.Placement.{Places, joined}
+use Rattle.rw_shipper.specs.Placement.{IsShardCount, Places, joined}
 use Rattle.rw_shipper.specs.Reports.{IsAbandoned}
-use Rattle.rw_shipper.specs.Shipping.{Shipping, HasStopped}
+use Rattle.rw_shipper.specs.Shipping.{Shipping, PlacesAll, HasStopped}
 use Rattle.rw_shipper.specs.declared.report.Report.{Report}
 use Rattle.rw_machine.specs.Shards.{Shard}
 use Rattle.rw_machine.specs.Endings.{ending_of}
@@ -35,7 +35,7 @@ IsMachineOf c s = IsSetAs c s.fleet.config × (c.choice ≡ s.log.choice)
 -- the later epochs have 1 to 1000 shards each
 abbrev pub AreNumbers : List (List ShardHistory) → Type 0
 AreNumbers [] = ⊤
-AreNumbers (lanes ∷ later) = (1 ≤ length lanes) × (length lanes ≤ 1000) × AreNumbers later
+AreNumbers (lanes ∷ later) = IsShardCount (length lanes) × AreNumbers later
 
 -- the first epoch has as many as the machine begins with
 abbrev pub HasNumbers : Setup → List (List ShardHistory) → Type 0
@@ -69,20 +69,19 @@ pub record ComesTo {T : Type 0} (c : Setup) (s : Shipping T) (r : Report T) (w :
 abbrev pub IsRun : {T : Type 0} → Setup → Shipping T → Report T → Type 0
 IsRun c s r = (hs : List Happening) × ComesTo c s r (world_of c hs)
 
--- So it is of every shipper that left nothing, over whichever epochs its samples were placed, where these had such numbers of shards and ended in turn.
+-- So it is of every shipper that left nothing, over whichever epochs its samples were placed, where these had such numbers of shards and ended in turn;
 abbrev pub StopsAsRun : {T : Type 0} → (T → Type 0) → (T → List Exchange) → (ℕ → ℕ → T → Type 0) → Shipping T → Report T → Type 0
 StopsAsRun tells seen is_for s r =
     (c : Setup) (fed : List Piece) (h : HasStopped tells seen is_for s r) (epochs : List (List ShardHistory)) → IsMachineOf c s → CanWork c → s.log.pieces ≡ map piece_of fed
     → map lane_of h.joined ≡ joined epochs → Places 0 epochs (sent s.log.choice s.log.placed) → HasNumbers c epochs → EndInTurn epochs → (IsAbandoned r.outcome → ⊥) → IsRun c s r
 
--- the shipper has the shards that it began with: their number never changed
-pub record IsFirstEpoch {T : Type 0} (c : Setup) (s : Shipping T) : Type 0 where
-  pub ended : s.fleet.ended ≡ []
-  pub count : length s.fleet.current ≡ c.shards
-  pub epoch : (k : ℕ) (l : ShardHistory) → slice_get s.fleet.current k ≡ Some l → l.setup.queue.epoch ≡ 0
+-- how many shards the first epoch had
+abbrev pub first_number : List (List ShardHistory) → List ShardHistory → ℕ
+first_number [] current = length current
+first_number (lanes ∷ later) current = length lanes
 
--- and of one that kept its shards to the end
-abbrev pub StopsInFirstEpoch : {T : Type 0} → (T → Type 0) → (T → List Exchange) → (ℕ → ℕ → T → Type 0) → Shipping T → Report T → Type 0
-StopsInFirstEpoch tells seen is_for s r =
-    (c : Setup) (fed : List Piece) (h : HasStopped tells seen is_for s r) → IsMachineOf c s → CanWork c → s.log.pieces ≡ map piece_of fed
-    → IsFirstEpoch c s → EndBy Orderly s.fleet r.workers.items → (IsAbandoned r.outcome → ⊥) → IsRun c s r
+-- however often the number of shards was changed: the machine begins with as many as the first epoch had
+abbrev pub StopsInOrder : {T : Type 0} → (T → Type 0) → (T → List Exchange) → (ℕ → ℕ → T → Type 0) → Shipping T → Report T → Type 0
+StopsInOrder tells seen is_for s r =
+    (c : Setup) (fed : List Piece) (h : HasStopped tells seen is_for s r) (p : PlacesAll s.log s.fleet) → IsMachineOf c s → CanWork c → s.log.pieces ≡ map piece_of fed → IsShardCount (length s.fleet.current) → first_number p.epochs s.fleet.current ≡ c.shards
+    → EndBy Orderly s.fleet r.workers.items → (IsAbandoned r.outcome → ⊥) → IsRun c s r

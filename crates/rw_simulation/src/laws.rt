@@ -10,7 +10,7 @@ ghost use Rattle.rw_simulation.specs.FreeLaws.{KeepsLaws, world_of};
 ghost use Rattle.rw_simulation.specs.WorkerRuns.{IsWorkerRun};
 ghost use Rattle.rw_simulation.specs.FleetRuns.{IsFleetRun};
 ghost use Rattle.rw_simulation.specs.StoppedShards.{StopsAsShard};
-ghost use Rattle.rw_simulation.specs.StoppedRuns.{StopsAsRun, StopsInFirstEpoch};
+ghost use Rattle.rw_simulation.specs.StoppedRuns.{StopsAsRun, StopsInOrder};
 
 use rw_worker::Transport;
 
@@ -35,10 +35,9 @@ pub fn a_stopped_shard_is_a_run<T: Transport>()
     ensures { (j : StoppedShard T) → StopsAsShard T.tells T.seen T.is_for j }
 {}
 
-/// A shipper that was stopped in order with nothing left is a run of the machine, which reports the same: by `epochs` where each earlier epoch was
-/// ended because the number of shards changed, by `first` where it never did.
+/// A shipper that was stopped in order with nothing left is a run of the machine, which reports the same. `orderly` asks for nothing that the shipper's
+/// own clauses do not say; `epochs` is of any epochs over which the samples may have been placed.
 pub fn a_stopped_shipper_is_a_run<T: Transport>()
+    ensures orderly { (s : Shipping T) (r : Report T) → StopsInOrder T.tells T.seen T.is_for s r }
     ensures epochs { (s : Shipping T) (r : Report T) → StopsAsRun T.tells T.seen T.is_for s r }
-    ensures first { (s : Shipping T) (r : Report T)
-        → StopsInFirstEpoch T.tells T.seen T.is_for s r }
 {}

@@ -1,8 +1,8 @@
-use Rattle.rw_simulation.proofs.StoppedRuns.{stops-as-run, stops-in-first-epoch}
+use Rattle.rw_simulation.proofs.StoppedRuns.{stops-as-run, stops-in-order}
 use Rattle.rw_simulation.proofs.laws.a_stopped_shipper_is_a_run.Goals as goal
 
 pub returns-clause-epochs : goal.returns-clause-epochs
 returns-clause-epochs c g s r = stops-as-run _ _ _ s r
 
-pub returns-clause-first : goal.returns-clause-first
-returns-clause-first c g s r = stops-in-first-epoch _ _ _ s r
+pub returns-clause-orderly : goal.returns-clause-orderly
+returns-clause-orderly c g s r = stops-in-order _ _ _ s r

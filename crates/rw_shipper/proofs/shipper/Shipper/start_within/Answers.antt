@@ -24,7 +24,7 @@ invariant_of-result g c =
     let low = c.get-shards.ensures.low in
     let high = c.get-shards.ensures.high in (
       places_begun c.new-3.result c.in_ok-fleet.fleet c.open_listed.new.fleet (ap (λ (s : Sorting). s.placed) feeder) (ap (λ (s : Shards _). s.epoch) fleet) (ap (λ (s : Shards _). s.ended) fleet) (ap (λ (s : Shards _). s.current) fleet) c.open_listed.ensures.rest c.open_listed.ensures.fresh,
-      (ap (λ (s : Sorting). s.hand) feeder, omega arith),
+      (ap (λ (s : Sorting). s.hand) feeder, (omega arith, omega arith)),
       read_begun c.new-3.result _ feeder,
       counted_fresh c.in_ok-cuts.cuts.limit c.in_ok-cuts.cuts.rooms c.open_listed.new.fleet.epoch _ c.open_listed.new.fleet.current c.in_ok-cuts.ensures.full all (omega arith) c.open_listed.ensures.fresh,
       c.open_listed.ensures.room,
