@@ -5,14 +5,17 @@ use Rattle.std.proofs.lemmas.Bool.{eqb-true, eqb-false}
 use Rattle.std.proofs.lemmas.List.{length-map}
 use Rattle.std.specs.Prelude.{slice_index_or}
 use Rattle.std.specs.Ordering.{nat_cmp}
+use Rattle.std.specs.List.{AllByRecursion}
 use Rattle.std.specs.FinMap.{FinMap, get, insert, get-insert}
 use Rattle.rw_ledger.specs.declared.ledger.Reason.{Reason}
 use Rattle.rw_ledger.specs.declared.ledger.Reason.TheVariants as Why
 use Rattle.rw_types.specs.declared.place.Place.{Place}
 use Rattle.rw_plain_queue.specs.Items.{Placed}
 use Rattle.rw_shard_core.specs.Shard.{AreInRow, positions_of, positions, name_all, settle_names}
-use Rattle.rw_shard_core.specs.Inside.{RiseStrictly, batch_part}
+use Rattle.rw_shard_core.specs.Inside.{batch_part}
 use Rattle.rw_shard_core.specs.declared.shard.OpenBatch.{OpenBatch}
+use Rattle.rw_types.specs.Rising.{Rises}
+use Rattle.rw_types.proofs.RisingLemmas.{AllByRecursion-at, AllByRecursion-weaker}
 use Rattle.rw_types.proofs.TimeLemmas.{nat_cmp-apart}
 use Rattle.rw_retry.specs.declared.judgement.Judgement.{Judgement}
 use Rattle.rw_retry.specs.declared.judgement.Judgement.TheVariants.{Done, Again, Refused}
@@ -26,34 +29,26 @@ AreInRow-rest (x ∷ []) (y ∷ ys) h = h.1
 AreInRow-rest (x ∷ w ∷ ws) ys h = AreInRow-rest (w ∷ ws) ys h.1
 
 -- their positions rise
-pub positions_rise : (xs : List Placed) → AreInRow xs → RiseStrictly (positions xs)
+pub positions_rise : (xs : List Placed) → AreInRow xs → Rises (λ p q. p < q) (positions xs)
 positions_rise [] h = tt
-positions_rise (x ∷ []) h = tt
-positions_rise (x ∷ y ∷ ys) h = (h.0.1, positions_rise (y ∷ ys) h.1)
+positions_rise (x ∷ []) h = (tt, tt)
+positions_rise (x ∷ y ∷ ys) h =
+    let rest = positions_rise (y ∷ ys) h.1 in
+    let above : AllByRecursion (λ r. x.place.pos < r) (positions ys) =
+    AllByRecursion-weaker (λ r. y.place.pos < r) (λ r. x.place.pos < r) (λ r lt. omega (arith, h.0.1, lt)) (positions ys) rest.0 in
+    ((h.0.1, above), rest)
 
 -- those of the open batch, if there is one
-pub batch_rises : (current : Option OpenBatch) (pending : List Placed) → RiseStrictly (positions pending) → RiseStrictly (positions (batch_part current pending))
+pub batch_rises : (current : Option OpenBatch) (pending : List Placed) → Rises (λ p q. p < q) (positions pending) → Rises (λ p q. p < q) (positions (batch_part current pending))
 batch_rises None pending h = tt
 batch_rises (Some o) pending h = h
 
-rise_rest : (p : ℕ) (ps : List ℕ) → RiseStrictly (p ∷ ps) → RiseStrictly ps
-rise_rest p [] h = tt
-rise_rest p (q ∷ qs) h = h.1
-
--- each further one is above the first
-rise_above : (p : ℕ) (ps : List ℕ) → RiseStrictly (p ∷ ps) → All (λ q. p < q) ps
-rise_above p [] h = λ k d lt. absurd (omega arith)
-rise_above p (q ∷ qs) h = above (rise_above q qs h.1) where
-  above : All (λ r. q < r) qs → All (λ r. p < r) (q ∷ qs)
-  above rest zero d lt = h.0
-  above rest (suc k) d lt = let r = rest k d (omega arith) in omega (arith, h.0, r)
-
 -- a name for the first leaves the others without one
-name_first : (p : ℕ) (ps : List ℕ) (reason : Reason) (names : FinMap nat_cmp Reason) → RiseStrictly (p ∷ ps) →
+name_first : (p : ℕ) (ps : List ℕ) (reason : Reason) (names : FinMap nat_cmp Reason) → Rises (λ p q. p < q) (p ∷ ps) →
     All (λ q. get names q ≡ None) (p ∷ ps) → All (λ q. get (insert names p reason) q ≡ None) ps
 name_first p ps reason names rise none = λ k d lt.
     let q : ℕ = slice_index_or ps k d in
-    let above : p < q = rise_above p ps rise k d lt in
+    let above : p < q = AllByRecursion-at (λ r. p < r) ps k d rise.0 lt in
     let before : get names q ≡ None = none (suc k) d (omega arith) in
     get-insert nat_cmp_total names p reason q ∙ ap (λ b. cond b (Some reason) (get names q)) (nat_cmp-apart p q above) ∙ before
 
@@ -68,17 +63,17 @@ left_is (p ∷ ps) (suc i) d lt =
 
 -- one more sample is named
 pub name_next : (status : ℕ) (ps : List Place) (i : ℕ) (d : Place) (names new : FinMap nat_cmp Reason) → i < length ps →
-    All (λ q. get names q ≡ None) (drop i (positions_of ps)) → RiseStrictly (drop i (positions_of ps)) →
+    All (λ q. get names q ≡ None) (drop i (positions_of ps)) → Rises (λ p q. p < q) (drop i (positions_of ps)) →
     new ≡ insert names (get_or ps i d).pos (Why.Status status) →
     (name_all status (drop (i + 1) (positions_of ps)) new ≡ name_all status (drop i (positions_of ps)) names)
-    × All (λ q. get new q ≡ None) (drop (i + 1) (positions_of ps)) × RiseStrictly (drop (i + 1) (positions_of ps))
+    × All (λ q. get new q ≡ None) (drop (i + 1) (positions_of ps)) × Rises (λ p q. p < q) (drop (i + 1) (positions_of ps))
 name_next status ps i d names new lt none rise e =
     let left = left_is ps i d lt in
     let p : ℕ = (get_or ps i d).pos in
     let rest : List ℕ = drop (i + 1) (positions_of ps) in
     let none' : All (λ q. get names q ≡ None) (p ∷ rest) = rw left at none in
-    let rise' : RiseStrictly (p ∷ rest) = rw left at rise in
-    (rw (left, e) refl, rw e (name_first p rest (Why.Status status) names rise' none'), rise_rest p rest rise')
+    let rise' : Rises (λ p q. p < q) (p ∷ rest) = rw left at rise in
+    (rw (left, e) refl, rw e (name_first p rest (Why.Status status) names rise' none'), rise'.1)
 
 -- the position at an index
 pub position_at : (ps : List Place) (i d : ℕ) (e : Place) → i < length ps → get_or (positions_of ps) i d ≡ (get_or ps i e).pos

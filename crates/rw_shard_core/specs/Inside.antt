@@ -1,5 +1,5 @@
 -- What a shard's core keeps, and the core that contracts see.
-use Rattle.std.specs.Prelude.{◌≡◌, ℕ, ◌<◌, ◌≤◌, List, [], ◌∷◌, ◌++◌, length, map, Bool, false, Option, None, Some, All, option_map, ⊤}
+use Rattle.std.specs.Prelude.{◌≡◌, ℕ, ◌<◌, ◌≤◌, List, [], ◌++◌, length, map, Bool, false, Option, None, Some, All, option_map, ⊤}
 use Rattle.rw_types.specs.declared.place.Place.{Place}
 use Rattle.rw_batch.specs.Batches.{Building}
 use Rattle.rw_batch.specs.Grouping.{message}
@@ -60,9 +60,3 @@ pub record IsKept (target : Target) (epoch shard full : ℕ) (builder : Building
   pub last_is : last ≡ last_place taken
   pub builder_is : IsBuilderOf (builder_part opened pending) builder
   pub open_is : IsOpen target pending opened
-
--- each number is above the one before it
-abbrev pub RiseStrictly : List ℕ → Type 0
-RiseStrictly [] = ⊤
-RiseStrictly (p ∷ []) = ⊤
-RiseStrictly (p ∷ q ∷ qs) = (p < q) × RiseStrictly (q ∷ qs)

@@ -3,8 +3,8 @@
 ghost use Rattle.std.specs.Prelude.{◌≡◌, ◌↔◌, IsTrue, ◌+◌, ◌<◌, ◌≤◌, [], true, false, All, not, ◌&&◌, Some, None, if◌then◌else◌, IfOk, IfSome, OnOk, OnErr, length};
 ghost use Rattle.rw_retry.specs.Judgements.{judgement_of};
 ghost use Rattle.std.specs.FinMap.{get};
+ghost use Rattle.rw_types.specs.Rising.{Rises};
 ghost use Rattle.rw_plain_queue.specs.Items.{samples_in};
-ghost use Rattle.rw_shard_core.specs.Inside.{RiseStrictly};
 ghost use Rattle.rw_shard_core.specs.Shard.{IsCore, IsReadAgain, MayTake, HasRoomFor, new_core, is_empty, pending, is_due, can_take, mark, take_item, can_freeze, freeze, freeze_room, can_send, send, request_for, awaits, lose, attempt_for, batch_id, places_of, positions_of, positions, resolve, is_answer, name_all, reply, reply_names, kill};
 
 use crate::config::Target;
@@ -44,7 +44,7 @@ pub struct Attempt {
 fn name_all(ledger: &mut Ledger, places: &[Place], status: u16)
     requires room { length places.now ≤ ledger.old.room }
     requires unnamed { All (λ p. get ledger.old.names p ≡ None) (positions_of places.now) }
-    requires rising { RiseStrictly (positions_of places.now) }
+    requires rising { Rises (λ p q. p < q) (positions_of places.now) }
     ensures names { ledger.new.names ≡ name_all status (positions_of places.now) ledger.old.names }
     ensures room { ledger.new.room + length places.now ≡ ledger.old.room }
 {
@@ -381,7 +381,7 @@ impl ShardCore {
     fn resolve(&mut self) -> Batch
         requires { is_empty self.old.batch ≡ false }
         ensures places { result.places ≡ places_of self.old.batch }
-        ensures rising { RiseStrictly (positions self.old.batch) }
+        ensures rising { Rises (λ p q. p < q) (positions self.old.batch) }
         ensures core { self.new ≡ resolve self.old }
     {
         match self.current.take() {
