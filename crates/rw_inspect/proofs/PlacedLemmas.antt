@@ -9,7 +9,7 @@ use Rattle.rw_series_cache.specs.Known.{Standing, Unknown, Bad, Filtered, Kept, 
 use Rattle.rw_series_cache.specs.Rising.{IsNoted}
 use Rattle.rw_series_cache.proofs.RisingLemmas.{noted_other, noted_falling, noted_rising}
 use Rattle.rw_series_cache.proofs.KnownLemmas.{definitions_of-sample}
-use Rattle.rw_inspect.specs.Counting.{IsCacheOf, IsStill, Rises}
+use Rattle.rw_inspect.specs.Counting.{IsCacheOf, IsStill, IsRisingSample}
 use Rattle.rw_inspect.specs.Troubles.{trouble_as, trouble_of}
 use Rattle.rw_inspect.specs.declared.troubles.Trouble.{Trouble}
 use Rattle.rw_inspect.specs.declared.troubles.Trouble.TheVariants.{NotRising}
@@ -48,7 +48,7 @@ placed_filtered before reference t word cache troubles h is = (
   sym (append-nil troubles) ∙ ap (λ k. troubles ++ trouble_as before t k) (sym is),
 )
 
-pub placed_rising : (before : List Entry) (reference : ℕ) (t : ℤ) (word number : ℕ) (cache new : Taken) (troubles : List (ℕ × Trouble)) → IsCacheOf before cache → Rises before reference t number
+pub placed_rising : (before : List Entry) (reference : ℕ) (t : ℤ) (word number : ℕ) (cache new : Taken) (troubles : List (ℕ × Trouble)) → IsCacheOf before cache → IsRisingSample before reference t number
     → new ≡ record cache { noted = insert cache.noted number t }
     → IsCacheOf (before ++ Sample reference t word ∷ []) new × (troubles ≡ troubles ++ trouble_of before (Sample reference t word))
 placed_rising before reference t word number cache new troubles h r made = (

@@ -47,7 +47,7 @@ pub record IsCounter (entries here : List Entry) (count : ℕ) (cache : Taken) (
   pub in_trouble : troubles ≡ troubles_of entries
 
 -- a sample after these entries is one of the series of this number, and rises
-pub record Rises (before : List Entry) (reference : ℕ) (t : ℤ) (number : ℕ) : Type 0 where
+pub record IsRisingSample (before : List Entry) (reference : ℕ) (t : ℤ) (number : ℕ) : Type 0 where
   pub labels : Labels
   pub stands : known legacy before reference ≡ Kept labels
   pub numbered : HasNumber (series_of legacy before) labels number
@@ -62,7 +62,7 @@ IsStill before t _ = Unit {0}
 abbrev pub JudgedAs : List Entry → ℕ → ℤ → Judged → Type 0
 JudgedAs before reference t (judged.InTrouble trouble) = (trouble_as before t (known legacy before reference) ≡ (length before, trouble) ∷ []) × IsStill before t (known legacy before reference)
 JudgedAs before reference t judged.Filtered = known legacy before reference ≡ Filtered
-JudgedAs before reference t (judged.Rising number) = Rises before reference t number
+JudgedAs before reference t (judged.Rising number) = IsRisingSample before reference t number
 
 abbrev pub IsJudged : Taken → ℕ → ℤ → Judged → Type 0
 IsJudged cache reference t judged = (before : List Entry) → IsCacheOf before cache → JudgedAs before reference t judged
