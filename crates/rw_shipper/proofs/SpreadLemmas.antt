@@ -1,8 +1,11 @@
 -- Samples that are placed are spread.
 use Rattle.std.proofs.Common.{◌≡◌, ◌⊎◌, inl, inr, ℕ, ℤ, zero, suc, ◌+◌, ◌<◌, ◌≤◌, Bool, true, false, List, [], ◌∷◌, ◌++◌, length, Some, None, cond, refl, sym, ap, ◌∙◌, subst, length-append, zero-add, arith}
 use Rattle.std.specs.Prelude.{◌==◌, filter, slice_get, ⊤}
+use Rattle.std.specs.List.{AllByRecursion}
 use Rattle.std.proofs.lemmas.Bool.{eq-eqb, eqb-true}
 use Rattle.std.proofs.lemmas.Option.{same_Some}
+use Rattle.rw_types.specs.Rising.{Rises}
+use Rattle.rw_types.proofs.RisingLemmas.{AllByRecursion-weaker, Rises-across, Rises-filter, Rises-left, Rises-right}
 use Rattle.rw_types.specs.declared.entry.Entry.{Entry}
 use Rattle.rw_types.specs.declared.entry.Entry.TheVariants as entry
 use Rattle.rw_types.specs.Gathering.{gather_from}
@@ -11,7 +14,7 @@ use Rattle.rw_fleet.specs.ShardHistories.{ShardHistory}
 use Rattle.rw_router.specs.Fates.{Fate, Drops, Filters, Sends, fate}
 use Rattle.rw_feeder.specs.Logs.{Sent, sent_by_fate, sent_of, sent}
 use Rattle.rw_shipper.specs.Placement.{put_in, shard_of, IsDealt, Places, joined, ArePlaced}
-use Rattle.rw_shipper.specs.Spread.{IsOneOf, AllAbove, Rise, IsShard, IsSpread}
+use Rattle.rw_shipper.specs.Spread.{IsOneOf, StandsBefore, IsShard, IsSpread}
 use Rattle.rw_shipper.proofs.PlacementLemmas.{get_some}
 
 one_left : (x : Sent) (xs ys : List Sent) → IsOneOf x xs → IsOneOf x (xs ++ ys)
@@ -49,62 +52,21 @@ one_passes p x [] h is = absurd h
 one_passes p x (y ∷ ys) (inl e) is = subst (λ b. IsOneOf x (cond b (y ∷ filter p ys) (filter p ys))) (sym (ap p (sym e) ∙ is)) (inl e)
 one_passes p x (y ∷ ys) (inr h) is = one_kept (p y) x y (filter p ys) (one_passes p x ys h is)
 
-above_one : (n : ℕ) (x : Sent) (xs : List Sent) → AllAbove n xs → IsOneOf x xs → n < x.pos
-above_one n x [] a h = absurd h
-above_one n x (y ∷ ys) a (inl e) = subst (λ (z : Sent). n < z.pos) (sym e) a.0
-above_one n x (y ∷ ys) a (inr h) = above_one n x ys a.1 h
+each_one_of : (P : Sent → Type 0) (x : Sent) (xs : List Sent) → AllByRecursion P xs → IsOneOf x xs → P x
+each_one_of P x [] all h = absurd h
+each_one_of P x (y ∷ ys) all (inl e) = subst P (sym e) all.0
+each_one_of P x (y ∷ ys) all (inr h) = each_one_of P x ys all.1 h
 
-above_left : (n : ℕ) (xs ys : List Sent) → AllAbove n (xs ++ ys) → AllAbove n xs
-above_left n [] ys a = tt
-above_left n (x ∷ xs) ys a = (a.0, above_left n xs ys a.1)
-
-above_right : (n : ℕ) (xs ys : List Sent) → AllAbove n (xs ++ ys) → AllAbove n ys
-above_right n [] ys a = a
-above_right n (x ∷ xs) ys a = above_right n xs ys a.1
-
-above_append : (n : ℕ) (xs ys : List Sent) → AllAbove n xs → AllAbove n ys → AllAbove n (xs ++ ys)
-above_append n [] ys a b = b
-above_append n (x ∷ xs) ys a b = (a.0, above_append n xs ys a.1 b)
-
-above_cond : (n : ℕ) (b : Bool) (x : Sent) (xs : List Sent) → n < x.pos → AllAbove n xs → AllAbove n (cond b (x ∷ xs) xs)
-above_cond n true x xs lt a = (lt, a)
-above_cond n false x xs lt a = a
-
-above_filter : (n : ℕ) (p : Sent → Bool) (xs : List Sent) → AllAbove n xs → AllAbove n (filter p xs)
-above_filter n p [] a = tt
-above_filter n p (x ∷ xs) a = above_cond n (p x) x (filter p xs) a.0 (above_filter n p xs a.1)
-
-above_less : (n m : ℕ) (xs : List Sent) → n < m → AllAbove m xs → AllAbove n xs
-above_less n m [] lt a = tt
-above_less n m (x ∷ xs) lt a = (let b = a.0 in omega arith, above_less n m xs lt a.1)
-
-rise_left : (xs ys : List Sent) → Rise (xs ++ ys) → Rise xs
-rise_left [] ys r = tt
-rise_left (x ∷ xs) ys r = (above_left x.pos xs ys r.0, rise_left xs ys r.1)
-
-rise_right : (xs ys : List Sent) → Rise (xs ++ ys) → Rise ys
-rise_right [] ys r = r
-rise_right (x ∷ xs) ys r = rise_right xs ys r.1
-
-rise_across : (xs ys : List Sent) (x y : Sent) → Rise (xs ++ ys) → IsOneOf x xs → IsOneOf y ys → x.pos < y.pos
-rise_across [] ys x y r h g = absurd h
-rise_across (z ∷ zs) ys x y r (inl e) g = subst (λ (w : Sent). w.pos < y.pos) (sym e) (above_one z.pos y ys (above_right z.pos zs ys r.0) g)
-rise_across (z ∷ zs) ys x y r (inr h) g = rise_across zs ys x y r.1 h g
-
-rise_cond : (b : Bool) (x : Sent) (xs : List Sent) → AllAbove x.pos xs → Rise xs → Rise (cond b (x ∷ xs) xs)
-rise_cond true x xs a r = (a, r)
-rise_cond false x xs a r = r
-
-rise_filter : (p : Sent → Bool) (xs : List Sent) → Rise xs → Rise (filter p xs)
-rise_filter p [] r = tt
-rise_filter p (x ∷ xs) r = rise_cond (p x) x (filter p xs) (above_filter x.pos p xs r.0) (rise_filter p xs r.1)
+rise_across : (xs ys : List Sent) (x y : Sent) → Rises StandsBefore (xs ++ ys) → IsOneOf x xs → IsOneOf y ys → x.pos < y.pos
+rise_across xs ys x y r h g =
+    each_one_of (StandsBefore x) y ys (each_one_of (λ z. AllByRecursion (StandsBefore z) ys) x xs (Rises-across StandsBefore xs ys r) h) g
 
 -- two samples at one position are one
-rise_same : (xs : List Sent) (x y : Sent) → Rise xs → IsOneOf x xs → IsOneOf y xs → x.pos ≡ y.pos → x ≡ y
+rise_same : (xs : List Sent) (x y : Sent) → Rises StandsBefore xs → IsOneOf x xs → IsOneOf y xs → x.pos ≡ y.pos → x ≡ y
 rise_same [] x y r h g e = absurd h
 rise_same (z ∷ zs) x y r (inl a) (inl b) e = a ∙ sym b
-rise_same (z ∷ zs) x y r (inl a) (inr g) e = let lt = above_one z.pos y zs r.0 g in let is : x.pos ≡ z.pos = ap (λ (w : Sent). w.pos) a in absurd (omega arith)
-rise_same (z ∷ zs) x y r (inr h) (inl b) e = let lt = above_one z.pos x zs r.0 h in let is : y.pos ≡ z.pos = ap (λ (w : Sent). w.pos) b in absurd (omega arith)
+rise_same (z ∷ zs) x y r (inl a) (inr g) e = let lt : z.pos < y.pos = each_one_of (StandsBefore z) y zs r.0 g in let is : x.pos ≡ z.pos = ap (λ (w : Sent). w.pos) a in absurd (omega arith)
+rise_same (z ∷ zs) x y r (inr h) (inl b) e = let lt : z.pos < x.pos = each_one_of (StandsBefore z) x zs r.0 h in let is : y.pos ≡ z.pos = ap (λ (w : Sent). w.pos) b in absurd (omega arith)
 rise_same (z ∷ zs) x y r (inr h) (inr g) e = rise_same zs x y r.1 h g e
 
 -- what the shards of one epoch were put, out of all
@@ -114,7 +76,7 @@ record HasPart (e : ℕ) (lanes : List ShardHistory) (samples : List Sent) : Typ
   part : List Sent
   dealt : IsDealt number lanes part
   among : (x : Sent) → IsOneOf x part → IsOneOf x samples
-  rises : Rise samples → Rise part
+  rises : Rises StandsBefore samples → Rises StandsBefore part
 
 part_of : (b e : ℕ) (es : List (List ShardHistory)) (lanes : List ShardHistory) (samples : List Sent) → Places b es samples → slice_get es e ≡ Some lanes → HasPart (b + e) lanes samples
 part_of b e [] lanes samples h at = absurd (let at' : None ≡ Some lanes = at in cc)
@@ -124,7 +86,7 @@ part_of b zero (x ∷ xs) lanes samples h at = record {
   part = h.0;
   dealt = subst (λ ls. IsDealt b ls h.0) (same_Some x lanes at) h.3;
   among = λ y one. subst (IsOneOf y) (sym h.2) (one_left y h.0 h.1 one);
-  rises = λ r. rise_left h.0 h.1 (subst Rise h.2 r);
+  rises = λ r. Rises-left StandsBefore h.0 h.1 (subst (Rises StandsBefore) h.2 r);
 }
 part_of b (suc e) (x ∷ xs) lanes samples h at =
     let p = part_of (suc b) e xs lanes h.1 h.4 at in
@@ -134,7 +96,7 @@ part_of b (suc e) (x ∷ xs) lanes samples h at =
       part = p.part;
       dealt = p.dealt;
       among = λ y one. subst (IsOneOf y) (sym h.2) (one_right y h.0 h.1 (p.among y one));
-      rises = λ r. p.rises (rise_right h.0 h.1 (subst Rise h.2 r));
+      rises = λ r. p.rises (Rises-right StandsBefore h.0 h.1 (subst (Rises StandsBefore) h.2 r));
     }
 
 -- a sample of an epoch stands in the shard of its series
@@ -158,21 +120,21 @@ shard_one n k lanes part l x d at one =
     let f = one_filter (λ s. shard_of (length lanes) s.series == k) x part (subst (IsOneOf x) (d.each k l at).2 one) in
     (f.0, sym (eqb-true (shard_of (length lanes) x.series) k f.1))
 
-later_one : (b e f j k : ℕ) (es : List (List ShardHistory)) (samples : List Sent) (lanes others : List ShardHistory) (l m : ShardHistory) (x y : Sent) → Places b es samples → Rise samples
+later_one : (b e f j k : ℕ) (es : List (List ShardHistory)) (samples : List Sent) (lanes others : List ShardHistory) (l m : ShardHistory) (x y : Sent) → Places b es samples → Rises StandsBefore samples
     → IsShard es e j lanes l → IsShard es f k others m → IsOneOf x (put_in l) → IsOneOf y (put_in m) → e < f → x.pos < y.pos
 later_one b e f j k [] samples lanes others l m x y h r s t one two lt = absurd (let at : None ≡ Some lanes = s.0 in cc)
 later_one b e zero j k (z ∷ zs) samples lanes others l m x y h r s t one two lt = absurd (omega arith)
 later_one b zero (suc f) j k (z ∷ zs) samples lanes others l m x y h r s t one two lt =
     let d = subst (λ ls. IsDealt b ls h.0) (same_Some z lanes s.0) h.3 in
     let p = part_of (suc b) f zs others h.1 h.4 t.0 in
-    rise_across h.0 h.1 x y (subst Rise h.2 r) (shard_one b j lanes h.0 l x d s.1 one).0 (p.among y (shard_one p.number k others p.part m y p.dealt t.1 two).0)
+    rise_across h.0 h.1 x y (subst (Rises StandsBefore) h.2 r) (shard_one b j lanes h.0 l x d s.1 one).0 (p.among y (shard_one p.number k others p.part m y p.dealt t.1 two).0)
 later_one b (suc e) (suc f) j k (z ∷ zs) samples lanes others l m x y h r s t one two lt =
-    later_one (suc b) e f j k zs h.1 lanes others l m x y h.4 (rise_right h.0 h.1 (subst Rise h.2 r)) s t one two (omega arith)
+    later_one (suc b) e f j k zs h.1 lanes others l m x y h.4 (Rises-right StandsBefore h.0 h.1 (subst (Rises StandsBefore) h.2 r)) s t one two (omega arith)
 
-pub spread_of : (es : List (List ShardHistory)) (samples : List Sent) → Places 0 es samples → Rise samples → IsSpread es samples
+pub spread_of : (es : List (List ShardHistory)) (samples : List Sent) → Places 0 es samples → Rises StandsBefore samples → IsSpread es samples
 spread_of es samples h r = record {
   numbered = λ e k lanes l s. let p = part_of 0 e es lanes samples h s.0 in let q = p.dealt.each k l s.1 in (q.0 ∙ p.number_is ∙ zero-add e, q.1);
-  rises = λ e k lanes l s. let p = part_of 0 e es lanes samples h s.0 in subst Rise (sym (p.dealt.each k l s.1).2) (rise_filter (λ x. shard_of (length lanes) x.series == k) p.part (p.rises r));
+  rises = λ e k lanes l s. let p = part_of 0 e es lanes samples h s.0 in subst (Rises StandsBefore) (sym (p.dealt.each k l s.1).2) (Rises-filter StandsBefore (λ x. shard_of (length lanes) x.series == k) p.part (p.rises r));
   each = λ x one. each_one 0 es samples x h one;
   no_other = λ e k lanes l x s one. let p = part_of 0 e es lanes samples h s.0 in let q = shard_one p.number k lanes p.part l x p.dealt s.1 one in (p.among x q.0, q.1);
   once = λ e j k lanes l m x y s t one two same.
@@ -185,16 +147,13 @@ spread_of es samples h r = record {
 
 -- from a position on
 abbrev AllFrom : ℕ → List Sent → Type 0
-AllFrom n [] = ⊤
-AllFrom n (x ∷ xs) = (n ≤ x.pos) × AllFrom n xs
+AllFrom n xs = AllByRecursion (λ (x : Sent). n ≤ x.pos) xs
 
 from_less : (n m : ℕ) (xs : List Sent) → n ≤ m → AllFrom m xs → AllFrom n xs
-from_less n m [] le h = tt
-from_less n m (x ∷ xs) le h = (let b = h.0 in omega arith, from_less n m xs le h.1)
+from_less n m xs le h = AllByRecursion-weaker (λ (x : Sent). m ≤ x.pos) (λ (x : Sent). n ≤ x.pos) (λ x b. omega arith) xs h
 
-from_above : (n m : ℕ) (xs : List Sent) → n < m → AllFrom m xs → AllAbove n xs
-from_above n m [] lt h = tt
-from_above n m (x ∷ xs) lt h = (let b = h.0 in omega arith, from_above n m xs lt h.1)
+from_above : (n m : ℕ) (xs : List Sent) → n < m → AllFrom m xs → AllByRecursion (λ (x : Sent). n < x.pos) xs
+from_above n m xs lt h = AllByRecursion-weaker (λ (x : Sent). m ≤ x.pos) (λ (x : Sent). n < x.pos) (λ x b. omega arith) xs h
 
 -- one sample at most, at this position, and later ones
 abbrev IsAt : ℕ → List Sent → Type 0
@@ -202,7 +161,7 @@ IsAt n [] = ⊤
 IsAt n (x ∷ []) = x.pos ≡ n
 IsAt n (x ∷ y ∷ xs) = ⊥
 
-at_rise : (n m : ℕ) (xs ys : List Sent) → IsAt n xs → m ≡ n + 1 → AllFrom m ys → Rise ys → Rise (xs ++ ys) × AllFrom n (xs ++ ys)
+at_rise : (n m : ℕ) (xs ys : List Sent) → IsAt n xs → m ≡ n + 1 → AllFrom m ys → Rises StandsBefore ys → Rises StandsBefore (xs ++ ys) × AllFrom n (xs ++ ys)
 at_rise n m [] ys at up h r = (r, from_less n m ys (omega arith) h)
 at_rise n m (x ∷ []) ys at up h r = ((from_above x.pos m ys (omega arith) h, r), (omega arith, from_less n m ys (omega arith) h))
 at_rise n m (x ∷ y ∷ xs) ys at up h r = absurd at
@@ -216,7 +175,7 @@ at_of : (choice : Choice) (before : List Entry) (e : Entry) → IsAt (length bef
 at_of choice before (entry.Def reference labels) = tt
 at_of choice before (entry.Sample reference t word) = at_fate choice before t word (fate choice before reference t)
 
-from_rise : (choice : Choice) (before es : List Entry) → Rise (gather_from (sent_of choice) before es) × AllFrom (length before) (gather_from (sent_of choice) before es)
+from_rise : (choice : Choice) (before es : List Entry) → Rises StandsBefore (gather_from (sent_of choice) before es) × AllFrom (length before) (gather_from (sent_of choice) before es)
 from_rise choice before [] = (tt, tt)
 from_rise choice before (e ∷ es) =
     let r = from_rise choice (before ++ e ∷ []) es in

@@ -1,5 +1,6 @@
 -- How the samples of a log went to the shards of all epochs (Remote-Write 1.0: the samples of a series go out in order): each to one shard, that of its series, by rising position, and later epochs have later samples.
-use Rattle.std.specs.Prelude.{◌≡◌, ◌⊎◌, ◌<◌, ℕ, List, [], ◌∷◌, length, Some, slice_get, ⊤}
+use Rattle.std.specs.Prelude.{◌≡◌, ◌⊎◌, ◌<◌, ℕ, List, [], ◌∷◌, length, Some, slice_get}
+use Rattle.rw_types.specs.Rising.{Rises}
 use Rattle.rw_fleet.specs.ShardHistories.{ShardHistory}
 use Rattle.rw_feeder.specs.Logs.{Sent}
 use Rattle.rw_shipper.specs.Placement.{put_in, shard_of}
@@ -8,14 +9,9 @@ abbrev pub IsOneOf : Sent → List Sent → Type 0
 IsOneOf x [] = ⊥
 IsOneOf x (y ∷ ys) = (x ≡ y) ⊎ IsOneOf x ys
 
--- behind a position
-abbrev pub AllAbove : ℕ → List Sent → Type 0
-AllAbove n [] = ⊤
-AllAbove n (x ∷ xs) = (n < x.pos) × AllAbove n xs
-
-abbrev pub Rise : List Sent → Type 0
-Rise [] = ⊤
-Rise (x ∷ xs) = AllAbove x.pos xs × Rise xs
+-- the first has the lower position
+abbrev pub StandsBefore : Sent → Sent → Type 0
+StandsBefore x y = x.pos < y.pos
 
 -- the shard numbered k of the epoch numbered e, which has these shards
 abbrev pub IsShard : List (List ShardHistory) → ℕ → ℕ → List ShardHistory → ShardHistory → Type 0
@@ -23,7 +19,7 @@ IsShard epochs e k lanes l = (slice_get epochs e ≡ Some lanes) × (slice_get l
 
 pub record IsSpread (epochs : List (List ShardHistory)) (samples : List Sent) : Type 0 where
   pub numbered : (e k : ℕ) (lanes : List ShardHistory) (l : ShardHistory) → IsShard epochs e k lanes l → (l.setup.queue.epoch ≡ e) × (l.setup.queue.shard ≡ k)
-  pub rises : (e k : ℕ) (lanes : List ShardHistory) (l : ShardHistory) → IsShard epochs e k lanes l → Rise (put_in l)
+  pub rises : (e k : ℕ) (lanes : List ShardHistory) (l : ShardHistory) → IsShard epochs e k lanes l → Rises StandsBefore (put_in l)
   pub each : (x : Sent) → IsOneOf x samples → (e : ℕ) × (k : ℕ) × (lanes : List ShardHistory) × (l : ShardHistory) × IsShard epochs e k lanes l × IsOneOf x (put_in l)
   pub no_other : (e k : ℕ) (lanes : List ShardHistory) (l : ShardHistory) (x : Sent) → IsShard epochs e k lanes l → IsOneOf x (put_in l) → IsOneOf x samples × (k ≡ shard_of (length lanes) x.series)
   pub once : (e j k : ℕ) (lanes : List ShardHistory) (l m : ShardHistory) (x y : Sent) → IsShard epochs e j lanes l → IsShard epochs e k lanes m → IsOneOf x (put_in l) → IsOneOf y (put_in m) → x.pos ≡ y.pos → j ≡ k
