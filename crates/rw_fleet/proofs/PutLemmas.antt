@@ -1,6 +1,7 @@
 -- What was put, with one item more.
-use Rattle.std.proofs.Common.{◌≡◌, ℕ, suc, ◌^◌, ◌<◌, map, List, [], ◌∷◌, ◌++◌, length, refl, sym, ap, ◌∙◌, append-nil, length-append, arith}
+use Rattle.std.proofs.Common.{◌≡◌, ℕ, ◌^◌, ◌<◌, map, List, [], ◌∷◌, ◌++◌, length, refl, sym, ap, ◌∙◌, append-nil, length-append, arith}
 use Rattle.std.specs.Prelude.{ℤ}
+use Rattle.std.proofs.lemmas.List.{length-map, map-append}
 use Rattle.std.specs.Arc.{arc_value}
 use Rattle.rw_types.specs.declared.place.Place.{Place}
 use Rattle.rw_plain_queue.specs.declared.item.Item.{Item}
@@ -26,21 +27,13 @@ places_mark xs zs x is none = ap places_in is ∙ places_in-append xs (x ∷ [])
 pub samples_more : (xs zs : List Item) (x : Item) → zs ≡ xs ++ x ∷ [] → samples_in zs ≡ samples_in xs ++ samples_in (x ∷ [])
 samples_more xs zs x is = ap samples_in is ∙ samples_in-append xs (x ∷ [])
 
-map_append : (ps qs : List Place) → map (λ (p : Place). p.pos) (ps ++ qs) ≡ map (λ (p : Place). p.pos) ps ++ map (λ (p : Place). p.pos) qs
-map_append [] qs = refl
-map_append (p ∷ ps) qs = ap (λ l. p.pos ∷ l) (map_append ps qs)
-
-map_length : (ps : List Place) → length (map (λ (p : Place). p.pos) ps) ≡ length ps
-map_length [] = refl
-map_length (p ∷ ps) = ap suc (map_length ps)
-
 -- as many positions as places
 pub positions_length : (xs : List Item) (ps : List ℕ) → ps ≡ positions_in xs → length ps ≡ length (places_in xs)
-positions_length xs ps is = ap length is ∙ map_length (places_in xs)
+positions_length xs ps is = ap length is ∙ length-map (places_in xs) (λ (p : Place). p.pos)
 
 pub positions_more : (xs zs : List Item) (x : Item) (p : Place) (was now : List ℕ) → zs ≡ xs ++ x ∷ [] → places_in (x ∷ []) ≡ p ∷ [] → was ≡ positions_in xs → now ≡ was ++ p.pos ∷ [] → now ≡ positions_in zs
 positions_more xs zs x p was now is one old new =
-    new ∙ ap (λ l. l ++ p.pos ∷ []) old ∙ sym (ap (λ l. map (λ (q : Place). q.pos) (places_in l)) is ∙ ap (map (λ (q : Place). q.pos)) (places_in-append xs (x ∷ []) ∙ ap (λ ps. places_in xs ++ ps) one) ∙ map_append (places_in xs) (p ∷ []))
+    new ∙ ap (λ l. l ++ p.pos ∷ []) old ∙ sym (ap (λ l. map (λ (q : Place). q.pos) (places_in l)) is ∙ ap (map (λ (q : Place). q.pos)) (places_in-append xs (x ∷ []) ∙ ap (λ ps. places_in xs ++ ps) one) ∙ map-append (λ (q : Place). q.pos) (places_in xs) (p ∷ []))
 
 -- the next sample of a shard, part by part
 pub as_put : (lane : ShardHistory) (s : RoutedSample) (epoch shard seq : ℕ) (t : ℤ) → epoch ≡ lane.setup.queue.epoch → shard ≡ lane.setup.queue.shard → seq ≡ length (places_in lane.put) → t ≡ s.t
