@@ -1,7 +1,8 @@
 -- Samples that are placed are spread.
 use Rattle.std.proofs.Common.{◌≡◌, ◌⊎◌, inl, inr, ℕ, ℤ, zero, suc, ◌+◌, ◌<◌, ◌≤◌, Bool, true, false, List, [], ◌∷◌, ◌++◌, length, Some, None, cond, refl, sym, ap, ◌∙◌, subst, length-append, zero-add, arith}
 use Rattle.std.specs.Prelude.{◌==◌, filter, slice_get, ⊤}
-use Rattle.std.specs.List.{AllByRecursion}
+use Rattle.std.specs.List.{AllByRecursion, Contains}
+use Rattle.std.proofs.lemmas.List.Elements.{Contains-append_cases, Contains-append_left, Contains-append_right}
 use Rattle.std.proofs.lemmas.Bool.{eq-eqb, eqb-true}
 use Rattle.std.proofs.lemmas.Option.{same_Some}
 use Rattle.rw_types.specs.Rising.{Rises}
@@ -14,60 +15,55 @@ use Rattle.rw_fleet.specs.ShardHistories.{ShardHistory}
 use Rattle.rw_router.specs.Fates.{Fate, Drops, Filters, Sends, fate}
 use Rattle.rw_feeder.specs.Logs.{Sent, sent_by_fate, sent_of, sent}
 use Rattle.rw_shipper.specs.Placement.{put_in, shard_of, IsDealt, Places, joined, ArePlaced}
-use Rattle.rw_shipper.specs.Spread.{IsOneOf, StandsBefore, IsShard, IsSpread}
+use Rattle.rw_shipper.specs.Spread.{StandsBefore, IsShard, IsSpread}
 use Rattle.rw_shipper.proofs.PlacementLemmas.{get_some}
 
-one_left : (x : Sent) (xs ys : List Sent) → IsOneOf x xs → IsOneOf x (xs ++ ys)
-one_left x [] ys h = absurd h
-one_left x (y ∷ xs) ys (inl e) = inl e
-one_left x (y ∷ xs) ys (inr h) = inr (one_left x xs ys h)
+none_below : (k : ℕ) → k < 0 → ⊥
+none_below k lt = omega arith
 
-one_right : (x : Sent) (xs ys : List Sent) → IsOneOf x ys → IsOneOf x (xs ++ ys)
-one_right x [] ys h = h
-one_right x (y ∷ xs) ys h = inr (one_right x xs ys h)
+no_one : (x : Sent) → Contains [] x → ⊥
+no_one x h = none_below h.0 h.1
 
-one_append : (x : Sent) (xs ys : List Sent) → IsOneOf x (xs ++ ys) → IsOneOf x xs ⊎ IsOneOf x ys
-one_append x [] ys h = inr h
-one_append x (y ∷ xs) ys (inl e) = inl (inl e)
-one_append x (y ∷ xs) ys (inr h) = elim (one_append x xs ys h) [ inl a ↦ inl (inr a) | inr b ↦ inr b ]
+one_later : (x y : Sent) (ys : List Sent) → Contains ys x → Contains (y ∷ ys) x
+one_later x y ys h = Contains-append_right (y ∷ []) ys x h
 
-one_cond : (b : Bool) (x y : Sent) (ys : List Sent) → IsOneOf x (cond b (y ∷ ys) ys) → ((b ≡ true) × (x ≡ y)) ⊎ IsOneOf x ys
-one_cond true x y ys (inl e) = inl (refl, e)
-one_cond true x y ys (inr h) = inr h
+one_cond : (b : Bool) (x y : Sent) (ys : List Sent) → Contains (cond b (y ∷ ys) ys) x → ((b ≡ true) × (y ≡ x)) ⊎ Contains ys x
+one_cond true x y ys (zero, lt, e) = inl (refl, e)
+one_cond true x y ys (suc k, lt, e) = inr (k, omega arith, e)
 one_cond false x y ys h = inr h
 
-one_filter : (p : Sent → Bool) (x : Sent) (xs : List Sent) → IsOneOf x (filter p xs) → IsOneOf x xs × (p x ≡ true)
-one_filter p x [] h = absurd h
+one_filter : (p : Sent → Bool) (x : Sent) (xs : List Sent) → Contains (filter p xs) x → Contains xs x × (p x ≡ true)
+one_filter p x [] h = absurd (no_one x h)
 one_filter p x (y ∷ ys) h = elim (one_cond (p y) x y (filter p ys) h) [
-  | inl a ↦ (inl a.1, ap p a.1 ∙ a.0)
-  | inr b ↦ (inr (one_filter p x ys b).0, (one_filter p x ys b).1)
+  | inl a ↦ ((0, omega arith, a.1), ap p (sym a.1) ∙ a.0)
+  | inr b ↦ (one_later x y ys (one_filter p x ys b).0, (one_filter p x ys b).1)
 ]
 
-one_kept : (b : Bool) (x y : Sent) (ys : List Sent) → IsOneOf x ys → IsOneOf x (cond b (y ∷ ys) ys)
-one_kept true x y ys h = inr h
+one_kept : (b : Bool) (x y : Sent) (ys : List Sent) → Contains ys x → Contains (cond b (y ∷ ys) ys) x
+one_kept true x y ys h = one_later x y ys h
 one_kept false x y ys h = h
 
-one_passes : (p : Sent → Bool) (x : Sent) (xs : List Sent) → IsOneOf x xs → p x ≡ true → IsOneOf x (filter p xs)
-one_passes p x [] h is = absurd h
-one_passes p x (y ∷ ys) (inl e) is = subst (λ b. IsOneOf x (cond b (y ∷ filter p ys) (filter p ys))) (sym (ap p (sym e) ∙ is)) (inl e)
-one_passes p x (y ∷ ys) (inr h) is = one_kept (p y) x y (filter p ys) (one_passes p x ys h is)
+one_passes : (p : Sent → Bool) (x : Sent) (xs : List Sent) → Contains xs x → p x ≡ true → Contains (filter p xs) x
+one_passes p x [] h is = absurd (no_one x h)
+one_passes p x (y ∷ ys) (zero, lt, e) is = subst (λ b. Contains (cond b (y ∷ filter p ys) (filter p ys)) x) (sym (ap p e ∙ is)) (0, omega arith, e)
+one_passes p x (y ∷ ys) (suc k, lt, e) is = one_kept (p y) x y (filter p ys) (one_passes p x ys (k, omega arith, e) is)
 
-each_one_of : (P : Sent → Type 0) (x : Sent) (xs : List Sent) → AllByRecursion P xs → IsOneOf x xs → P x
-each_one_of P x [] all h = absurd h
-each_one_of P x (y ∷ ys) all (inl e) = subst P (sym e) all.0
-each_one_of P x (y ∷ ys) all (inr h) = each_one_of P x ys all.1 h
+each_one_of : (P : Sent → Type 0) (x : Sent) (xs : List Sent) → AllByRecursion P xs → Contains xs x → P x
+each_one_of P x [] all h = absurd (no_one x h)
+each_one_of P x (y ∷ ys) all (zero, lt, e) = subst P e all.0
+each_one_of P x (y ∷ ys) all (suc k, lt, e) = each_one_of P x ys all.1 (k, omega arith, e)
 
-rise_across : (xs ys : List Sent) (x y : Sent) → Rises StandsBefore (xs ++ ys) → IsOneOf x xs → IsOneOf y ys → x.pos < y.pos
+rise_across : (xs ys : List Sent) (x y : Sent) → Rises StandsBefore (xs ++ ys) → Contains xs x → Contains ys y → x.pos < y.pos
 rise_across xs ys x y r h g =
     each_one_of (StandsBefore x) y ys (each_one_of (λ z. AllByRecursion (StandsBefore z) ys) x xs (Rises-across StandsBefore xs ys r) h) g
 
 -- two samples at one position are one
-rise_same : (xs : List Sent) (x y : Sent) → Rises StandsBefore xs → IsOneOf x xs → IsOneOf y xs → x.pos ≡ y.pos → x ≡ y
-rise_same [] x y r h g e = absurd h
-rise_same (z ∷ zs) x y r (inl a) (inl b) e = a ∙ sym b
-rise_same (z ∷ zs) x y r (inl a) (inr g) e = let lt : z.pos < y.pos = each_one_of (StandsBefore z) y zs r.0 g in let is : x.pos ≡ z.pos = ap (λ (w : Sent). w.pos) a in absurd (omega arith)
-rise_same (z ∷ zs) x y r (inr h) (inl b) e = let lt : z.pos < x.pos = each_one_of (StandsBefore z) x zs r.0 h in let is : y.pos ≡ z.pos = ap (λ (w : Sent). w.pos) b in absurd (omega arith)
-rise_same (z ∷ zs) x y r (inr h) (inr g) e = rise_same zs x y r.1 h g e
+rise_same : (xs : List Sent) (x y : Sent) → Rises StandsBefore xs → Contains xs x → Contains xs y → x.pos ≡ y.pos → x ≡ y
+rise_same [] x y r h g e = absurd (no_one x h)
+rise_same (z ∷ zs) x y r (zero, lt, a) (zero, below, b) e = sym a ∙ b
+rise_same (z ∷ zs) x y r (zero, lt, a) (suc k, below, g) e = let up : z.pos < y.pos = each_one_of (StandsBefore z) y zs r.0 (k, omega arith, g) in let is : z.pos ≡ x.pos = ap (λ (w : Sent). w.pos) a in absurd (omega arith)
+rise_same (z ∷ zs) x y r (suc k, lt, h) (zero, below, b) e = let up : z.pos < x.pos = each_one_of (StandsBefore z) x zs r.0 (k, omega arith, h) in let is : z.pos ≡ y.pos = ap (λ (w : Sent). w.pos) b in absurd (omega arith)
+rise_same (z ∷ zs) x y r (suc k, lt, h) (suc m, below, g) e = rise_same zs x y r.1 (k, omega arith, h) (m, omega arith, g) e
 
 -- what the shards of one epoch were put, out of all
 record HasPart (e : ℕ) (lanes : List ShardHistory) (samples : List Sent) : Type 0 where
@@ -75,7 +71,7 @@ record HasPart (e : ℕ) (lanes : List ShardHistory) (samples : List Sent) : Typ
   number_is : number ≡ e
   part : List Sent
   dealt : IsDealt number lanes part
-  among : (x : Sent) → IsOneOf x part → IsOneOf x samples
+  among : (x : Sent) → Contains part x → Contains samples x
   rises : Rises StandsBefore samples → Rises StandsBefore part
 
 part_of : (b e : ℕ) (es : List (List ShardHistory)) (lanes : List ShardHistory) (samples : List Sent) → Places b es samples → slice_get es e ≡ Some lanes → HasPart (b + e) lanes samples
@@ -85,7 +81,7 @@ part_of b zero (x ∷ xs) lanes samples h at = record {
   number_is = omega arith;
   part = h.0;
   dealt = subst (λ ls. IsDealt b ls h.0) (same_Some x lanes at) h.3;
-  among = λ y one. subst (IsOneOf y) (sym h.2) (one_left y h.0 h.1 one);
+  among = λ y one. subst (λ zs. Contains zs y) (sym h.2) (Contains-append_left h.0 h.1 y one);
   rises = λ r. Rises-left StandsBefore h.0 h.1 (subst (Rises StandsBefore) h.2 r);
 }
 part_of b (suc e) (x ∷ xs) lanes samples h at =
@@ -95,33 +91,33 @@ part_of b (suc e) (x ∷ xs) lanes samples h at =
       number_is = let is = p.number_is in omega arith;
       part = p.part;
       dealt = p.dealt;
-      among = λ y one. subst (IsOneOf y) (sym h.2) (one_right y h.0 h.1 (p.among y one));
+      among = λ y one. subst (λ zs. Contains zs y) (sym h.2) (Contains-append_right h.0 h.1 y (p.among y one));
       rises = λ r. p.rises (Rises-right StandsBefore h.0 h.1 (subst (Rises StandsBefore) h.2 r));
     }
 
 -- a sample of an epoch stands in the shard of its series
-dealt_one : (n : ℕ) (lanes : List ShardHistory) (part : List Sent) (x : Sent) → IsDealt n lanes part → IsOneOf x part → (k : ℕ) × (l : ShardHistory) × (slice_get lanes k ≡ Some l) × IsOneOf x (put_in l)
-dealt_one n [] part x d one = absurd (subst (IsOneOf x) (d.none refl) one)
+dealt_one : (n : ℕ) (lanes : List ShardHistory) (part : List Sent) (x : Sent) → IsDealt n lanes part → Contains part x → (k : ℕ) × (l : ShardHistory) × (slice_get lanes k ≡ Some l) × Contains (put_in l) x
+dealt_one n [] part x d one = absurd (no_one x (subst (λ zs. Contains zs x) (d.none refl) one))
 dealt_one n (a ∷ ls) part x d one =
     let k = shard_of (length (a ∷ ls)) x.series in
     let at = get_some (a ∷ ls) k (omega arith) in
-    (k, at.0, at.1, subst (IsOneOf x) (sym (d.each k at.0 at.1).2) (one_passes (λ s. shard_of (length (a ∷ ls)) s.series == k) x part one (eq-eqb k k refl)))
+    (k, at.0, at.1, subst (λ zs. Contains zs x) (sym (d.each k at.0 at.1).2) (one_passes (λ s. shard_of (length (a ∷ ls)) s.series == k) x part one (eq-eqb k k refl)))
 
-each_one : (b : ℕ) (es : List (List ShardHistory)) (samples : List Sent) (x : Sent) → Places b es samples → IsOneOf x samples → (e : ℕ) × (k : ℕ) × (lanes : List ShardHistory) × (l : ShardHistory) × IsShard es e k lanes l × IsOneOf x (put_in l)
-each_one b [] samples x h one = absurd (subst (IsOneOf x) h one)
-each_one b (y ∷ ys) samples x h one = elim (one_append x h.0 h.1 (subst (IsOneOf x) h.2 one)) [
+each_one : (b : ℕ) (es : List (List ShardHistory)) (samples : List Sent) (x : Sent) → Places b es samples → Contains samples x → (e : ℕ) × (k : ℕ) × (lanes : List ShardHistory) × (l : ShardHistory) × IsShard es e k lanes l × Contains (put_in l) x
+each_one b [] samples x h one = absurd (no_one x (subst (λ zs. Contains zs x) h one))
+each_one b (y ∷ ys) samples x h one = elim (Contains-append_cases h.0 h.1 x (subst (λ zs. Contains zs x) h.2 one)) [
   | inl a ↦ (let d = dealt_one b y h.0 x h.3 a in (0, d.0, y, d.1, (refl, d.2), d.3))
   | inr c ↦ (let r = each_one (suc b) ys h.1 x h.4 c in (suc r.0, r.1, r.2, r.3, r.4, r.5))
 ]
 
 -- what stands in a shard is of its epoch, and of its series
-shard_one : (n k : ℕ) (lanes : List ShardHistory) (part : List Sent) (l : ShardHistory) (x : Sent) → IsDealt n lanes part → slice_get lanes k ≡ Some l → IsOneOf x (put_in l) → IsOneOf x part × (k ≡ shard_of (length lanes) x.series)
+shard_one : (n k : ℕ) (lanes : List ShardHistory) (part : List Sent) (l : ShardHistory) (x : Sent) → IsDealt n lanes part → slice_get lanes k ≡ Some l → Contains (put_in l) x → Contains part x × (k ≡ shard_of (length lanes) x.series)
 shard_one n k lanes part l x d at one =
-    let f = one_filter (λ s. shard_of (length lanes) s.series == k) x part (subst (IsOneOf x) (d.each k l at).2 one) in
+    let f = one_filter (λ s. shard_of (length lanes) s.series == k) x part (subst (λ zs. Contains zs x) (d.each k l at).2 one) in
     (f.0, sym (eqb-true (shard_of (length lanes) x.series) k f.1))
 
 later_one : (b e f j k : ℕ) (es : List (List ShardHistory)) (samples : List Sent) (lanes others : List ShardHistory) (l m : ShardHistory) (x y : Sent) → Places b es samples → Rises StandsBefore samples
-    → IsShard es e j lanes l → IsShard es f k others m → IsOneOf x (put_in l) → IsOneOf y (put_in m) → e < f → x.pos < y.pos
+    → IsShard es e j lanes l → IsShard es f k others m → Contains (put_in l) x → Contains (put_in m) y → e < f → x.pos < y.pos
 later_one b e f j k [] samples lanes others l m x y h r s t one two lt = absurd (let at : None ≡ Some lanes = s.0 in cc)
 later_one b e zero j k (z ∷ zs) samples lanes others l m x y h r s t one two lt = absurd (omega arith)
 later_one b zero (suc f) j k (z ∷ zs) samples lanes others l m x y h r s t one two lt =
