@@ -4,8 +4,12 @@ use Rattle.std.proofs.lemmas.Bool.{cases_eq, true≢false, not-false, cond-false
 use Rattle.std.proofs.lemmas.Bool.Decides.{Decides-eqb}
 use Rattle.std.proofs.lemmas.List.{map-append}
 use Rattle.rw_machine.proofs.Steps.{either, AllOf, all_append, all_more, all_map, same_is, is_same}
-use Rattle.rw_machine.proofs.Risen.{AllLater, Rises, Rises-risen}
-use Rattle.rw_machine.proofs.OrderRule.{Ascends, ascends_left, accept_repeats, accept_later, holds_append, holds_right, distinct_apart, Took, take_message}
+use Rattle.std.specs.List.{AllByRecursion}
+use Rattle.rw_types.specs.Rising.{Rises}
+use Rattle.rw_types.proofs.RisingLemmas.{Rises-left}
+use Rattle.rw_head.specs.Lists.{IsEarlier}
+use Rattle.rw_machine.proofs.Risen.{IsEarlierPoint, Rises-risen}
+use Rattle.rw_machine.proofs.OrderRule.{accept_repeats, accept_later, holds_append, holds_right, distinct_apart, Took, take_message}
 use Rattle.rw_machine.proofs.Places.{Numbered, numbered_left, numbered_all, of_append}
 use Rattle.rw_machine.proofs.Invariant.{Inv, as_points, waits, home, id_at, Past, SampleOk, ShardOk, GotOk, IsOpen, InStore, RequestOk, AnswersOpen, AnswerOk, by_bool}
 use Rattle.rw_machine.proofs.Keeps.{pairs_of_points, of_none}
@@ -33,21 +37,21 @@ use Rattle.rw_plain_queue.specs.Items.{Placed}
 use Rattle.rw_types.specs.LabelOrder.{labels_eq}
 use Rattle.rw_types.specs.Labels.{Labels}
 
-later_pairs : (t : ℤ) (ps : List Point) → AllLater t ps → AllOf (λ (y : ℤ × ℕ). int_lt t y.0 ≡ true) (map pair_of ps)
+later_pairs : (t : ℤ) (ps : List Point) → AllByRecursion (λ (p : Point). int_lt t p.1 ≡ true) ps → AllByRecursion (λ (y : ℤ × ℕ). int_lt t y.0 ≡ true) (map pair_of ps)
 later_pairs t [] h = tt
 later_pairs t (p ∷ ps) h = (h.0, later_pairs t ps h.1)
 
-ascends_points : (ps : List Point) → Rises ps → Ascends (map pair_of ps)
+ascends_points : (ps : List Point) → Rises IsEarlierPoint ps → Rises IsEarlier (map pair_of ps)
 ascends_points [] h = tt
 ascends_points (p ∷ ps) h = (later_pairs p.1 ps h.0, ascends_points ps h.1)
 
-all_owed : (P : ℤ × ℕ → Type 0) (ledger : Ledger) (ps : List Point) (ys : Pairs) → AllOf P (map pair_of ps ++ ys) → AllOf P (map pair_of (owed_by ledger ps) ++ ys)
+all_owed : (P : ℤ × ℕ → Type 0) (ledger : Ledger) (ps : List Point) (ys : Pairs) → AllByRecursion P (map pair_of ps ++ ys) → AllByRecursion P (map pair_of (owed_by ledger ps) ++ ys)
 all_owed P ledger [] ys h = h
-all_owed P ledger (p ∷ ps) ys h = either (λ qs. AllOf P (map pair_of qs ++ ys)) (is_none (ledger p.0)) (p ∷ owed_by ledger ps) (owed_by ledger ps) (λ _. (h.0, all_owed P ledger ps ys h.1)) (λ _. all_owed P ledger ps ys h.1)
+all_owed P ledger (p ∷ ps) ys h = either (λ qs. AllByRecursion P (map pair_of qs ++ ys)) (is_none (ledger p.0)) (p ∷ owed_by ledger ps) (owed_by ledger ps) (λ _. (h.0, all_owed P ledger ps ys h.1)) (λ _. all_owed P ledger ps ys h.1)
 
-ascends_owed : (ledger : Ledger) (ps : List Point) (ys : Pairs) → Ascends (map pair_of ps ++ ys) → Ascends (map pair_of (owed_by ledger ps) ++ ys)
+ascends_owed : (ledger : Ledger) (ps : List Point) (ys : Pairs) → Rises IsEarlier (map pair_of ps ++ ys) → Rises IsEarlier (map pair_of (owed_by ledger ps) ++ ys)
 ascends_owed ledger [] ys h = h
-ascends_owed ledger (p ∷ ps) ys h = either (λ qs. Ascends (map pair_of qs ++ ys)) (is_none (ledger p.0)) (p ∷ owed_by ledger ps) (owed_by ledger ps) (λ _. (all_owed (λ (y : ℤ × ℕ). int_lt p.1 y.0 ≡ true) ledger ps ys h.0, ascends_owed ledger ps ys h.1)) (λ _. ascends_owed ledger ps ys h.1)
+ascends_owed ledger (p ∷ ps) ys h = either (λ qs. Rises IsEarlier (map pair_of qs ++ ys)) (is_none (ledger p.0)) (p ∷ owed_by ledger ps) (owed_by ledger ps) (λ _. (all_owed (λ (y : ℤ × ℕ). int_lt p.1 y.0 ≡ true) ledger ps ys h.0, ascends_owed ledger ps ys h.1)) (λ _. ascends_owed ledger ps ys h.1)
 
 unfilter : (P : Labels → Type 0) (p : Labels → Bool) → ((m : Labels) → p m ≡ false → P m) → (ls : List Labels) → AllOf P (filter p ls) → AllOf P ls
 unfilter P p dropped [] h = tt
@@ -88,25 +92,25 @@ module _ (c : Setup) (w : World) (at : Inv c w) (r : Request) (r_ok : RequestOk 
   kept_part l = map pair_of (owed_by (get w.names) (at.done l))
 
   -- what the head has of a series, and what waits for it, rise
-  ascends : (l : Labels) → IsKept c l → Ascends (kept_part l ++ pairs (of l (waits (slice_get w.shards (home at.width w.series l)))))
-  ascends l k = ascends_owed (get w.names) (at.done l) (pairs (of l (waits (slice_get w.shards (home at.width w.series l))))) (subst Ascends (ap (map pair_of) (at.mine l k) ∙ map-append pair_of (at.done l) (as_points (of l (waits (slice_get w.shards (home at.width w.series l))))) ∙ ap (λ ps. map pair_of (at.done l) ++ ps) (pairs_of_points (of l (waits (slice_get w.shards (home at.width w.series l)))))) (ascends_points (points c l (take w.placed (log w))) (Rises-risen (logged_points c l (take w.placed (log w))))))
+  ascends : (l : Labels) → IsKept c l → Rises IsEarlier (kept_part l ++ pairs (of l (waits (slice_get w.shards (home at.width w.series l)))))
+  ascends l k = ascends_owed (get w.names) (at.done l) (pairs (of l (waits (slice_get w.shards (home at.width w.series l))))) (subst (Rises IsEarlier) (ap (map pair_of) (at.mine l k) ∙ map-append pair_of (at.done l) (as_points (of l (waits (slice_get w.shards (home at.width w.series l))))) ∙ ap (λ ps. map pair_of (at.done l) ++ ps) (pairs_of_points (of l (waits (slice_get w.shards (home at.width w.series l)))))) (ascends_points (points c l (take w.placed (log w))) (Rises-risen (logged_points c l (take w.placed (log w))))))
 
-  ascends_batch : (l : Labels) → IsKept c l → (s : Shard) → slice_get w.shards (home at.width w.series l) ≡ Some s → Ascends (kept_part l ++ pairs (of l s.core.batch))
-  ascends_batch l k s e = ascends_left (kept_part l ++ pairs (of l s.core.batch)) (pairs (of l (s.core.builder ++ samples_in s.queue))) (subst Ascends (ap (λ o. kept_part l ++ pairs (of l (waits o))) e ∙ ap (λ xs. kept_part l ++ pairs (of l xs)) (pending_parts s) ∙ ap (λ ps. kept_part l ++ ps) (ap pairs (of_append l s.core.batch (s.core.builder ++ samples_in s.queue)) ∙ map-append _ (of l s.core.batch) (of l (s.core.builder ++ samples_in s.queue))) ∙ sym (append_assoc (kept_part l) (pairs (of l s.core.batch)) (pairs (of l (s.core.builder ++ samples_in s.queue))))) (ascends l k))
+  ascends_batch : (l : Labels) → IsKept c l → (s : Shard) → slice_get w.shards (home at.width w.series l) ≡ Some s → Rises IsEarlier (kept_part l ++ pairs (of l s.core.batch))
+  ascends_batch l k s e = Rises-left IsEarlier (kept_part l ++ pairs (of l s.core.batch)) (pairs (of l (s.core.builder ++ samples_in s.queue))) (subst (Rises IsEarlier) (ap (λ o. kept_part l ++ pairs (of l (waits o))) e ∙ ap (λ xs. kept_part l ++ pairs (of l xs)) (pending_parts s) ∙ ap (λ ps. kept_part l ++ ps) (ap pairs (of_append l s.core.batch (s.core.builder ++ samples_in s.queue)) ∙ map-append _ (of l s.core.batch) (of l (s.core.builder ++ samples_in s.queue))) ∙ sym (append_assoc (kept_part l) (pairs (of l s.core.batch)) (pairs (of l (s.core.builder ++ samples_in s.queue))))) (ascends l k))
 
-  ascends_kept : (l : Labels) → IsKept c l → Ascends (kept_part l)
-  ascends_kept l k = ascends_left (kept_part l) (pairs (of l (waits (slice_get w.shards (home at.width w.series l))))) (ascends l k)
+  ascends_kept : (l : Labels) → IsKept c l → Rises IsEarlier (kept_part l)
+  ascends_kept l k = Rises-left IsEarlier (kept_part l) (pairs (of l (waits (slice_get w.shards (home at.width w.series l))))) (ascends l k)
 
-  ascends_store : (l : Labels) → IsKept c l → Ascends (list_of w.head.store l)
-  ascends_store l k = subst Ascends (sym (at.stored l k)) (by_shard (slice_get w.shards (home at.width w.series l)) refl (at.got_ok (home at.width w.series l)))
+  ascends_store : (l : Labels) → IsKept c l → Rises IsEarlier (list_of w.head.store l)
+  ascends_store l k = subst (Rises IsEarlier) (sym (at.stored l k)) (by_shard (slice_get w.shards (home at.width w.series l)) refl (at.got_ok (home at.width w.series l)))
     where
-      none : at.got (home at.width w.series l) ≡ [] → Ascends (kept_part l ++ pairs (of l (at.got (home at.width w.series l))))
-      none g = subst Ascends (sym (append-nil (kept_part l)) ∙ ap (λ b. kept_part l ++ pairs (of l b)) (sym g)) (ascends_kept l k)
+      none : at.got (home at.width w.series l) ≡ [] → Rises IsEarlier (kept_part l ++ pairs (of l (at.got (home at.width w.series l))))
+      none g = subst (Rises IsEarlier) (sym (append-nil (kept_part l)) ∙ ap (λ b. kept_part l ++ pairs (of l b)) (sym g)) (ascends_kept l k)
 
-      by_shard : (o : Option Shard) → slice_get w.shards (home at.width w.series l) ≡ o → GotOk c o (at.got (home at.width w.series l)) → Ascends (kept_part l ++ pairs (of l (at.got (home at.width w.series l))))
+      by_shard : (o : Option Shard) → slice_get w.shards (home at.width w.series l) ≡ o → GotOk c o (at.got (home at.width w.series l)) → Rises IsEarlier (kept_part l ++ pairs (of l (at.got (home at.width w.series l))))
       by_shard None e g = none g
       by_shard (Some s) e (inl g) = none g
-      by_shard (Some s) e (inr g) = subst Ascends (ap (λ b. kept_part l ++ pairs (of l b)) (sym g.0)) (ascends_batch l k s e)
+      by_shard (Some s) e (inr g) = subst (Rises IsEarlier) (ap (λ b. kept_part l ++ pairs (of l b)) (sym g.0)) (ascends_batch l k s e)
 
   -- an answer that fits what the head has then
   record Fits (v : Answer) (got : ℕ → List Placed) : Type 0 where
@@ -231,7 +235,7 @@ module _ (c : Setup) (w : World) (at : Inv c w) (r : Request) (r_ok : RequestOk 
     first_took : at.got j ≡ [] → Took (list_of w.head.store) (λ l. pairs (of l r.batch)) ls (accept_all (Some (list_of w.head.store)) (message r.batch))
     first_took none =
         let store_is : (l : Labels) → IsKept c l → home at.width w.series l ≡ j → list_of w.head.store l ≡ kept_part l = λ l k h. at.stored l k ∙ ap (λ (n : ℕ). kept_part l ++ pairs (of l (at.got n))) h ∙ ap (λ b. kept_part l ++ pairs (of l b)) none ∙ append-nil (kept_part l) in
-        take_message r.batch (λ l. pairs (of l r.batch)) ls (list_of w.head.store) (distinct_apart (map (λ (x : Placed). x.labels) r.batch)) (all_more (λ l. IsKept c l × (home at.width w.series l ≡ j)) (λ l. accept (Some (list_of w.head.store l)) (pairs (of l r.batch)) ≡ Some (list_of w.head.store l ++ pairs (of l r.batch))) (λ l k. accept_later (list_of w.head.store l) (pairs (of l r.batch)) (subst Ascends (λ i. sym (store_is l k.0 k.1) i ++ pairs (of l (batch_is i))) (ascends_batch l k.0 s (ap (slice_get w.shards) k.1 ∙ at_j)))) ls (all_distinct (λ l. IsKept c l × (home at.width w.series l ≡ j)) (map (λ (x : Placed). x.labels) r.batch) (all_map (λ l. IsKept c l × (home at.width w.series l ≡ j)) (λ (x : Placed). x.labels) r.batch homes)))
+        take_message r.batch (λ l. pairs (of l r.batch)) ls (list_of w.head.store) (distinct_apart (map (λ (x : Placed). x.labels) r.batch)) (all_more (λ l. IsKept c l × (home at.width w.series l ≡ j)) (λ l. accept (Some (list_of w.head.store l)) (pairs (of l r.batch)) ≡ Some (list_of w.head.store l ++ pairs (of l r.batch))) (λ l k. accept_later (list_of w.head.store l) (pairs (of l r.batch)) (subst (Rises IsEarlier) (λ i. sym (store_is l k.0 k.1) i ++ pairs (of l (batch_is i))) (ascends_batch l k.0 s (ap (slice_get w.shards) k.1 ∙ at_j)))) ls (all_distinct (λ l. IsKept c l × (home at.width w.series l ≡ j)) (map (λ (x : Placed). x.labels) r.batch) (all_map (λ l. IsKept c l × (home at.width w.series l ≡ j)) (λ (x : Placed). x.labels) r.batch homes)))
 
     first : at.got j ≡ [] → (next : head.Store) → Takes w.head r.batch next → Inv c (answered w r.id (taken_as next))
     first none next t =

@@ -2,7 +2,10 @@
 use Rattle.std.proofs.Common.{◌≡◌, ℕ, ◌==◌, Bool, true, false, cond, List, [], ◌∷◌, ◌++◌, map, filter, Option, Some, None, refl, sym, ap, ◌∙◌, subst, ℤ, int_lt, int_eq, ◌||◌, ◌&&◌, not, append-nil, append_assoc}
 use Rattle.std.proofs.lemmas.Bool.Decides.{Decides-int_eq, Decides-eqb}
 use Rattle.std.proofs.lemmas.Bool.{true≢false, not-true, cond-false, cond-true, and_parts}
-use Rattle.rw_machine.proofs.Steps.{either, AllOf, all_left, all_filter, all_more, and_both, same_is, is_same}
+use Rattle.std.specs.List.{AllByRecursion}
+use Rattle.rw_types.specs.Rising.{Rises}
+use Rattle.rw_head.specs.Lists.{IsEarlier}
+use Rattle.rw_machine.proofs.Steps.{either, AllOf, all_filter, all_more, and_both, same_is, is_same}
 use Rattle.rw_head.specs.Order.{accept, accept_one, holds, is_later}
 use Rattle.rw_machine.proofs.Views.{Pairs, Store, of, pairs, series_of}
 use Rattle.rw_machine.proofs.Heads.{store_at, put_series, accept_series, accept_all}
@@ -12,20 +15,11 @@ use Rattle.rw_types.specs.LabelOrder.{labels_eq}
 use Rattle.rw_types.specs.Labels.{Labels}
 use Rattle.rw_types.proofs.TimeLemmas.{int_lt-asymm, int_lt-irrefl}
 
--- strictly rising timestamps
-abbrev pub Ascends : Pairs → Type 0
-Ascends [] = Unit {0}
-Ascends (x ∷ xs) = AllOf (λ (y : ℤ × ℕ). int_lt x.0 y.0 ≡ true) xs × Ascends xs
-
-pub ascends_left : (xs ys : Pairs) → Ascends (xs ++ ys) → Ascends xs
-ascends_left [] ys h = tt
-ascends_left (x ∷ xs) ys h = (all_left (λ (y : ℤ × ℕ). int_lt x.0 y.0 ≡ true) xs ys h.0, ascends_left xs ys h.1)
-
-not_later : (t : ℤ) (y : ℤ × ℕ) (ys : Pairs) → AllOf (λ (y : ℤ × ℕ). int_lt t y.0 ≡ true) (y ∷ ys) → is_later t (y ∷ ys) ≡ false
+not_later : (t : ℤ) (y : ℤ × ℕ) (ys : Pairs) → AllByRecursion (λ (y : ℤ × ℕ). int_lt t y.0 ≡ true) (y ∷ ys) → is_later t (y ∷ ys) ≡ false
 not_later t y [] h = int_lt-asymm t y.0 h.0
 not_later t y (z ∷ ys) h = not_later t z ys h.1
 
-pub repeat_not_later : (s : ℤ × ℕ) (xs : Pairs) → Ascends xs → holds s xs ≡ true → is_later s.0 xs ≡ false
+pub repeat_not_later : (s : ℤ × ℕ) (xs : Pairs) → Rises IsEarlier xs → holds s xs ≡ true → is_later s.0 xs ≡ false
 repeat_not_later s [] h at = absurd (true≢false (sym at))
 repeat_not_later s (x ∷ []) h at = by_test (int_eq x.0 s.0 && (x.1 == s.1)) refl at
   where
@@ -39,24 +33,24 @@ repeat_not_later s (x ∷ y ∷ ys) h at = by_test (int_eq x.0 s.0 && (x.1 == s.
     by_test false e at rest = rest at
 
 -- repeats change nothing
-pub accept_repeats : (xs ss : Pairs) → Ascends xs → AllOf (λ s. holds s xs ≡ true) ss → accept (Some xs) ss ≡ Some xs
+pub accept_repeats : (xs ss : Pairs) → Rises IsEarlier xs → AllOf (λ s. holds s xs ≡ true) ss → accept (Some xs) ss ≡ Some xs
 accept_repeats xs [] h all = refl
 accept_repeats xs (s ∷ ss) h all =
     let step : accept_one xs s ≡ Some xs = cond-false (is_later s.0 xs) (Some (xs ++ s ∷ [])) (cond (holds s xs) (Some xs) None) (repeat_not_later s xs h all.0) ∙ cond-true (holds s xs) (Some xs) None all.0 in
     ap (λ o. accept o ss) step ∙ accept_repeats xs ss h all.1
 
-later_than : (xs : Pairs) (s : ℤ × ℕ) (ss : Pairs) → Ascends (xs ++ s ∷ ss) → is_later s.0 xs ≡ true
+later_than : (xs : Pairs) (s : ℤ × ℕ) (ss : Pairs) → Rises IsEarlier (xs ++ s ∷ ss) → is_later s.0 xs ≡ true
 later_than [] s ss h = refl
 later_than (x ∷ []) s ss h = h.0.0
 later_than (x ∷ y ∷ ys) s ss h = later_than (y ∷ ys) s ss h.1
 
 -- later samples are appended
-pub accept_later : (xs ss : Pairs) → Ascends (xs ++ ss) → accept (Some xs) ss ≡ Some (xs ++ ss)
+pub accept_later : (xs ss : Pairs) → Rises IsEarlier (xs ++ ss) → accept (Some xs) ss ≡ Some (xs ++ ss)
 accept_later xs [] h = ap Some (sym (append-nil xs))
 accept_later xs (s ∷ ss) h =
     let step : accept_one xs s ≡ Some (xs ++ s ∷ []) = cond-true (is_later s.0 xs) (Some (xs ++ s ∷ [])) (cond (holds s xs) (Some xs) None) (later_than xs s ss h) in
     let shift : (xs ++ s ∷ []) ++ ss ≡ xs ++ s ∷ ss = append_assoc xs (s ∷ []) ss in
-    ap (λ o. accept o ss) step ∙ accept_later (xs ++ s ∷ []) ss (subst Ascends (sym shift) h) ∙ ap Some shift
+    ap (λ o. accept o ss) step ∙ accept_later (xs ++ s ∷ []) ss (subst (Rises IsEarlier) (sym shift) h) ∙ ap Some shift
 
 pub holds_append : (s : ℤ × ℕ) (xs ys : Pairs) → holds s xs ≡ true → holds s (xs ++ ys) ≡ true
 holds_append s [] ys h = absurd (true≢false (sym h))

@@ -1,18 +1,16 @@
 -- The points that rise: those that are later than all before them.
 use Rattle.std.proofs.Common.{◌≡◌, ℤ, int_lt, Bool, true, false, cond, if◌then◌else◌, List, [], ◌∷◌, ◌++◌, sym, ap, ◌∙◌, subst, append-nil, append_assoc}
 use Rattle.std.proofs.lemmas.Bool.{and_parts}
+use Rattle.std.specs.List.{AllByRecursion}
+use Rattle.rw_types.specs.Rising.{Rises}
 use Rattle.rw_series_cache.specs.Rising.{is_after_all}
+use Rattle.rw_head.specs.Lists.{IsEarlier}
 use Rattle.rw_machine.proofs.Steps.{either}
-use Rattle.rw_machine.specs.Promises.{Point}
+use Rattle.rw_machine.specs.Promises.{Point, pair_of}
 
-abbrev pub AllLater : ℤ → List Point → Type 0
-AllLater t [] = Unit {0}
-AllLater t (p ∷ ps) = (int_lt t p.1 ≡ true) × AllLater t ps
-
--- timestamps rise strictly
-abbrev pub Rises : List Point → Type 0
-Rises [] = Unit {0}
-Rises (p ∷ ps) = AllLater p.1 ps × Rises ps
+-- the first has the earlier timestamp
+abbrev pub IsEarlierPoint : Point → Point → Type 0
+IsEarlierPoint p q = IsEarlier (pair_of p) (pair_of q)
 
 -- those that are later than all before them, where others stand before
 abbrev pub risen_after : List Point → List Point → List Point
@@ -40,19 +38,19 @@ later_than_each : (t : ℤ) (b : List Point) (p : Point) (ps : List Point) → i
 later_than_each t [] p ps h = (and_parts (int_lt p.1 t) (is_after_all t ps) h).0
 later_than_each t (q ∷ b) p ps h = later_than_each t b p ps (and_parts (int_lt q.1 t) (is_after_all t (b ++ p ∷ ps)) h).1
 
-later_than_before : (b : List Point) (p : Point) (d ps : List Point) → AllLater p.1 (risen_after (b ++ p ∷ d) ps)
+later_than_before : (b : List Point) (p : Point) (d ps : List Point) → AllByRecursion (IsEarlierPoint p) (risen_after (b ++ p ∷ d) ps)
 later_than_before b p d [] = tt
 later_than_before b p d (q ∷ ps) =
     let more : List Point = risen_after ((b ++ p ∷ d) ++ q ∷ []) ps in
-    let rest : AllLater p.1 more = subst (λ bs. AllLater p.1 (risen_after bs ps)) (sym (append_assoc b (p ∷ d) (q ∷ []))) (later_than_before b p (d ++ q ∷ []) ps) in
-    either (AllLater p.1) (is_after_all q.1 (b ++ p ∷ d)) (q ∷ more) more (λ h. (later_than_each q.1 b p d h, rest)) (λ _. rest)
+    let rest : AllByRecursion (IsEarlierPoint p) more = subst (λ bs. AllByRecursion (IsEarlierPoint p) (risen_after bs ps)) (sym (append_assoc b (p ∷ d) (q ∷ []))) (later_than_before b p (d ++ q ∷ []) ps) in
+    either (AllByRecursion (IsEarlierPoint p)) (is_after_all q.1 (b ++ p ∷ d)) (q ∷ more) more (λ h. (later_than_each q.1 b p d h, rest)) (λ _. rest)
 
-Rises-risen_after : (before ps : List Point) → Rises (risen_after before ps)
+Rises-risen_after : (before ps : List Point) → Rises IsEarlierPoint (risen_after before ps)
 Rises-risen_after before [] = tt
 Rises-risen_after before (p ∷ ps) =
     let more : List Point = risen_after (before ++ p ∷ []) ps in
-    either Rises (is_after_all p.1 before) (p ∷ more) more (λ _. (later_than_before before p [] ps, Rises-risen_after (before ++ p ∷ []) ps)) (λ _. Rises-risen_after (before ++ p ∷ []) ps)
+    either (Rises IsEarlierPoint) (is_after_all p.1 before) (p ∷ more) more (λ _. (later_than_before before p [] ps, Rises-risen_after (before ++ p ∷ []) ps)) (λ _. Rises-risen_after (before ++ p ∷ []) ps)
 
 -- what is risen rises
-pub Rises-risen : (ps : List Point) → Rises (risen ps)
+pub Rises-risen : (ps : List Point) → Rises IsEarlierPoint (risen ps)
 Rises-risen ps = Rises-risen_after [] ps
