@@ -3,10 +3,10 @@ use Rattle.std.proofs.Common.{◌≡◌, ℕ, ◌+◌, ◌-◌, ◌<◌, ◌==�
 use Rattle.std.proofs.lemmas.Bool.{cases_eq, true≢false, not-false, cond-false, cond-true, ne_eqb}
 use Rattle.std.proofs.lemmas.Bool.Decides.{Decides-eqb}
 use Rattle.std.proofs.lemmas.List.{map-append}
-use Rattle.rw_machine.proofs.Steps.{either, AllOf, all_append, all_more, all_map, same_is, is_same}
+use Rattle.rw_machine.proofs.Steps.{either, all_append, all_map, same_is, is_same}
 use Rattle.std.specs.List.{AllByRecursion}
 use Rattle.rw_types.specs.Rising.{Rises}
-use Rattle.rw_types.proofs.RisingLemmas.{Rises-left}
+use Rattle.rw_types.proofs.RisingLemmas.{AllByRecursion-weaker, Rises-left}
 use Rattle.rw_head.specs.Lists.{IsEarlier}
 use Rattle.rw_machine.proofs.Risen.{IsEarlierPoint, Rises-risen}
 use Rattle.rw_machine.proofs.OrderRule.{accept_repeats, accept_later, holds_append, holds_right, distinct_apart, Took, take_message}
@@ -53,37 +53,37 @@ ascends_owed : (ledger : Ledger) (ps : List Point) (ys : Pairs) → Rises IsEarl
 ascends_owed ledger [] ys h = h
 ascends_owed ledger (p ∷ ps) ys h = either (λ qs. Rises IsEarlier (map pair_of qs ++ ys)) (is_none (ledger p.0)) (p ∷ owed_by ledger ps) (owed_by ledger ps) (λ _. (all_owed (λ (y : ℤ × ℕ). int_lt p.1 y.0 ≡ true) ledger ps ys h.0, ascends_owed ledger ps ys h.1)) (λ _. ascends_owed ledger ps ys h.1)
 
-unfilter : (P : Labels → Type 0) (p : Labels → Bool) → ((m : Labels) → p m ≡ false → P m) → (ls : List Labels) → AllOf P (filter p ls) → AllOf P ls
+unfilter : (P : Labels → Type 0) (p : Labels → Bool) → ((m : Labels) → p m ≡ false → P m) → (ls : List Labels) → AllByRecursion P (filter p ls) → AllByRecursion P ls
 unfilter P p dropped [] h = tt
-unfilter P p dropped (l ∷ ls) h = by_bool (AllOf P (l ∷ ls)) (p l)
-    (λ e. let both : AllOf P (l ∷ filter p ls) = subst (AllOf P) (cond-true (p l) (l ∷ filter p ls) (filter p ls) e) h in (both.0, unfilter P p dropped ls both.1))
-    (λ e. (dropped l e, unfilter P p dropped ls (subst (AllOf P) (cond-false (p l) (l ∷ filter p ls) (filter p ls) e) h)))
+unfilter P p dropped (l ∷ ls) h = by_bool (AllByRecursion P (l ∷ ls)) (p l)
+    (λ e. let both : AllByRecursion P (l ∷ filter p ls) = subst (AllByRecursion P) (cond-true (p l) (l ∷ filter p ls) (filter p ls) e) h in (both.0, unfilter P p dropped ls both.1))
+    (λ e. (dropped l e, unfilter P p dropped ls (subst (AllByRecursion P) (cond-false (p l) (l ∷ filter p ls) (filter p ls) e) h)))
 
-undistinct : (P : Labels → Type 0) (ls : List Labels) → AllOf P (distinct ls) → AllOf P ls
+undistinct : (P : Labels → Type 0) (ls : List Labels) → AllByRecursion P (distinct ls) → AllByRecursion P ls
 unfolding distinct
 undistinct P [] h = tt
 undistinct P (l ∷ ls) h = (h.0, undistinct P ls (unfilter P (λ m. not (labels_eq l m)) (λ m e. subst P (same_is l m (not-false (labels_eq l m) e)) h.0) (distinct ls) h.1))
 
-unmap : (P : Labels → Type 0) (xs : List Placed) → AllOf P (map (λ (x : Placed). x.labels) xs) → AllOf (λ (x : Placed). P x.labels) xs
+unmap : (P : Labels → Type 0) (xs : List Placed) → AllByRecursion P (map (λ (x : Placed). x.labels) xs) → AllByRecursion (λ (x : Placed). P x.labels) xs
 unmap P [] h = tt
 unmap P (x ∷ xs) h = (h.0, unmap P xs h.1)
 
 -- each list of a store that took a message
-everywhere : (store after : Store) (add : Labels → Pairs) (l : Labels) (ls : List Labels) → AllOf (λ m. after m ≡ store m ++ add m) ls → (AllOf (λ m. labels_eq m l ≡ false) ls) ⊎ (after l ≡ store l ++ add l)
+everywhere : (store after : Store) (add : Labels → Pairs) (l : Labels) (ls : List Labels) → AllByRecursion (λ m. after m ≡ store m ++ add m) ls → (AllByRecursion (λ m. labels_eq m l ≡ false) ls) ⊎ (after l ≡ store l ++ add l)
 everywhere store after add l [] h = inl tt
 everywhere store after add l (m ∷ ls) h = by_bool _ (labels_eq m l)
     (λ e. inr (subst (λ n. after n ≡ store n ++ add n) (same_is m l e) h.0))
     (λ e. with_rest e (everywhere store after add l ls h.1))
   where
-    with_rest : labels_eq m l ≡ false → (AllOf (λ n. labels_eq n l ≡ false) ls) ⊎ (after l ≡ store l ++ add l) → (AllOf (λ n. labels_eq n l ≡ false) (m ∷ ls)) ⊎ (after l ≡ store l ++ add l)
+    with_rest : labels_eq m l ≡ false → (AllByRecursion (λ n. labels_eq n l ≡ false) ls) ⊎ (after l ≡ store l ++ add l) → (AllByRecursion (λ n. labels_eq n l ≡ false) (m ∷ ls)) ⊎ (after l ≡ store l ++ add l)
     with_rest e (inl r) = inl (e, r)
     with_rest e (inr r) = inr r
 
-stored_pairs : (store : Store) (l : Labels) (xs : List Placed) → AllOf (InStore store) xs → AllOf (λ s. holds s (store l) ≡ true) (pairs (of l xs))
+stored_pairs : (store : Store) (l : Labels) (xs : List Placed) → AllByRecursion (InStore store) xs → AllByRecursion (λ s. holds s (store l) ≡ true) (pairs (of l xs))
 stored_pairs store l [] h = tt
-stored_pairs store l (x ∷ xs) h = either (λ ys. AllOf (λ s. holds s (store l) ≡ true) (pairs ys)) (labels_eq l x.labels) (x ∷ of l xs) (of l xs) (λ e. (subst (λ m. holds (x.t, x.word) (store m) ≡ true) (sym (same_is l x.labels e)) h.0, stored_pairs store l xs h.1)) (λ _. stored_pairs store l xs h.1)
+stored_pairs store l (x ∷ xs) h = either (λ ys. AllByRecursion (λ s. holds s (store l) ≡ true) (pairs ys)) (labels_eq l x.labels) (x ∷ of l xs) (of l xs) (λ e. (subst (λ m. holds (x.t, x.word) (store m) ≡ true) (sym (same_is l x.labels e)) h.0, stored_pairs store l xs h.1)) (λ _. stored_pairs store l xs h.1)
 
-all_of_each : (P : Labels → Type 0) → ((l : Labels) → P l) → (ls : List Labels) → AllOf P ls
+all_of_each : (P : Labels → Type 0) → ((l : Labels) → P l) → (ls : List Labels) → AllByRecursion P ls
 all_of_each P each [] = tt
 all_of_each P each (l ∷ ls) = (each l, all_of_each P each ls)
 
@@ -137,12 +137,12 @@ module _ (c : Setup) (w : World) (at : Inv c w) (r : Request) (r_ok : RequestOk 
     stored = f.stored;
     done_ok = at.done_ok;
     fresh = at.fresh;
-    requests_ok = all_more (RequestOk c w.epoch w.shards (list_of w.head.store)) (RequestOk c w.epoch w.shards (list_of v.head.store)) (λ q q_ok. record { id_is = q_ok.id_is; kept = q_ok.kept; fate = fate q q_ok.fate }) w.requests at.requests_ok;
-    answers_ok = all_append (AnswerOk c w.epoch w.shards got) w.replies (record { id = r.id; status = v.status } ∷ []) (all_more (AnswerOk c w.epoch w.shards at.got) (AnswerOk c w.epoch w.shards got) older w.replies at.answers_ok) (f.new, tt);
+    requests_ok = AllByRecursion-weaker (RequestOk c w.epoch w.shards (list_of w.head.store)) (RequestOk c w.epoch w.shards (list_of v.head.store)) (λ q q_ok. record { id_is = q_ok.id_is; kept = q_ok.kept; fate = fate q q_ok.fate }) w.requests at.requests_ok;
+    answers_ok = all_append (AnswerOk c w.epoch w.shards got) w.replies (record { id = r.id; status = v.status } ∷ []) (AllByRecursion-weaker (AnswerOk c w.epoch w.shards at.got) (AnswerOk c w.epoch w.shards got) older w.replies at.answers_ok) (f.new, tt);
   }
     where
-      fate : (q : Request) → ((Past w.epoch w.shards q.id × (is_let_in c q.batch ≡ true → AllOf (InStore (list_of w.head.store)) q.batch)) ⊎ ((q.id.epoch ≡ w.epoch) × IsOpen (slice_get w.shards q.id.shard) q.batch)) → ((Past w.epoch w.shards q.id × (is_let_in c q.batch ≡ true → AllOf (InStore (list_of v.head.store)) q.batch)) ⊎ ((q.id.epoch ≡ w.epoch) × IsOpen (slice_get w.shards q.id.shard) q.batch))
-      fate q (inl h) = inl (h.0, λ fits. all_more (InStore (list_of w.head.store)) (InStore (list_of v.head.store)) (λ x. f.grows (x.t, x.word) x.labels) q.batch (h.1 fits))
+      fate : (q : Request) → ((Past w.epoch w.shards q.id × (is_let_in c q.batch ≡ true → AllByRecursion (InStore (list_of w.head.store)) q.batch)) ⊎ ((q.id.epoch ≡ w.epoch) × IsOpen (slice_get w.shards q.id.shard) q.batch)) → ((Past w.epoch w.shards q.id × (is_let_in c q.batch ≡ true → AllByRecursion (InStore (list_of v.head.store)) q.batch)) ⊎ ((q.id.epoch ≡ w.epoch) × IsOpen (slice_get w.shards q.id.shard) q.batch))
+      fate q (inl h) = inl (h.0, λ fits. AllByRecursion-weaker (InStore (list_of w.head.store)) (InStore (list_of v.head.store)) (λ x. f.grows (x.t, x.word) x.labels) q.batch (h.1 fits))
       fate q (inr h) = inr h
 
       at_shard : (a : Reply) (o : Option Shard) → slice_get w.shards a.id.shard ≡ o → AnswersOpen c (at.got a.id.shard) a o → AnswersOpen c (got a.id.shard) a o
@@ -168,7 +168,7 @@ module _ (c : Setup) (w : World) (at : Inv c w) (r : Request) (r_ok : RequestOk 
       by_shard None e h = h
       by_shard (Some s) e h = (r_ok.id_is ∙ ap batch_id (sym h.0), ap is_empty h.0 ∙ h.1, (says s e h.0 h.1).0, (says s e h.0 h.1).1)
 
-      by_fate : ((Past w.epoch w.shards r.id × (is_let_in c r.batch ≡ true → AllOf (InStore (list_of w.head.store)) r.batch)) ⊎ ((r.id.epoch ≡ w.epoch) × IsOpen (slice_get w.shards r.id.shard) r.batch)) → AnswerOk c w.epoch w.shards at.got (record { id = r.id; status = v.status })
+      by_fate : ((Past w.epoch w.shards r.id × (is_let_in c r.batch ≡ true → AllByRecursion (InStore (list_of w.head.store)) r.batch)) ⊎ ((r.id.epoch ≡ w.epoch) × IsOpen (slice_get w.shards r.id.shard) r.batch)) → AnswerOk c w.epoch w.shards at.got (record { id = r.id; status = v.status })
       by_fate (inl h) = inl h.0
       by_fate (inr h) = inr (h.0, by_shard (slice_get w.shards r.id.shard) refl h.1)
 
@@ -181,12 +181,12 @@ module _ (c : Setup) (w : World) (at : Inv c w) (r : Request) (r_ok : RequestOk 
   abbrev ls : List Labels
   ls = distinct (map (λ (x : Placed). x.labels) r.batch)
 
-  kept_ls : AllOf (IsKept c) ls
+  kept_ls : AllByRecursion (IsKept c) ls
   kept_ls = all_distinct (IsKept c) (map (λ (x : Placed). x.labels) r.batch) (all_map (IsKept c) (λ (x : Placed). x.labels) r.batch r_ok.kept)
 
   -- the head takes a batch again that it has already
-  repeat_took : AllOf (InStore (list_of w.head.store)) r.batch → Took (list_of w.head.store) (λ _. []) ls (accept_all (Some (list_of w.head.store)) (message r.batch))
-  repeat_took in_store = take_message r.batch (λ _. []) ls (list_of w.head.store) (distinct_apart (map (λ (x : Placed). x.labels) r.batch)) (all_more (IsKept c) (λ l. accept (Some (list_of w.head.store l)) (pairs (of l r.batch)) ≡ Some (list_of w.head.store l ++ [])) (λ l k. accept_repeats (list_of w.head.store l) (pairs (of l r.batch)) (ascends_store l k) (stored_pairs (list_of w.head.store) l r.batch in_store) ∙ ap Some (sym (append-nil (list_of w.head.store l)))) ls kept_ls)
+  repeat_took : AllByRecursion (InStore (list_of w.head.store)) r.batch → Took (list_of w.head.store) (λ _. []) ls (accept_all (Some (list_of w.head.store)) (message r.batch))
+  repeat_took in_store = take_message r.batch (λ _. []) ls (list_of w.head.store) (distinct_apart (map (λ (x : Placed). x.labels) r.batch)) (AllByRecursion-weaker (IsKept c) (λ l. accept (Some (list_of w.head.store l)) (pairs (of l r.batch)) ≡ Some (list_of w.head.store l ++ [])) (λ l k. accept_repeats (list_of w.head.store l) (pairs (of l r.batch)) (ascends_store l k) (stored_pairs (list_of w.head.store) l r.batch in_store) ∙ ap Some (sym (append-nil (list_of w.head.store l)))) ls kept_ls)
 
   -- the answer of a head that takes it
   abbrev taken_as : head.Store → Answer
@@ -196,14 +196,14 @@ module _ (c : Setup) (w : World) (at : Inv c w) (r : Request) (r_ok : RequestOk 
   next_is next t f e = t.same ∙ same_Some _ _ (sym t.taken ∙ e)
 
   -- a batch that the head has already
-  repeated : AllOf (InStore (list_of w.head.store)) r.batch → ((s : Shard) → slice_get w.shards r.id.shard ≡ Some s → s.core.batch ≡ r.batch → is_empty r.batch ≡ false → at.got r.id.shard ≡ s.core.batch) → (next : head.Store) → Takes w.head r.batch next → Inv c (answered w r.id (taken_as next))
+  repeated : AllByRecursion (InStore (list_of w.head.store)) r.batch → ((s : Shard) → slice_get w.shards r.id.shard ≡ Some s → s.core.batch ≡ r.batch → is_empty r.batch ≡ false → at.got r.id.shard ≡ s.core.batch) → (next : head.Store) → Takes w.head r.batch next → Inv c (answered w r.id (taken_as next))
   repeated in_store has next t =
       let took = repeat_took in_store in
       let now : list_of next ≡ took.after = next_is next t took.after took.taken in
       let same : (l : Labels) → list_of next l ≡ list_of w.head.store l = λ l. (λ i. now i l) ∙ by_place l took (everywhere (list_of w.head.store) took.after (λ _. []) l ls took.inside) in
       same_keeps (taken_as next) refl same (λ s e b n. (λ _. has s e b n, λ d. let never : Done ≡ Refused → ⊥ = λ h. cc in absurd (never d)))
     where
-      by_place : (l : Labels) (took : Took (list_of w.head.store) (λ _. []) ls (accept_all (Some (list_of w.head.store)) (message r.batch))) → (AllOf (λ m. labels_eq m l ≡ false) ls) ⊎ (took.after l ≡ list_of w.head.store l ++ []) → took.after l ≡ list_of w.head.store l
+      by_place : (l : Labels) (took : Took (list_of w.head.store) (λ _. []) ls (accept_all (Some (list_of w.head.store)) (message r.batch))) → (AllByRecursion (λ m. labels_eq m l ≡ false) ls) ⊎ (took.after l ≡ list_of w.head.store l ++ []) → took.after l ≡ list_of w.head.store l
       by_place l took (inl h) = took.outside l h
       by_place l took (inr h) = h ∙ append-nil (list_of w.head.store l)
 
@@ -215,16 +215,16 @@ module _ (c : Setup) (w : World) (at : Inv c w) (r : Request) (r_ok : RequestOk 
     ok : ShardOk c w.epoch w.placed at.width w.series (get w.names) at.ident j s
     ok = at.shards_ok j s at_j
 
-    each_of_batch : (Q : Placed → Type 0) → ((k : ℕ) (x : Placed) → SampleOk c w.epoch w.placed at.width w.series (get w.names) at.ident j k x → Q x) → AllOf Q r.batch
-    each_of_batch Q more = subst (AllOf Q) batch_is (numbered_all (SampleOk c w.epoch w.placed at.width w.series (get w.names) at.ident j) Q (length s.core.resolved) (length s.core.resolved + length s.core.batch) s.core.batch refl (λ k x _ _ x_ok. more k x x_ok) (numbered_left (SampleOk c w.epoch w.placed at.width w.series (get w.names) at.ident j) (length s.core.resolved) s.core.batch (s.core.builder ++ samples_in s.queue) (subst (Numbered (SampleOk c w.epoch w.placed at.width w.series (get w.names) at.ident j) (length s.core.resolved)) (pending_parts s) ok.numbered)))
+    each_of_batch : (Q : Placed → Type 0) → ((k : ℕ) (x : Placed) → SampleOk c w.epoch w.placed at.width w.series (get w.names) at.ident j k x → Q x) → AllByRecursion Q r.batch
+    each_of_batch Q more = subst (AllByRecursion Q) batch_is (numbered_all (SampleOk c w.epoch w.placed at.width w.series (get w.names) at.ident j) Q (length s.core.resolved) (length s.core.resolved + length s.core.batch) s.core.batch refl (λ k x _ _ x_ok. more k x x_ok) (numbered_left (SampleOk c w.epoch w.placed at.width w.series (get w.names) at.ident j) (length s.core.resolved) s.core.batch (s.core.builder ++ samples_in s.queue) (subst (Numbered (SampleOk c w.epoch w.placed at.width w.series (get w.names) at.ident j) (length s.core.resolved)) (pending_parts s) ok.numbered)))
 
-    homes : AllOf (λ (x : Placed). IsKept c x.labels × (home at.width w.series x.labels ≡ j)) r.batch
+    homes : AllByRecursion (λ (x : Placed). IsKept c x.labels × (home at.width w.series x.labels ≡ j)) r.batch
     homes = each_of_batch (λ (x : Placed). IsKept c x.labels × (home at.width w.series x.labels ≡ j)) (λ k x x_ok. (x_ok.kept, x_ok.home_is))
 
-    has_all : at.got j ≡ s.core.batch → AllOf (InStore (list_of w.head.store)) r.batch
+    has_all : at.got j ≡ s.core.batch → AllByRecursion (InStore (list_of w.head.store)) r.batch
     has_all e = both r.batch (holds_each r.batch) homes
       where
-        both : (xs : List Placed) → AllOf (λ (y : Placed). holds (y.t, y.word) (pairs (of y.labels r.batch)) ≡ true) xs → AllOf (λ (x : Placed). IsKept c x.labels × (home at.width w.series x.labels ≡ j)) xs → AllOf (InStore (list_of w.head.store)) xs
+        both : (xs : List Placed) → AllByRecursion (λ (y : Placed). holds (y.t, y.word) (pairs (of y.labels r.batch)) ≡ true) xs → AllByRecursion (λ (x : Placed). IsKept c x.labels × (home at.width w.series x.labels ≡ j)) xs → AllByRecursion (InStore (list_of w.head.store)) xs
         both [] hs ks = tt
         both (x ∷ xs) hs ks = (subst (λ ps. holds (x.t, x.word) ps ≡ true) (sym (at.stored x.labels ks.0.0 ∙ ap (λ (n : ℕ). kept_part x.labels ++ pairs (of x.labels (at.got n))) ks.0.1 ∙ ap (λ b. kept_part x.labels ++ pairs (of x.labels b)) (e ∙ batch_is))) (holds_right (x.t, x.word) (kept_part x.labels) (pairs (of x.labels r.batch)) hs.0), both xs hs.1 ks.1)
 
@@ -235,7 +235,7 @@ module _ (c : Setup) (w : World) (at : Inv c w) (r : Request) (r_ok : RequestOk 
     first_took : at.got j ≡ [] → Took (list_of w.head.store) (λ l. pairs (of l r.batch)) ls (accept_all (Some (list_of w.head.store)) (message r.batch))
     first_took none =
         let store_is : (l : Labels) → IsKept c l → home at.width w.series l ≡ j → list_of w.head.store l ≡ kept_part l = λ l k h. at.stored l k ∙ ap (λ (n : ℕ). kept_part l ++ pairs (of l (at.got n))) h ∙ ap (λ b. kept_part l ++ pairs (of l b)) none ∙ append-nil (kept_part l) in
-        take_message r.batch (λ l. pairs (of l r.batch)) ls (list_of w.head.store) (distinct_apart (map (λ (x : Placed). x.labels) r.batch)) (all_more (λ l. IsKept c l × (home at.width w.series l ≡ j)) (λ l. accept (Some (list_of w.head.store l)) (pairs (of l r.batch)) ≡ Some (list_of w.head.store l ++ pairs (of l r.batch))) (λ l k. accept_later (list_of w.head.store l) (pairs (of l r.batch)) (subst (Rises IsEarlier) (λ i. sym (store_is l k.0 k.1) i ++ pairs (of l (batch_is i))) (ascends_batch l k.0 s (ap (slice_get w.shards) k.1 ∙ at_j)))) ls (all_distinct (λ l. IsKept c l × (home at.width w.series l ≡ j)) (map (λ (x : Placed). x.labels) r.batch) (all_map (λ l. IsKept c l × (home at.width w.series l ≡ j)) (λ (x : Placed). x.labels) r.batch homes)))
+        take_message r.batch (λ l. pairs (of l r.batch)) ls (list_of w.head.store) (distinct_apart (map (λ (x : Placed). x.labels) r.batch)) (AllByRecursion-weaker (λ l. IsKept c l × (home at.width w.series l ≡ j)) (λ l. accept (Some (list_of w.head.store l)) (pairs (of l r.batch)) ≡ Some (list_of w.head.store l ++ pairs (of l r.batch))) (λ l k. accept_later (list_of w.head.store l) (pairs (of l r.batch)) (subst (Rises IsEarlier) (λ i. sym (store_is l k.0 k.1) i ++ pairs (of l (batch_is i))) (ascends_batch l k.0 s (ap (slice_get w.shards) k.1 ∙ at_j)))) ls (all_distinct (λ l. IsKept c l × (home at.width w.series l ≡ j)) (map (λ (x : Placed). x.labels) r.batch) (all_map (λ l. IsKept c l × (home at.width w.series l ≡ j)) (λ (x : Placed). x.labels) r.batch homes)))
 
     first : at.got j ≡ [] → (next : head.Store) → Takes w.head r.batch next → Inv c (answered w r.id (taken_as next))
     first none next t =
@@ -251,17 +251,17 @@ module _ (c : Setup) (w : World) (at : Inv c w) (r : Request) (r_ok : RequestOk 
           new = inr (is_epoch, subst (AnswersOpen c (got j) (record { id = r.id; status = 204 })) (sym at_j) (r_ok.id_is ∙ ap batch_id (sym batch_is), ap is_empty batch_is ∙ full, λ _. cond-true (j == j) s.core.batch (at.got j) ((Decides-eqb j j).1 refl), λ d. let never : Done ≡ Refused → ⊥ = λ h. cc in absurd (never d)));
         })
       where
-        outside : (l : Labels) → AllOf (λ m. labels_eq m l ≡ false) ls → of l r.batch ≡ []
-        outside l h = of_none l r.batch (all_more (λ (x : Placed). labels_eq x.labels l ≡ false) (λ (x : Placed). labels_eq l x.labels ≡ false) (λ x z. by_bool (labels_eq l x.labels ≡ false) (labels_eq l x.labels) (λ e. absurd (true≢false (sym (is_same x.labels l (sym (same_is l x.labels e))) ∙ z))) (λ e. e)) r.batch (unmap (λ m. labels_eq m l ≡ false) r.batch (undistinct (λ m. labels_eq m l ≡ false) (map (λ (x : Placed). x.labels) r.batch) h)))
+        outside : (l : Labels) → AllByRecursion (λ m. labels_eq m l ≡ false) ls → of l r.batch ≡ []
+        outside l h = of_none l r.batch (AllByRecursion-weaker (λ (x : Placed). labels_eq x.labels l ≡ false) (λ (x : Placed). labels_eq l x.labels ≡ false) (λ x z. by_bool (labels_eq l x.labels ≡ false) (labels_eq l x.labels) (λ e. absurd (true≢false (sym (is_same x.labels l (sym (same_is l x.labels e))) ∙ z))) (λ e. e)) r.batch (unmap (λ m. labels_eq m l ≡ false) r.batch (undistinct (λ m. labels_eq m l ≡ false) (map (λ (x : Placed). x.labels) r.batch) h)))
 
-        by_place : (l : Labels) (took : Took (list_of w.head.store) (λ l. pairs (of l r.batch)) ls (accept_all (Some (list_of w.head.store)) (message r.batch))) → (AllOf (λ m. labels_eq m l ≡ false) ls) ⊎ (took.after l ≡ list_of w.head.store l ++ pairs (of l r.batch)) → took.after l ≡ list_of w.head.store l ++ pairs (of l r.batch)
+        by_place : (l : Labels) (took : Took (list_of w.head.store) (λ l. pairs (of l r.batch)) ls (accept_all (Some (list_of w.head.store)) (message r.batch))) → (AllByRecursion (λ m. labels_eq m l ≡ false) ls) ⊎ (took.after l ≡ list_of w.head.store l ++ pairs (of l r.batch)) → took.after l ≡ list_of w.head.store l ++ pairs (of l r.batch)
         by_place l took (inl h) = took.outside l h ∙ sym (append-nil (list_of w.head.store l)) ∙ ap (λ b. list_of w.head.store l ++ pairs b) (sym (outside l h))
         by_place l took (inr h) = h
 
         by_home : (l : Labels) → IsKept c l → (home at.width w.series l ≡ j) ⊎ (home at.width w.series l ≡ j → ⊥) → list_of w.head.store l ++ pairs (of l r.batch) ≡ kept_part l ++ pairs (of l (got (home at.width w.series l)))
         by_home l k (inl h) = (λ i. (at.stored l k ∙ ap (λ (n : ℕ). kept_part l ++ pairs (of l (at.got n))) h ∙ ap (λ b. kept_part l ++ pairs (of l b)) none ∙ append-nil (kept_part l)) i ++ pairs (of l (sym batch_is i))) ∙ ap (λ b. kept_part l ++ pairs (of l b)) (sym (cond-true (home at.width w.series l == j) s.core.batch (at.got (home at.width w.series l)) ((Decides-eqb (home at.width w.series l) j).1 h)))
         by_home l k (inr h) =
-            let apart : of l r.batch ≡ [] = of_none l r.batch (all_more (λ (x : Placed). IsKept c x.labels × (home at.width w.series x.labels ≡ j)) (λ (x : Placed). labels_eq l x.labels ≡ false) (λ x z. by_bool (labels_eq l x.labels ≡ false) (labels_eq l x.labels) (λ e. absurd (h (ap (home at.width w.series) (same_is l x.labels e) ∙ z.1))) (λ e. e)) r.batch homes) in
+            let apart : of l r.batch ≡ [] = of_none l r.batch (AllByRecursion-weaker (λ (x : Placed). IsKept c x.labels × (home at.width w.series x.labels ≡ j)) (λ (x : Placed). labels_eq l x.labels ≡ false) (λ x z. by_bool (labels_eq l x.labels ≡ false) (labels_eq l x.labels) (λ e. absurd (h (ap (home at.width w.series) (same_is l x.labels e) ∙ z.1))) (λ e. e)) r.batch homes) in
             ap (λ b. list_of w.head.store l ++ pairs b) apart ∙ append-nil (list_of w.head.store l) ∙ at.stored l k ∙ ap (λ b. kept_part l ++ pairs (of l b)) (sym (cond-false (home at.width w.series l == j) s.core.batch (at.got (home at.width w.series l)) (ne_eqb (home at.width w.series l) j h)))
 
         by_index : (i : ℕ) → (i ≡ j) ⊎ (i ≡ j → ⊥) → GotOk c (slice_get w.shards i) (got i)
@@ -294,7 +294,7 @@ module _ (c : Setup) (w : World) (at : Inv c w) (r : Request) (r_ok : RequestOk 
       by_shard e None at_j h = absurd h
       by_shard e (Some s) at_j h = open_takes s at_j e h.0 h.1 fits
 
-      by_fate : ((Past w.epoch w.shards r.id × (is_let_in c r.batch ≡ true → AllOf (InStore (list_of w.head.store)) r.batch)) ⊎ ((r.id.epoch ≡ w.epoch) × IsOpen (slice_get w.shards r.id.shard) r.batch)) → (after : Store) × (accept_all (Some (list_of w.head.store)) (message r.batch) ≡ Some after)
+      by_fate : ((Past w.epoch w.shards r.id × (is_let_in c r.batch ≡ true → AllByRecursion (InStore (list_of w.head.store)) r.batch)) ⊎ ((r.id.epoch ≡ w.epoch) × IsOpen (slice_get w.shards r.id.shard) r.batch)) → (after : Store) × (accept_all (Some (list_of w.head.store)) (message r.batch) ≡ Some after)
       by_fate (inl h) = let took = repeat_took (h.1 fits) in (took.after, took.taken)
       by_fate (inr h) = by_shard h.0 (slice_get w.shards r.id.shard) refl h.1
 
@@ -328,7 +328,7 @@ module _ (c : Setup) (w : World) (at : Inv c w) (r : Request) (r_ok : RequestOk 
       by_shard e None at_j h = absurd h
       by_shard e (Some s) at_j h = open_keeps s at_j e h.0 h.1 fits
 
-      by_fate : ((Past w.epoch w.shards r.id × (is_let_in c r.batch ≡ true → AllOf (InStore (list_of w.head.store)) r.batch)) ⊎ ((r.id.epoch ≡ w.epoch) × IsOpen (slice_get w.shards r.id.shard) r.batch)) → (next : head.Store) → Takes w.head r.batch next → Inv c (answered w r.id (taken_as next))
+      by_fate : ((Past w.epoch w.shards r.id × (is_let_in c r.batch ≡ true → AllByRecursion (InStore (list_of w.head.store)) r.batch)) ⊎ ((r.id.epoch ≡ w.epoch) × IsOpen (slice_get w.shards r.id.shard) r.batch)) → (next : head.Store) → Takes w.head r.batch next → Inv c (answered w r.id (taken_as next))
       by_fate (inl h) = repeated (h.1 fits) (λ s at_j batch_is full. absurd (never s at_j (subst (Past w.epoch w.shards) (r_ok.id_is ∙ ap batch_id (sym batch_is) ∙ open_id c w.epoch w.placed at.width w.series (get w.names) at.ident r.id.shard s (at.shards_ok r.id.shard s at_j) (ap is_empty batch_is ∙ full)) h.0)))
       by_fate (inr h) = by_shard h.0 (slice_get w.shards r.id.shard) refl h.1
 

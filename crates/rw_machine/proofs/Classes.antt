@@ -3,7 +3,9 @@ use Rattle.std.proofs.Common.{◌≡◌, ℕ, zero, suc, ◌+◌, ◌<◌, ◌�
 use Rattle.std.proofs.lemmas.Bool.{cases_eq, cond-false, cond-true}
 use Rattle.std.proofs.lemmas.Bool.Decides.{Decides-eqb}
 use Rattle.std.proofs.lemmas.List.{take-append-le}
-use Rattle.rw_machine.proofs.Steps.{always, either, Each, each_change, each_new, AllOf, all_append, all_more}
+use Rattle.std.specs.List.{AllByRecursion}
+use Rattle.rw_types.proofs.RisingLemmas.{AllByRecursion-weaker}
+use Rattle.rw_machine.proofs.Steps.{always, either, Each, each_change, each_new, all_append}
 use Rattle.rw_machine.proofs.Others.{pending_put, pending_take, pending_freeze, pending_lost, pending_send, others_flush, entries_grow, batch_part, settled_part}
 use Rattle.rw_machine.proofs.Places.{get_below}
 use Rattle.rw_machine.proofs.Names.{ledger_insert}
@@ -59,7 +61,7 @@ pub record Classes (c : Setup) (w : World) : Type 0 where
   pub placed_in : w.placed ≤ length (log w)
   pub below : (p : ℕ) → p < w.placed → Says c (log w) p (get w.names p) (slice_get (log w) p)
   pub above : (p : ℕ) → w.placed ≤ p → get w.names p ≡ None
-  pub kept : Each (λ i s. AllOf (KeptAt c w.placed (log w)) (pending s)) w.shards
+  pub kept : Each (λ i s. AllByRecursion (KeptAt c w.placed (log w)) (pending s)) w.shards
 
 pub get_left : (xs ys : List Entry) (p : ℕ) → p < length xs → slice_get (xs ++ ys) p ≡ slice_get xs p
 get_left [] ys p lt = absurd (omega arith)
@@ -82,14 +84,14 @@ classes_grow c w more at = let grown = entries_grow w.pieces more in record {
   placed_in = (let le : w.placed ≤ length (log w) = at.placed_in in subst (λ es. w.placed ≤ length es) (sym grown.1) (long grown.0));
   below = λ p lt. subst (λ es. Says c es p (get w.names p) (slice_get es p)) (sym grown.1) (let le : w.placed ≤ length (log w) = at.placed_in in subst (Says c (log w ++ grown.0) p (get w.names p)) (sym (get_left (log w) grown.0 p (omega arith))) (longer_says c (log w) grown.0 p (get w.names p) (slice_get (log w) p) (omega arith) (at.below p lt)));
   above = at.above;
-  kept = λ i s e. subst (λ es. AllOf (KeptAt c w.placed es) (pending s)) (sym grown.1) (all_more (KeptAt c w.placed (log w)) (KeptAt c w.placed (log w ++ grown.0)) (λ x h. let le : w.placed ≤ length (log w) = at.placed_in in let lt : x.place.pos < w.placed = h.0 in (h.0, subst (KeptEntry c (log w ++ grown.0) x.place.pos) (sym (get_left (log w) grown.0 x.place.pos (omega arith))) (longer_kept c (log w) grown.0 x.place.pos (slice_get (log w) x.place.pos) (omega arith) h.1))) (pending s) (at.kept i s e));
+  kept = λ i s e. subst (λ es. AllByRecursion (KeptAt c w.placed es) (pending s)) (sym grown.1) (AllByRecursion-weaker (KeptAt c w.placed (log w)) (KeptAt c w.placed (log w ++ grown.0)) (λ x h. let le : w.placed ≤ length (log w) = at.placed_in in let lt : x.place.pos < w.placed = h.0 in (h.0, subst (KeptEntry c (log w ++ grown.0) x.place.pos) (sym (get_left (log w) grown.0 x.place.pos (omega arith))) (longer_kept c (log w) grown.0 x.place.pos (slice_get (log w) x.place.pos) (omega arith) h.1))) (pending s) (at.kept i s e));
 }
   where
     long : (es : List Entry) → w.placed ≤ length (log w ++ es)
     long es = let le : w.placed ≤ length (log w) = at.placed_in in let e : length (log w ++ es) ≡ length (log w) + length es = length-append (log w) es in omega arith
 
 -- one more position: what is said of it, and of no other
-classes_next : (c : Setup) (w : World) (e : Entry) (names : FinMap nat_cmp Reason) (series : List Labels) (filtered : ℕ) (shards : List Shard) → slice_get (log w) w.placed ≡ Some e → ((p : ℕ) → (w.placed ≡ p → ⊥) → get names p ≡ get w.names p) → Says c (log w) w.placed (get names w.placed) (Some e) → Each (λ i s. AllOf (KeptAt c (suc w.placed) (log w)) (pending s)) shards → Classes c w → Classes c (record w { names = names; series = series; filtered = filtered; shards = shards; placed = suc w.placed })
+classes_next : (c : Setup) (w : World) (e : Entry) (names : FinMap nat_cmp Reason) (series : List Labels) (filtered : ℕ) (shards : List Shard) → slice_get (log w) w.placed ≡ Some e → ((p : ℕ) → (w.placed ≡ p → ⊥) → get names p ≡ get w.names p) → Says c (log w) w.placed (get names w.placed) (Some e) → Each (λ i s. AllByRecursion (KeptAt c (suc w.placed) (log w)) (pending s)) shards → Classes c w → Classes c (record w { names = names; series = series; filtered = filtered; shards = shards; placed = suc w.placed })
 classes_next c w e names series filtered shards next same here kept at = record {
   placed_in = get_below (log w) w.placed e next;
   below = λ p lt. by_case p lt (cases_eq w.placed p);
@@ -117,8 +119,8 @@ named_other p q reason names h = ap (λ (f : Ledger). f q) (ledger_insert names 
 classes_place : (c : Setup) (w : World) → Classes c w → Classes c (place c w)
 classes_place c w at = either (Classes c) (is_some w.draining) w (place_entry c w (slice_get (log w) w.placed)) (λ _. at) (λ _. by_entry (slice_get (log w) w.placed) refl)
   where
-    later : Each (λ i s. AllOf (KeptAt c (suc w.placed) (log w)) (pending s)) w.shards
-    later i s e = all_more (KeptAt c w.placed (log w)) (KeptAt c (suc w.placed) (log w)) (λ x h. (let lt : x.place.pos < w.placed = h.0 in omega arith, h.1)) (pending s) (at.kept i s e)
+    later : Each (λ i s. AllByRecursion (KeptAt c (suc w.placed) (log w)) (pending s)) w.shards
+    later i s e = AllByRecursion-weaker (KeptAt c w.placed (log w)) (KeptAt c (suc w.placed) (log w)) (λ x h. (let lt : x.place.pos < w.placed = h.0 in omega arith, h.1)) (pending s) (at.kept i s e)
 
     rising : ℤ → Labels → Bool
     rising t l = rises c.choice (take w.placed (log w)) l t
@@ -130,7 +132,7 @@ classes_place c w at = either (Classes c) (is_some w.draining) w (place_entry c 
     by_shard r t word l e stands up i None = at
     by_shard r t word l e stands up i (Some s) = either (Classes c) (has_room c.capacity s) _ w
         (λ _. classes_next c w (Sample r t word) w.names w.series w.filtered (change i (shard_put (next_sample w i l t word s)) w.shards) e (λ p _. refl) (subst (Accounted (get w.names w.placed) (rising t)) (sym stands) (subst (AccountedKept (get w.names w.placed)) (sym up) (inl unnamed)))
-        (each_change (λ i s. AllOf (KeptAt c (suc w.placed) (log w)) (pending s)) (shard_put (next_sample w i l t word s)) i w.shards later (λ u _ h. subst (AllOf (KeptAt c (suc w.placed) (log w))) (sym (pending_put (next_sample w i l t word s) u)) (all_append (KeptAt c (suc w.placed) (log w)) (pending u) (next_sample w i l t word s ∷ []) h ((lt_own, subst (KeptEntry c (log w) w.placed) (sym e) (subst (KeptKnown (rising t)) (sym stands) up)), tt)))) at)
+        (each_change (λ i s. AllByRecursion (KeptAt c (suc w.placed) (log w)) (pending s)) (shard_put (next_sample w i l t word s)) i w.shards later (λ u _ h. subst (AllByRecursion (KeptAt c (suc w.placed) (log w))) (sym (pending_put (next_sample w i l t word s) u)) (all_append (KeptAt c (suc w.placed) (log w)) (pending u) (next_sample w i l t word s ∷ []) h ((lt_own, subst (KeptEntry c (log w) w.placed) (sym e) (subst (KeptKnown (rising t)) (sym stands) up)), tt)))) at)
         (λ _. at)
       where
         lt_own : w.placed < suc w.placed
@@ -152,7 +154,7 @@ classes_place c w at = either (Classes c) (is_some w.draining) w (place_entry c 
     by_entry (Some (Sample r t word)) e = by_known r t word (known c.choice (take w.placed (log w)) r) e refl
 
 -- a name changes only at the batch's samples
-pub named_or_not : (status : ℕ) (P : ℕ → Type 0) (xs : List Placed) (names : FinMap nat_cmp Reason) (p : ℕ) → AllOf (λ (x : Placed). P x.place.pos) xs → (get (name_all status (positions xs) names) p ≡ get names p) ⊎ ((get (name_all status (positions xs) names) p ≡ Some (Status status)) × P p)
+pub named_or_not : (status : ℕ) (P : ℕ → Type 0) (xs : List Placed) (names : FinMap nat_cmp Reason) (p : ℕ) → AllByRecursion (λ (x : Placed). P x.place.pos) xs → (get (name_all status (positions xs) names) p ≡ get names p) ⊎ ((get (name_all status (positions xs) names) p ≡ Some (Status status)) × P p)
 named_or_not status P [] names p h = inl refl
 named_or_not status P (x ∷ xs) names p h = by_rest (named_or_not status P xs (insert names x.place.pos (Status status)) p h.1) (cases_eq x.place.pos p)
   where
@@ -168,7 +170,7 @@ abbrev pub names_by : Judgement → ℕ → List Placed → FinMap nat_cmp Reaso
 names_by j status batch names = (settle_names j status batch (record { names = names; room = 0 })).names
 
 -- so it does by an answer to the batch
-pub settled_or_not : (j : Judgement) (status : ℕ) (P : ℕ → Type 0) (xs : List Placed) (names : FinMap nat_cmp Reason) (p : ℕ) → AllOf (λ (x : Placed). P x.place.pos) xs → (get (names_by j status xs names) p ≡ get names p) ⊎ ((get (names_by j status xs names) p ≡ Some (Status status)) × P p)
+pub settled_or_not : (j : Judgement) (status : ℕ) (P : ℕ → Type 0) (xs : List Placed) (names : FinMap nat_cmp Reason) (p : ℕ) → AllByRecursion (λ (x : Placed). P x.place.pos) xs → (get (names_by j status xs names) p ≡ get names p) ⊎ ((get (names_by j status xs names) p ≡ Some (Status status)) × P p)
 settled_or_not Done status P xs names p h = inl refl
 settled_or_not Again status P xs names p h = inl refl
 settled_or_not Refused status P xs names p h = named_or_not status P xs names p h
@@ -184,11 +186,11 @@ status_entry c log p named status None h e = absurd h
 status_entry c log p named status (Some (Def r l)) h e = absurd h
 status_entry c log p named status (Some (Sample r t word)) h e = status_known named status (λ l. rises c.choice (take p log) l t) (known c.choice (take p log) r) h e
 
-classes_change : (c : Setup) (w : World) (j : ℕ) (f : Shard → Shard) → ((s : Shard) → AllOf (KeptAt c w.placed (log w)) (pending s) → AllOf (KeptAt c w.placed (log w)) (pending (f s))) → Classes c w → Classes c (changed w j f)
-classes_change c w j f step at = record { placed_in = at.placed_in; below = at.below; above = at.above; kept = each_change (λ i s. AllOf (KeptAt c w.placed (log w)) (pending s)) f j w.shards at.kept (λ s _ h. step s h) }
+classes_change : (c : Setup) (w : World) (j : ℕ) (f : Shard → Shard) → ((s : Shard) → AllByRecursion (KeptAt c w.placed (log w)) (pending s) → AllByRecursion (KeptAt c w.placed (log w)) (pending (f s))) → Classes c w → Classes c (changed w j f)
+classes_change c w j f step at = record { placed_in = at.placed_in; below = at.below; above = at.above; kept = each_change (λ i s. AllByRecursion (KeptAt c w.placed (log w)) (pending s)) f j w.shards at.kept (λ s _ h. step s h) }
 
 classes_same : (c : Setup) (w : World) (j : ℕ) (f : Shard → Shard) → ((s : Shard) → pending (f s) ≡ pending s) → Classes c w → Classes c (changed w j f)
-classes_same c w j f same at = classes_change c w j f (λ s h. subst (AllOf (KeptAt c w.placed (log w))) (sym (same s)) h) at
+classes_same c w j f same at = classes_change c w j f (λ s h. subst (AllByRecursion (KeptAt c w.placed (log w))) (sym (same s)) h) at
 
 classes_reply : (c : Setup) (w : World) (o : Option Reply) → Classes c w → Classes c (take_reply w o)
 classes_reply c w None at = at
@@ -199,7 +201,7 @@ classes_reply c w (Some a) at = by_shard (slice_get w.shards a.id.shard) refl
       placed_in = at.placed_in;
       below = λ p lt. by_name p (at.below p lt) (change_of p);
       above = λ p le. by_far p le (change_of p);
-      kept = each_change (λ i s. AllOf (KeptAt c w.placed (log w)) (pending s)) (with_core (settle (judgement_of a.status))) a.id.shard w.shards at.kept (λ u _ h. settled_part (KeptAt c w.placed (log w)) (judgement_of a.status) u h);
+      kept = each_change (λ i s. AllByRecursion (KeptAt c w.placed (log w)) (pending s)) (with_core (settle (judgement_of a.status))) a.id.shard w.shards at.kept (λ u _ h. settled_part (KeptAt c w.placed (log w)) (judgement_of a.status) u h);
     }
       where
         change_of : (p : ℕ) → (get (names_after a.status s.core.batch w.names) p ≡ get w.names p) ⊎ ((get (names_after a.status s.core.batch w.names) p ≡ Some (Status a.status)) × ((p < w.placed) × KeptEntry c (log w) p (slice_get (log w) p)))
@@ -227,7 +229,7 @@ classes_act c w (event.Send i) at = by_shard (slice_get w.shards i)
   where
     by_shard : (o : Option Shard) → Classes c (send_batch w i o)
     by_shard None = at
-    by_shard (Some s) = either (Classes c) (can_send s.core) _ w (λ _. record { placed_in = at.placed_in; below = at.below; above = at.above; kept = each_change (λ i s. AllOf (KeptAt c w.placed (log w)) (pending s)) shard_send i w.shards at.kept (λ u _ h. subst (AllOf (KeptAt c w.placed (log w))) (sym (pending_send u)) h) }) (λ _. at)
+    by_shard (Some s) = either (Classes c) (can_send s.core) _ w (λ _. record { placed_in = at.placed_in; below = at.below; above = at.above; kept = each_change (λ i s. AllByRecursion (KeptAt c w.placed (log w)) (pending s)) shard_send i w.shards at.kept (λ u _ h. subst (AllByRecursion (KeptAt c w.placed (log w))) (sym (pending_send u)) h) }) (λ _. at)
 classes_act c w (event.Arrive k how) at = by_request how (slice_get w.requests k)
   where
     by_request : (how : How) (o : Option Request) → Classes c (arrive c w how o)
@@ -242,12 +244,12 @@ classes_act c w event.Restart at = by_draining w.draining
   where
     by_draining : (o : Option ℕ) → Classes c (restart_as c w o)
     by_draining None = at
-    by_draining (Some n) = either (Classes c) _ _ w (λ _. record { placed_in = at.placed_in; below = at.below; above = at.above; kept = each_new (λ i s. AllOf (KeptAt c w.placed (log w)) (pending s)) c (suc w.epoch) 0 (λ _. tt) n }) (λ _. at)
+    by_draining (Some n) = either (Classes c) _ _ w (λ _. record { placed_in = at.placed_in; below = at.below; above = at.above; kept = each_new (λ i s. AllByRecursion (KeptAt c w.placed (log w)) (pending s)) c (suc w.epoch) 0 (λ _. tt) n }) (λ _. at)
 classes_act c w event.Close at = either (Classes c) (is_some w.closed) w _ (λ _. at) (λ _. record { placed_in = at.placed_in; below = at.below; above = at.above; kept = at.kept })
 classes_act c w event.Kill at = record { placed_in = at.placed_in; below = at.below; above = at.above; kept = at.kept }
 
 pub classes_at : (c : Setup) (events : List Event) → Classes c (run c events (start c))
-classes_at c events = always (Classes c) c (classes_act c) events (start c) (record { placed_in = omega arith; below = λ p lt. absurd (omega arith); above = λ p le. get-empty nat_cmp p; kept = each_new (λ i s. AllOf (KeptAt c 0 (log (start c))) (pending s)) c 0 0 (λ _. tt) c.shards })
+classes_at c events = always (Classes c) c (classes_act c) events (start c) (record { placed_in = omega arith; below = λ p lt. absurd (omega arith); above = λ p le. get-empty nat_cmp p; kept = each_new (λ i s. AllByRecursion (KeptAt c 0 (log (start c))) (pending s)) c 0 0 (λ _. tt) c.shards })
 
 pub not_below : (p n : ℕ) → (p < n → ⊥) → n ≤ p
 not_below p n h = omega arith

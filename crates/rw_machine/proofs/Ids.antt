@@ -6,7 +6,9 @@ use Rattle.rw_retry.specs.Judgements.{judgement_of}
 use Rattle.rw_retry.specs.declared.judgement.Judgement.{Judgement}
 use Rattle.rw_retry.specs.declared.judgement.Judgement.TheVariants.{Again, Done, Refused}
 use Rattle.rw_batch.specs.declared.batch.BatchId.{BatchId}
-use Rattle.rw_machine.proofs.Steps.{always, either, Each, each_change, each_new, AllOf, all_append, all_more, all_get}
+use Rattle.std.specs.List.{AllByRecursion}
+use Rattle.rw_types.proofs.RisingLemmas.{AllByRecursion-weaker}
+use Rattle.rw_machine.proofs.Steps.{always, either, Each, each_change, each_new, all_append, all_get}
 use Rattle.rw_machine.proofs.Places.{Numbered, numbered_push, numbered_right, at_change, get_changed, get_others}
 use Rattle.rw_machine.proofs.Others.{pending_parts, pending_put, pending_resolve}
 use Rattle.rw_machine.proofs.Invariant.{IsQuiet, IsOpen, Past, past_change, id_at, quiet_flush, quiet_take, quiet_freeze, quiet_send, quiet_lost, quiet_again}
@@ -58,7 +60,7 @@ OneBatch requests = (i j : ℕ) (r q : Request) → slice_get requests i ≡ Som
 
 pub record Sound (epoch : ℕ) (shards : List Shard) (requests : List Request) : Type 0 where
   pub rows : Each (InRow epoch) shards
-  pub fates : AllOf (Fate epoch shards) requests
+  pub fates : AllByRecursion (Fate epoch shards) requests
   pub one : OneBatch requests
 
 abbrev pub Ids : World → Type 0
@@ -81,7 +83,7 @@ quiet_row epoch i f s q h = record {
 quiet_ids : (w : World) (j : ℕ) (f : Shard → Shard) → ((s : Shard) → IsQuiet f s) → Ids w → Ids (changed w j f)
 quiet_ids w j f q at = record {
   rows = each_change (InRow w.epoch) f j w.shards at.rows (λ s _ h. quiet_row w.epoch j f s (q s) h);
-  fates = all_more (Fate w.epoch w.shards) (Fate w.epoch (change j f w.shards)) (fate_change w.epoch j f w.shards (λ s. (q s).same_resolved) (λ s. (q s).same_batch)) w.requests at.fates;
+  fates = AllByRecursion-weaker (Fate w.epoch w.shards) (Fate w.epoch (change j f w.shards)) (fate_change w.epoch j f w.shards (λ s. (q s).same_resolved) (λ s. (q s).same_batch)) w.requests at.fates;
   one = at.one;
 }
 
@@ -100,7 +102,7 @@ place_ids c w at = either Ids (is_some w.draining) w (place_entry c w (slice_get
     by_shard i l t word (Some s) e = either Ids (has_room c.capacity s) _ w
         (λ _. record {
           rows = each_change (InRow w.epoch) (shard_put (next_sample w i l t word s)) i w.shards at.rows (λ u at_u h. let same : s ≡ u = same_Some _ _ (sym e ∙ at_u) in put_row w.epoch i (next_sample w i l t word s) u (refl, refl, ap (λ (v : Shard). length v.put) same) h);
-          fates = all_more (Fate w.epoch w.shards) (Fate w.epoch (change i (shard_put (next_sample w i l t word s)) w.shards)) (fate_change w.epoch i (shard_put (next_sample w i l t word s)) w.shards (λ _. refl) (λ _ _. refl)) w.requests at.fates;
+          fates = AllByRecursion-weaker (Fate w.epoch w.shards) (Fate w.epoch (change i (shard_put (next_sample w i l t word s)) w.shards)) (fate_change w.epoch i (shard_put (next_sample w i l t word s)) w.shards (λ _. refl) (λ _ _. refl)) w.requests at.fates;
           one = at.one;
         })
         (λ _. at)
@@ -209,7 +211,7 @@ resolve_fate epoch j ss s e row full r h = record { id_is = h.id_is; fate = by_f
 resolved_ids : (w : World) (j : ℕ) (s : Shard) → slice_get w.shards j ≡ Some s → is_empty s.core.batch ≡ false → Ids w → Ids (changed w j shard_resolve)
 resolved_ids w j s e full at = record {
   rows = each_change (InRow w.epoch) shard_resolve j w.shards at.rows (λ u _ h. resolve_row w.epoch j u h);
-  fates = all_more (Fate w.epoch w.shards) (Fate w.epoch (change j shard_resolve w.shards)) (resolve_fate w.epoch j w.shards s e (at.rows j s e) full) w.requests at.fates;
+  fates = AllByRecursion-weaker (Fate w.epoch w.shards) (Fate w.epoch (change j shard_resolve w.shards)) (resolve_fate w.epoch j w.shards s e (at.rows j s e) full) w.requests at.fates;
   one = at.one;
 }
 
@@ -235,7 +237,7 @@ restart_ids c w None at = at
 restart_ids c w (Some n) at = either Ids _ _ w
     (λ _. record {
       rows = each_new (InRow (suc w.epoch)) c (suc w.epoch) 0 (λ i. record { counted = refl; numbered = tt }) n;
-      fates = all_more (Fate w.epoch w.shards) (Fate (suc w.epoch) (new_shards c (suc w.epoch) 0 n)) (λ r h. record { id_is = h.id_is; fate = inl (inl (older r h.fate)) }) w.requests at.fates;
+      fates = AllByRecursion-weaker (Fate w.epoch w.shards) (Fate (suc w.epoch) (new_shards c (suc w.epoch) 0 n)) (λ r h. record { id_is = h.id_is; fate = inl (inl (older r h.fate)) }) w.requests at.fates;
       one = at.one;
     })
     (λ _. at)

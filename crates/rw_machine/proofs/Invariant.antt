@@ -1,7 +1,8 @@
 -- What holds after every event, and that the small steps of a shard keep it.
 use Rattle.std.proofs.Common.{◌≡◌, ℕ, ◌+◌, ◌%◌, ◌<◌, ◌≤◌, Bool, true, false, cond, List, [], ◌∷◌, ◌++◌, length, map, take, Option, Some, None, is_some, slice_get, refl, sym, ap, ◌∙◌, subst, ◌&&◌, not, arith, inl, inr, ◌⊎◌}
-use Rattle.std.specs.List.{list_any}
-use Rattle.rw_machine.proofs.Steps.{either, Each, each_change, AllOf, all_more}
+use Rattle.std.specs.List.{AllByRecursion, list_any}
+use Rattle.rw_types.proofs.RisingLemmas.{AllByRecursion-weaker}
+use Rattle.rw_machine.proofs.Steps.{either, Each, each_change}
 use Rattle.rw_machine.proofs.Others.{pending_flush, pending_end, pending_take, pending_freeze, pending_lost}
 use Rattle.rw_machine.proofs.Places.{at_change, Numbered, length_change}
 use Rattle.rw_plain_queue.specs.declared.item.Kind.TheVariants as kind
@@ -77,8 +78,8 @@ InStore store x = holds (x.t, x.word) (store x.labels) ≡ true
 
 pub record RequestOk (c : Setup) (epoch : ℕ) (shards : List Shard) (store : Store) (r : Request) : Type 0 where
   pub id_is : r.id ≡ batch_id r.batch
-  pub kept : AllOf (λ (x : Placed). IsKept c x.labels) r.batch
-  pub fate : (Past epoch shards r.id × (is_let_in c r.batch ≡ true → AllOf (InStore store) r.batch)) ⊎ ((r.id.epoch ≡ epoch) × IsOpen (slice_get shards r.id.shard) r.batch)
+  pub kept : AllByRecursion (λ (x : Placed). IsKept c x.labels) r.batch
+  pub fate : (Past epoch shards r.id × (is_let_in c r.batch ≡ true → AllByRecursion (InStore store) r.batch)) ⊎ ((r.id.epoch ≡ epoch) × IsOpen (slice_get shards r.id.shard) r.batch)
 
 abbrev pub AnswersOpen : Setup → List Placed → Reply → Option Shard → Type 0
 AnswersOpen c got a None = ⊥
@@ -100,10 +101,10 @@ pub record Inv (c : Setup) (w : World) : Type 0 where
   pub got_ok : (i : ℕ) → GotOk c (slice_get w.shards i) (got i)
   pub mine : (l : Labels) → IsKept c l → points c l (take w.placed (log w)) ≡ done l ++ as_points (of l (waits (slice_get w.shards (home width w.series l))))
   pub stored : (l : Labels) → IsKept c l → list_of w.head.store l ≡ map pair_of (owed_by (get w.names) (done l)) ++ pairs (of l (got (home width w.series l)))
-  pub done_ok : (l : Labels) → IsKept c l → AllOf (DoneOk w.epoch w.shards w.placed ident) (done l)
+  pub done_ok : (l : Labels) → IsKept c l → AllByRecursion (DoneOk w.epoch w.shards w.placed ident) (done l)
   pub fresh : (p : ℕ) → w.placed ≤ p → get w.names p ≡ None
-  pub requests_ok : AllOf (RequestOk c w.epoch w.shards (list_of w.head.store)) w.requests
-  pub answers_ok : AllOf (AnswerOk c w.epoch w.shards got) w.replies
+  pub requests_ok : AllByRecursion (RequestOk c w.epoch w.shards (list_of w.head.store)) w.requests
+  pub answers_ok : AllByRecursion (AnswerOk c w.epoch w.shards got) w.replies
 
 -- a step of a shard that resolves nothing
 pub record IsQuiet (f : Shard → Shard) (s : Shard) : Type 0 where
@@ -138,10 +139,10 @@ quiet c w j f q at = record {
   got_ok = λ i. at_change (λ o. GotOk c o (at.got i)) j i f w.shards (λ s _ _ g. kept_got s (at.got i) g) (at.got_ok i);
   mine = λ l k. at_change (λ o. points c l (take w.placed (log w)) ≡ at.done l ++ as_points (of l (waits o))) j (home at.width w.series l) f w.shards (λ s _ _ h. subst (λ ps. points c l (take w.placed (log w)) ≡ at.done l ++ as_points (of l ps)) (sym ((q s).same_pending)) h) (at.mine l k);
   stored = at.stored;
-  done_ok = λ l k. all_more (DoneOk w.epoch w.shards w.placed at.ident) (DoneOk w.epoch (change j f w.shards) w.placed at.ident) (λ p ok. (past (at.ident p.0) ok.0, ok.1)) (at.done l) (at.done_ok l k);
+  done_ok = λ l k. AllByRecursion-weaker (DoneOk w.epoch w.shards w.placed at.ident) (DoneOk w.epoch (change j f w.shards) w.placed at.ident) (λ p ok. (past (at.ident p.0) ok.0, ok.1)) (at.done l) (at.done_ok l k);
   fresh = at.fresh;
-  requests_ok = all_more (RequestOk c w.epoch w.shards (list_of w.head.store)) (RequestOk c w.epoch (change j f w.shards) (list_of w.head.store)) (λ r ok. record { id_is = ok.id_is; kept = ok.kept; fate = kept_fate r ok.fate }) w.requests at.requests_ok;
-  answers_ok = all_more (AnswerOk c w.epoch w.shards at.got) (AnswerOk c w.epoch (change j f w.shards) at.got) (λ a ok. kept_answer a ok) w.replies at.answers_ok;
+  requests_ok = AllByRecursion-weaker (RequestOk c w.epoch w.shards (list_of w.head.store)) (RequestOk c w.epoch (change j f w.shards) (list_of w.head.store)) (λ r ok. record { id_is = ok.id_is; kept = ok.kept; fate = kept_fate r ok.fate }) w.requests at.requests_ok;
+  answers_ok = AllByRecursion-weaker (AnswerOk c w.epoch w.shards at.got) (AnswerOk c w.epoch (change j f w.shards) at.got) (λ a ok. kept_answer a ok) w.replies at.answers_ok;
 }
   where
     past : (id : BatchId) → Past w.epoch w.shards id → Past w.epoch (change j f w.shards) id
@@ -162,7 +163,7 @@ quiet c w j f q at = record {
     kept_open : (i : ℕ) (batch : List Placed) → IsOpen (slice_get w.shards i) batch → IsOpen (slice_get (change j f w.shards) i) batch
     kept_open i batch h = at_change (λ o. IsOpen o batch) j i f w.shards (λ s _ _ k. ((q s).same_batch (ap is_empty k.0 ∙ k.1) ∙ k.0, k.1)) h
 
-    kept_fate : (r : Request) → ((Past w.epoch w.shards r.id × (is_let_in c r.batch ≡ true → AllOf (InStore (list_of w.head.store)) r.batch)) ⊎ ((r.id.epoch ≡ w.epoch) × IsOpen (slice_get w.shards r.id.shard) r.batch)) → ((Past w.epoch (change j f w.shards) r.id × (is_let_in c r.batch ≡ true → AllOf (InStore (list_of w.head.store)) r.batch)) ⊎ ((r.id.epoch ≡ w.epoch) × IsOpen (slice_get (change j f w.shards) r.id.shard) r.batch))
+    kept_fate : (r : Request) → ((Past w.epoch w.shards r.id × (is_let_in c r.batch ≡ true → AllByRecursion (InStore (list_of w.head.store)) r.batch)) ⊎ ((r.id.epoch ≡ w.epoch) × IsOpen (slice_get w.shards r.id.shard) r.batch)) → ((Past w.epoch (change j f w.shards) r.id × (is_let_in c r.batch ≡ true → AllByRecursion (InStore (list_of w.head.store)) r.batch)) ⊎ ((r.id.epoch ≡ w.epoch) × IsOpen (slice_get (change j f w.shards) r.id.shard) r.batch))
     kept_fate r (inl h) = inl (past r.id h.0, h.1)
     kept_fate r (inr h) = inr (h.0, kept_open r.id.shard r.batch h.1)
 

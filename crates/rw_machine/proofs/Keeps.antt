@@ -1,11 +1,12 @@
 -- Feeding, placing, sending, resolving and restarting keep the invariant.
 use Rattle.std.proofs.Common.{◌≡◌, ℕ, suc, ◌+◌, ◌%◌, nat_eq, ◌<◌, ◌≤◌, ◌==◌, Bool, true, false, cond, List, [], ◌∷◌, ◌++◌, length, map, take, Option, Some, None, is_none, is_some, slice_get, refl, sym, ap, ◌∙◌, subst, ℤ, ◌||◌, append-nil, append_assoc, length-append, length-take-le, arith, inl, inr, ◌⊎◌, ◌&&◌}
-use Rattle.std.specs.List.{list_any}
+use Rattle.std.specs.List.{AllByRecursion, list_any}
 use Rattle.std.proofs.lemmas.Bool.{cases_eq, true≢false, or_right, cond-false, cond-true, ne_eqb}
 use Rattle.std.proofs.lemmas.Bool.Decides.{Decides-eqb}
 use Rattle.std.proofs.lemmas.List.{take-append-le, map-append}
 use Rattle.std.proofs.lemmas.List.Elements.{filter-append}
-use Rattle.rw_machine.proofs.Steps.{either, each_change, AllOf, all_left, all_more, same_is, is_same}
+use Rattle.rw_types.proofs.RisingLemmas.{AllByRecursion-left, AllByRecursion-weaker}
+use Rattle.rw_machine.proofs.Steps.{either, each_change, same_is, is_same}
 use Rattle.rw_machine.proofs.Others.{entries_grow, known_kept, pending_parts, pending_put}
 use Rattle.rw_machine.proofs.Names.{ledger_insert, name_batch}
 use Rattle.rw_machine.proofs.Places.{at_change, Numbered, numbered_more, numbered_push, numbered_all, length_change, points_more, take_next, get_below, number_more, get_changed, get_others, of_append}
@@ -39,7 +40,7 @@ use Rattle.rw_types.specs.declared.entry.Entry.TheVariants.{Def, Sample}
 pub named_other : (p q : ℕ) (r : Reason) (ledger : Ledger) → (p ≡ q → ⊥) → named_at p r ledger q ≡ ledger q
 named_other p q r ledger h = cond-false (p == q) (Some r) (ledger q) (ne_eqb p q h)
 
-pub name_all_other : (status : ℕ) (xs : List Placed) (ledger : Ledger) (p : ℕ) → AllOf (λ (x : Placed). x.place.pos ≡ p → ⊥) xs → name_batch status xs ledger p ≡ ledger p
+pub name_all_other : (status : ℕ) (xs : List Placed) (ledger : Ledger) (p : ℕ) → AllByRecursion (λ (x : Placed). x.place.pos ≡ p → ⊥) xs → name_batch status xs ledger p ≡ ledger p
 name_all_other status [] ledger p h = refl
 name_all_other status (x ∷ xs) ledger p h = name_all_other status xs (named_at x.place.pos (Status status) ledger) p h.1 ∙ named_other x.place.pos p (Status status) ledger h.0
 
@@ -47,22 +48,22 @@ names_stay : (status : ℕ) (xs : List Placed) (ledger : Ledger) (p : ℕ) → i
 names_stay status [] ledger p h = h
 names_stay status (x ∷ xs) ledger p h = names_stay status xs (named_at x.place.pos (Status status) ledger) p (either (λ o. is_none o ≡ false) (x.place.pos == p) (Some (Status status)) (ledger p) (λ _. refl) (λ _. h))
 
-pub names_own : (status : ℕ) (xs : List Placed) (ledger : Ledger) → AllOf (λ (x : Placed). is_none (name_batch status xs ledger x.place.pos) ≡ false) xs
+pub names_own : (status : ℕ) (xs : List Placed) (ledger : Ledger) → AllByRecursion (λ (x : Placed). is_none (name_batch status xs ledger x.place.pos) ≡ false) xs
 names_own status [] ledger = tt
 names_own status (x ∷ xs) ledger = (
   names_stay status xs (named_at x.place.pos (Status status) ledger) x.place.pos (ap is_none (cond-true (x.place.pos == x.place.pos) (Some (Status status)) (ledger x.place.pos) ((Decides-eqb x.place.pos x.place.pos).1 refl))),
   names_own status xs (named_at x.place.pos (Status status) ledger),
 )
 
-pub owed_same : (new old : Ledger) (ps : List Point) → AllOf (λ (q : Point). new q.0 ≡ old q.0) ps → owed_by new ps ≡ owed_by old ps
+pub owed_same : (new old : Ledger) (ps : List Point) → AllByRecursion (λ (q : Point). new q.0 ≡ old q.0) ps → owed_by new ps ≡ owed_by old ps
 owed_same new old [] h = refl
 owed_same new old (q ∷ ps) h = (λ i. cond (is_none (h.0 i)) (q ∷ owed_by new ps) (owed_by new ps)) ∙ ap (λ rest. cond (is_none (old q.0)) (q ∷ rest) rest) (owed_same new old ps h.1)
 
-pub owed_all : (ledger : Ledger) (ps : List Point) → AllOf (λ (q : Point). ledger q.0 ≡ None) ps → owed_by ledger ps ≡ ps
+pub owed_all : (ledger : Ledger) (ps : List Point) → AllByRecursion (λ (q : Point). ledger q.0 ≡ None) ps → owed_by ledger ps ≡ ps
 owed_all ledger [] h = refl
 owed_all ledger (q ∷ ps) h = cond-true (is_none (ledger q.0)) (q ∷ owed_by ledger ps) (owed_by ledger ps) (ap is_none h.0) ∙ ap (λ rest. q ∷ rest) (owed_all ledger ps h.1)
 
-pub owed_none : (ledger : Ledger) (ps : List Point) → AllOf (λ (q : Point). is_none (ledger q.0) ≡ false) ps → owed_by ledger ps ≡ []
+pub owed_none : (ledger : Ledger) (ps : List Point) → AllByRecursion (λ (q : Point). is_none (ledger q.0) ≡ false) ps → owed_by ledger ps ≡ []
 owed_none ledger [] h = refl
 owed_none ledger (q ∷ ps) h = cond-false (is_none (ledger q.0)) (q ∷ owed_by ledger ps) (owed_by ledger ps) h.0 ∙ owed_none ledger ps h.1
 
@@ -73,7 +74,7 @@ pub pairs_of_points : (xs : List Placed) → map pair_of (as_points xs) ≡ pair
 pairs_of_points [] = refl
 pairs_of_points (x ∷ xs) = ap (λ rest. (x.t, x.word) ∷ rest) (pairs_of_points xs)
 
-pub of_none : (l : Labels) (xs : List Placed) → AllOf (λ (x : Placed). labels_eq l x.labels ≡ false) xs → of l xs ≡ []
+pub of_none : (l : Labels) (xs : List Placed) → AllByRecursion (λ (x : Placed). labels_eq l x.labels ≡ false) xs → of l xs ≡ []
 of_none l [] h = refl
 of_none l (x ∷ xs) h = cond-false (labels_eq l x.labels) (x ∷ of l xs) (of l xs) h.0 ∙ of_none l xs h.1
 
@@ -102,16 +103,16 @@ feed_keeps c w piece at = either (Inv c) (is_some w.closed) w (record w { pieces
     })
 
 -- a series that was not met has no pending sample
-no_member : (c : Setup) (w : World) (at : Inv c w) (l : Labels) → list_any (labels_eq l) w.series ≡ false → (i : ℕ) (o : Option Shard) → slice_get w.shards i ≡ o → AllOf (λ (x : Placed). labels_eq l x.labels ≡ false) (waits o)
+no_member : (c : Setup) (w : World) (at : Inv c w) (l : Labels) → list_any (labels_eq l) w.series ≡ false → (i : ℕ) (o : Option Shard) → slice_get w.shards i ≡ o → AllByRecursion (λ (x : Placed). labels_eq l x.labels ≡ false) (waits o)
 no_member c w at l new i None e = tt
 no_member c w at l new i (Some s) e = numbered_all (SampleOk c w.epoch w.placed at.width w.series (get w.names) at.ident i) (λ (x : Placed). labels_eq l x.labels ≡ false) (length s.core.resolved) (length s.core.resolved + length (pending s)) (pending s) refl
     (λ k x _ _ ok. by_bool (labels_eq l x.labels ≡ false) (labels_eq l x.labels) (λ h. absurd (true≢false (sym ok.member ∙ ap (λ m. list_any (labels_eq m) w.series) (sym (same_is l x.labels h)) ∙ new))) (λ h. h))
     ((at.shards_ok i s e).numbered)
 
-got_of_none : (c : Setup) (l : Labels) (o : Option Shard) (got : List Placed) → GotOk c o got → AllOf (λ (x : Placed). labels_eq l x.labels ≡ false) (waits o) → of l got ≡ []
+got_of_none : (c : Setup) (l : Labels) (o : Option Shard) (got : List Placed) → GotOk c o got → AllByRecursion (λ (x : Placed). labels_eq l x.labels ≡ false) (waits o) → of l got ≡ []
 got_of_none c l None got g h = ap (of l) g
 got_of_none c l (Some s) got (inl g) h = ap (of l) g
-got_of_none c l (Some s) got (inr g) h = ap (of l) g.0 ∙ of_none l s.core.batch (all_left (λ (x : Placed). labels_eq l x.labels ≡ false) s.core.batch (s.core.builder ++ samples_in s.queue) (subst (AllOf (λ (x : Placed). labels_eq l x.labels ≡ false)) (pending_parts s) h))
+got_of_none c l (Some s) got (inr g) h = ap (of l) g.0 ∙ of_none l s.core.batch (AllByRecursion-left (λ (x : Placed). labels_eq l x.labels ≡ false) s.core.batch (s.core.builder ++ samples_in s.queue) (subst (AllByRecursion (λ (x : Placed). labels_eq l x.labels ≡ false)) (pending_parts s) h))
 
 -- an entry is placed that puts nothing
 pub record Moves (c : Setup) (w : World) (e : Entry) (series : List Labels) (ledger : Ledger) : Type 0 where
@@ -136,7 +137,7 @@ moves_keeps c w e series names filtered m at = record {
   got_ok = at.got_ok;
   mine = λ l k. ap (points c l) seen ∙ points_more c l (take w.placed (log w)) e ∙ ap (λ ps. points c l (take w.placed (log w)) ++ ps) (m.no_point l k) ∙ append-nil (points c l (take w.placed (log w))) ∙ at.mine l k ∙ ap (λ ps. at.done l ++ as_points ps) (same_wait l);
   stored = λ l k. at.stored l k ∙ (λ i. map pair_of (sym (same_owed l k) i) ++ pairs (same_got l i));
-  done_ok = λ l k. all_more (DoneOk w.epoch w.shards w.placed at.ident) (DoneOk w.epoch w.shards (suc w.placed) at.ident) (λ q ok. (ok.0, let lt : q.0 < w.placed = ok.1 in omega arith)) (at.done l) (at.done_ok l k);
+  done_ok = λ l k. AllByRecursion-weaker (DoneOk w.epoch w.shards w.placed at.ident) (DoneOk w.epoch w.shards (suc w.placed) at.ident) (λ q ok. (ok.0, let lt : q.0 < w.placed = ok.1 in omega arith)) (at.done l) (at.done_ok l k);
   fresh = m.above;
   requests_ok = at.requests_ok;
   answers_ok = at.answers_ok;
@@ -175,7 +176,7 @@ moves_keeps c w e series names filtered m at = record {
         (λ h. none_got l h (home at.width w.series l) ∙ sym (none_got l h (home at.width series l)))
 
     same_owed : (l : Labels) → IsKept c l → owed_by (get names) (at.done l) ≡ owed_by (get w.names) (at.done l)
-    same_owed l k = owed_same (get names) (get w.names) (at.done l) (all_more (DoneOk w.epoch w.shards w.placed at.ident) (λ (q : Point). get names q.0 ≡ get w.names q.0) (λ q ok. m.below q.0 ok.1) (at.done l) (at.done_ok l k))
+    same_owed l k = owed_same (get names) (get w.names) (at.done l) (AllByRecursion-weaker (DoneOk w.epoch w.shards w.placed at.ident) (λ (q : Point). get names q.0 ≡ get w.names q.0) (λ q ok. m.below q.0 ok.1) (at.done l) (at.done_ok l k))
 
 pub of_is : (l : Labels) (k : Standing) → is_of l k ≡ true → k ≡ Kept l
 of_is l Unknown h = absurd (true≢false (sym h))
@@ -274,10 +275,10 @@ put_keeps c w r t word l i s e is_known up i_is at_i at = record {
   got_ok = λ j. at_change (λ o. GotOk c o (at.got j)) i j (shard_put x) w.shards (λ _ _ _ g. g) (at.got_ok j);
   mine = λ m k. ap (points c m) seen_more ∙ points_more c m seen (Sample r t word) ∙ by_home m k (cases_eq (home at.width w.series m) i);
   stored = at.stored;
-  done_ok = λ m k. all_more (DoneOk w.epoch w.shards w.placed at.ident) (DoneOk w.epoch (change i (shard_put x) w.shards) (suc w.placed) ident) (λ q ok. (past (ident q.0) (subst (Past w.epoch w.shards) (sym (same_ident q.0 ok.1)) ok.0), let lt : q.0 < w.placed = ok.1 in omega arith)) (at.done m) (at.done_ok m k);
+  done_ok = λ m k. AllByRecursion-weaker (DoneOk w.epoch w.shards w.placed at.ident) (DoneOk w.epoch (change i (shard_put x) w.shards) (suc w.placed) ident) (λ q ok. (past (ident q.0) (subst (Past w.epoch w.shards) (sym (same_ident q.0 ok.1)) ok.0), let lt : q.0 < w.placed = ok.1 in omega arith)) (at.done m) (at.done_ok m k);
   fresh = λ p le. at.fresh p (omega arith);
-  requests_ok = all_more (RequestOk c w.epoch w.shards (list_of w.head.store)) (RequestOk c w.epoch (change i (shard_put x) w.shards) (list_of w.head.store)) (λ q ok. record { id_is = ok.id_is; kept = ok.kept; fate = fate q ok.fate }) w.requests at.requests_ok;
-  answers_ok = all_more (AnswerOk c w.epoch w.shards at.got) (AnswerOk c w.epoch (change i (shard_put x) w.shards) at.got) answer w.replies at.answers_ok;
+  requests_ok = AllByRecursion-weaker (RequestOk c w.epoch w.shards (list_of w.head.store)) (RequestOk c w.epoch (change i (shard_put x) w.shards) (list_of w.head.store)) (λ q ok. record { id_is = ok.id_is; kept = ok.kept; fate = fate q ok.fate }) w.requests at.requests_ok;
+  answers_ok = AllByRecursion-weaker (AnswerOk c w.epoch w.shards at.got) (AnswerOk c w.epoch (change i (shard_put x) w.shards) at.got) answer w.replies at.answers_ok;
 }
   where
     x : Placed
@@ -345,7 +346,7 @@ put_keeps c w r t word l i s e is_known up i_is at_i at = record {
         let none : point_of c m seen (Sample r t word) ≡ [] = same_point m ∙ ap as_points (cond-false (labels_eq m l) (x ∷ []) [] differs) in
         ap (λ ps. points c m seen ++ ps) none ∙ append-nil (points c m seen) ∙ at.mine m k ∙ ap (λ o. at.done m ++ as_points (of m (waits o))) (sym (get_others i (home at.width w.series m) (shard_put x) w.shards (λ z. h (sym z))))
 
-    fate : (q : Request) → ((Past w.epoch w.shards q.id × (is_let_in c q.batch ≡ true → AllOf (InStore (list_of w.head.store)) q.batch)) ⊎ ((q.id.epoch ≡ w.epoch) × IsOpen (slice_get w.shards q.id.shard) q.batch)) → ((Past w.epoch (change i (shard_put x) w.shards) q.id × (is_let_in c q.batch ≡ true → AllOf (InStore (list_of w.head.store)) q.batch)) ⊎ ((q.id.epoch ≡ w.epoch) × IsOpen (slice_get (change i (shard_put x) w.shards) q.id.shard) q.batch))
+    fate : (q : Request) → ((Past w.epoch w.shards q.id × (is_let_in c q.batch ≡ true → AllByRecursion (InStore (list_of w.head.store)) q.batch)) ⊎ ((q.id.epoch ≡ w.epoch) × IsOpen (slice_get w.shards q.id.shard) q.batch)) → ((Past w.epoch (change i (shard_put x) w.shards) q.id × (is_let_in c q.batch ≡ true → AllByRecursion (InStore (list_of w.head.store)) q.batch)) ⊎ ((q.id.epoch ≡ w.epoch) × IsOpen (slice_get (change i (shard_put x) w.shards) q.id.shard) q.batch))
     fate q (inl h) = inl (past q.id h.0, h.1)
     fate q (inr h) = inr (h.0, at_change (λ o. IsOpen o q.batch) i q.id.shard (shard_put x) w.shards (λ _ _ _ z. z) h.1)
 

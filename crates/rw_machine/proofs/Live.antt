@@ -1,10 +1,11 @@
 -- What holds after every event, whatever the timestamps: what `settle` needs to come to a report.
 use Rattle.std.proofs.Common.{◌≡◌, ℕ, suc, ◌+◌, ◌<◌, ◌≤◌, ◌==◌, Bool, true, false, cond, List, [], ◌∷◌, ◌++◌, length, take, Option, Some, None, is_some, slice_get, refl, sym, ap, ◌∙◌, subst, ℤ, ◌||◌, ◌&&◌, not, nat_le, length-append, arith}
-use Rattle.std.specs.List.{list_any}
+use Rattle.std.specs.List.{AllByRecursion, list_any}
 use Rattle.std.proofs.lemmas.Bool.{leb-true, true≢false, not-true, and_parts}
 use Rattle.std.proofs.lemmas.Bool.Decides.{Decides-eqb}
 use Rattle.std.proofs.lemmas.Option.{same_Some}
-use Rattle.rw_machine.proofs.Steps.{always, either, Each, each_change, each_new, AllOf, all_append, all_left, all_right, and_both}
+use Rattle.rw_types.proofs.RisingLemmas.{AllByRecursion-left, AllByRecursion-right}
+use Rattle.rw_machine.proofs.Steps.{always, either, Each, each_change, each_new, all_append, and_both}
 use Rattle.rw_machine.proofs.Others.{pending_put, pending_freeze, entries_grow}
 use Rattle.rw_machine.proofs.Places.{get_below, length_change}
 use Rattle.rw_machine.proofs.Invariant.{quiet_take, quiet_flush}
@@ -62,7 +63,7 @@ pub record Going (c : Setup) (requests : List Request) (i : ℕ) (s : Shard) : T
   pub alive : s.core.killed ≡ false
   pub full_is : s.core.full ≡ c.batch
   pub counted : length s.put ≡ length s.core.resolved + length (pending s)
-  pub mine : AllOf (λ (x : Placed). x.place.shard ≡ i) (pending s)
+  pub mine : AllByRecursion (λ (x : Placed). x.place.shard ≡ i) (pending s)
   pub held : s.core.marked ≡ true → is_empty s.core.builder ≡ false
   pub closes : s.core.ended ≡ true → is_empty s.core.builder ≡ false → s.core.marked ≡ true
   pub sent : is_empty s.core.batch ≡ false → s.core.waiting ≡ true → HasId requests (batch_id s.core.batch)
@@ -85,7 +86,7 @@ put_going c requests i x s own g = record {
   alive = g.alive;
   full_is = g.full_is;
   counted = (let a : length (s.put ++ x ∷ []) ≡ length s.put + 1 = length-append s.put (x ∷ []) in let b : length (pending (shard_put x s)) ≡ length (pending s) + 1 = ap length (pending_put x s) ∙ length-append (pending s) (x ∷ []) in let d : length s.put ≡ length s.core.resolved + length (pending s) = g.counted in omega arith);
-  mine = subst (AllOf (λ (y : Placed). y.place.shard ≡ i)) (sym (pending_put x s)) (all_append (λ (y : Placed). y.place.shard ≡ i) (pending s) (x ∷ []) g.mine (own, tt));
+  mine = subst (AllByRecursion (λ (y : Placed). y.place.shard ≡ i)) (sym (pending_put x s)) (all_append (λ (y : Placed). y.place.shard ≡ i) (pending s) (x ∷ []) g.mine (own, tt));
   held = g.held;
   closes = g.closes;
   sent = g.sent;
@@ -100,8 +101,8 @@ record Leaves (s t : Shard) : Type 0 where
 left_counted : (s t : Shard) → Leaves s t → length s.put ≡ length s.core.resolved + length (pending s) → length t.put ≡ length t.core.resolved + length (pending t)
 left_counted s t q e = ap length q.same_put ∙ e ∙ (λ k. length (sym q.same_resolved k) + length (sym q.same_pending k))
 
-left_mine : (i : ℕ) (s t : Shard) → Leaves s t → AllOf (λ (x : Placed). x.place.shard ≡ i) (pending s) → AllOf (λ (x : Placed). x.place.shard ≡ i) (pending t)
-left_mine i s t q h = subst (AllOf (λ (x : Placed). x.place.shard ≡ i)) (sym q.same_pending) h
+left_mine : (i : ℕ) (s t : Shard) → Leaves s t → AllByRecursion (λ (x : Placed). x.place.shard ≡ i) (pending s) → AllByRecursion (λ (x : Placed). x.place.shard ≡ i) (pending t)
+left_mine i s t q h = subst (AllByRecursion (λ (x : Placed). x.place.shard ≡ i)) (sym q.same_pending) h
 
 flush_core : (c : Setup) (w : World) (s : Shard) → (flush_shard c w s).core ≡ s.core
 flush_core c w s = by_guard (not s.end_put && has_room c.capacity s)
@@ -185,7 +186,7 @@ freeze_going c requests i s g = either (λ (k : Core). pending (record s { core 
       alive = g.alive;
       full_is = g.full_is;
       counted = g.counted ∙ ap (λ ps. length s.core.resolved + length ps) (sym same);
-      mine = subst (AllOf (λ (x : Placed). x.place.shard ≡ i)) (sym same) g.mine;
+      mine = subst (AllByRecursion (λ (x : Placed). x.place.shard ≡ i)) (sym same) g.mine;
       held = λ e. absurd (true≢false (sym e));
       closes = λ _ e. absurd (true≢false e);
       sent = λ _ e. absurd (true≢false (sym e));
@@ -205,7 +206,7 @@ resolve_going c requests i s g = record {
   alive = g.alive;
   full_is = g.full_is;
   counted = (let a : length (s.core.resolved ++ s.core.batch) ≡ length s.core.resolved + length s.core.batch = length-append s.core.resolved s.core.batch in let b : length (pending s) ≡ length (s.core.batch ++ s.core.builder) + length (samples_in s.queue) = length-append (s.core.batch ++ s.core.builder) (samples_in s.queue) in let e : length (s.core.batch ++ s.core.builder) ≡ length s.core.batch + length s.core.builder = length-append s.core.batch s.core.builder in let f : length (s.core.builder ++ samples_in s.queue) ≡ length s.core.builder + length (samples_in s.queue) = length-append s.core.builder (samples_in s.queue) in let d : length s.put ≡ length s.core.resolved + length (pending s) = g.counted in omega arith);
-  mine = all_append mine s.core.builder (samples_in s.queue) (all_right mine s.core.batch s.core.builder (all_left mine (s.core.batch ++ s.core.builder) (samples_in s.queue) g.mine)) (all_right mine (s.core.batch ++ s.core.builder) (samples_in s.queue) g.mine);
+  mine = all_append mine s.core.builder (samples_in s.queue) (AllByRecursion-right mine s.core.batch s.core.builder (AllByRecursion-left mine (s.core.batch ++ s.core.builder) (samples_in s.queue) g.mine)) (AllByRecursion-right mine (s.core.batch ++ s.core.builder) (samples_in s.queue) g.mine);
   held = g.held;
   closes = g.closes;
   sent = λ e _. absurd (true≢false e);

@@ -5,7 +5,9 @@ use Rattle.std.proofs.lemmas.Bool.Decides.{Decides-eqb}
 use Rattle.std.specs.FinMap.{FinMap, get, get-empty, insert}
 use Rattle.std.specs.Ordering.{nat_cmp}
 use Rattle.std.proofs.lemmas.Option.{same_Some}
-use Rattle.rw_machine.proofs.Steps.{always, unless, either, Each, each_change, each_new, AllOf, all_more}
+use Rattle.std.specs.List.{AllByRecursion}
+use Rattle.rw_types.proofs.RisingLemmas.{AllByRecursion-weaker}
+use Rattle.rw_machine.proofs.Steps.{always, unless, either, Each, each_change, each_new}
 use Rattle.rw_machine.proofs.Frames.{restart_frame}
 use Rattle.rw_machine.proofs.Others.{pending_put, pending_resolve}
 use Rattle.rw_machine.proofs.Places.{Numbered, numbered_right, numbered_push, numbered_more, numbered_all}
@@ -62,9 +64,9 @@ none_stands {q = q} h = let never : None ≡ Some q → ⊥ = λ h. cc in absurd
 abbrev with_status : ℕ → List Placed → List (ℕ × ℕ)
 with_status status xs = map (λ p. (p, status)) (positions xs)
 
-all_stand : (status : ℕ) (xs : List Placed) → AllOf (λ (x : Placed). Stands (x.place.pos, status) (with_status status xs)) xs
+all_stand : (status : ℕ) (xs : List Placed) → AllByRecursion (λ (x : Placed). Stands (x.place.pos, status) (with_status status xs)) xs
 all_stand status [] = tt
-all_stand status (x ∷ xs) = ((zero, refl), all_more (λ (y : Placed). Stands (y.place.pos, status) (with_status status xs)) (λ (y : Placed). Stands (y.place.pos, status) (with_status status (x ∷ xs))) (λ y h. (suc h.0, h.1)) xs (all_stand status xs))
+all_stand status (x ∷ xs) = ((zero, refl), AllByRecursion-weaker (λ (y : Placed). Stands (y.place.pos, status) (with_status status xs)) (λ (y : Placed). Stands (y.place.pos, status) (with_status status (x ∷ xs))) (λ y h. (suc h.0, h.1)) xs (all_stand status xs))
 
 status_stays : (status : ℕ) (xs : List Placed) (names : Names) (p : ℕ) → get names p ≡ Some (Status status) → get (name_all status (positions xs) names) p ≡ Some (Status status)
 status_stays status [] names p h = h
@@ -315,7 +317,7 @@ unnamed_refused w j s status e at = unnamed_resolve w j s (name_all status (posi
     end : ℕ
     end = length s.core.resolved + length s.core.batch
 
-    batch : AllOf (λ (x : Placed). IsIn at.ident w.placed j end x.place.pos) s.core.batch
+    batch : AllByRecursion (λ (x : Placed). IsIn at.ident w.placed j end x.place.pos) s.core.batch
     batch = numbered_all (IsUnnamed at.ident w.placed w.names j) (λ (x : Placed). IsIn at.ident w.placed j end x.place.pos) (length s.core.resolved) end s.core.batch refl (λ n x _ lt h. (n, h.0, lt, h.1)) (batch_numbered (IsUnnamed at.ident w.placed w.names j) s (at.numbered j s e))
 
     named : (p : ℕ) → (get (name_all status (positions s.core.batch) w.names) p ≡ get w.names p) ⊎ ((get (name_all status (positions s.core.batch) w.names) p ≡ Some (Status status)) × IsIn at.ident w.placed j end p)
@@ -420,7 +422,7 @@ module _ (c : Setup) (p : ℕ) (r : Reason) where
   stays_reply w None at q = q
   stays_reply w (Some a) at q = by_shard (slice_get w.shards a.id.shard) refl
     where
-      apart : (u : Shard) → slice_get w.shards a.id.shard ≡ Some u → AllOf (λ (x : Placed). x.place.pos ≡ p → ⊥) u.core.batch
+      apart : (u : Shard) → slice_get w.shards a.id.shard ≡ Some u → AllByRecursion (λ (x : Placed). x.place.pos ≡ p → ⊥) u.core.batch
       apart u e = numbered_all (IsUnnamed at.ident w.placed w.names a.id.shard) (λ (x : Placed). x.place.pos ≡ p → ⊥) (length u.core.resolved) (length u.core.resolved + length u.core.batch) u.core.batch refl
           (λ n x _ _ h same. let z : None ≡ Some r = sym h.2 ∙ ap (get w.names) same ∙ q in let never : None ≡ Some r → ⊥ = λ h. cc in never z)
           (batch_numbered (IsUnnamed at.ident w.placed w.names a.id.shard) u (at.numbered a.id.shard u e))

@@ -5,7 +5,8 @@ use Rattle.std.proofs.lemmas.Bool.{true≢false, not-true, cond-false, cond-true
 use Rattle.std.specs.List.{AllByRecursion}
 use Rattle.rw_types.specs.Rising.{Rises}
 use Rattle.rw_head.specs.Lists.{IsEarlier}
-use Rattle.rw_machine.proofs.Steps.{either, AllOf, all_filter, all_more, and_both, same_is, is_same}
+use Rattle.rw_types.proofs.RisingLemmas.{AllByRecursion-weaker}
+use Rattle.rw_machine.proofs.Steps.{either, all_filter, and_both, same_is, is_same}
 use Rattle.rw_head.specs.Order.{accept, accept_one, holds, is_later}
 use Rattle.rw_machine.proofs.Views.{Pairs, Store, of, pairs, series_of}
 use Rattle.rw_machine.proofs.Heads.{store_at, put_series, accept_series, accept_all}
@@ -33,7 +34,7 @@ repeat_not_later s (x ∷ y ∷ ys) h at = by_test (int_eq x.0 s.0 && (x.1 == s.
     by_test false e at rest = rest at
 
 -- repeats change nothing
-pub accept_repeats : (xs ss : Pairs) → Rises IsEarlier xs → AllOf (λ s. holds s xs ≡ true) ss → accept (Some xs) ss ≡ Some xs
+pub accept_repeats : (xs ss : Pairs) → Rises IsEarlier xs → AllByRecursion (λ s. holds s xs ≡ true) ss → accept (Some xs) ss ≡ Some xs
 accept_repeats xs [] h all = refl
 accept_repeats xs (s ∷ ss) h all =
     let step : accept_one xs s ≡ Some xs = cond-false (is_later s.0 xs) (Some (xs ++ s ∷ [])) (cond (holds s xs) (Some xs) None) (repeat_not_later s xs h all.0) ∙ cond-true (holds s xs) (Some xs) None all.0 in
@@ -78,27 +79,27 @@ holds_own s xs = by_test (int_eq s.0 s.0 && (s.1 == s.1)) (and_both _ _ ((Decide
 -- no label set twice
 abbrev pub Apart : List Labels → Type 0
 Apart [] = Unit {0}
-Apart (l ∷ ls) = AllOf (λ m. labels_eq l m ≡ false) ls × Apart ls
+Apart (l ∷ ls) = AllByRecursion (λ m. labels_eq l m ≡ false) ls × Apart ls
 
 apart_filter : (p : Labels → Bool) (ls : List Labels) → Apart ls → Apart (filter p ls)
 apart_filter p [] h = tt
 apart_filter p (l ∷ ls) h = either Apart (p l) (l ∷ filter p ls) (filter p ls) (λ _. (all_filter (λ m. labels_eq l m ≡ false) p ls h.0, apart_filter p ls h.1)) (λ _. apart_filter p ls h.1)
 
-passes : (p : Labels → Bool) (ls : List Labels) → AllOf (λ m. p m ≡ true) (filter p ls)
+passes : (p : Labels → Bool) (ls : List Labels) → AllByRecursion (λ m. p m ≡ true) (filter p ls)
 passes p [] = tt
-passes p (l ∷ ls) = either (AllOf (λ m. p m ≡ true)) (p l) (l ∷ filter p ls) (filter p ls) (λ h. (h, passes p ls)) (λ _. passes p ls)
+passes p (l ∷ ls) = either (AllByRecursion (λ m. p m ≡ true)) (p l) (l ∷ filter p ls) (filter p ls) (λ h. (h, passes p ls)) (λ _. passes p ls)
 
 pub distinct_apart : (ls : List Labels) → Apart (distinct ls)
 unfolding distinct
 distinct_apart [] = tt
-distinct_apart (l ∷ ls) = (all_more (λ m. not (labels_eq l m) ≡ true) (λ m. labels_eq l m ≡ false) (λ m. not-true (labels_eq l m)) (filter (λ m. not (labels_eq l m)) (distinct ls)) (passes (λ m. not (labels_eq l m)) (distinct ls)), apart_filter (λ m. not (labels_eq l m)) (distinct ls) (distinct_apart ls))
+distinct_apart (l ∷ ls) = (AllByRecursion-weaker (λ m. not (labels_eq l m) ≡ true) (λ m. labels_eq l m ≡ false) (λ m. not-true (labels_eq l m)) (filter (λ m. not (labels_eq l m)) (distinct ls)) (passes (λ m. not (labels_eq l m)) (distinct ls)), apart_filter (λ m. not (labels_eq l m)) (distinct ls) (distinct_apart ls))
 
 -- what a store that took a message has
 pub record Took (store : Store) (add : Labels → Pairs) (ls : List Labels) (o : Option Store) : Type 0 where
   pub after : Store
   pub taken : o ≡ Some after
-  pub inside : AllOf (λ l. after l ≡ store l ++ add l) ls
-  pub outside : (l : Labels) → AllOf (λ m. labels_eq m l ≡ false) ls → after l ≡ store l
+  pub inside : AllByRecursion (λ l. after l ≡ store l ++ add l) ls
+  pub outside : (l : Labels) → AllByRecursion (λ m. labels_eq m l ≡ false) ls → after l ≡ store l
 
 turned_same : (l m : Labels) → labels_eq l m ≡ false → labels_eq m l ≡ false
 turned_same l m h = by_test (labels_eq m l) refl
@@ -107,7 +108,7 @@ turned_same l m h = by_test (labels_eq m l) refl
     by_test true e = absurd (true≢false (sym (is_same l m (sym (same_is m l e))) ∙ h))
     by_test false e = refl
 
-pub take_message : (b : List Placed) (add : Labels → Pairs) (ls : List Labels) (store : Store) → Apart ls → AllOf (λ l. accept (Some (store l)) (pairs (of l b)) ≡ Some (store l ++ add l)) ls → Took store add ls (accept_all (Some store) (map (series_of b) ls))
+pub take_message : (b : List Placed) (add : Labels → Pairs) (ls : List Labels) (store : Store) → Apart ls → AllByRecursion (λ l. accept (Some (store l)) (pairs (of l b)) ≡ Some (store l ++ add l)) ls → Took store add ls (accept_all (Some store) (map (series_of b) ls))
 take_message b add [] store apart all = record { after = store; taken = refl; inside = tt; outside = λ l _. refl }
 take_message b add (l ∷ ls) store apart all =
     let next : Store = store_at l (store l ++ add l) store in
@@ -117,14 +118,14 @@ take_message b add (l ∷ ls) store apart all =
     record {
       after = rest.after;
       taken = ap (λ o. accept_all o (map (series_of b) ls)) step ∙ rest.taken;
-      inside = (rest.outside l (all_more (λ m. labels_eq l m ≡ false) (λ m. labels_eq m l ≡ false) (turned_same l) ls apart.0) ∙ cond-true (labels_eq l l) (store l ++ add l) (store l) (is_same l l refl), back ls apart.0 rest.after rest.inside);
+      inside = (rest.outside l (AllByRecursion-weaker (λ m. labels_eq l m ≡ false) (λ m. labels_eq m l ≡ false) (turned_same l) ls apart.0) ∙ cond-true (labels_eq l l) (store l ++ add l) (store l) (is_same l l refl), back ls apart.0 rest.after rest.inside);
       outside = λ m h. rest.outside m h.1 ∙ kept m h.0;
     }
   where
-    both : (ms : List Labels) → AllOf (λ m. labels_eq l m ≡ false) ms → AllOf (λ m. accept (Some (store m)) (pairs (of m b)) ≡ Some (store m ++ add m)) ms → AllOf (λ m. accept (Some (store_at l (store l ++ add l) store m)) (pairs (of m b)) ≡ Some (store_at l (store l ++ add l) store m ++ add m)) ms
+    both : (ms : List Labels) → AllByRecursion (λ m. labels_eq l m ≡ false) ms → AllByRecursion (λ m. accept (Some (store m)) (pairs (of m b)) ≡ Some (store m ++ add m)) ms → AllByRecursion (λ m. accept (Some (store_at l (store l ++ add l) store m)) (pairs (of m b)) ≡ Some (store_at l (store l ++ add l) store m ++ add m)) ms
     both [] apart all = tt
     both (m ∷ ms) apart all = (subst (λ (xs : Pairs). accept (Some xs) (pairs (of m b)) ≡ Some (xs ++ add m)) (sym (cond-false (labels_eq l m) (store l ++ add l) (store m) apart.0)) all.0, both ms apart.1 all.1)
 
-    back : (ms : List Labels) → AllOf (λ m. labels_eq l m ≡ false) ms → (after : Store) → AllOf (λ m. after m ≡ store_at l (store l ++ add l) store m ++ add m) ms → AllOf (λ m. after m ≡ store m ++ add m) ms
+    back : (ms : List Labels) → AllByRecursion (λ m. labels_eq l m ≡ false) ms → (after : Store) → AllByRecursion (λ m. after m ≡ store_at l (store l ++ add l) store m ++ add m) ms → AllByRecursion (λ m. after m ≡ store m ++ add m) ms
     back [] apart after all = tt
     back (m ∷ ms) apart after all = (all.0 ∙ ap (λ (xs : Pairs). xs ++ add m) (cond-false (labels_eq l m) (store l ++ add l) (store m) apart.0), back ms apart.1 after all.1)

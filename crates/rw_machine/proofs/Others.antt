@@ -32,6 +32,8 @@ use Rattle.rw_head.specs.Store.{Store, list_of}
 use Rattle.rw_head.specs.Verdicts.{LabelLimits, accepted, judged, refusal, taken, taken_all, taken_unless}
 use Rattle.rw_head.specs.declared.verdict.Verdict.{Verdict}
 use Rattle.rw_head.proofs.StoreLemmas.{list_of-empty, list_of-with_list}
+use Rattle.std.specs.List.{AllByRecursion}
+use Rattle.rw_types.proofs.RisingLemmas.{AllByRecursion-left, AllByRecursion-right, AllByRecursion-weaker}
 use Rattle.rw_machine.specs.declared.event.Event.{Event}
 use Rattle.rw_machine.specs.declared.event.Event.TheVariants as event
 use Rattle.rw_machine.specs.declared.event.How.{How}
@@ -41,7 +43,7 @@ use Rattle.rw_machine.specs.Steps.{act, arrive, changed, endpoint_answer, flush_
 use Rattle.rw_machine.specs.Worlds.{Reply, Request, Setup, World, is_finished, log, start}
 use Rattle.rw_machine.specs.Promises.{HoldsNothingElse, Point}
 use Rattle.rw_machine.proofs.Views.{IsKept, logged_points, logged_from, shard_resolve}
-use Rattle.rw_machine.proofs.Steps.{always, either, Each, each_change, each_new, AllOf, all_append, all_left, all_right, all_get, all_more, all_filter, all_map, same_is}
+use Rattle.rw_machine.proofs.Steps.{always, either, Each, each_change, each_new, all_append, all_get, all_filter, all_map, same_is}
 use Rattle.rw_machine.proofs.Places.{logged_append, take_next}
 
 -- what `known` keeps is a kept label set
@@ -148,13 +150,13 @@ next_logged c es n l r t word e kept h = never (logged_points c l (take n es)) (
     never [] z = cc
     never (p ∷ ps) z = cc
 
-pub all_distinct : (P : Labels → Type 0) (ls : List Labels) → AllOf P ls → AllOf P (distinct ls)
+pub all_distinct : (P : Labels → Type 0) (ls : List Labels) → AllByRecursion P ls → AllByRecursion P (distinct ls)
 unfolding distinct
 all_distinct P [] all = tt
 all_distinct P (l ∷ ls) all = (all.0, all_filter P (λ m. not (labels_eq l m)) (distinct ls) (all_distinct P ls all.1))
 
 -- a fact of a batch's labels is one of its message's
-pub all_message : (P : Labels → Type 0) (batch : List Placed) → AllOf (λ (x : Placed). P x.labels) batch → AllOf (λ (s : TimeSeries). P s.labels) (grouping.message (map labelled batch))
+pub all_message : (P : Labels → Type 0) (batch : List Placed) → AllByRecursion (λ (x : Placed). P x.labels) batch → AllByRecursion (λ (s : TimeSeries). P s.labels) (grouping.message (map labelled batch))
 unfolding grouping.message
 all_message P batch all = all_map (λ (s : TimeSeries). P s.labels) (λ l. record { labels = l; samples = grouping.samples_of l (map labelled batch) }) (distinct (map (λ x. x.labels) (map labelled batch)))
     (all_distinct P (map (λ x. x.labels) (map labelled batch)) (all_map P (λ x. x.labels) (map labelled batch) (all_map (λ x. P x.labels) labelled batch all)))
@@ -174,13 +176,13 @@ same_taken limits l store next s apart same = by_refusal (refusal limits s.label
     by_refusal None = by_accepted _
     by_refusal (Some v) = tt
 
-same_taken_all : (limits : LabelLimits) (l : Labels) (store : Store) (ms : WriteRequest) → AllOf (λ (s : TimeSeries). labels_eq l s.labels ≡ false) ms → (r : Result Store Verdict) → SameList l store r → SameList l store (taken_all limits r ms)
+same_taken_all : (limits : LabelLimits) (l : Labels) (store : Store) (ms : WriteRequest) → AllByRecursion (λ (s : TimeSeries). labels_eq l s.labels ≡ false) ms → (r : Result Store Verdict) → SameList l store r → SameList l store (taken_all limits r ms)
 same_taken_all limits l store [] apart r at = at
 same_taken_all limits l store (s ∷ ms) apart (Err v) at = same_taken_all limits l store ms apart.1 (Err v) tt
 same_taken_all limits l store (s ∷ ms) apart (Ok next) at = same_taken_all limits l store ms apart.1 (taken limits next s) (same_taken limits l store next s apart.0 at)
 
 -- the answer to a batch without samples of a label set leaves its list
-pub answer_other : (c : Setup) (h : State) (batch : List Placed) (l : Labels) → AllOf (λ (x : Placed). labels_eq l x.labels ≡ false) batch → list_of (endpoint_answer c h batch).head.store l ≡ list_of h.store l
+pub answer_other : (c : Setup) (h : State) (batch : List Placed) (l : Labels) → AllByRecursion (λ (x : Placed). labels_eq l x.labels ≡ false) batch → list_of (endpoint_answer c h batch).head.store l ≡ list_of h.store l
 answer_other c h batch l apart =
     let P : Answer → Type 0 = λ a. list_of a.head.store l ≡ list_of h.store l in
     either P (nat_lt c.max_body (length (body_of batch))) (record { status = 413; head = h }) (answer_to h (Ok m)) (λ _. refl)
@@ -195,22 +197,22 @@ answer_other c h batch l apart =
     by_result (Err v) at = refl
 
 pub record OnlyLogged (c : Setup) (w : World) : Type 0 where
-  pub pending_logged : Each (λ i s. AllOf (IsLogged c (log w)) (pending s)) w.shards
-  pub requests_logged : AllOf (λ (r : Request). AllOf (IsLogged c (log w)) r.batch) w.requests
+  pub pending_logged : Each (λ i s. AllByRecursion (IsLogged c (log w)) (pending s)) w.shards
+  pub requests_logged : AllByRecursion (λ (r : Request). AllByRecursion (IsLogged c (log w)) r.batch) w.requests
   pub nothing_else : (l : Labels) → logged_points c l (log w) ≡ [] → list_of w.head.store l ≡ []
 
 -- one step of each kind
-others_change : (c : Setup) (w : World) (j : ℕ) (f : Shard → Shard) → ((s : Shard) → slice_get w.shards j ≡ Some s → AllOf (IsLogged c (log w)) (pending s) → AllOf (IsLogged c (log w)) (pending (f s))) → OnlyLogged c w → OnlyLogged c (changed w j f)
-others_change c w j f step at = record { pending_logged = each_change (λ i s. AllOf (IsLogged c (log w)) (pending s)) f j w.shards at.pending_logged step; requests_logged = at.requests_logged; nothing_else = at.nothing_else }
+others_change : (c : Setup) (w : World) (j : ℕ) (f : Shard → Shard) → ((s : Shard) → slice_get w.shards j ≡ Some s → AllByRecursion (IsLogged c (log w)) (pending s) → AllByRecursion (IsLogged c (log w)) (pending (f s))) → OnlyLogged c w → OnlyLogged c (changed w j f)
+others_change c w j f step at = record { pending_logged = each_change (λ i s. AllByRecursion (IsLogged c (log w)) (pending s)) f j w.shards at.pending_logged step; requests_logged = at.requests_logged; nothing_else = at.nothing_else }
 
 same_pending : (c : Setup) (w : World) (j : ℕ) (f : Shard → Shard) → ((s : Shard) → pending (f s) ≡ pending s) → OnlyLogged c w → OnlyLogged c (changed w j f)
-same_pending c w j f same at = others_change c w j f (λ s _ all. subst (AllOf (IsLogged c (log w))) (sym (same s)) all) at
+same_pending c w j f same at = others_change c w j f (λ s _ all. subst (AllByRecursion (IsLogged c (log w))) (sym (same s)) all) at
 
 -- more entries
 others_grow : (c : Setup) (w : World) (more : List pieces.Piece) → OnlyLogged c w → OnlyLogged c (record w { pieces = w.pieces ++ more })
 others_grow c w more at = record {
-  pending_logged = λ i s e. all_more (IsLogged c (log w)) (IsLogged c later) logged (pending s) (at.pending_logged i s e);
-  requests_logged = all_more (λ (r : Request). AllOf (IsLogged c (log w)) r.batch) (λ (r : Request). AllOf (IsLogged c later) r.batch) (λ r h. all_more (IsLogged c (log w)) (IsLogged c later) logged r.batch h) w.requests at.requests_logged;
+  pending_logged = λ i s e. AllByRecursion-weaker (IsLogged c (log w)) (IsLogged c later) logged (pending s) (at.pending_logged i s e);
+  requests_logged = AllByRecursion-weaker (λ (r : Request). AllByRecursion (IsLogged c (log w)) r.batch) (λ (r : Request). AllByRecursion (IsLogged c later) r.batch) (λ r h. AllByRecursion-weaker (IsLogged c (log w)) (IsLogged c later) logged r.batch h) w.requests at.requests_logged;
   nothing_else = λ l h. at.nothing_else l (fewer l h);
 }
   where
@@ -230,8 +232,8 @@ others_place c w at = either (OnlyLogged c) (is_some w.draining) w (place_entry 
     by_shard l t word logged i None = at
     by_shard l t word logged i (Some s) = either (OnlyLogged c) (has_room c.capacity s) _ w
         (λ _. record {
-          pending_logged = each_change (λ i s. AllOf (IsLogged c (log w)) (pending s)) (shard_put (next_sample w i l t word s)) i w.shards at.pending_logged
-              (λ u _ all. subst (AllOf (IsLogged c (log w))) (sym (pending_put (next_sample w i l t word s) u)) (all_append (IsLogged c (log w)) (pending u) (next_sample w i l t word s ∷ []) all (logged, tt)));
+          pending_logged = each_change (λ i s. AllByRecursion (IsLogged c (log w)) (pending s)) (shard_put (next_sample w i l t word s)) i w.shards at.pending_logged
+              (λ u _ all. subst (AllByRecursion (IsLogged c (log w))) (sym (pending_put (next_sample w i l t word s) u)) (all_append (IsLogged c (log w)) (pending u) (next_sample w i l t word s ∷ []) all (logged, tt)));
           requests_logged = at.requests_logged;
           nothing_else = at.nothing_else;
         })
@@ -259,25 +261,25 @@ apart_from c es l m none logged = by_test (labels_eq l m) refl
     by_test true e = absurd (logged (ap (λ k. logged_points c k es) (sym (same_is l m e)) ∙ none))
     by_test false e = e
 
-others_arrive : (c : Setup) (w : World) (how : How) (o : Option Request) → ((r : Request) → o ≡ Some r → AllOf (IsLogged c (log w)) r.batch) → OnlyLogged c w → OnlyLogged c (arrive c w how o)
+others_arrive : (c : Setup) (w : World) (how : How) (o : Option Request) → ((r : Request) → o ≡ Some r → AllByRecursion (IsLogged c (log w)) r.batch) → OnlyLogged c w → OnlyLogged c (arrive c w how o)
 others_arrive c w how None logged at = at
 others_arrive c w Plain (Some r) logged at = record {
   pending_logged = at.pending_logged;
   requests_logged = at.requests_logged;
-  nothing_else = λ l none. answer_other c w.head r.batch l (all_more (IsLogged c (log w)) (λ (x : Placed). labels_eq l x.labels ≡ false) (λ x h. apart_from c (log w) l x.labels none h) r.batch (logged r refl)) ∙ at.nothing_else l none;
+  nothing_else = λ l none. answer_other c w.head r.batch l (AllByRecursion-weaker (IsLogged c (log w)) (λ (x : Placed). labels_eq l x.labels ≡ false) (λ x h. apart_from c (log w) l x.labels none h) r.batch (logged r refl)) ∙ at.nothing_else l none;
 }
 others_arrive c w Busy (Some r) logged at = record { pending_logged = at.pending_logged; requests_logged = at.requests_logged; nothing_else = at.nothing_else }
 others_arrive c w OutOfMemory (Some r) logged at = record { pending_logged = at.pending_logged; requests_logged = at.requests_logged; nothing_else = at.nothing_else }
 
 -- the open batch's part, and what is left without it
-pub batch_part : (P : Placed → Type 0) (s : Shard) → AllOf P (pending s) → AllOf P s.core.batch
-batch_part P s all = all_left P s.core.batch (s.core.builder ++ samples_in s.queue) (subst (AllOf P) (pending_parts s) all)
+pub batch_part : (P : Placed → Type 0) (s : Shard) → AllByRecursion P (pending s) → AllByRecursion P s.core.batch
+batch_part P s all = AllByRecursion-left P s.core.batch (s.core.builder ++ samples_in s.queue) (subst (AllByRecursion P) (pending_parts s) all)
 
-pub rest_part : (P : Placed → Type 0) (s : Shard) → AllOf P (pending s) → AllOf P (pending (shard_resolve s))
-rest_part P s all = all_right P s.core.batch (s.core.builder ++ samples_in s.queue) (subst (AllOf P) (pending_parts s) all)
+pub rest_part : (P : Placed → Type 0) (s : Shard) → AllByRecursion P (pending s) → AllByRecursion P (pending (shard_resolve s))
+rest_part P s all = AllByRecursion-right P s.core.batch (s.core.builder ++ samples_in s.queue) (subst (AllByRecursion P) (pending_parts s) all)
 
 -- an answer to the open batch leaves what is pending, or what is pending behind it
-pub settled_part : (P : Placed → Type 0) (j : Judgement) (s : Shard) → AllOf P (pending s) → AllOf P (pending (with_core (settle j) s))
+pub settled_part : (P : Placed → Type 0) (j : Judgement) (s : Shard) → AllByRecursion P (pending s) → AllByRecursion P (pending (with_core (settle j) s))
 settled_part P Done s all = rest_part P s all
 settled_part P Refused s all = rest_part P s all
 settled_part P Again s all = all
@@ -289,8 +291,8 @@ others_send : (c : Setup) (w : World) (i : ℕ) (o : Option Shard) → slice_get
 others_send c w i None e at = at
 others_send c w i (Some s) e at = either (OnlyLogged c) (can_send s.core) _ w
     (λ _. record {
-      pending_logged = each_change (λ i s. AllOf (IsLogged c (log w)) (pending s)) shard_send i w.shards at.pending_logged (λ u _ all. subst (AllOf (IsLogged c (log w))) (sym (pending_send u)) all);
-      requests_logged = all_append (λ (r : Request). AllOf (IsLogged c (log w)) r.batch) w.requests (request_by s ∷ []) at.requests_logged (batch_part (IsLogged c (log w)) s (at.pending_logged i s e), tt);
+      pending_logged = each_change (λ i s. AllByRecursion (IsLogged c (log w)) (pending s)) shard_send i w.shards at.pending_logged (λ u _ all. subst (AllByRecursion (IsLogged c (log w))) (sym (pending_send u)) all);
+      requests_logged = all_append (λ (r : Request). AllByRecursion (IsLogged c (log w)) r.batch) w.requests (request_by s ∷ []) at.requests_logged (batch_part (IsLogged c (log w)) s (at.pending_logged i s e), tt);
       nothing_else = at.nothing_else;
     })
     (λ _. at)
@@ -303,7 +305,7 @@ others_reply c w (Some a) at = by_shard (slice_get w.shards a.id.shard)
     by_shard None = at
     by_shard (Some s) = either (OnlyLogged c) _ _ w
         (λ _. record {
-          pending_logged = each_change (λ i s. AllOf (IsLogged c (log w)) (pending s)) (with_core (settle (judgement_of a.status))) a.id.shard w.shards at.pending_logged (λ u _ all. settled_part (IsLogged c (log w)) (judgement_of a.status) u all);
+          pending_logged = each_change (λ i s. AllByRecursion (IsLogged c (log w)) (pending s)) (with_core (settle (judgement_of a.status))) a.id.shard w.shards at.pending_logged (λ u _ all. settled_part (IsLogged c (log w)) (judgement_of a.status) u all);
           requests_logged = at.requests_logged;
           nothing_else = at.nothing_else;
         })
@@ -312,7 +314,7 @@ others_reply c w (Some a) at = by_shard (slice_get w.shards a.id.shard)
 others_restart : (c : Setup) (w : World) (o : Option ℕ) → OnlyLogged c w → OnlyLogged c (restart_as c w o)
 others_restart c w None at = at
 others_restart c w (Some n) at = either (OnlyLogged c) _ _ w
-    (λ _. record { pending_logged = each_new (λ i s. AllOf (IsLogged c (log w)) (pending s)) c (suc w.epoch) 0 (λ _. tt) n; requests_logged = at.requests_logged; nothing_else = at.nothing_else })
+    (λ _. record { pending_logged = each_new (λ i s. AllByRecursion (IsLogged c (log w)) (pending s)) c (suc w.epoch) 0 (λ _. tt) n; requests_logged = at.requests_logged; nothing_else = at.nothing_else })
     (λ _. at)
 
 others_act : (c : Setup) (w : World) (e : Event) → OnlyLogged c w → OnlyLogged c (act c w e)
@@ -322,7 +324,7 @@ others_act c w (event.Flush i) at = same_pending c w i (flush_shard c w) (others
 others_act c w (event.Take i) at = same_pending c w i shard_take pending_take at
 others_act c w (event.Freeze i) at = same_pending c w i shard_freeze pending_freeze at
 others_act c w (event.Send i) at = others_send c w i (slice_get w.shards i) refl at
-others_act c w (event.Arrive k how) at = others_arrive c w how (slice_get w.requests k) (λ r e. all_get (λ (r : Request). AllOf (IsLogged c (log w)) r.batch) w.requests k r at.requests_logged e) at
+others_act c w (event.Arrive k how) at = others_arrive c w how (slice_get w.requests k) (λ r e. all_get (λ (r : Request). AllByRecursion (IsLogged c (log w)) r.batch) w.requests k r at.requests_logged e) at
 others_act c w (event.Reply k) at = others_reply c w (slice_get w.replies k) at
 others_act c w (event.Lost i) at = same_pending c w i shard_lost pending_lost at
 others_act c w (event.Reshard n) at = either (OnlyLogged c) (not (is_some w.draining) && (not (is_finished w) && (nat_le 1 n && nat_le n 1000))) _ w (λ _. record { pending_logged = at.pending_logged; requests_logged = at.requests_logged; nothing_else = at.nothing_else }) (λ _. at)
@@ -331,7 +333,7 @@ others_act c w event.Close at = either (OnlyLogged c) (is_some w.closed) w _ (λ
 others_act c w event.Kill at = record { pending_logged = at.pending_logged; requests_logged = at.requests_logged; nothing_else = at.nothing_else }
 
 only_logged : (c : Setup) (events : List Event) → OnlyLogged c (run c events (start c))
-only_logged c events = always (OnlyLogged c) c (others_act c) events (start c) (record { pending_logged = each_new (λ i s. AllOf (IsLogged c (log (start c))) (pending s)) c 0 0 (λ _. tt) c.shards; requests_logged = tt; nothing_else = λ l _. list_of-empty l })
+only_logged c events = always (OnlyLogged c) c (others_act c) events (start c) (record { pending_logged = each_new (λ i s. AllByRecursion (IsLogged c (log (start c))) (pending s)) c 0 0 (λ _. tt) c.shards; requests_logged = tt; nothing_else = λ l _. list_of-empty l })
 
 pub others : (c : Setup) (events : List Event) → HoldsNothingElse c (run c events (start c))
 others c events l none = (only_logged c events).nothing_else l none

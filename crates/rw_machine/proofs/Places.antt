@@ -1,8 +1,8 @@
 -- The points of a log that grows, a series' number as series are added, and a list of shards with one changed.
 use Rattle.std.proofs.Common.{◌≡◌, ℕ, zero, suc, ◌+◌, ◌<◌, ◌≤◌, Bool, true, false, cond, List, [], ◌∷◌, ◌++◌, length, take, Option, Some, None, slice_get, refl, sym, ap, ◌∙◌, subst, ℤ, ◌||◌, ◌&&◌, not, append-nil, append_assoc, arith}
-use Rattle.std.specs.List.{list_any}
+use Rattle.std.specs.List.{AllByRecursion, list_any}
 use Rattle.std.proofs.lemmas.List.Elements.{filter-append}
-use Rattle.rw_machine.proofs.Steps.{AllOf, same_is, is_same}
+use Rattle.rw_machine.proofs.Steps.{same_is, is_same}
 use Rattle.rw_machine.proofs.Risen.{risen, risen-push}
 use Rattle.rw_machine.proofs.Views.{of, logged_points, logged_of, logged_from, points, is_of, point_of, points_from}
 use Rattle.rw_machine.specs.Shards.{Shard}
@@ -134,7 +134,7 @@ pub numbered_more : (P Q : ℕ → Placed → Type 0) (n : ℕ) (xs : List Place
 numbered_more P Q n [] more all = tt
 numbered_more P Q n (x ∷ xs) more all = (more n x (omega arith) all.0, numbered_more P Q (suc n) xs (λ k y le. more k y (omega arith)) all.1)
 
-pub numbered_all : (P : ℕ → Placed → Type 0) (Q : Placed → Type 0) (n m : ℕ) (xs : List Placed) → m ≡ n + length xs → ((k : ℕ) (x : Placed) → n ≤ k → k < m → P k x → Q x) → Numbered P n xs → AllOf Q xs
+pub numbered_all : (P : ℕ → Placed → Type 0) (Q : Placed → Type 0) (n m : ℕ) (xs : List Placed) → m ≡ n + length xs → ((k : ℕ) (x : Placed) → n ≤ k → k < m → P k x → Q x) → Numbered P n xs → AllByRecursion Q xs
 numbered_all P Q n m [] e more all = tt
 numbered_all P Q n m (x ∷ xs) e more all = (more n x (omega arith) (omega arith) all.0, numbered_all P Q (suc n) m xs (omega arith) (λ k y le lt. more k y (omega arith) lt) all.1)
 

@@ -3,8 +3,9 @@ use Rattle.std.proofs.Common.{◌≡◌, ℕ, suc, Bool, true, false, cond, List
 use Rattle.rw_retry.specs.Judgements.{judgement_of}
 use Rattle.rw_retry.specs.declared.judgement.Judgement.{Judgement}
 use Rattle.rw_retry.specs.declared.judgement.Judgement.TheVariants.{Again, Done, Refused}
+use Rattle.std.specs.List.{AllByRecursion}
 use Rattle.rw_machine.proofs.Ids.{one_batch}
-use Rattle.rw_machine.proofs.Steps.{always, either, Each, each_change, each_new, AllOf, all_append, all_get}
+use Rattle.rw_machine.proofs.Steps.{always, either, Each, each_change, each_new, all_append, all_get}
 use Rattle.rw_machine.specs.declared.event.Event.{Event}
 use Rattle.rw_machine.specs.declared.event.Event.TheVariants as event
 use Rattle.rw_machine.specs.declared.event.How.{How}
@@ -61,7 +62,7 @@ settle_stays Again s = refl
 -- each shard sends to the target that was set, and so did those before it
 pub record Sound (c : Setup) (shards : List Shard) (requests : List Request) : Type 0 where
   pub targets : Each (λ i s. s.core.target ≡ c.target) shards
-  pub bytes : AllOf (CarriesItsBatch c) requests
+  pub bytes : AllByRecursion (CarriesItsBatch c) requests
 
 abbrev pub Carries : Setup → World → Type 0
 Carries c w = Sound c w.shards w.requests

@@ -1,10 +1,11 @@
 -- Sending, resolving and restarting keep the invariant.
 use Rattle.std.proofs.Common.{◌≡◌, ℕ, zero, suc, ◌+◌, ◌<◌, ◌≤◌, ◌==◌, Bool, true, false, cond, List, [], ◌∷◌, ◌++◌, length, map, take, Option, Some, None, is_none, slice_get, refl, sym, ap, ◌∙◌, subst, ℤ, ◌&&◌, not, append-nil, append_assoc, length-append, arith, inl, inr, ◌⊎◌}
-use Rattle.std.specs.List.{list_all}
+use Rattle.std.specs.List.{AllByRecursion, list_all}
 use Rattle.std.proofs.lemmas.Bool.{cases_eq, true≢false, not-true, cond-false, cond-true, and_parts, ne_eqb}
 use Rattle.std.proofs.lemmas.Bool.Decides.{Decides-eqb}
 use Rattle.std.proofs.lemmas.List.{map-append}
-use Rattle.rw_machine.proofs.Steps.{either, each_new, AllOf, all_append, all_more, all_filter, all_map, is_same}
+use Rattle.rw_types.proofs.RisingLemmas.{AllByRecursion-weaker}
+use Rattle.rw_machine.proofs.Steps.{either, each_new, all_append, all_filter, all_map, is_same}
 use Rattle.rw_machine.proofs.OrderRule.{holds_right, holds_own}
 use Rattle.rw_machine.proofs.Places.{Numbered, numbered_more, numbered_left, numbered_right, numbered_all, length_change, get_changed, get_others, of_append}
 use Rattle.rw_machine.proofs.Invariant.{Inv, as_points, waits, home, id_at, Past, SampleOk, ShardOk, GotOk, DoneOk, IsOpen, InStore, RequestOk, AnswersOpen, AnswerOk, quiet, quiet_send, quiet_again, past_change}
@@ -92,15 +93,15 @@ holds_more : (s : ℤ × ℕ) (l : Labels) (x : Placed) (xs : List Placed) → h
 holds_more s l x xs h = either (λ ys. holds s (pairs ys) ≡ true) (labels_eq l x.labels) (x ∷ of l xs) (of l xs) (λ _. holds_right s ((x.t, x.word) ∷ []) (pairs (of l xs)) h) (λ _. h)
 
 -- each sample of a batch stands in its series' part
-pub holds_each : (xs : List Placed) → AllOf (λ (y : Placed). holds (y.t, y.word) (pairs (of y.labels xs)) ≡ true) xs
+pub holds_each : (xs : List Placed) → AllByRecursion (λ (y : Placed). holds (y.t, y.word) (pairs (of y.labels xs)) ≡ true) xs
 holds_each [] = tt
 holds_each (x ∷ xs) = (
   subst (λ ys. holds (x.t, x.word) (pairs ys) ≡ true) (sym (cond-true (labels_eq x.labels x.labels) (x ∷ of x.labels xs) (of x.labels xs) (is_same x.labels x.labels refl))) (holds_own (x.t, x.word) (pairs (of x.labels xs))),
-  all_more (λ (y : Placed). holds (y.t, y.word) (pairs (of y.labels xs)) ≡ true) (λ (y : Placed). holds (y.t, y.word) (pairs (of y.labels (x ∷ xs))) ≡ true) (λ y h. holds_more (y.t, y.word) y.labels x xs h) xs (holds_each xs),
+  AllByRecursion-weaker (λ (y : Placed). holds (y.t, y.word) (pairs (of y.labels xs)) ≡ true) (λ (y : Placed). holds (y.t, y.word) (pairs (of y.labels (x ∷ xs))) ≡ true) (λ y h. holds_more (y.t, y.word) y.labels x xs h) xs (holds_each xs),
 )
 
 -- the open batch of shard j is resolved, and the ledger names it or not
-module _ (c : Setup) (w : World) (at : Inv c w) (j : ℕ) (s : Shard) (at_j : slice_get w.shards j ≡ Some s) (full : is_empty s.core.batch ≡ false) (names : FinMap nat_cmp Reason) (same : (p : ℕ) → AllOf (λ (x : Placed). x.place.pos ≡ p → ⊥) s.core.batch → get names p ≡ get w.names p) (owes : (l : Labels) → map pair_of (owed_by (get names) (as_points (of l s.core.batch))) ≡ pairs (of l (at.got j))) (has : is_let_in c s.core.batch ≡ true → at.got j ≡ s.core.batch) where
+module _ (c : Setup) (w : World) (at : Inv c w) (j : ℕ) (s : Shard) (at_j : slice_get w.shards j ≡ Some s) (full : is_empty s.core.batch ≡ false) (names : FinMap nat_cmp Reason) (same : (p : ℕ) → AllByRecursion (λ (x : Placed). x.place.pos ≡ p → ⊥) s.core.batch → get names p ≡ get w.names p) (owes : (l : Labels) → map pair_of (owed_by (get names) (as_points (of l s.core.batch))) ≡ pairs (of l (at.got j))) (has : is_let_in c s.core.batch ≡ true → at.got j ≡ s.core.batch) where
   abbrev Old : ℕ → ℕ → Placed → Type 0
   Old = SampleOk c w.epoch w.placed at.width w.series (get w.names) at.ident
 
@@ -119,11 +120,11 @@ module _ (c : Setup) (w : World) (at : Inv c w) (j : ℕ) (s : Shard) (at_j : sl
   batch_ok : Numbered (Old j) (length s.core.resolved) s.core.batch
   batch_ok = batch_numbered (Old j) s ok.numbered
 
-  each_of_batch : (Q : Placed → Type 0) → ((k : ℕ) (x : Placed) → length s.core.resolved ≤ k → k < length s.core.resolved + length s.core.batch → Old j k x → Q x) → AllOf Q s.core.batch
+  each_of_batch : (Q : Placed → Type 0) → ((k : ℕ) (x : Placed) → length s.core.resolved ≤ k → k < length s.core.resolved + length s.core.batch → Old j k x → Q x) → AllByRecursion Q s.core.batch
   each_of_batch Q more = numbered_all (Old j) Q (length s.core.resolved) (length s.core.resolved + length s.core.batch) s.core.batch refl more batch_ok
 
   -- another pending sample stands at another position
-  apart : (i k : ℕ) (y : Placed) → Old i k y → (i ≡ j → length s.core.resolved + length s.core.batch ≤ k) → AllOf (λ (x : Placed). x.place.pos ≡ y.place.pos → ⊥) s.core.batch
+  apart : (i k : ℕ) (y : Placed) → Old i k y → (i ≡ j → length s.core.resolved + length s.core.batch ≤ k) → AllByRecursion (λ (x : Placed). x.place.pos ≡ y.place.pos → ⊥) s.core.batch
   apart i k y y_ok le = each_of_batch (λ (x : Placed). x.place.pos ≡ y.place.pos → ⊥) (λ n x _ lt x_ok e.
       let ids : id_at w.epoch j n ≡ id_at w.epoch i k = sym x_ok.ident_is ∙ ap at.ident e ∙ y_ok.ident_is in
       let i_is : i ≡ j = sym (ap (λ (d : BatchId). d.shard) ids) in
@@ -195,7 +196,7 @@ module _ (c : Setup) (w : World) (at : Inv c w) (j : ℕ) (s : Shard) (at_j : sl
 
   -- the ledger says of older points what it said
   same_owed : (l : Labels) → IsKept c l → owed_by (get names) (at.done l) ≡ owed_by (get w.names) (at.done l)
-  same_owed l k = owed_same (get names) (get w.names) (at.done l) (all_more (DoneOk w.epoch w.shards w.placed at.ident) (λ (q : Point). get names q.0 ≡ get w.names q.0) (λ q q_ok. same q.0 (each_of_batch (λ (x : Placed). x.place.pos ≡ q.0 → ⊥) (λ n x le _ x_ok e. never_past n le (subst (Past w.epoch w.shards) (ap at.ident (sym e) ∙ x_ok.ident_is) q_ok.0)))) (at.done l) (at.done_ok l k))
+  same_owed l k = owed_same (get names) (get w.names) (at.done l) (AllByRecursion-weaker (DoneOk w.epoch w.shards w.placed at.ident) (λ (q : Point). get names q.0 ≡ get w.names q.0) (λ q q_ok. same q.0 (each_of_batch (λ (x : Placed). x.place.pos ≡ q.0 → ⊥) (λ n x le _ x_ok e. never_past n le (subst (Past w.epoch w.shards) (ap at.ident (sym e) ∙ x_ok.ident_is) q_ok.0)))) (at.done l) (at.done_ok l k))
 
   resolved_stored : (l : Labels) → IsKept c l → (home at.width w.series l ≡ j) ⊎ (home at.width w.series l ≡ j → ⊥) → list_of w.head.store l ≡ map pair_of (owed_by (get names) (done l)) ++ pairs (of l (got (home at.width w.series l)))
   resolved_stored l k (inl h) =
@@ -203,17 +204,17 @@ module _ (c : Setup) (w : World) (at : Inv c w) (j : ℕ) (s : Shard) (at_j : sl
       at.stored l k ∙ ap (λ (n : ℕ). map pair_of (owed_by (get w.names) (at.done l)) ++ pairs (of l (at.got n))) h ∙ sym new ∙ ap (λ ps. map pair_of (owed_by (get names) ps)) (sym (home_yes l h)) ∙ sym (append-nil (map pair_of (owed_by (get names) (done l)))) ∙ ap (λ ps. map pair_of (owed_by (get names) (done l)) ++ pairs (of l ps)) (sym (got_yes (home at.width w.series l) h))
   resolved_stored l k (inr h) = at.stored l k ∙ (λ i. map pair_of (sym (same_owed l k) i) ++ pairs (of l (sym (got_other (home at.width w.series l) h) i))) ∙ ap (λ ps. map pair_of (owed_by (get names) ps) ++ pairs (of l (got (home at.width w.series l)))) (sym (home_other l h))
 
-  resolved_done : (l : Labels) → IsKept c l → AllOf (DoneOk w.epoch shards w.placed at.ident) (done l)
+  resolved_done : (l : Labels) → IsKept c l → AllByRecursion (DoneOk w.epoch shards w.placed at.ident) (done l)
   resolved_done l k =
-      let old : AllOf (DoneOk w.epoch shards w.placed at.ident) (at.done l) = all_more (DoneOk w.epoch w.shards w.placed at.ident) (DoneOk w.epoch shards w.placed at.ident) (λ q q_ok. (past (at.ident q.0) q_ok.0, q_ok.1)) (at.done l) (at.done_ok l k) in
+      let old : AllByRecursion (DoneOk w.epoch shards w.placed at.ident) (at.done l) = AllByRecursion-weaker (DoneOk w.epoch w.shards w.placed at.ident) (DoneOk w.epoch shards w.placed at.ident) (λ q q_ok. (past (at.ident q.0) q_ok.0, q_ok.1)) (at.done l) (at.done_ok l k) in
       let mark : Placed → Point = λ x. (x.place.pos, x.t, x.word) in
-      let new : AllOf (DoneOk w.epoch shards w.placed at.ident) (as_points (of l s.core.batch)) = all_map (DoneOk w.epoch shards w.placed at.ident) mark (of l s.core.batch) (all_filter (λ (x : Placed). DoneOk w.epoch shards w.placed at.ident (mark x)) (λ (x : Placed). labels_eq l x.labels) s.core.batch (each_of_batch (λ (x : Placed). DoneOk w.epoch shards w.placed at.ident (mark x)) (λ n x _ lt x_ok. (past_batch (at.ident x.place.pos) n x_ok.ident_is lt, x_ok.below)))) in
-      either (AllOf (DoneOk w.epoch shards w.placed at.ident)) (home at.width w.series l == j) _ (at.done l) (λ _. all_append (DoneOk w.epoch shards w.placed at.ident) (at.done l) (as_points (of l s.core.batch)) old new) (λ _. old)
+      let new : AllByRecursion (DoneOk w.epoch shards w.placed at.ident) (as_points (of l s.core.batch)) = all_map (DoneOk w.epoch shards w.placed at.ident) mark (of l s.core.batch) (all_filter (λ (x : Placed). DoneOk w.epoch shards w.placed at.ident (mark x)) (λ (x : Placed). labels_eq l x.labels) s.core.batch (each_of_batch (λ (x : Placed). DoneOk w.epoch shards w.placed at.ident (mark x)) (λ n x _ lt x_ok. (past_batch (at.ident x.place.pos) n x_ok.ident_is lt, x_ok.below)))) in
+      either (AllByRecursion (DoneOk w.epoch shards w.placed at.ident)) (home at.width w.series l == j) _ (at.done l) (λ _. all_append (DoneOk w.epoch shards w.placed at.ident) (at.done l) (as_points (of l s.core.batch)) old new) (λ _. old)
 
-  all_stored : at.got j ≡ s.core.batch → AllOf (InStore (list_of w.head.store)) s.core.batch
+  all_stored : at.got j ≡ s.core.batch → AllByRecursion (InStore (list_of w.head.store)) s.core.batch
   all_stored e = both s.core.batch (holds_each s.core.batch) (each_of_batch (λ (x : Placed). IsKept c x.labels × (home at.width w.series x.labels ≡ j)) (λ n x _ _ x_ok. (x_ok.kept, x_ok.home_is)))
     where
-      both : (xs : List Placed) → AllOf (λ (y : Placed). holds (y.t, y.word) (pairs (of y.labels s.core.batch)) ≡ true) xs → AllOf (λ (x : Placed). IsKept c x.labels × (home at.width w.series x.labels ≡ j)) xs → AllOf (InStore (list_of w.head.store)) xs
+      both : (xs : List Placed) → AllByRecursion (λ (y : Placed). holds (y.t, y.word) (pairs (of y.labels s.core.batch)) ≡ true) xs → AllByRecursion (λ (x : Placed). IsKept c x.labels × (home at.width w.series x.labels ≡ j)) xs → AllByRecursion (InStore (list_of w.head.store)) xs
       both [] hs ks = tt
       both (x ∷ xs) hs ks =
           let store_is : list_of w.head.store x.labels ≡ map pair_of (owed_by (get w.names) (at.done x.labels)) ++ pairs (of x.labels s.core.batch) = at.stored x.labels ks.0.0 ∙ ap (λ (n : ℕ). map pair_of (owed_by (get w.names) (at.done x.labels)) ++ pairs (of x.labels (at.got n))) ks.0.1 ∙ ap (λ b. map pair_of (owed_by (get w.names) (at.done x.labels)) ++ pairs (of x.labels b)) e in
@@ -226,13 +227,13 @@ module _ (c : Setup) (w : World) (at : Inv c w) (j : ℕ) (s : Shard) (at_j : sl
   longer = let lt : 0 < length s.core.batch = length_not_empty s.core.batch full in omega arith
 
   abbrev Fate : List Shard → Request → Type 0
-  Fate ss r = (Past w.epoch ss r.id × (is_let_in c r.batch ≡ true → AllOf (InStore (list_of w.head.store)) r.batch)) ⊎ ((r.id.epoch ≡ w.epoch) × IsOpen (slice_get ss r.id.shard) r.batch)
+  Fate ss r = (Past w.epoch ss r.id × (is_let_in c r.batch ≡ true → AllByRecursion (InStore (list_of w.head.store)) r.batch)) ⊎ ((r.id.epoch ≡ w.epoch) × IsOpen (slice_get ss r.id.shard) r.batch)
 
   resolved_fate : (r : Request) → r.id ≡ batch_id r.batch → Fate w.shards r → (r.id.shard ≡ j) ⊎ (r.id.shard ≡ j → ⊥) → Fate shards r
   resolved_fate r id_is (inl h) _ = inl (past r.id h.0, h.1)
   resolved_fate r id_is (inr h) (inl e) =
       let open_here : IsOpen (Some s) r.batch = subst (λ (o : Option Shard). IsOpen o r.batch) (ap (slice_get w.shards) e ∙ at_j) h.1 in
-      inl (past_batch r.id (length s.core.resolved) (id_is ∙ ap batch_id (sym open_here.0) ∙ id_here) longer, λ fits. subst (AllOf (InStore (list_of w.head.store))) open_here.0 (all_stored (has (ap (is_let_in c) open_here.0 ∙ fits))))
+      inl (past_batch r.id (length s.core.resolved) (id_is ∙ ap batch_id (sym open_here.0) ∙ id_here) longer, λ fits. subst (AllByRecursion (InStore (list_of w.head.store))) open_here.0 (all_stored (has (ap (is_let_in c) open_here.0 ∙ fits))))
   resolved_fate r id_is (inr h) (inr e) = inr (h.0, subst (λ (o : Option Shard). IsOpen o r.batch) (sym (get_others j r.id.shard shard_resolve w.shards (λ z. e (sym z)))) h.1)
 
   resolved_answer : (a : Reply) → AnswerOk c w.epoch w.shards at.got a → (a.id.shard ≡ j) ⊎ (a.id.shard ≡ j → ⊥) → AnswerOk c w.epoch shards got a
@@ -258,8 +259,8 @@ module _ (c : Setup) (w : World) (at : Inv c w) (j : ℕ) (s : Shard) (at_j : sl
     stored = λ l k. resolved_stored l k (cases_eq (home at.width w.series l) j);
     done_ok = resolved_done;
     fresh = λ p le. same p (each_of_batch (λ (x : Placed). x.place.pos ≡ p → ⊥) (λ n x _ _ x_ok e. let lt : x.place.pos < w.placed = x_ok.below in omega arith)) ∙ at.fresh p le;
-    requests_ok = all_more (RequestOk c w.epoch w.shards (list_of w.head.store)) (RequestOk c w.epoch shards (list_of w.head.store)) (λ r r_ok. record { id_is = r_ok.id_is; kept = r_ok.kept; fate = resolved_fate r r_ok.id_is r_ok.fate (cases_eq r.id.shard j) }) w.requests at.requests_ok;
-    answers_ok = all_more (AnswerOk c w.epoch w.shards at.got) (AnswerOk c w.epoch shards got) (λ a a_ok. resolved_answer a a_ok (cases_eq a.id.shard j)) w.replies at.answers_ok;
+    requests_ok = AllByRecursion-weaker (RequestOk c w.epoch w.shards (list_of w.head.store)) (RequestOk c w.epoch shards (list_of w.head.store)) (λ r r_ok. record { id_is = r_ok.id_is; kept = r_ok.kept; fate = resolved_fate r r_ok.id_is r_ok.fate (cases_eq r.id.shard j) }) w.requests at.requests_ok;
+    answers_ok = AllByRecursion-weaker (AnswerOk c w.epoch w.shards at.got) (AnswerOk c w.epoch shards got) (λ a a_ok. resolved_answer a a_ok (cases_eq a.id.shard j)) w.replies at.answers_ok;
   }
 
 pub same_id_is : (a b : BatchId) → same_id a b ≡ true → a ≡ b
@@ -295,10 +296,10 @@ reply_keeps c w (Some a) answers at = by_shard (slice_get w.shards a.id.shard) r
             id_is : a.id ≡ id_at w.epoch a.id.shard (length s.core.resolved)
             id_is = same ∙ open_id c w.epoch w.placed at.width w.series (get w.names) at.ident a.id.shard s ok full
 
-            each_of_batch : (Q : Placed → Type 0) → ((k : ℕ) (x : Placed) → SampleOk c w.epoch w.placed at.width w.series (get w.names) at.ident a.id.shard k x → Q x) → AllOf Q s.core.batch
+            each_of_batch : (Q : Placed → Type 0) → ((k : ℕ) (x : Placed) → SampleOk c w.epoch w.placed at.width w.series (get w.names) at.ident a.id.shard k x → Q x) → AllByRecursion Q s.core.batch
             each_of_batch Q more = numbered_all (SampleOk c w.epoch w.placed at.width w.series (get w.names) at.ident a.id.shard) Q (length s.core.resolved) (length s.core.resolved + length s.core.batch) s.core.batch refl (λ k x _ _ x_ok. more k x x_ok) (batch_numbered (SampleOk c w.epoch w.placed at.width w.series (get w.names) at.ident a.id.shard) s ok.numbered)
 
-            of_batch : (Q : Point → Type 0) (l : Labels) → AllOf (λ (x : Placed). Q (x.place.pos, x.t, x.word)) s.core.batch → AllOf Q (as_points (of l s.core.batch))
+            of_batch : (Q : Point → Type 0) (l : Labels) → AllByRecursion (λ (x : Placed). Q (x.place.pos, x.t, x.word)) s.core.batch → AllByRecursion Q (as_points (of l s.core.batch))
             of_batch Q l all = all_map Q (λ (x : Placed). (x.place.pos, x.t, x.word)) (of l s.core.batch) (all_filter (λ (x : Placed). Q (x.place.pos, x.t, x.word)) (λ (x : Placed). labels_eq l x.labels) s.core.batch all)
 
             names : FinMap nat_cmp Reason
@@ -320,7 +321,7 @@ reply_keeps c w (Some a) answers at = by_shard (slice_get w.shards a.id.shard) r
             by_judgement Refused d open_here =
                 let unfit : is_let_in c s.core.batch ≡ false = open_here.3 d in
                 resolve_keeps c w at a.id.shard s e full names (λ p apart. ap (λ ledger. ledger p) named ∙ name_all_other a.status s.core.batch (get w.names) p apart)
-                (λ l. ap (map pair_of) (owed_none (get names) (as_points (of l s.core.batch)) (of_batch (λ (q : Point). is_none (get names q.0) ≡ false) l (subst (λ (ledger : Ledger). AllOf (λ (x : Placed). is_none (ledger x.place.pos) ≡ false) s.core.batch) (sym named) (names_own a.status s.core.batch (get w.names))))) ∙ sym (ap (λ b. pairs (of l b)) (nothing_got unfit (subst (λ (o : Option Shard). GotOk c o (at.got a.id.shard)) e (at.got_ok a.id.shard)))))
+                (λ l. ap (map pair_of) (owed_none (get names) (as_points (of l s.core.batch)) (of_batch (λ (q : Point). is_none (get names q.0) ≡ false) l (subst (λ (ledger : Ledger). AllByRecursion (λ (x : Placed). is_none (ledger x.place.pos) ≡ false) s.core.batch) (sym named) (names_own a.status s.core.batch (get w.names))))) ∙ sym (ap (λ b. pairs (of l b)) (nothing_got unfit (subst (λ (o : Option Shard). GotOk c o (at.got a.id.shard)) e (at.got_ok a.id.shard)))))
                 (λ fits. absurd (true≢false (sym fits ∙ unfit)))
             by_judgement Again d open_here = quiet c w a.id.shard shard_again quiet_again at
 
@@ -392,10 +393,10 @@ restart_keeps c w (Some n) at = either (Inv c) (not (is_finished w) && all_drain
       got_ok = λ i. fresh_got i (slice_get (new_shards c (suc w.epoch) 0 n) i) refl;
       mine = λ l k. at.mine l k ∙ ap (λ ps. at.done l ++ as_points (of l ps)) (drained c w at all (home at.width w.series l) (slice_get w.shards (home at.width w.series l)) refl ∙ sym (fresh_wait (home n w.series l) (slice_get (new_shards c (suc w.epoch) 0 n) (home n w.series l)) refl));
       stored = λ l k. at.stored l k ∙ ap (λ b. map pair_of (owed_by (get w.names) (at.done l)) ++ pairs (of l b)) (drained_got c w at all (home at.width w.series l));
-      done_ok = λ l k. all_more (DoneOk w.epoch w.shards w.placed at.ident) (DoneOk (suc w.epoch) (new_shards c (suc w.epoch) 0 n) w.placed at.ident) (λ q q_ok. (older (at.ident q.0) q_ok.0, q_ok.1)) (at.done l) (at.done_ok l k);
+      done_ok = λ l k. AllByRecursion-weaker (DoneOk w.epoch w.shards w.placed at.ident) (DoneOk (suc w.epoch) (new_shards c (suc w.epoch) 0 n) w.placed at.ident) (λ q q_ok. (older (at.ident q.0) q_ok.0, q_ok.1)) (at.done l) (at.done_ok l k);
       fresh = at.fresh;
-      requests_ok = all_more (RequestOk c w.epoch w.shards (list_of w.head.store)) (RequestOk c (suc w.epoch) (new_shards c (suc w.epoch) 0 n) (list_of w.head.store)) (λ r r_ok. record { id_is = r_ok.id_is; kept = r_ok.kept; fate = fate r r_ok.fate }) w.requests at.requests_ok;
-      answers_ok = all_more (AnswerOk c w.epoch w.shards at.got) (AnswerOk c (suc w.epoch) (new_shards c (suc w.epoch) 0 n) (λ _. [])) answer w.replies at.answers_ok;
+      requests_ok = AllByRecursion-weaker (RequestOk c w.epoch w.shards (list_of w.head.store)) (RequestOk c (suc w.epoch) (new_shards c (suc w.epoch) 0 n) (list_of w.head.store)) (λ r r_ok. record { id_is = r_ok.id_is; kept = r_ok.kept; fate = fate r r_ok.fate }) w.requests at.requests_ok;
+      answers_ok = AllByRecursion-weaker (AnswerOk c w.epoch w.shards at.got) (AnswerOk c (suc w.epoch) (new_shards c (suc w.epoch) 0 n) (λ _. [])) answer w.replies at.answers_ok;
     }
       where
         older : (id : BatchId) → Past w.epoch w.shards id → Past (suc w.epoch) (new_shards c (suc w.epoch) 0 n) id
@@ -405,11 +406,11 @@ restart_keeps c w (Some n) at = either (Inv c) (not (is_finished w) && all_drain
         now_older : (id : BatchId) → id.epoch ≡ w.epoch → Past (suc w.epoch) (new_shards c (suc w.epoch) 0 n) id
         now_older id e = inl (omega arith)
 
-        fate : (r : Request) → ((Past w.epoch w.shards r.id × (is_let_in c r.batch ≡ true → AllOf (InStore (list_of w.head.store)) r.batch)) ⊎ ((r.id.epoch ≡ w.epoch) × IsOpen (slice_get w.shards r.id.shard) r.batch)) → ((Past (suc w.epoch) (new_shards c (suc w.epoch) 0 n) r.id × (is_let_in c r.batch ≡ true → AllOf (InStore (list_of w.head.store)) r.batch)) ⊎ ((r.id.epoch ≡ suc w.epoch) × IsOpen (slice_get (new_shards c (suc w.epoch) 0 n) r.id.shard) r.batch))
+        fate : (r : Request) → ((Past w.epoch w.shards r.id × (is_let_in c r.batch ≡ true → AllByRecursion (InStore (list_of w.head.store)) r.batch)) ⊎ ((r.id.epoch ≡ w.epoch) × IsOpen (slice_get w.shards r.id.shard) r.batch)) → ((Past (suc w.epoch) (new_shards c (suc w.epoch) 0 n) r.id × (is_let_in c r.batch ≡ true → AllByRecursion (InStore (list_of w.head.store)) r.batch)) ⊎ ((r.id.epoch ≡ suc w.epoch) × IsOpen (slice_get (new_shards c (suc w.epoch) 0 n) r.id.shard) r.batch))
         fate r (inl h) = inl (older r.id h.0, h.1)
         fate r (inr h) = by_shard (slice_get w.shards r.id.shard) refl h.1
           where
-            by_shard : (o : Option Shard) → slice_get w.shards r.id.shard ≡ o → IsOpen o r.batch → ((Past (suc w.epoch) (new_shards c (suc w.epoch) 0 n) r.id × (is_let_in c r.batch ≡ true → AllOf (InStore (list_of w.head.store)) r.batch)) ⊎ ((r.id.epoch ≡ suc w.epoch) × IsOpen (slice_get (new_shards c (suc w.epoch) 0 n) r.id.shard) r.batch))
+            by_shard : (o : Option Shard) → slice_get w.shards r.id.shard ≡ o → IsOpen o r.batch → ((Past (suc w.epoch) (new_shards c (suc w.epoch) 0 n) r.id × (is_let_in c r.batch ≡ true → AllByRecursion (InStore (list_of w.head.store)) r.batch)) ⊎ ((r.id.epoch ≡ suc w.epoch) × IsOpen (slice_get (new_shards c (suc w.epoch) 0 n) r.id.shard) r.batch))
             by_shard None e g = absurd g
             by_shard (Some s) e g = absurd (true≢false (sym (ap is_empty (sym g.0 ∙ nil_left s.core.batch (s.core.builder ++ samples_in s.queue) (sym (pending_parts s) ∙ drained c w at all r.id.shard (Some s) e))) ∙ g.1))
 

@@ -1,8 +1,9 @@
 -- Each round of `settle` leaves less work.
 use Rattle.std.proofs.Common.{◌≡◌, ℕ, suc, ◌+◌, ◌-◌, ◌*◌, ◌<◌, ◌≤◌, Bool, true, false, cond, List, [], ◌∷◌, ◌++◌, length, map, take, Option, Some, None, Result, Ok, Err, is_some, slice_get, refl, sym, ap, ◌∙◌, subst, ℤ, ◌||◌, ◌&&◌, not, nat_lt, length-append, arith, inl, inr, ◌⊎◌}
-use Rattle.std.specs.List.{list_any}
+use Rattle.std.specs.List.{AllByRecursion, list_any}
 use Rattle.std.proofs.lemmas.Bool.{ltb-true, true≢false, not-true, cond-false, cond-true, and_parts}
-use Rattle.rw_machine.proofs.Steps.{either, AllOf, all_left, and_both}
+use Rattle.rw_types.proofs.RisingLemmas.{AllByRecursion-left}
+use Rattle.rw_machine.proofs.Steps.{either, and_both}
 use Rattle.rw_machine.proofs.Places.{get_below}
 use Rattle.rw_machine.proofs.Live.{HasId, Going, same_id_own}
 use Rattle.rw_machine.proofs.Measure.{builder_work, batch_work, end_work, shard_work, shards_work, drain_work, work, work_change}
@@ -309,12 +310,12 @@ exchange_round c w i s e over g full waits =
     a : Reply
     a = record { id = r.id; status = verdict.status }
 
-    shard_is : (b : List Placed) → is_empty b ≡ false → AllOf (λ (x : Placed). x.place.shard ≡ i) b → (batch_id b).shard ≡ i
+    shard_is : (b : List Placed) → is_empty b ≡ false → AllByRecursion (λ (x : Placed). x.place.shard ≡ i) b → (batch_id b).shard ≡ i
     shard_is [] h all = absurd (true≢false h)
     shard_is (x ∷ b) h all = all.0
 
     at_i : r.id.shard ≡ i
-    at_i = ap (λ (d : BatchId). d.shard) id_is ∙ shard_is s.core.batch full (all_left (λ (x : Placed). x.place.shard ≡ i) s.core.batch s.core.builder (all_left (λ (x : Placed). x.place.shard ≡ i) (s.core.batch ++ s.core.builder) (samples_in s.queue) g.mine))
+    at_i = ap (λ (d : BatchId). d.shard) id_is ∙ shard_is s.core.batch full (AllByRecursion-left (λ (x : Placed). x.place.shard ≡ i) s.core.batch s.core.builder (AllByRecursion-left (λ (x : Placed). x.place.shard ≡ i) (s.core.batch ++ s.core.builder) (samples_in s.queue) g.mine))
 
     here : slice_get w.shards r.id.shard ≡ Some s
     here = ap (slice_get w.shards) at_i ∙ e

@@ -1,7 +1,8 @@
 -- Over a whole schedule: the head holds a beginning, and all once complete.
 use Rattle.std.proofs.Common.{◌≡◌, ℕ, ◌+◌, Bool, true, false, cond, List, [], ◌∷◌, ◌++◌, length, map, filter, take, drop, Option, Some, None, is_some, slice_get, refl, sym, ap, ◌∙◌, subst, ℤ, ◌&&◌, not, nat_le, append-nil, append_assoc, arith, inl, inr, ◌⊎◌, is_none, take-append-drop}
 use Rattle.std.proofs.lemmas.List.{map-append}
-use Rattle.rw_machine.proofs.Steps.{always, unless, either, each_new, AllOf, all_get, all_map, all_filter}
+use Rattle.std.specs.List.{AllByRecursion}
+use Rattle.rw_machine.proofs.Steps.{always, unless, either, each_new, all_get, all_map, all_filter}
 use Rattle.rw_machine.proofs.Risen.{risen}
 use Rattle.rw_machine.proofs.Classes.{classes}
 use Rattle.rw_machine.proofs.Owed.{no_logged, owed_points}
@@ -125,7 +126,7 @@ beginning c w at one l k = (tail.0 ++ u, sym whole)
     by_shard (Some s) e (inr g) =
         let more : List Placed = s.core.builder ++ samples_in s.queue in
         let ok = at.shards_ok (home at.width w.series l) s e in
-        let unnamed : AllOf (λ (q : Point). (get w.names) q.0 ≡ None) (as_points (of l s.core.batch)) = all_map (λ (q : Point). (get w.names) q.0 ≡ None) (λ (x : Placed). (x.place.pos, x.t, x.word)) (of l s.core.batch) (all_filter (λ (x : Placed). (get w.names) x.place.pos ≡ None) (λ (x : Placed). labels_eq l x.labels) s.core.batch (numbered_all (SampleOk c w.epoch w.placed at.width w.series (get w.names) at.ident (home at.width w.series l)) (λ (x : Placed). (get w.names) x.place.pos ≡ None) (length s.core.resolved) (length s.core.resolved + length s.core.batch) s.core.batch refl (λ n x _ _ x_ok. x_ok.unnamed) (batch_numbered (SampleOk c w.epoch w.placed at.width w.series (get w.names) at.ident (home at.width w.series l)) s ok.numbered))) in
+        let unnamed : AllByRecursion (λ (q : Point). (get w.names) q.0 ≡ None) (as_points (of l s.core.batch)) = all_map (λ (q : Point). (get w.names) q.0 ≡ None) (λ (x : Placed). (x.place.pos, x.t, x.word)) (of l s.core.batch) (all_filter (λ (x : Placed). (get w.names) x.place.pos ≡ None) (λ (x : Placed). labels_eq l x.labels) s.core.batch (numbered_all (SampleOk c w.epoch w.placed at.width w.series (get w.names) at.ident (home at.width w.series l)) (λ (x : Placed). (get w.names) x.place.pos ≡ None) (length s.core.resolved) (length s.core.resolved + length s.core.batch) s.core.batch refl (λ n x _ _ x_ok. x_ok.unnamed) (batch_numbered (SampleOk c w.epoch w.placed at.width w.series (get w.names) at.ident (home at.width w.series l)) s ok.numbered))) in
         let split : map pair_of (owed_by (get w.names) (as_points (of l (pending s)))) ≡ pairs (of l s.core.batch) ++ map pair_of (owed_by (get w.names) (as_points (of l more))) =
         ap (λ ps. map pair_of (owed_by (get w.names) (as_points (of l ps)))) (pending_parts s) ∙ ap (λ ps. map pair_of (owed_by (get w.names) (as_points ps))) (of_append l s.core.batch more) ∙ ap (λ ps. map pair_of (owed_by (get w.names) ps)) (map-append _ (of l s.core.batch) (of l more)) ∙ ap (map pair_of) (owed_append (get w.names) (as_points (of l s.core.batch)) (as_points (of l more))) ∙ map-append pair_of (owed_by (get w.names) (as_points (of l s.core.batch))) (owed_by (get w.names) (as_points (of l more))) ∙ ap (λ ps. map pair_of ps ++ map pair_of (owed_by (get w.names) (as_points (of l more)))) (owed_all (get w.names) (as_points (of l s.core.batch)) unnamed) ∙ ap (λ ps. ps ++ map pair_of (owed_by (get w.names) (as_points (of l more)))) (pairs_of_points (of l s.core.batch)) in
         (map pair_of (owed_by (get w.names) (as_points (of l more))), ap (λ b. pairs (of l b) ++ map pair_of (owed_by (get w.names) (as_points (of l more)))) g.0 ∙ sym split)

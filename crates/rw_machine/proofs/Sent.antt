@@ -3,7 +3,9 @@ use Rattle.std.proofs.Common.{◌≡◌, ℕ, true, false, List, [], ◌∷◌, 
 use Rattle.rw_head.specs.Store.{list_of}
 use Rattle.rw_retry.specs.Judgements.{judgement_of}
 use Rattle.rw_retry.specs.declared.judgement.Judgement.TheVariants.{Again, Done, Refused}
-use Rattle.rw_machine.proofs.Steps.{either, AllOf, all_append, all_more, all_get}
+use Rattle.std.specs.List.{AllByRecursion}
+use Rattle.rw_types.proofs.RisingLemmas.{AllByRecursion-weaker}
+use Rattle.rw_machine.proofs.Steps.{either, all_append, all_get}
 use Rattle.rw_machine.proofs.Frames.{place_frame, reply_frame, restart_frame}
 use Rattle.rw_machine.proofs.Ids.{get_kept, one_batch}
 use Rattle.rw_machine.proofs.Invariant.{Inv, RequestOk}
@@ -30,17 +32,17 @@ record Says (c : Setup) (requests : List Request) (a : Reply) : Type 0 where
   refused_out : judgement_of a.status ≡ Refused → is_let_in c request.batch ≡ false
 
 abbrev EachSays : Setup → World → Type 0
-EachSays c w = AllOf (Says c w.requests) w.replies
+EachSays c w = AllByRecursion (Says c w.requests) w.replies
 
 says_send : (c : Setup) (w : World) (i : ℕ) (o : Option Shard) → EachSays c w → EachSays c (send_batch w i o)
 says_send c w i None q = q
-says_send c w i (Some s) q = either (EachSays c) (can_send s.core) _ w (λ _. all_more (Says c w.requests) (Says c (w.requests ++ _ ∷ [])) (λ a h. record { at = h.at; request = h.request; stands = get_kept w.requests _ h.at h.request h.stands; id_is = h.id_is; done_in = h.done_in; refused_out = h.refused_out }) w.replies q) (λ _. q)
+says_send c w i (Some s) q = either (EachSays c) (can_send s.core) _ w (λ _. AllByRecursion-weaker (Says c w.requests) (Says c (w.requests ++ _ ∷ [])) (λ a h. record { at = h.at; request = h.request; stands = get_kept w.requests _ h.at h.request h.stands; id_is = h.id_is; done_in = h.done_in; refused_out = h.refused_out }) w.replies q) (λ _. q)
 
 says_arrive : (c : Setup) (w : World) (how : How) (k : ℕ) (o : Option Request) → slice_get w.requests k ≡ o → Inv c w → EachSays c w → EachSays c (arrive c w how o)
 says_arrive c w how k None e at q = q
 says_arrive c w how k (Some r) e at q = by_how how
   where
-    told : (status : ℕ) → (judgement_of status ≡ Done → is_let_in c r.batch ≡ true) × (judgement_of status ≡ Refused → is_let_in c r.batch ≡ false) → AllOf (Says c w.requests) (w.replies ++ record { id = r.id; status = status } ∷ [])
+    told : (status : ℕ) → (judgement_of status ≡ Done → is_let_in c r.batch ≡ true) × (judgement_of status ≡ Refused → is_let_in c r.batch ≡ false) → AllByRecursion (Says c w.requests) (w.replies ++ record { id = r.id; status = status } ∷ [])
     told status tells = all_append (Says c w.requests) w.replies (record { id = r.id; status = status } ∷ []) q (record { at = k; request = r; stands = e; id_is = refl; done_in = tells.0; refused_out = tells.1 }, tt)
 
     again : (status : ℕ) → judgement_of status ≡ Again → (judgement_of status ≡ Done → is_let_in c r.batch ≡ true) × (judgement_of status ≡ Refused → is_let_in c r.batch ≡ false)

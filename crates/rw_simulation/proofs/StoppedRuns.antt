@@ -1,6 +1,6 @@
 -- A shipper that was stopped in order, and left nothing, is a run of the machine.
 use Rattle.std.proofs.Common.{◌≡◌, ℕ, zero, suc, ◌+◌, ◌-◌, ◌<◌, ◌≤◌, ◌==◌, Bool, true, false, cond, List, [], ◌∷◌, ◌++◌, map, length, Option, None, Some, is_some, slice_get, refl, sym, ap, ◌∙◌, subst, append-nil, append_assoc, arith, ◌⊎◌, inl, inr}
-use Rattle.std.specs.List.{list_all}
+use Rattle.std.specs.List.{AllByRecursion, list_all}
 use Rattle.std.proofs.lemmas.List.{length-drop}
 use Rattle.std.proofs.lemmas.Bool.{eq-eqb, eqb-true, and_parts}
 use Rattle.std.proofs.lemmas.Option.{same_Some, none-some}
@@ -40,13 +40,13 @@ use Rattle.rw_shipper.specs.Shipping.{Shipping, HasStopped, Ends}
 use Rattle.rw_shipper.specs.declared.report.Report.{Report}
 use Rattle.rw_shipper.proofs.PlacementLemmas.{whole_is, whole_placed}
 use Rattle.rw_shipper.proofs.ShippingLemmas.{all_is, ends_last}
+use Rattle.rw_types.proofs.RisingLemmas.{AllByRecursion-left, AllByRecursion-right}
 use Rattle.rw_machine.specs.Shards.{Shard, is_drained, shard_end, shard_flush}
 use Rattle.rw_machine.specs.Worlds.{Setup, World, Complete, start, log, ended_as, report}
 use Rattle.rw_machine.specs.Steps.{happens, mark, unless_over}
 use Rattle.rw_machine.specs.declared.event.Event.TheVariants as event
 use Rattle.rw_machine.specs.Promises.{CanWork}
 use Rattle.rw_machine.proofs.Lists as lists
-use Rattle.rw_machine.proofs.Steps.{AllOf, all_left, all_right}
 use Rattle.rw_simulation.specs.Freely.{Happening, Of, run_freely}
 use Rattle.rw_simulation.specs.FreeLaws.{world_of}
 use Rattle.rw_simulation.specs.EpochRuns.{ShardFate, end_in, IsAllPut, Reaches}
@@ -219,7 +219,7 @@ module _ {T : Type 0} (tells : T → Type 0) (seen : T → List Exchange) (is_fo
     up : IsSetUp config j.worker.value
     resolved : is_resolved j ≡ true
 
-  sound-all : (js : List (StoppedShard T)) → AreWorked tells seen is_for js → AreSetUp config (map lane_of js) → AreResolved js → AllOf Sound js
+  sound-all : (js : List (StoppedShard T)) → AreWorked tells seen is_for js → AreSetUp config (map lane_of js) → AreResolved js → AllByRecursion Sound js
   sound-all [] h up r = tt
   sound-all (j ∷ js) h up r = (record { worked = h.0; up = up.0; resolved = r 0 j refl }, sound-all js h.1 up.1 (λ k i e. r (suc k) i e))
 
@@ -231,19 +231,19 @@ module _ {T : Type 0} (tells : T → Type 0) (seen : T → List Exchange) (is_fo
       (eqb-true (length j.abandoned.items) 0 (and_parts (is_compared j.finished.ends) (length j.abandoned.items == 0) h.resolved).1)))
 
   -- the steps that the workers report
-  abbrev steps_in : (js : List (StoppedShard T)) → AllOf Sound js → ℕ → List Step
+  abbrev steps_in : (js : List (StoppedShard T)) → AllByRecursion Sound js → ℕ → List Step
   steps_in [] h k = []
   steps_in (j ∷ js) h zero = h.0.worked.report.steps
   steps_in (j ∷ js) h (suc k) = steps_in js h.1 k
 
-  record Found (js : List (StoppedShard T)) (all : AllOf Sound js) (k : ℕ) (l : ShardHistory) : Type 0 where
+  record Found (js : List (StoppedShard T)) (all : AllByRecursion Sound js) (k : ℕ) (l : ShardHistory) : Type 0 where
     j : StoppedShard T
     at : slice_get js k ≡ Some j
     lane : lane_of j ≡ l
     sound : Sound j
     steps : sound.worked.report.steps ≡ steps_in js all k
 
-  find : (js : List (StoppedShard T)) (all : AllOf Sound js) (k : ℕ) (l : ShardHistory) → slice_get (map lane_of js) k ≡ Some l → Found js all k l
+  find : (js : List (StoppedShard T)) (all : AllByRecursion Sound js) (k : ℕ) (l : ShardHistory) → slice_get (map lane_of js) k ≡ Some l → Found js all k l
   find [] all k l e = absurd (none-some l e)
   find (j ∷ js) all zero l e = record { j = j; at = refl; lane = same_Some _ _ e; sound = all.0; steps = refl }
   find (j ∷ js) all (suc k) l e = let h = find js all.1 k l e in record { j = h.j; at = h.at; lane = h.lane; sound = h.sound; steps = h.steps }
@@ -258,7 +258,7 @@ module _ {T : Type 0} (tells : T → Type 0) (seen : T → List Exchange) (is_fo
     reported : report v ≡ Some (ended_as (fault pieces) (length all))
 
   -- ---- one epoch
-  module _ (epoch : ℕ) (kd : Kind) (js : List (StoppedShard T)) (sound : AllOf Sound js) (some_lanes : 1 ≤ length (map lane_of js)) (by : AreEndedBy kd (map put_into (map lane_of js))) (before es : List Entry) (dealt : IsDealt epoch (map lane_of js) (gather_from (sent_of c.choice) before es)) where
+  module _ (epoch : ℕ) (kd : Kind) (js : List (StoppedShard T)) (sound : AllByRecursion Sound js) (some_lanes : 1 ≤ length (map lane_of js)) (by : AreEndedBy kd (map put_into (map lane_of js))) (before es : List Entry) (dealt : IsDealt epoch (map lane_of js) (gather_from (sent_of c.choice) before es)) where
     abbrev n : ℕ
     n = length (map lane_of js)
 
@@ -349,7 +349,7 @@ module _ {T : Type 0} (tells : T → Type 0) (seen : T → List Exchange) (is_fo
         same = same_Some _ _ (sym g.at ∙ at)
 
   -- ---- the last epoch
-  module _ (epoch : ℕ) (js : List (StoppedShard T)) (sound : AllOf Sound js) (some_lanes : 1 ≤ length (map lane_of js)) (by : AreEndedBy kind.Orderly (map put_into (map lane_of js))) (before es : List Entry) (dealt : IsDealt epoch (map lane_of js) (gather_from (sent_of c.choice) before es)) (pieces : List Piece) (w : World) (b : Begins c pieces epoch (length (map lane_of js)) before w) (all : entries pieces ≡ before ++ es) where
+  module _ (epoch : ℕ) (js : List (StoppedShard T)) (sound : AllByRecursion Sound js) (some_lanes : 1 ≤ length (map lane_of js)) (by : AreEndedBy kind.Orderly (map put_into (map lane_of js))) (before es : List Entry) (dealt : IsDealt epoch (map lane_of js) (gather_from (sent_of c.choice) before es)) (pieces : List Piece) (w : World) (b : Begins c pieces epoch (length (map lane_of js)) before w) (all : entries pieces ≡ before ++ es) where
     abbrev m : ℕ
     m = length (map lane_of js)
 
@@ -427,7 +427,7 @@ module _ {T : Type 0} (tells : T → Type 0) (seen : T → List Exchange) (is_fo
     are : js ≡ earlier ++ last
     reach : Reaches c w (Final pieces all last)
 
-  epochs-run : (lanes : List ShardHistory) (later : List (List ShardHistory)) (epoch : ℕ) (js : List (StoppedShard T)) (before es : List Entry) (pieces : List Piece) (w : World) → AllOf Sound js → map lane_of js ≡ joined (lanes ∷ later) → Places epoch (lanes ∷ later) (gather_from (sent_of c.choice) before es)
+  epochs-run : (lanes : List ShardHistory) (later : List (List ShardHistory)) (epoch : ℕ) (js : List (StoppedShard T)) (before es : List Entry) (pieces : List Piece) (w : World) → AllByRecursion Sound js → map lane_of js ≡ joined (lanes ∷ later) → Places epoch (lanes ∷ later) (gather_from (sent_of c.choice) before es)
       → 1 ≤ length lanes → AreNumbers later → EndInTurn (lanes ∷ later) → Begins c pieces epoch (length lanes) before w → entries pieces ≡ before ++ es → AllRun pieces (before ++ es) js w
   epochs-run lanes [] epoch js before es pieces w sound e p some numbers turn b all = record {
     earlier = [];
@@ -441,7 +441,7 @@ module _ {T : Type 0} (tells : T → Type 0) (seen : T → List Exchange) (is_fo
       same : lanes ≡ map lane_of js
       same = sym (e ∙ append-nil lanes)
   epochs-run lanes (next ∷ later) epoch js before es pieces w sound e p some numbers turn b all =
-      with-rest (epochs-run next later (suc epoch) sp.later (before ++ pt.now) pt.later pieces r2.world (all_right Sound sp.first sp.later both) sp.later_is (subst (Places (suc epoch) (next ∷ later)) (sym pt.rest_is) p.4) numbers.0.0 numbers.1 turn.1 r2.holds
+      with-rest (epochs-run next later (suc epoch) sp.later (before ++ pt.now) pt.later pieces r2.world (AllByRecursion-right Sound sp.first sp.later both) sp.later_is (subst (Places (suc epoch) (next ∷ later)) (sym pt.rest_is) p.4) numbers.0.0 numbers.1 turn.1 r2.holds
       (begins ∙ sym (append_assoc before pt.now pt.later)))
     where
       sp : Split lane_of js lanes (joined (next ∷ later))
@@ -450,11 +450,11 @@ module _ {T : Type 0} (tells : T → Type 0) (seen : T → List Exchange) (is_fo
       pt : Parted c.choice before es p.0 p.1
       pt = part c.choice before es p.0 p.1 p.2
 
-      both : AllOf Sound (sp.first ++ sp.later)
-      both = subst (AllOf Sound) sp.are sound
+      both : AllByRecursion Sound (sp.first ++ sp.later)
+      both = subst (AllByRecursion Sound) sp.are sound
 
-      now : AllOf Sound sp.first
-      now = all_left Sound sp.first sp.later both
+      now : AllByRecursion Sound sp.first
+      now = AllByRecursion-left Sound sp.first sp.later both
 
       same : lanes ≡ map lane_of sp.first
       same = sym sp.first_is
