@@ -1,12 +1,13 @@
 //! A body with each byte changed to each other value, and cut at each length: read, and judged where it stands.
 
-use crate::changed::{Readings, wrong_byte};
+use crate::changed::{Reader, wrong_byte};
 use crate::plain_body::plain_spelling;
+use crate::rows::none_is_wrong;
 use rw_write_request::{WireFault, check_message, decode, encode};
 use std::alloc::Global;
 
 /// `up` with the value 1 at 1000 ms.
-pub(crate) static ONE: [u8; 32] = [
+static ONE: [u8; 32] = [
     0x0a, 0x1e, 0x0a, 0x0e, 0x0a, 0x08, 0x5f, 0x5f, 0x6e, 0x61, 0x6d, 0x65, 0x5f, 0x5f, 0x12, 0x02,
     0x75, 0x70, 0x12, 0x0c, 0x09, 0x00, 0x00, 0x00, 0x00, 0x00, 0x00, 0xf0, 0x3f, 0x10, 0xe8, 0x07,
 ];
@@ -17,25 +18,33 @@ fn spelling(alloc: Global, body: &[u8]) -> Result<Vec<u8>, WireFault> {
     Ok(encode(alloc, &message)?)
 }
 
-/// Whether a body is read and judged as it is to be.
-fn is_read(alloc: Global, body: &[u8]) -> bool {
-    let judged = check_message(body);
-    match (spelling(alloc, body), plain_spelling(alloc, body)) {
-        (Ok(found), Ok(wanted)) => judged.is_ok() && found.as_slice() == wanted.as_slice(),
-        (Err(found), Err(wanted)) => judged == Err(wanted) && found == wanted,
-        _ => false,
+/// Whether a body is taken, and read as the message of this canonical spelling.
+fn is_spelled(alloc: Global, body: &[u8], wanted: &[u8]) -> bool {
+    match spelling(alloc, body) {
+        Ok(found) => check_message(body).is_ok() && found.as_slice() == wanted,
+        Err(_) => false,
     }
 }
 
-struct Bodies;
+/// Whether a body has this fault, where it is read and where it is judged.
+fn is_refused(alloc: Global, body: &[u8], wanted: WireFault) -> bool {
+    check_message(body) == Err(wanted) && spelling(alloc, body).err() == Some(wanted)
+}
 
-impl Readings for Bodies {
-    fn agree(&self, alloc: Global, text: &[u8]) -> bool {
-        is_read(alloc, text)
+/// Whether a body is read and judged as it is to be.
+pub(crate) fn is_read(alloc: Global, body: &[u8]) -> bool {
+    match plain_spelling(alloc, body) {
+        Ok(wanted) => is_spelled(alloc, body, &wanted),
+        Err(fault) => is_refused(alloc, body, fault),
     }
+}
+
+/// The bytes of that body.
+pub(crate) fn one() -> &'static [u8; 32] {
+    &ONE
 }
 
 #[test]
 fn each_byte_changed_and_cut(rt: HostRuntime) {
-    assert_eq!(rt; wrong_byte(&Bodies, rt.alloc(), &ONE), Ok(None));
+    none_is_wrong(&rt, wrong_byte(Reader::Bodies, rt.alloc(), one()));
 }

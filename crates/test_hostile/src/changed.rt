@@ -1,22 +1,29 @@
 //! Texts with each byte changed to each other value, and cut at each length.
 
-use std::alloc::{AllocError, Global};
+use crate::{bodies, replies, segments};
+use std::alloc::Global;
 
 /// A reader of texts, beside a plain reading of them.
-pub(crate) trait Readings {
-    /// Whether both read a text alike.
-    fn agree(&self, alloc: Global, text: &[u8]) -> bool;
+#[derive(Clone, Copy)]
+pub(crate) enum Reader {
+    Segments,
+    Bodies,
+    Replies,
+}
+
+/// Whether both read a text alike.
+fn agree(reader: Reader, alloc: Global, text: &[u8]) -> bool {
+    match reader {
+        Reader::Segments => segments::is_read(alloc, text),
+        Reader::Bodies => bodies::is_read(alloc, text),
+        Reader::Replies => replies::is_read(text),
+    }
 }
 
 /// The first length of a text, more than so many bytes, at which it is read otherwise.
-fn wrong_length<R: Readings>(
-    readings: &R,
-    alloc: Global,
-    text: &[u8],
-    least: usize,
-) -> Option<usize> {
+fn wrong_length(reader: Reader, alloc: Global, text: &[u8], least: usize) -> Option<usize> {
     for len in 0..=text.len() {
-        if len > least && !readings.agree(alloc, &text[..len]) {
+        if len > least && !agree(reader, alloc, &text[..len]) {
             return Some(len);
         }
     }
@@ -24,11 +31,11 @@ fn wrong_length<R: Readings>(
 }
 
 /// The first value of this byte with which the text, or a front of it that has the byte, is read otherwise.
-fn wrong_value<R: Readings>(readings: &R, alloc: Global, text: &mut [u8], at: usize) -> Option<u8> {
+fn wrong_value(reader: Reader, alloc: Global, text: &mut [u8], at: usize) -> Option<u8> {
     let byte = *text.get(at)?;
     for value in 0..=255u8 {
         text[at] = value;
-        if wrong_length(readings, alloc, text, at).is_some() {
+        if wrong_length(reader, alloc, text, at).is_some() {
             return Some(value);
         }
     }
@@ -36,17 +43,19 @@ fn wrong_value<R: Readings>(readings: &R, alloc: Global, text: &mut [u8], at: us
     None
 }
 
-/// The first byte that has such a value.
-pub(crate) fn wrong_byte<R: Readings>(
-    readings: &R,
-    alloc: Global,
-    text: &[u8],
-) -> Result<Option<usize>, AllocError> {
-    let mut text = text.to_vec(alloc)?;
+fn wrong_byte_in(reader: Reader, alloc: Global, text: &mut [u8]) -> Option<usize> {
     for at in 0..text.len() {
-        if wrong_value(readings, alloc, &mut text, at).is_some() {
-            return Ok(Some(at));
+        if wrong_value(reader, alloc, text, at).is_some() {
+            return Some(at);
         }
     }
-    Ok(None)
+    None
+}
+
+/// The first byte of a text that has such a value, or the number of its bytes where memory is refused.
+pub(crate) fn wrong_byte(reader: Reader, alloc: Global, text: &[u8]) -> Option<usize> {
+    match text.to_vec(alloc) {
+        Ok(mut copy) => wrong_byte_in(reader, alloc, &mut copy),
+        Err(_) => Some(text.len()),
+    }
 }

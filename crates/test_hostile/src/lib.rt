@@ -25,4 +25,6 @@ mod replies;
 #[cfg(test)]
 mod requests;
 #[cfg(test)]
+mod rows;
+#[cfg(test)]
 mod segments;

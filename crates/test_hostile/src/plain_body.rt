@@ -119,6 +119,15 @@ fn spell_label(text: &[u8], out: &mut Vec<u8>) -> Result<(), WireFault> {
     Ok(())
 }
 
+fn are_zeros(bytes: &[u8]) -> bool {
+    for byte in bytes {
+        if *byte != 0 {
+            return false;
+        }
+    }
+    true
+}
+
 /// Spells a sample: the last value and the last timestamp count.
 fn spell_sample(text: &[u8], out: &mut Vec<u8>) -> Result<(), WireFault> {
     let mut word: &[u8] = &[0; 8];
@@ -136,7 +145,7 @@ fn spell_sample(text: &[u8], out: &mut Vec<u8>) -> Result<(), WireFault> {
         }
         rest = field.rest;
     }
-    if word.iter().any(|byte| *byte != 0) {
+    if !are_zeros(word) {
         out.push(0x09)?;
         out.extend_from_slice(word)?;
     }
@@ -147,37 +156,67 @@ fn spell_sample(text: &[u8], out: &mut Vec<u8>) -> Result<(), WireFault> {
     Ok(())
 }
 
-/// Spells a series: its labels, and behind them its samples.
-fn spell_series(alloc: Global, text: &[u8], out: &mut Vec<u8>) -> Result<(), WireFault> {
-    let mut samples = Vec::new(alloc);
-    let mut part = Vec::new(alloc);
+/// Puts a label, spelled so.
+fn put_label(alloc: Global, text: &[u8], out: &mut Vec<u8>) -> Result<(), WireFault> {
+    let mut label = Vec::new(alloc);
+    match spell_label(text, &mut label) {
+        Ok(()) => Ok(put_bytes(out, 0x0a, &label)?),
+        Err(fault) => Err(fault),
+    }
+}
+
+/// Puts a sample, spelled so.
+fn put_sample(alloc: Global, text: &[u8], out: &mut Vec<u8>) -> Result<(), WireFault> {
+    let mut sample = Vec::new(alloc);
+    match spell_sample(text, &mut sample) {
+        Ok(()) => Ok(put_bytes(out, 0x12, &sample)?),
+        Err(fault) => Err(fault),
+    }
+}
+
+/// Puts the labels of a series, and apart from them its samples.
+fn put_parts(
+    alloc: Global,
+    text: &[u8],
+    labels: &mut Vec<u8>,
+    samples: &mut Vec<u8>,
+) -> Result<(), WireFault> {
     let mut rest = text;
     for _ in 0..text.len() {
         if rest.is_empty() {
             break;
         }
         let field = first_field(rest, [Some(2), Some(2)])?;
-        part.clear();
         match field.number {
-            1 => {
-                spell_label(field.bytes, &mut part)?;
-                put_bytes(out, 0x0a, &part)?;
-            }
-            2 => {
-                spell_sample(field.bytes, &mut part)?;
-                put_bytes(&mut samples, 0x12, &part)?;
-            }
+            1 => put_label(alloc, field.bytes, labels)?,
+            2 => put_sample(alloc, field.bytes, samples)?,
             _ => {}
         }
         rest = field.rest;
     }
-    out.extend_from_slice(&samples)?;
     Ok(())
 }
 
-/// The canonical spelling of the message that a text spells, or its first fault.
-pub(crate) fn plain_spelling(alloc: Global, text: &[u8]) -> Result<Vec<u8>, WireFault> {
-    let mut out = Vec::new(alloc);
+/// Spells a series: its labels, and behind them its samples.
+fn spell_series(alloc: Global, text: &[u8], out: &mut Vec<u8>) -> Result<(), WireFault> {
+    let mut samples = Vec::new(alloc);
+    match put_parts(alloc, text, out, &mut samples) {
+        Ok(()) => Ok(out.extend_from_slice(&samples)?),
+        Err(fault) => Err(fault),
+    }
+}
+
+/// Puts a series, spelled so.
+fn put_series(alloc: Global, text: &[u8], out: &mut Vec<u8>) -> Result<(), WireFault> {
+    let mut series = Vec::new(alloc);
+    match spell_series(alloc, text, &mut series) {
+        Ok(()) => Ok(put_bytes(out, 0x0a, &series)?),
+        Err(fault) => Err(fault),
+    }
+}
+
+/// Spells a message: its series.
+fn spell_message(alloc: Global, text: &[u8], out: &mut Vec<u8>) -> Result<(), WireFault> {
     let mut rest = text;
     for _ in 0..text.len() {
         if rest.is_empty() {
@@ -185,11 +224,18 @@ pub(crate) fn plain_spelling(alloc: Global, text: &[u8]) -> Result<Vec<u8>, Wire
         }
         let field = first_field(rest, [Some(2), None])?;
         if field.number == 1 {
-            let mut series = Vec::new(alloc);
-            spell_series(alloc, field.bytes, &mut series)?;
-            put_bytes(&mut out, 0x0a, &series)?;
+            put_series(alloc, field.bytes, out)?;
         }
         rest = field.rest;
     }
-    Ok(out)
+    Ok(())
+}
+
+/// The canonical spelling of the message that a text spells, or its first fault.
+pub(crate) fn plain_spelling(alloc: Global, text: &[u8]) -> Result<Vec<u8>, WireFault> {
+    let mut out = Vec::new(alloc);
+    match spell_message(alloc, text, &mut out) {
+        Ok(()) => Ok(out),
+        Err(fault) => Err(fault),
+    }
 }

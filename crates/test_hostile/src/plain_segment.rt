@@ -55,13 +55,22 @@ fn fragment(kind: u8, behind: &[u8], at: usize) -> Found<'_> {
     Found::Fragment(kind, data, rest)
 }
 
+fn are_zeros(bytes: &[u8]) -> bool {
+    for byte in bytes {
+        if *byte != 0 {
+            return false;
+        }
+    }
+    true
+}
+
 /// What stands `at` bytes into a page.
 fn found_at(text: &[u8], at: usize) -> Found<'_> {
     let Some((kind, behind)) = text.split_first() else {
         return Found::Nothing;
     };
     match *kind {
-        0 if behind.iter().all(|byte| *byte == 0) => Found::Nothing,
+        0 if are_zeros(behind) => Found::Nothing,
         0 => Found::Fault(TailFault::NonzeroPadding),
         8..=31 => Found::Fault(TailFault::Compressed),
         5..=7 | 32.. => Found::Fault(TailFault::BadType),

@@ -1,6 +1,7 @@
 //! The machine's program where memory is refused. What takes memory is done again where it is refused, so the test holds whichever growth
 //! is refused; `tools/refuse-each` refuses each of them in turn.
 
+use crate::rows::none_is_wrong;
 use rw_head::Limits;
 use rw_machine::Event;
 use rw_script::{Command, read_script};
@@ -10,14 +11,19 @@ use rw_types::Bounded;
 use rw_world::World;
 use std::alloc::{AllocError, Global};
 
-/// How many shards there are and how many labels the receiver takes, a schedule of which the first line is its log, and the state behind an
-/// orderly shutdown.
+/// How many shards there are and how many labels the receiver takes, a schedule of which the first line is its log, the state behind an
+/// orderly shutdown, and the bytes of the first requests.
 struct Row<'a> {
     shards: u64,
     labels: u64,
     script: &'a str,
     state: &'a str,
+    requests: &'a [&'a [u8]],
 }
+
+/// The request of a batch: 1 at 10 ms and 2 at 20 ms of the series `up`.
+const REQUEST: &[u8] =
+    b"POST /api/v1/write HTTP/1.1\r\nHost: localhost:9090\r\nUser-Agent: rwship/1.0\r\nContent-Type: application/x-protobuf\r\nX-Prometheus-Remote-Write-Version: 0.1.0\r\nConnection: close\r\nContent-Length: 44\r\n\r\n\x0a\x2a\x0a\x0e\x0a\x08__name__\x12\x02up\x12\x0b\x09\x00\x00\x00\x00\x00\x00\xf0\x3f\x10\x0a\x12\x0b\x09\x00\x00\x00\x00\x00\x00\x00\x40\x10\x14";
 
 static ROWS: [Row<'static>; 5] = [
     // Four series, the last two of one label set. A new epoch waits for the old shards.
@@ -49,6 +55,7 @@ place
 filtered 0
 report complete 6
 "#,
+        requests: &[],
     },
     // Two series, of which the second has samples.
     Row {
@@ -77,6 +84,7 @@ place
 filtered 0
 report complete 4
 "#,
+        requests: &[],
     },
     // A lost reply.
     Row {
@@ -100,6 +108,7 @@ reply 1
 filtered 0
 report complete 3
 "#,
+        requests: &[],
     },
     // A batch that is refused for the labels of one of its samples.
     Row {
@@ -126,6 +135,7 @@ dropped 4 status 400
 filtered 0
 report complete 6
 "#,
+        requests: &[],
     },
     // All is left to the shutdown.
     Row {
@@ -137,8 +147,41 @@ report complete 6
 filtered 0
 report complete 3
 "#,
+        requests: &[],
     },
 ];
+
+/// A late reply to an earlier batch, of which the reply was lost and the request sent again, and a kill: the shutdown changes nothing then.
+static SENT: Row<'static> = Row {
+    shards: 1,
+    labels: 64,
+    script: "feed 010016391994f301000000000000000101085f5f6e616d655f5f02757001001b7b1e5609020000000000000001000000000000000a00003ff000000000000001001bf26df36d02000000000000000100000000000000140000400000000000000001001b3b71f281020000000000000001000000000000001e00004008000000000000
+place
+place
+place
+place
+take 0
+take 0
+freeze 0
+send 0
+arrive 0 plain
+lost 0
+send 0
+arrive 1 plain
+reply 1
+take 0
+freeze 0
+send 0
+reply 0
+kill
+",
+    state: r#"received {__name__="up"} 10=1 20=2
+filtered 0
+abandoned 3
+report abandoned 4
+"#,
+    requests: &[REQUEST, REQUEST],
+};
 
 fn config_of(alloc: Global, shards: u64) -> Option<Config> {
     let shards = Bounded::try_new(shards)?;
@@ -247,6 +290,17 @@ fn is_moved(alloc: Global, world: &mut World, row: &Row<'_>, events: &[Event]) -
     shows_the_same(alloc, world, row, before) && world.run(rest).is_ok()
 }
 
+/// Whether the first requests that a world has sent have these bytes.
+fn has_sent(world: &World, requests: &[&[u8]]) -> bool {
+    for (k, bytes) in requests.iter().enumerate() {
+        match world.request(k) {
+            Some(request) if request == *bytes => {}
+            _ => return false,
+        }
+    }
+    true
+}
+
 /// Whether a world goes through events and a shutdown to the state of its row.
 fn is_settled(alloc: Global, world: &mut World, row: &Row<'_>, events: &[Event]) -> bool {
     let mut text = Vec::new(alloc);
@@ -254,6 +308,7 @@ fn is_settled(alloc: Global, world: &mut World, row: &Row<'_>, events: &[Event])
         && (world.settle().is_ok() || world.settle().is_ok())
         && is_put(&mut text, world)
         && text.as_slice() == row.state.as_bytes()
+        && has_sent(world, row.requests)
 }
 
 /// Whether events and a shutdown lead a new world to the state of a row.
@@ -270,9 +325,13 @@ fn is_gone_through(alloc: Global, row: &Row<'_>) -> bool {
     is_read(alloc, row.script, &mut events) && goes(alloc, row, &events)
 }
 
+fn rows() -> &'static [Row<'static>] {
+    &ROWS
+}
+
 /// The first schedule that leads to another state.
-fn wrong_row(alloc: Global) -> Option<usize> {
-    for (i, row) in ROWS.iter().enumerate() {
+fn wrong_row(alloc: Global, rows: &[Row<'_>]) -> Option<usize> {
+    for (i, row) in rows.iter().enumerate() {
         if !is_gone_through(alloc, row) {
             return Some(i);
         }
@@ -282,5 +341,15 @@ fn wrong_row(alloc: Global) -> Option<usize> {
 
 #[test]
 fn worlds_go_on(rt: HostRuntime) {
-    assert_eq!(rt; wrong_row(rt.alloc()), None);
+    none_is_wrong(&rt, wrong_row(rt.alloc(), rows()));
+}
+
+fn sent() -> &'static Row<'static> {
+    &SENT
+}
+
+/// Several events are run by one call, and a request whose reply is lost is sent again with the same bytes.
+#[test]
+fn events_are_run(rt: HostRuntime) {
+    assert!(rt; is_gone_through(rt.alloc(), sent()));
 }

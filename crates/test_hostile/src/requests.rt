@@ -1,6 +1,6 @@
 //! The sender's request with each byte changed to each value: the replies that each part of it may have then. `rt try --test` is too slow for it.
 
-use crate::bodies::ONE;
+use crate::bodies::one;
 use rw_endpoint::{ServeEnd, serve};
 use rw_head::{Head, Limits};
 use rw_types::Room;
@@ -81,9 +81,17 @@ static PARTS: [(&[u8], &[Outcome]); 11] = [
     (b"\r\n", &[BAD]),
 ];
 
+fn replies() -> &'static [(&'static [u8], Outcome)] {
+    &REPLIES
+}
+
+fn parts() -> &'static [(&'static [u8], &'static [Outcome])] {
+    &PARTS
+}
+
 /// What became of a request, by the reply, the end and what the head then holds. None where these do not fit.
 fn outcome_of(written: &[u8], end: ServeEnd, total: u64) -> Option<Outcome> {
-    for (reply, outcome) in &REPLIES {
+    for (reply, outcome) in replies() {
         if *reply == written {
             let is_end = match *outcome {
                 (0, _) => end == ServeEnd::Torn,
@@ -151,10 +159,10 @@ fn wrong_byte(
 }
 
 fn put_request(request: &mut Vec<u8>) -> Result<(), AllocError> {
-    for (part, _) in &PARTS {
+    for (part, _) in parts() {
         request.extend_from_slice(part)?;
     }
-    request.extend_from_slice(&ONE)
+    request.extend_from_slice(one())
 }
 
 fn wrong_head(alloc: Global) -> Result<Option<(usize, u8)>, AllocError> {
@@ -162,7 +170,7 @@ fn wrong_head(alloc: Global) -> Result<Option<(usize, u8)>, AllocError> {
     let mut request = Vec::new(alloc);
     put_request(&mut request)?;
     let mut from: usize = 0;
-    for part in &PARTS {
+    for part in parts() {
         if let Some(wrong) = wrong_byte(alloc, &limits, &mut request, from, part) {
             return Ok(Some(wrong));
         }
@@ -211,7 +219,7 @@ fn wrong_body(alloc: Global) -> Result<Option<(usize, u8)>, AllocError> {
     let limits = Limits::standard(alloc)?;
     let mut request = Vec::new(alloc);
     put_request(&mut request)?;
-    let from = request.len().saturating_sub(ONE.len());
+    let from = request.len().saturating_sub(one().len());
     for at in from..request.len() {
         if let Some(value) = wrong_answer(alloc, &limits, &mut request, from, at) {
             return Ok(Some((at, value)));

@@ -1,7 +1,8 @@
 //! A segment with each byte changed to each other value, and cut at each length.
 
-use crate::changed::{Readings, wrong_byte};
+use crate::changed::{Reader, wrong_byte};
 use crate::plain_segment::{Reading, plain_reading};
+use crate::rows::none_is_wrong;
 use rw_types::Entry;
 use rw_wal_tail::{Tail, TailFault};
 use std::alloc::Global;
@@ -42,22 +43,18 @@ fn given(tail: &mut Tail) -> Option<Reading> {
     None
 }
 
-/// Whether a page is read as it is to be.
-fn is_read(alloc: Global, page: &[u8]) -> bool {
-    let mut tail = Tail::new(alloc);
-    tail.feed(page).is_ok()
-        && given(&mut tail) == Some(plain_reading(page, &[&UP[7..29], &UP[36..63]]))
+fn up() -> &'static [u8; 63] {
+    &UP
 }
 
-struct Segments;
-
-impl Readings for Segments {
-    fn agree(&self, alloc: Global, text: &[u8]) -> bool {
-        is_read(alloc, text)
-    }
+/// Whether a page is read as it is to be.
+pub(crate) fn is_read(alloc: Global, page: &[u8]) -> bool {
+    let mut tail = Tail::new(alloc);
+    tail.feed(page).is_ok()
+        && given(&mut tail) == Some(plain_reading(page, &[&up()[7..29], &up()[36..63]]))
 }
 
 #[test]
 fn each_byte_changed_and_cut(rt: HostRuntime) {
-    assert_eq!(rt; wrong_byte(&Segments, rt.alloc(), &UP), Ok(None));
+    none_is_wrong(&rt, wrong_byte(Reader::Segments, rt.alloc(), up()));
 }

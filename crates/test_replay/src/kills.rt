@@ -3,7 +3,6 @@
 use crate::played::{plays, run};
 use crate::rows::none_is_wrong;
 use std::alloc::{AllocError, Global};
-use std::test::Fail;
 
 /// Two samples are sent, the reply is lost, and they are sent again.
 static LINES: [&str; 15] = [
@@ -43,9 +42,18 @@ fn push_line(script: &mut Vec<u8>, line: &str) -> Result<(), AllocError> {
     script.extend_from_slice(b"\n")
 }
 
+fn lines() -> &'static [&'static str] {
+    &LINES
+}
+
 /// The lines, with a kill behind so many of them; the later ones follow or do not.
-fn put_killed(script: &mut Vec<u8>, count: usize, goes_on: bool) -> Result<(), AllocError> {
-    for (i, line) in LINES.iter().enumerate() {
+fn put_killed(
+    script: &mut Vec<u8>,
+    lines: &[&str],
+    count: usize,
+    goes_on: bool,
+) -> Result<(), AllocError> {
+    for (i, line) in lines.iter().enumerate() {
         if i == count {
             push_line(script, "kill")?;
         }
@@ -53,7 +61,7 @@ fn put_killed(script: &mut Vec<u8>, count: usize, goes_on: bool) -> Result<(), A
             push_line(script, line)?;
         }
     }
-    if count >= LINES.len() {
+    if count >= lines.len() {
         push_line(script, "kill")?;
     }
     Ok(())
@@ -77,47 +85,52 @@ fn is_survived(alloc: Global, script: &[u8]) -> bool {
     }
 }
 
+/// Whether a kill behind so many of these lines leads to a beginning.
+fn is_count_survived(alloc: Global, lines: &[&str], count: usize, goes_on: bool) -> bool {
+    let mut script = Vec::new(alloc);
+    put_killed(&mut script, lines, count, goes_on).is_ok() && is_survived(alloc, &script)
+}
+
 /// The first number of lines behind which a kill leads to something else.
-fn wrong_count(
-    alloc: Global,
-    script: &mut Vec<u8>,
-    goes_on: bool,
-) -> Result<Option<usize>, AllocError> {
-    for count in 0..=LINES.len() {
-        script.clear();
-        put_killed(script, count, goes_on)?;
-        if !is_survived(alloc, script) {
-            return Ok(Some(count));
+fn wrong_count(alloc: Global, lines: &[&str], goes_on: bool) -> Option<usize> {
+    for count in 0..=lines.len() {
+        if !is_count_survived(alloc, lines, count, goes_on) {
+            return Some(count);
         }
     }
-    Ok(None)
+    None
 }
 
 #[test]
-fn a_kill_anywhere(rt: HostRuntime) -> Result<(), Fail> {
-    for goes_on in [false, true] {
-        let mut script = Vec::new(rt.alloc());
-        none_is_wrong(&rt, wrong_count(rt.alloc(), &mut script, goes_on)?);
-    }
-    Ok(())
+fn a_kill_anywhere(rt: HostRuntime) {
+    none_is_wrong(&rt, wrong_count(rt.alloc(), lines(), false));
+    none_is_wrong(&rt, wrong_count(rt.alloc(), lines(), true));
 }
 
 /// How many lines stand before the kill, and the state then.
 static STATES: [(usize, &str); 3] = [(9, FROZEN), (11, ARRIVED), (15, RESOLVED)];
 
-fn wrong_state(alloc: Global, script: &mut Vec<u8>) -> Result<Option<usize>, AllocError> {
-    for (i, (count, state)) in STATES.iter().enumerate() {
-        script.clear();
-        put_killed(script, *count, false)?;
-        if !plays(alloc, "", script, Ok(()), state.as_bytes()) {
-            return Ok(Some(i));
+fn states() -> &'static [(usize, &'static str)] {
+    &STATES
+}
+
+/// Whether a kill behind so many of the lines, without the later ones, leads to this state.
+fn leads_to(alloc: Global, count: usize, state: &str) -> bool {
+    let mut script = Vec::new(alloc);
+    put_killed(&mut script, lines(), count, false).is_ok()
+        && plays(alloc, "", &script, Ok(()), state.as_bytes())
+}
+
+fn wrong_state(alloc: Global, rows: &[(usize, &str)]) -> Option<usize> {
+    for (i, (count, state)) in rows.iter().enumerate() {
+        if !leads_to(alloc, *count, state) {
+            return Some(i);
         }
     }
-    Ok(None)
+    None
 }
 
 #[test]
-fn states_of_killed_schedules(rt: HostRuntime) -> Result<(), Fail> {
-    none_is_wrong(&rt, wrong_state(rt.alloc(), &mut Vec::new(rt.alloc()))?);
-    Ok(())
+fn states_of_killed_schedules(rt: HostRuntime) {
+    none_is_wrong(&rt, wrong_state(rt.alloc(), states()));
 }

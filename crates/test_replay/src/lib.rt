@@ -1,4 +1,4 @@
-//! Tests of event scripts played, and of the machine's program.
+//! Tests of event scripts played. `test_hostile` moves the machine's program by several events in one call.
 #![tactic(auto)]
 
 #[cfg(test)]
@@ -15,5 +15,3 @@ mod played;
 mod rows;
 #[cfg(test)]
 mod schedules;
-#[cfg(test)]
-mod worlds;

@@ -4,7 +4,6 @@ use crate::played::plays;
 use crate::rows::none_is_wrong;
 use rw_fault::ToolFault;
 use std::alloc::{AllocError, Global};
-use std::test::Fail;
 
 /// Lines that are bad wherever they stand.
 static BAD: [&[u8]; 46] = [
@@ -63,21 +62,28 @@ fn put_script(script: &mut Vec<u8>, line: &[u8]) -> Result<(), AllocError> {
     script.extend_from_slice(b"\nplace\nno line\n")
 }
 
-fn wrong_line(alloc: Global, script: &mut Vec<u8>) -> Result<Option<usize>, AllocError> {
-    for (i, line) in BAD.iter().enumerate() {
-        script.clear();
-        put_script(script, line)?;
-        if !plays(alloc, "", script, Err(ToolFault::Line(4)), b"") {
-            return Ok(Some(i));
+fn bad() -> &'static [&'static [u8]] {
+    &BAD
+}
+
+/// Whether the fourth line of a script is found to be bad, which is this one.
+fn is_refused(alloc: Global, line: &[u8]) -> bool {
+    let mut script = Vec::new(alloc);
+    put_script(&mut script, line).is_ok() && plays(alloc, "", &script, Err(ToolFault::Line(4)), b"")
+}
+
+fn wrong_line(alloc: Global, lines: &[&[u8]]) -> Option<usize> {
+    for (i, line) in lines.iter().enumerate() {
+        if !is_refused(alloc, line) {
+            return Some(i);
         }
     }
-    Ok(None)
+    None
 }
 
 #[test]
-fn bad_lines(rt: HostRuntime) -> Result<(), Fail> {
-    none_is_wrong(&rt, wrong_line(rt.alloc(), &mut Vec::new(rt.alloc()))?);
-    Ok(())
+fn bad_lines(rt: HostRuntime) {
+    none_is_wrong(&rt, wrong_line(rt.alloc(), bad()));
 }
 
 /// Scripts in which the log grows in both ways, and the line that makes them so.
@@ -90,15 +96,14 @@ static MIXED: [(&str, u64); 6] = [
     ("log raw 03\nlog raw 03\nno line\nfeed 00\n", 3),
 ];
 
-fn wrong_mixed(alloc: Global) -> Option<usize> {
-    for (i, (script, number)) in MIXED.iter().enumerate() {
-        if !plays(
-            alloc,
-            "",
-            script.as_bytes(),
-            Err(ToolFault::Line(*number)),
-            b"",
-        ) {
+fn mixed() -> &'static [(&'static str, u64)] {
+    &MIXED
+}
+
+fn wrong_mixed(alloc: Global, rows: &[(&str, u64)]) -> Option<usize> {
+    for (i, (script, number)) in rows.iter().enumerate() {
+        let fault = ToolFault::Line(*number);
+        if !plays(alloc, "", script.as_bytes(), Err(fault), b"") {
             return Some(i);
         }
     }
@@ -107,7 +112,7 @@ fn wrong_mixed(alloc: Global) -> Option<usize> {
 
 #[test]
 fn logs_that_grow_in_both_ways(rt: HostRuntime) {
-    none_is_wrong(&rt, wrong_mixed(rt.alloc()));
+    none_is_wrong(&rt, wrong_mixed(rt.alloc(), mixed()));
 }
 
 /// Numbers may have leading zeros, and the last line may lack its LF.
@@ -121,8 +126,12 @@ static ODD: [&str; 4] = [
 /// The state where there is no entry.
 const NOTHING: &[u8] = b"filtered 0\nreport complete 0\n";
 
-fn wrong_odd(alloc: Global) -> Option<usize> {
-    for (i, script) in ODD.iter().enumerate() {
+fn odd() -> &'static [&'static str] {
+    &ODD
+}
+
+fn wrong_odd(alloc: Global, scripts: &[&str]) -> Option<usize> {
+    for (i, script) in scripts.iter().enumerate() {
         if !plays(alloc, "", script.as_bytes(), Ok(()), NOTHING) {
             return Some(i);
         }
@@ -132,7 +141,7 @@ fn wrong_odd(alloc: Global) -> Option<usize> {
 
 #[test]
 fn odd_lines(rt: HostRuntime) {
-    none_is_wrong(&rt, wrong_odd(rt.alloc()));
+    none_is_wrong(&rt, wrong_odd(rt.alloc(), odd()));
 }
 
 /// A `log raw` line of so many times 32 KiB of byte 3, and these digits.

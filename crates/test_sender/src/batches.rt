@@ -65,7 +65,9 @@ fn built(alloc: Global, batch: usize, rows: &[Row]) -> Result<Builder, AllocErro
 }
 
 /// Samples, and the body of their batch.
-static BODIES: [(&[Row], &[u8]); 2] = [
+type Body = (&'static [Row], &'static [u8]);
+
+static BODIES: [Body; 2] = [
     (
         &[("a", 0, 1), ("b", 0, 2), ("a", 0, 3)],
         b"\x0a\x17\x0a\x0d\x0a\x08__name__\x12\x01a\x12\x02\x10\x01\x12\x02\x10\x03\
@@ -157,8 +159,12 @@ fn make_body(alloc: Global, samples: &[Row], body: &[u8]) -> bool {
     }
 }
 
-fn wrong_body(alloc: Global) -> Option<usize> {
-    for (i, (samples, body)) in BODIES.iter().enumerate() {
+fn bodies() -> &'static [Body] {
+    &BODIES
+}
+
+fn wrong_body(alloc: Global, rows: &[Body]) -> Option<usize> {
+    for (i, (samples, body)) in rows.iter().enumerate() {
         if !make_body(alloc, samples, body) {
             return Some(i);
         }
@@ -168,7 +174,7 @@ fn wrong_body(alloc: Global) -> Option<usize> {
 
 #[test]
 fn bodies_group_by_labels(rt: HostRuntime) {
-    none_is_wrong(&rt, wrong_body(rt.alloc()));
+    none_is_wrong(&rt, wrong_body(rt.alloc(), bodies()));
 }
 
 const TWO: &[Row] = &[("a", 0, 1), ("b", 0, 2)];
@@ -176,7 +182,9 @@ const TWO: &[Row] = &[("a", 0, 1), ("b", 0, 2)];
 const THREE: &[Row] = &[("a", 0, 1), ("b", 0, 2), ("b", 0, 3)];
 
 /// Samples that a builder of three took, a sample with its number, and whether that can be taken next.
-static NEXT: [(&[Row], u64, Row, bool); 4] = [
+type Next = (&'static [Row], u64, Row, bool);
+
+static NEXT: [Next; 4] = [
     (TWO, 8, ("a", 0, 3), false),
     (TWO, 9, ("a", 0, 3), true),
     (TWO, 10, ("a", 0, 3), false),
@@ -207,8 +215,12 @@ fn takes_row(alloc: Global, samples: &[Row], seq: u64, row: Row, can: bool) -> b
     }
 }
 
-fn wrong_next(alloc: Global) -> Option<usize> {
-    for (i, (samples, seq, row, can)) in NEXT.iter().enumerate() {
+fn nexts() -> &'static [Next] {
+    &NEXT
+}
+
+fn wrong_next(alloc: Global, rows: &[Next]) -> Option<usize> {
+    for (i, (samples, seq, row, can)) in rows.iter().enumerate() {
         if !takes_row(alloc, samples, *seq, *row, *can) {
             return Some(i);
         }
@@ -218,7 +230,7 @@ fn wrong_next(alloc: Global) -> Option<usize> {
 
 #[test]
 fn only_the_next_sample_is_taken(rt: HostRuntime) {
-    none_is_wrong(&rt, wrong_next(rt.alloc()));
+    none_is_wrong(&rt, wrong_next(rt.alloc(), nexts()));
 }
 
 /// Whether a builder has ten samples, each with this field.

@@ -52,6 +52,16 @@ fn takes(queue: &mut PlainQueue, kind: Option<Kind>) -> bool {
     }
 }
 
+/// Whether Flushes alone are there.
+fn has_flushes(queue: &PlainQueue) -> bool {
+    for item in queue.iter() {
+        if !matches!(item, Item::Flush) {
+            return false;
+        }
+    }
+    true
+}
+
 /// Whether a step goes as it says.
 fn does(queue: &mut PlainQueue, step: Step) -> bool {
     match step {
@@ -68,7 +78,7 @@ fn does(queue: &mut PlainQueue, step: Step) -> bool {
         }
         Step::Len(len) => queue.len() == len && queue.is_empty() == (len == 0),
         Step::Refusal(fault) => queue.refusal() == Some(fault),
-        Step::Flushes => queue.iter().all(|item| matches!(item, Item::Flush)),
+        Step::Flushes => has_flushes(queue),
     }
 }
 

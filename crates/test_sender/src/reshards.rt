@@ -81,11 +81,20 @@ fn second_epoch(alloc: Global) -> Option<Fleet<Part, Running>> {
     if old.len() == 2 { Some(fleet) } else { None }
 }
 
+/// Whether these are the parts of the second epoch, in order.
+fn are_numbered(parts: &[Part]) -> bool {
+    for (i, part) in parts.iter().enumerate() {
+        if part.epoch != 1 || part.shard as usize != i {
+            return false;
+        }
+    }
+    true
+}
+
 /// Whether these are the three shards of the second epoch, and no others were made.
 fn are_second(fleet: Fleet<Part, Running>) -> bool {
     let (parts, made) = fleet.into_shards();
-    let all = parts.iter().map(|p| (p.epoch, p.shard));
-    made.len() == 0 && all.eq([(1, 0), (1, 1), (1, 2)])
+    made.len() == 0 && parts.len() == 3 && are_numbered(&parts)
 }
 
 fn is_second_epoch(alloc: Global) -> bool {

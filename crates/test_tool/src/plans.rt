@@ -1,66 +1,23 @@
 //! The plans of log segments.
 
+use crate::logs::fault;
 use crate::rows::none_is_wrong;
-use crate::rule_making::put_labels;
 use rw_fault::ToolFault;
 use rw_log_commands::run_plan;
 use rw_settings::read_settings;
-use rw_types::{RawLabels, Room, Word};
+use rw_types::Room;
 use rw_wal_format::TailFault;
-use rw_wal_write::{SegmentWriter, sample_record, series_record};
-use std::alloc::{AllocError, Global};
+use std::alloc::Global;
 
-/// What is logged: a definition of a reference, or a sample of it.
-type Logged = (u64, Option<&'static [(&'static str, &'static str)]>);
-
-fn series_of(
-    alloc: Global,
-    reference: u64,
-    labels: &[(&str, &str)],
-) -> Result<Vec<u8>, AllocError> {
-    let mut raw = RawLabels::new(alloc);
-    match put_labels(&mut raw, labels) {
-        Ok(()) => series_record(alloc, reference, &raw),
-        Err(refused) => Err(refused),
-    }
-}
-
-fn record_of(alloc: Global, entry: Logged) -> Result<Vec<u8>, AllocError> {
-    match entry {
-        (reference, Some(labels)) => series_of(alloc, reference, labels),
-        (reference, None) => sample_record(alloc, &[(reference, 1_000, Word(0))]),
-    }
-}
-
-/// Whether there is a record of an entry, and it is logged.
-fn is_logged(alloc: Global, writer: &mut SegmentWriter<Room>, entry: Logged) -> bool {
-    match record_of(alloc, entry) {
-        Ok(record) => !record.is_empty() && writer.log(&record).is_ok(),
-        Err(_) => false,
-    }
-}
-
-fn are_logged(alloc: Global, writer: &mut SegmentWriter<Room>, entries: &[Logged]) -> bool {
-    for entry in entries {
-        if !is_logged(alloc, writer, *entry) {
-            return false;
-        }
-    }
-    true
-}
-
-/// The segment of entries. Nothing, where one is not logged.
-fn segment_of(alloc: Global, entries: &[Logged]) -> Vec<u8> {
-    let Ok(room) = Room::new(alloc, 4096) else {
+/// The segment of log text. Nothing, where memory is refused or a line is bad.
+fn segment_of(alloc: Global, log: &str) -> Vec<u8> {
+    let Ok(mut room) = Room::new(alloc, 4096) else {
         return Vec::new(alloc);
     };
-    let mut writer = SegmentWriter::new(room, 1);
-    let is_whole = are_logged(alloc, &mut writer, entries);
-    let mut segment = writer.into_inner().into_bytes();
-    if !is_whole {
-        segment.clear();
+    match fault(alloc, log.as_bytes(), &mut room, false, 1) {
+        None => room.into_bytes(),
+        Some(_) => Vec::new(alloc),
     }
-    segment
 }
 
 /// How a run under these settings ends. Where there are none, memory was refused, or no test wants it.
@@ -97,16 +54,15 @@ fn plans(
 const RULES: &[u8] = b"[[rule]]\naction = 'keep'\nsource_labels = ['job']\nregex = 'a|ab'\n
 [[rule]]\naction = 'drop'\nsource_labels = ['env']\nregex = 'test'\n";
 
-const FIVE: &[Logged] = &[
-    (1, Some(&[("env", "prod"), ("job", "ab")])),
-    (2, Some(&[("env", "prod"), ("job", "abc")])),
-    (3, Some(&[("job", "a")])),
-    (4, Some(&[("env", "test"), ("job", "a")])),
-    (5, Some(&[("__name__", "9")])),
-    (1, None),
-    (2, None),
-    (3, None),
-];
+const FIVE: &str = r#"series 1 {env="prod",job="ab"}
+series 2 {env="prod",job="abc"}
+series 3 {job="a"}
+series 4 {env="test",job="a"}
+series 5 {__name__="9"}
+sample 1 1000 0
+sample 2 1000 0
+sample 3 1000 0
+"#;
 
 const PLAN_OF_FIVE: &str = "1 kept 0 {env=\"prod\",job=\"ab\"}
 2 filtered {env=\"prod\",job=\"abc\"}
@@ -116,21 +72,20 @@ const PLAN_OF_FIVE: &str = "1 kept 0 {env=\"prod\",job=\"ab\"}
 samples kept 2 filtered 1 bad 0 noseries 0
 ";
 
-const REDEFINED: &[Logged] = &[
-    (1, None),
-    (1, Some(&[("job", "a")])),
-    (1, None),
-    (2, Some(&[("job", "b")])),
-    (2, None),
-    (2, Some(&[("job", "a")])),
-    (2, None),
-    (1, Some(&[("job", "")])),
-    (1, None),
-    (1, None),
-    (3, None),
-    (1, Some(&[("job", "ab")])),
-    (1, None),
-];
+const REDEFINED: &str = r#"sample 1 1000 0
+series 1 {job="a"}
+sample 1 1000 0
+series 2 {job="b"}
+sample 2 1000 0
+series 2 {job="a"}
+sample 2 1000 0
+series 1 {job=""}
+sample 1 1000 0
+sample 1 1000 0
+sample 3 1000 0
+series 1 {job="ab"}
+sample 1 1000 0
+"#;
 
 const PLAN_OF_REDEFINED: &str = "1 kept 0 {job=\"a\"}
 2 filtered {job=\"b\"}
@@ -141,14 +96,13 @@ samples kept 3 filtered 1 bad 2 noseries 2
 ";
 
 /// Two series whose names are no legacy ones, an empty name, and an empty name of a metric.
-const NAMES: &[Logged] = &[
-    (1, Some(&[("__name__", "http.rate"), ("säge", "1")])),
-    (2, Some(&[("9x", "1")])),
-    (3, Some(&[("", "1")])),
-    (4, Some(&[("__name__", "")])),
-    (1, None),
-    (2, None),
-];
+const NAMES: &str = r#"series 1 {__name__="http.rate","säge"="1"}
+series 2 {"9x"="1"}
+series 3 {""="1"}
+series 4 {__name__=""}
+sample 1 1000 0
+sample 2 1000 0
+"#;
 
 const LEGACY_PLAN: &str = "1 bad 3
 2 bad 3
@@ -166,42 +120,37 @@ samples kept 2 filtered 0 bad 0 noseries 0
 
 /// What a run is over.
 enum Input {
-    /// The segment of entries.
-    Entries(&'static [Logged]),
+    /// The segment of log text.
+    Log(&'static str),
     /// The same with another last byte.
-    Damaged(&'static [Logged]),
+    Damaged(&'static str),
     /// Hexadecimal digits.
     Digits(&'static [u8]),
 }
 
-use Input::{Damaged, Digits, Entries};
+use Input::{Damaged, Digits, Log};
 
 /// Settings, an input, how the run over it ends, and what it writes.
 type Row = (&'static [u8], Input, Result<(), ToolFault>, &'static str);
 
 static ROWS: [Row; 9] = [
-    (RULES, Entries(FIVE), Ok(()), PLAN_OF_FIVE),
+    (RULES, Log(FIVE), Ok(()), PLAN_OF_FIVE),
     (
         RULES,
         Damaged(FIVE),
         Err(ToolFault::Log(TailFault::BadCrc)),
         "",
     ),
-    (RULES, Entries(REDEFINED), Ok(()), PLAN_OF_REDEFINED),
-    (b"", Entries(NAMES), Ok(()), LEGACY_PLAN),
-    (
-        b"[send]\nnames = 'legacy'",
-        Entries(NAMES),
-        Ok(()),
-        LEGACY_PLAN,
-    ),
+    (RULES, Log(REDEFINED), Ok(()), PLAN_OF_REDEFINED),
+    (b"", Log(NAMES), Ok(()), LEGACY_PLAN),
+    (b"[send]\nnames = 'legacy'", Log(NAMES), Ok(()), LEGACY_PLAN),
     (
         b"[receive]\nnames = 'utf8'",
-        Entries(NAMES),
+        Log(NAMES),
         Ok(()),
         LEGACY_PLAN,
     ),
-    (b"[send]\nnames = 'utf8'", Entries(NAMES), Ok(()), UTF8_PLAN),
+    (b"[send]\nnames = 'utf8'", Log(NAMES), Ok(()), UTF8_PLAN),
     (
         b"",
         Digits(b"0100 01b3\n4623a6 02\n"),
@@ -211,9 +160,9 @@ static ROWS: [Row; 9] = [
     (b"", Digits(b"01\n0g"), Err(ToolFault::Line(2)), ""),
 ];
 
-/// The segment of entries with another last byte.
-fn damaged_segment_of(alloc: Global, entries: &[Logged]) -> Vec<u8> {
-    let mut segment = segment_of(alloc, entries);
+/// The segment of log text with another last byte.
+fn damaged_segment_of(alloc: Global, log: &str) -> Vec<u8> {
+    let mut segment = segment_of(alloc, log);
     if let Some(last) = segment.last_mut() {
         *last = 1;
     }
@@ -223,20 +172,24 @@ fn damaged_segment_of(alloc: Global, entries: &[Logged]) -> Vec<u8> {
 fn is_so(alloc: Global, row: &Row) -> bool {
     let (settings, input, outcome, plan) = row;
     match input {
-        Entries(entries) => {
-            let segment = segment_of(alloc, entries);
+        Log(log) => {
+            let segment = segment_of(alloc, log);
             plans(alloc, settings, &segment, false, *outcome, plan)
         }
-        Damaged(entries) => {
-            let segment = damaged_segment_of(alloc, entries);
+        Damaged(log) => {
+            let segment = damaged_segment_of(alloc, log);
             plans(alloc, settings, &segment, false, *outcome, plan)
         }
         Digits(digits) => plans(alloc, settings, digits, true, *outcome, plan),
     }
 }
 
-fn wrong_row(alloc: Global) -> Option<usize> {
-    for (i, row) in ROWS.iter().enumerate() {
+fn rows() -> &'static [Row] {
+    &ROWS
+}
+
+fn wrong_row(alloc: Global, rows: &[Row]) -> Option<usize> {
+    for (i, row) in rows.iter().enumerate() {
         if !is_so(alloc, row) {
             return Some(i);
         }
@@ -246,5 +199,5 @@ fn wrong_row(alloc: Global) -> Option<usize> {
 
 #[test]
 fn segments_and_digits(rt: HostRuntime) {
-    none_is_wrong(&rt, wrong_row(rt.alloc()));
+    none_is_wrong(&rt, wrong_row(rt.alloc(), rows()));
 }

@@ -74,9 +74,5 @@ pub(crate) fn label_set_as(
 }
 
 pub(crate) fn label_set(alloc: Global, labels: &[(&str, &str)]) -> Result<LabelSet, LabelFault> {
-    let mut raw = RawLabels::new(alloc);
-    match put_labels(&mut raw, labels) {
-        Ok(()) => LabelSet::check(alloc, &raw),
-        Err(_) => Err(LabelFault::OutOfMemory),
-    }
+    label_set_as(alloc, Names::Legacy, labels)
 }

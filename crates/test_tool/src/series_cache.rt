@@ -1,7 +1,7 @@
 //! What a cache knows of references. The calls that take memory are made again where it is refused, so the test can be run
 //! with each allocation refused in turn: the refused call changes no answer.
 
-use crate::rows::{holds, none_is_wrong};
+use crate::rows::none_is_wrong;
 use crate::rule_making::{Config, raw_labels, rules};
 use rw_relabel::{Action, Choice, RuleFault, Rules};
 use rw_series_cache::{Cache, Known};
@@ -40,12 +40,18 @@ fn shapes(cache: &Cache) -> [Shape; 6] {
     ]
 }
 
+fn is_label(text: &(String, String), label: &(&str, &str)) -> bool {
+    text.0.as_str() == label.0 && text.1.as_str() == label.1
+}
+
 fn is_same(texts: &[(String, String)], labels: Labels<'_>) -> bool {
+    for (i, label) in labels.iter().enumerate() {
+        match texts.get(i) {
+            Some(text) if is_label(text, label) => {}
+            _ => return false,
+        }
+    }
     texts.len() == labels.len()
-        && texts
-            .iter()
-            .zip(labels)
-            .all(|(a, b)| a.0.as_str() == b.0 && a.1.as_str() == b.1)
 }
 
 /// Whether a reference stands for a kept series with these labels.
@@ -131,8 +137,8 @@ fn is_as_defined(cache: &Cache) -> bool {
         && cache.series_count() == 3
 }
 
-/// Makes the definitions, and answers the first after which something else is known than should be, or the number of them where that shows at the end.
-fn wrong_in(alloc: Global, cache: &mut Cache) -> Option<usize> {
+/// The first definition after which something else is known than should be, or the number of them where that shows at the end.
+fn wrong_definition(alloc: Global, cache: &mut Cache) -> Option<usize> {
     for (i, (reference, labels, wanted)) in DEFINITIONS.iter().enumerate() {
         if !defines(alloc, cache, *reference, labels) || shape_of(cache, *reference) != *wanted {
             return Some(i);
@@ -145,55 +151,9 @@ fn wrong_in(alloc: Global, cache: &mut Cache) -> Option<usize> {
     }
 }
 
-fn cache_of(alloc: Global, names: Names, rules: Rules) -> Cache {
-    Cache::new(alloc, Choice { names, rules })
-}
-
-fn wrong_definition(alloc: Global) -> Option<usize> {
-    match rules_again(alloc, &RULES) {
-        Ok(rules) => wrong_in(alloc, &mut cache_of(alloc, Names::Legacy, rules)),
-        Err(_) => Some(0),
-    }
-}
-
-#[test]
-fn last_definitions(rt: HostRuntime) {
-    none_is_wrong(&rt, wrong_definition(rt.alloc()));
-}
-
-/// Whether this is known of a reference behind its definition by a cache with no rules and such names.
-fn is_known_as(
-    alloc: Global,
-    names: Names,
-    labels: Result<RawLabels, AllocError>,
-    wanted: Shape,
-) -> bool {
-    let mut cache = cache_of(alloc, names, Rules::new(Vec::new(alloc)));
-    is_defined(&mut cache, 1, labels) && shape_of(&cache, 1) == wanted
-}
-
-/// Whether a cache with such names knows this of a label set that is no legacy one.
-fn takes_names(alloc: Global, names: Names, wanted: Shape) -> bool {
-    is_known_as(
-        alloc,
-        names,
-        raw_labels(alloc, &[("http.rate", "1")]),
-        wanted,
-    )
-}
-
-#[test]
-fn names_by_choice(rt: HostRuntime) {
-    holds(&rt, takes_names(rt.alloc(), Names::Utf8, Shape::Kept(0)));
-    holds(
-        &rt,
-        takes_names(rt.alloc(), Names::Legacy, Shape::Bad(LabelFault::BadName)),
-    );
-}
-
-/// A cache that keeps each label set.
-fn cache_of_no_rules(alloc: Global) -> Cache {
-    Cache::new(alloc, Choice::legacy(alloc))
+/// Whether this is known of a reference behind its definition.
+fn is_known_as(cache: &mut Cache, labels: Result<RawLabels, AllocError>, wanted: Shape) -> bool {
+    is_defined(cache, 1, labels) && shape_of(cache, 1) == wanted
 }
 
 /// A label set with this number as its only value.
@@ -222,16 +182,6 @@ fn are_numbered(cache: &Cache) -> bool {
     cache.series_count() == 70_000
 }
 
-fn numbers_many(alloc: Global) -> bool {
-    let mut cache = cache_of_no_rules(alloc);
-    defines_many(alloc, &mut cache, 70_000) && are_numbered(&cache)
-}
-
-#[test]
-fn many_series_are_numbered(rt: HostRuntime) {
-    holds(&rt, numbers_many(rt.alloc()));
-}
-
 fn put_label(alloc: Global, labels: &mut RawLabels, number: u32) -> Result<(), AllocError> {
     labels.push(format!(in alloc; "l{number}")?.as_bytes(), b"1")
 }
@@ -251,13 +201,97 @@ fn sixty_five_labels(alloc: Global) -> Result<RawLabels, AllocError> {
     }
 }
 
+/// What is done with a new cache.
+#[derive(Clone, Copy)]
+enum Trial {
+    /// The definitions are made.
+    Definitions,
+    /// This is then known of a label set that is no legacy one.
+    Names(Shape),
+    /// This is then known of a label set with a label too many.
+    TooMany(Shape),
+    /// 70,000 references are defined.
+    Many,
+}
+
+/// Whether a trial that is no table goes as it should.
+fn goes(alloc: Global, cache: &mut Cache, trial: Trial) -> bool {
+    match trial {
+        Trial::Definitions => false,
+        Trial::Names(wanted) => {
+            is_known_as(cache, raw_labels(alloc, &[("http.rate", "1")]), wanted)
+        }
+        Trial::TooMany(wanted) => is_known_as(cache, sixty_five_labels(alloc), wanted),
+        Trial::Many => defines_many(alloc, cache, 70_000) && are_numbered(cache),
+    }
+}
+
+/// The row of a trial that is wrong, or 0 where it has none.
+fn wrong_in(alloc: Global, cache: &mut Cache, trial: Trial) -> Option<usize> {
+    match trial {
+        Trial::Definitions => wrong_definition(alloc, cache),
+        _ if goes(alloc, cache, trial) => None,
+        _ => Some(0),
+    }
+}
+
+/// The same with a new cache.
+fn wrong_with(alloc: Global, choice: Choice, trial: Trial) -> Option<usize> {
+    let mut cache = Cache::new(alloc, choice);
+    wrong_in(alloc, &mut cache, trial)
+}
+
+fn wrong_with_rules(alloc: Global) -> Option<usize> {
+    match rules_again(alloc, &RULES) {
+        Ok(rules) => wrong_with(
+            alloc,
+            Choice {
+                names: Names::Legacy,
+                rules,
+            },
+            Trial::Definitions,
+        ),
+        Err(_) => Some(0),
+    }
+}
+
+#[test]
+fn last_definitions(rt: HostRuntime) {
+    none_is_wrong(&rt, wrong_with_rules(rt.alloc()));
+}
+
+/// A cache with such names and no rules.
+fn wrong_with_names(alloc: Global, names: Names, wanted: Shape) -> Option<usize> {
+    let rules = Rules::new(Vec::new(alloc));
+    wrong_with(alloc, Choice { names, rules }, Trial::Names(wanted))
+}
+
+#[test]
+fn names_by_choice(rt: HostRuntime) {
+    let bad = Shape::Bad(LabelFault::BadName);
+    none_is_wrong(
+        &rt,
+        wrong_with_names(rt.alloc(), Names::Utf8, Shape::Kept(0)),
+    );
+    none_is_wrong(&rt, wrong_with_names(rt.alloc(), Names::Legacy, bad));
+}
+
+/// A cache that keeps each label set.
+fn wrong_with_no_rules(alloc: Global, trial: Trial) -> Option<usize> {
+    wrong_with(alloc, Choice::legacy(alloc), trial)
+}
+
+#[test]
+fn many_series_are_numbered(rt: HostRuntime) {
+    none_is_wrong(&rt, wrong_with_no_rules(rt.alloc(), Trial::Many));
+}
+
 /// Labels of which there are too many are no want of memory.
 #[test]
 fn sixty_five_labels_are_too_many(rt: HostRuntime) {
-    let labels = sixty_five_labels(rt.alloc());
     let too_many = Shape::Bad(LabelFault::TooMany);
-    holds(
+    none_is_wrong(
         &rt,
-        is_known_as(rt.alloc(), Names::Legacy, labels, too_many),
+        wrong_with_no_rules(rt.alloc(), Trial::TooMany(too_many)),
     );
 }

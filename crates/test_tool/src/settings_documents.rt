@@ -115,9 +115,13 @@ static FAULTS: [(&[u8], u8); 68] = [
     (b"sned = 1\n[send", 1),
 ];
 
+fn faults_of_texts() -> &'static [(&'static [u8], u8)] {
+    &FAULTS
+}
+
 /// The first text whose fault is another.
-fn wrong_fault(alloc: Global) -> Option<usize> {
-    for (i, (text, want)) in FAULTS.iter().enumerate() {
+fn wrong_fault(alloc: Global, rows: &[(&[u8], u8)]) -> Option<usize> {
+    for (i, (text, want)) in rows.iter().enumerate() {
         if fault(alloc, text) != *want {
             return Some(i);
         }
@@ -127,7 +131,7 @@ fn wrong_fault(alloc: Global) -> Option<usize> {
 
 #[test]
 fn faults(rt: HostRuntime) {
-    none_is_wrong(&rt, wrong_fault(rt.alloc()));
+    none_is_wrong(&rt, wrong_fault(rt.alloc(), faults_of_texts()));
 }
 
 fn sending(s: &Settings) -> [u64; 8] {
@@ -175,13 +179,6 @@ fn sets(s: &Settings, want: &Read) -> bool {
     sending(s) == want.0 && receiving(s) == want.1 && texts(s) == want.2 && names(s) == want.3
 }
 
-fn reads_as(alloc: Global, text: &[u8], want: &Read) -> bool {
-    match read_settings(alloc, text) {
-        Ok(s) => sets(&s, want),
-        Err(_) => false,
-    }
-}
-
 const EVERY_KEY: &[u8] =
     b"[send]\nhost = 'a'\npath = '/b'\nshards = 2\nmin_shards = 1\nmax_shards = 3\ncapacity = 4\nbatch = 5\n
           min_backoff_ms = 6\nmax_backoff_ms = 7\ntimeout_ms = 8\nnames = 'utf8'\n
@@ -216,49 +213,11 @@ separator = \"/\"
 regex = \"test/.*\"
 ";
 
-/// Texts, and what they set.
-static READ: [(&[u8], Read); 3] = [
-    (
-        b"",
-        (
-            [1, 1, 50, 10_000, 2_000, 30, 5_000, 30_000],
-            [16_777_216, 64, 16_384, 0],
-            ["localhost:9090", "/api/v1/write", "/api/v1/write"],
-            [Names::Legacy, Names::Legacy],
-        ),
-    ),
-    (
-        EVERY_KEY,
-        (
-            [2, 1, 3, 4, 5, 6, 7, 8],
-            [9, 10, 11, 12],
-            ["a", "/b", "/c"],
-            [Names::Utf8, Names::Utf8],
-        ),
-    ),
-    (
-        EXAMPLE,
-        (
-            [2, 1, 8, 10_000, 500, 100, 10_000, 30_000],
-            [1_048_576, 64, 16_384, 0],
-            ["metrics.example:9090", "/api/v1/write", "/api/v1/write"],
-            [Names::Legacy, Names::Legacy],
-        ),
-    ),
-];
-
-/// The first text that sets something else.
-fn wrong_reading(alloc: Global) -> Option<usize> {
-    for (i, (text, want)) in READ.iter().enumerate() {
-        if !reads_as(alloc, text, want) {
-            return Some(i);
-        }
-    }
-    None
-}
+/// Labels, and whether rules keep them.
+type Kept = &'static [(&'static [(&'static str, &'static str)], bool)];
 
 /// Labels, and whether the example's rules keep them.
-static KEPT: [(&[(&str, &str)], bool); 5] = [
+const KEPT: Kept = &[
     (&[("job", "node")], true),
     (&[("job", "nodes")], false),
     (&[("env", "prod")], false),
@@ -268,6 +227,44 @@ static KEPT: [(&[(&str, &str)], bool); 5] = [
         true,
     ),
 ];
+
+/// Texts, what they set, and which labels their rules keep.
+static READ: [(&[u8], Read, Kept); 3] = [
+    (
+        b"",
+        (
+            [1, 1, 50, 10_000, 2_000, 30, 5_000, 30_000],
+            [16_777_216, 64, 16_384, 0],
+            ["localhost:9090", "/api/v1/write", "/api/v1/write"],
+            [Names::Legacy, Names::Legacy],
+        ),
+        &[],
+    ),
+    (
+        EVERY_KEY,
+        (
+            [2, 1, 3, 4, 5, 6, 7, 8],
+            [9, 10, 11, 12],
+            ["a", "/b", "/c"],
+            [Names::Utf8, Names::Utf8],
+        ),
+        &[],
+    ),
+    (
+        EXAMPLE,
+        (
+            [2, 1, 8, 10_000, 500, 100, 10_000, 30_000],
+            [1_048_576, 64, 16_384, 0],
+            ["metrics.example:9090", "/api/v1/write", "/api/v1/write"],
+            [Names::Legacy, Names::Legacy],
+        ),
+        KEPT,
+    ),
+];
+
+fn readings() -> &'static [(&'static [u8], Read, Kept)] {
+    &READ
+}
 
 /// Whether rules keep a set, or not, as is said here.
 fn keeps(s: &Settings, set: &LabelSet, want: bool) -> bool {
@@ -282,25 +279,35 @@ fn is_kept(alloc: Global, s: &Settings, labels: &[(&str, &str)], want: bool) -> 
     }
 }
 
-/// The first of these labels that the rules keep and should not, or the other way round.
-fn wrongly_kept_by(alloc: Global, s: &Settings) -> Option<usize> {
-    for (i, (labels, want)) in KEPT.iter().enumerate() {
+/// Whether the rules keep these labels, or not, as is said beside them.
+fn are_kept(alloc: Global, s: &Settings, kept: Kept) -> bool {
+    for (labels, want) in kept {
         if !is_kept(alloc, s, labels, *want) {
+            return false;
+        }
+    }
+    true
+}
+
+/// Whether a text sets this, and its rules keep these labels.
+fn reads_as(alloc: Global, text: &[u8], want: &Read, kept: Kept) -> bool {
+    match read_settings(alloc, text) {
+        Ok(s) => sets(&s, want) && are_kept(alloc, &s, kept),
+        Err(_) => false,
+    }
+}
+
+/// The first text that sets something else, or whose rules keep other labels.
+fn wrong_reading(alloc: Global, rows: &[(&[u8], Read, Kept)]) -> Option<usize> {
+    for (i, (text, want, kept)) in rows.iter().enumerate() {
+        if !reads_as(alloc, text, want, *kept) {
             return Some(i);
         }
     }
     None
 }
 
-fn wrongly_kept(alloc: Global) -> Option<usize> {
-    match read_settings(alloc, EXAMPLE) {
-        Ok(s) => wrongly_kept_by(alloc, &s),
-        Err(_) => Some(0),
-    }
-}
-
 #[test]
 fn defaults_every_key_and_example(rt: HostRuntime) {
-    none_is_wrong(&rt, wrong_reading(rt.alloc()));
-    none_is_wrong(&rt, wrongly_kept(rt.alloc()));
+    none_is_wrong(&rt, wrong_reading(rt.alloc(), readings()));
 }

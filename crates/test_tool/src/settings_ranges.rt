@@ -58,8 +58,12 @@ fn is_range(alloc: Global, range: Range) -> bool {
         && is_fault_at(alloc, range, i64::MAX, 4)
 }
 
-fn wrong_range(alloc: Global) -> Option<usize> {
-    for (i, range) in RANGES.iter().enumerate() {
+fn ranges() -> &'static [Range] {
+    &RANGES
+}
+
+fn wrong_range(alloc: Global, ranges: &[Range]) -> Option<usize> {
+    for (i, range) in ranges.iter().enumerate() {
         if !is_range(alloc, *range) {
             return Some(i);
         }
@@ -69,7 +73,7 @@ fn wrong_range(alloc: Global) -> Option<usize> {
 
 #[test]
 fn numbers(rt: HostRuntime) {
-    none_is_wrong(&rt, wrong_range(rt.alloc()));
+    none_is_wrong(&rt, wrong_range(rt.alloc(), ranges()));
 }
 
 /// A text of this beginning and so many letters.
@@ -89,8 +93,10 @@ fn is_text_fault(alloc: Global, key: &str, value: &str, want: u8) -> bool {
     }
 }
 
-/// Keys with texts, which so many letters follow, and the number of the fault, or 9.
-static TEXTS: [(&str, &str, usize, u8); 23] = [
+/// A key with a text, which so many letters follow, and the number of the fault, or 9.
+type Text = (&'static str, &'static str, usize, u8);
+
+static TEXTS: [Text; 23] = [
     ("send.host", "", 0, 4),
     ("send.host", "!", 0, 9),
     ("send.host", "~", 0, 9),
@@ -125,8 +131,12 @@ fn is_fault_of_letters(alloc: Global, key: &str, front: &str, letters: usize, wa
     }
 }
 
-fn wrong_text(alloc: Global) -> Option<usize> {
-    for (i, (key, front, letters, want)) in TEXTS.iter().enumerate() {
+fn rows() -> &'static [Text] {
+    &TEXTS
+}
+
+fn wrong_text(alloc: Global, rows: &[Text]) -> Option<usize> {
+    for (i, (key, front, letters, want)) in rows.iter().enumerate() {
         if !is_fault_of_letters(alloc, key, front, *letters, *want) {
             return Some(i);
         }
@@ -136,5 +146,5 @@ fn wrong_text(alloc: Global) -> Option<usize> {
 
 #[test]
 fn texts(rt: HostRuntime) {
-    none_is_wrong(&rt, wrong_text(rt.alloc()));
+    none_is_wrong(&rt, wrong_text(rt.alloc(), rows()));
 }

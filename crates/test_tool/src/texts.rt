@@ -89,10 +89,18 @@ fn prints_numbers(alloc: Global) -> bool {
         && out.as_slice() == b"18446744073709551615-9223372036854775808".as_slice()
 }
 
+fn is_label(read: &(Vec<u8>, Vec<u8>), label: &(&str, &str)) -> bool {
+    read.0.as_slice() == label.0.as_bytes() && read.1.as_slice() == label.1.as_bytes()
+}
+
 fn are_labels(read: &RawLabels, labels: &[(&str, &str)]) -> bool {
+    for (i, label) in labels.iter().enumerate() {
+        match read.as_slice().get(i) {
+            Some(found) if is_label(found, label) => {}
+            _ => return false,
+        }
+    }
     read.len() == labels.len()
-        && read.as_slice().iter().zip(labels).all(|(l, m)| l.0.as_slice() == m.0.as_bytes()
-            && l.1.as_slice() == m.1.as_bytes())
 }
 
 /// Whether the text reads as these labels.
@@ -112,21 +120,28 @@ fn is_printed(alloc: Global, labels: &[(&str, &str)], text: &str) -> bool {
     }
 }
 
+/// Whether labels are printed as this text, and read from it.
+fn is_labelled(alloc: Global, labels: &[(&str, &str)], text: &str) -> bool {
+    is_printed(alloc, labels, text) && reads_as(alloc, text.as_bytes(), labels)
+}
+
 fn is_so(alloc: Global, row: &Row) -> bool {
     match row {
         Value(bits, text) => is_value(alloc, *bits, text),
         Number(text, number, integer) => {
             read_number(text.as_bytes()) == *number && read_integer(text.as_bytes()) == *integer
         }
-        Labelled(labels, text) => {
-            is_printed(alloc, labels, text) && reads_as(alloc, text.as_bytes(), labels)
-        }
+        Labelled(labels, text) => is_labelled(alloc, labels, text),
         Other(labels, text) => reads_as(alloc, text.as_bytes(), labels),
     }
 }
 
-fn wrong_row(alloc: Global) -> Option<usize> {
-    for (i, row) in ROWS.iter().enumerate() {
+fn rows() -> &'static [Row] {
+    &ROWS
+}
+
+fn wrong_row(alloc: Global, rows: &[Row]) -> Option<usize> {
+    for (i, row) in rows.iter().enumerate() {
         if !is_so(alloc, row) {
             return Some(i);
         }
@@ -136,7 +151,7 @@ fn wrong_row(alloc: Global) -> Option<usize> {
 
 #[test]
 fn there_and_back(rt: HostRuntime) {
-    none_is_wrong(&rt, wrong_row(rt.alloc()));
+    none_is_wrong(&rt, wrong_row(rt.alloc(), rows()));
     holds(&rt, prints_numbers(rt.alloc()));
 }
 
@@ -149,21 +164,15 @@ fn long_name(alloc: Global) -> String {
     name
 }
 
-/// Whether labels are printed in so many bytes, and read again.
-fn is_printed_and_read(alloc: Global, labels: &[(&str, &str)], len: usize) -> bool {
-    let mut out = Vec::new(alloc);
-    match label_set_as(alloc, Names::Utf8, labels) {
-        Ok(set) => {
-            push_labels(&mut out, &set).is_ok() && out.len() == len && reads_as(alloc, &out, labels)
+/// Whether a label with the longest name is printed and read as others are.
+fn is_long_name_kept(alloc: Global) -> bool {
+    let name = long_name(alloc);
+    match format!(in alloc; "{{\"{name}\"=\"1\"}}") {
+        Ok(text) => {
+            name.len() == 16_383 && is_labelled(alloc, &[(name.as_str(), "1")], text.as_str())
         }
         Err(_) => false,
     }
-}
-
-/// Whether a label with the longest name is.
-fn is_long_name_kept(alloc: Global) -> bool {
-    let name = long_name(alloc);
-    is_printed_and_read(alloc, &[(name.as_str(), "1")], 16_383 + 8)
 }
 
 #[test]
