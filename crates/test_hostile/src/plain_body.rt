@@ -156,67 +156,37 @@ fn spell_sample(text: &[u8], out: &mut Vec<u8>) -> Result<(), WireFault> {
     Ok(())
 }
 
-/// Puts a label, spelled so.
-fn put_label(alloc: Global, text: &[u8], out: &mut Vec<u8>) -> Result<(), WireFault> {
-    let mut label = Vec::new(alloc);
-    match spell_label(text, &mut label) {
-        Ok(()) => Ok(put_bytes(out, 0x0a, &label)?),
-        Err(fault) => Err(fault),
-    }
-}
-
-/// Puts a sample, spelled so.
-fn put_sample(alloc: Global, text: &[u8], out: &mut Vec<u8>) -> Result<(), WireFault> {
-    let mut sample = Vec::new(alloc);
-    match spell_sample(text, &mut sample) {
-        Ok(()) => Ok(put_bytes(out, 0x12, &sample)?),
-        Err(fault) => Err(fault),
-    }
-}
-
-/// Puts the labels of a series, and apart from them its samples.
-fn put_parts(
-    alloc: Global,
-    text: &[u8],
-    labels: &mut Vec<u8>,
-    samples: &mut Vec<u8>,
-) -> Result<(), WireFault> {
+/// Spells a series: its labels, and behind them its samples.
+fn spell_series(alloc: Global, text: &[u8], out: &mut Vec<u8>) -> Result<(), WireFault> {
+    let mut samples = Vec::new(alloc);
+    let mut part = Vec::new(alloc);
     let mut rest = text;
     for _ in 0..text.len() {
         if rest.is_empty() {
             break;
         }
         let field = first_field(rest, [Some(2), Some(2)])?;
+        part.clear();
         match field.number {
-            1 => put_label(alloc, field.bytes, labels)?,
-            2 => put_sample(alloc, field.bytes, samples)?,
+            1 => {
+                spell_label(field.bytes, &mut part)?;
+                put_bytes(out, 0x0a, &part)?;
+            }
+            2 => {
+                spell_sample(field.bytes, &mut part)?;
+                put_bytes(&mut samples, 0x12, &part)?;
+            }
             _ => {}
         }
         rest = field.rest;
     }
+    out.extend_from_slice(&samples)?;
     Ok(())
 }
 
-/// Spells a series: its labels, and behind them its samples.
-fn spell_series(alloc: Global, text: &[u8], out: &mut Vec<u8>) -> Result<(), WireFault> {
-    let mut samples = Vec::new(alloc);
-    match put_parts(alloc, text, out, &mut samples) {
-        Ok(()) => Ok(out.extend_from_slice(&samples)?),
-        Err(fault) => Err(fault),
-    }
-}
-
-/// Puts a series, spelled so.
-fn put_series(alloc: Global, text: &[u8], out: &mut Vec<u8>) -> Result<(), WireFault> {
-    let mut series = Vec::new(alloc);
-    match spell_series(alloc, text, &mut series) {
-        Ok(()) => Ok(put_bytes(out, 0x0a, &series)?),
-        Err(fault) => Err(fault),
-    }
-}
-
-/// Spells a message: its series.
-fn spell_message(alloc: Global, text: &[u8], out: &mut Vec<u8>) -> Result<(), WireFault> {
+/// The canonical spelling of the message that a text spells, or its first fault.
+pub(crate) fn plain_spelling(alloc: Global, text: &[u8]) -> Result<Vec<u8>, WireFault> {
+    let mut out = Vec::new(alloc);
     let mut rest = text;
     for _ in 0..text.len() {
         if rest.is_empty() {
@@ -224,18 +194,11 @@ fn spell_message(alloc: Global, text: &[u8], out: &mut Vec<u8>) -> Result<(), Wi
         }
         let field = first_field(rest, [Some(2), None])?;
         if field.number == 1 {
-            put_series(alloc, field.bytes, out)?;
+            let mut series = Vec::new(alloc);
+            spell_series(alloc, field.bytes, &mut series)?;
+            put_bytes(&mut out, 0x0a, &series)?;
         }
         rest = field.rest;
     }
-    Ok(())
-}
-
-/// The canonical spelling of the message that a text spells, or its first fault.
-pub(crate) fn plain_spelling(alloc: Global, text: &[u8]) -> Result<Vec<u8>, WireFault> {
-    let mut out = Vec::new(alloc);
-    match spell_message(alloc, text, &mut out) {
-        Ok(()) => Ok(out),
-        Err(fault) => Err(fault),
-    }
+    Ok(out)
 }
