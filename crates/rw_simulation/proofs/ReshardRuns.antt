@@ -21,7 +21,7 @@ use Rattle.rw_simulation.proofs.FreeLaws.{keeps-lists}
 use Rattle.rw_simulation.proofs.EndRuns.{IsResolvedFate, ClosedBelow, end-all, drained-all}
 
 -- the machine at the beginning of an epoch of so many shards, with these entries placed
-pub record Begins (c : Setup) (pieces : List Piece) (epoch m : ℕ) (placed : List Entry) (w : World) : Type 0 where
+pub record BeginsEpoch (c : Setup) (pieces : List Piece) (epoch m : ℕ) (placed : List Entry) (w : World) : Type 0 where
   pub going : (w.killed ≡ false) × (w.closed ≡ None) × (w.draining ≡ None)
   pub pieces_are : w.pieces ≡ pieces
   pub epoch_is : w.epoch ≡ epoch
@@ -97,7 +97,7 @@ module _ (c : Setup) (pieces : List Piece) (epoch n m : ℕ) (fates : ℕ → Sh
   epoch-is : over.epoch ≡ epoch
   epoch-is = ap (λ (x : World). x.epoch) over-is.same ∙ put.under.epoch_is
 
-  pub reshard-run : Reaches c w (Begins c pieces (suc epoch) m placed)
+  pub reshard-run : Reaches c w (BeginsEpoch c pieces (suc epoch) m placed)
   reshard-run = record {
     events = Of (event.Reshard m) ∷ (closing.events ++ Of event.Restart ∷ []);
     world = next;

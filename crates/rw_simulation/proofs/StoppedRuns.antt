@@ -55,7 +55,7 @@ use Rattle.rw_simulation.specs.StoppedShards.{IsShardOf}
 use Rattle.rw_machine.specs.Endings.{ending_of}
 use Rattle.rw_simulation.specs.StoppedRuns.{IsSetAs, HasNumbers, AreNumbers, EndInTurn, first_number, IsAlike, IsRun, StopsAsRun, StopsInOrder}
 use Rattle.rw_simulation.proofs.Changes.{run-append}
-use Rattle.rw_simulation.proofs.ReshardRuns.{Begins, reshard-run}
+use Rattle.rw_simulation.proofs.ReshardRuns.{BeginsEpoch, reshard-run}
 use Rattle.rw_simulation.proofs.WorkerLists.{core_after, after-is, ended-after, last_tail}
 use Rattle.rw_simulation.proofs.EntryRuns.{over_not}
 use Rattle.rw_simulation.proofs.FreeLaws.{keeps-lists}
@@ -313,7 +313,7 @@ module _ {T : Type 0} (tells : T → Type 0) (seen : T → List Exchange) (is_fo
         f : Found js sound k l.0
         f = find js sound k l.0 l.1
 
-    put-all : (pieces : List Piece) (rest : List Entry) (w : World) → Begins c pieces epoch n before w → entries pieces ≡ before ++ (es ++ rest) → Reaches c w (IsAllPut c pieces epoch n fates (before ++ es))
+    put-all : (pieces : List Piece) (rest : List Entry) (w : World) → BeginsEpoch c pieces epoch n before w → entries pieces ≡ before ++ (es ++ rest) → Reaches c w (IsAllPut c pieces epoch n fates (before ++ es))
     put-all pieces rest w b begins = fleet-run c pieces epoch (map lane_of js) (λ k. steps_in js sound k) (λ k. []) before es w work.capacity work.batch some_lanes (record {
       going = b.going;
       pieces_are = b.pieces_are;
@@ -349,7 +349,7 @@ module _ {T : Type 0} (tells : T → Type 0) (seen : T → List Exchange) (is_fo
         same = same_Some _ _ (sym g.at ∙ at)
 
   -- ---- the last epoch
-  module _ (epoch : ℕ) (js : List (StoppedShard T)) (sound : AllByRecursion Sound js) (some_lanes : 1 ≤ length (map lane_of js)) (by : AreEndedBy kind.Orderly (map put_into (map lane_of js))) (before es : List Entry) (dealt : IsDealt epoch (map lane_of js) (gather_from (sent_of c.choice) before es)) (pieces : List Piece) (w : World) (b : Begins c pieces epoch (length (map lane_of js)) before w) (all : entries pieces ≡ before ++ es) where
+  module _ (epoch : ℕ) (js : List (StoppedShard T)) (sound : AllByRecursion Sound js) (some_lanes : 1 ≤ length (map lane_of js)) (by : AreEndedBy kind.Orderly (map put_into (map lane_of js))) (before es : List Entry) (dealt : IsDealt epoch (map lane_of js) (gather_from (sent_of c.choice) before es)) (pieces : List Piece) (w : World) (b : BeginsEpoch c pieces epoch (length (map lane_of js)) before w) (all : entries pieces ≡ before ++ es) where
     abbrev m : ℕ
     m = length (map lane_of js)
 
@@ -428,14 +428,14 @@ module _ {T : Type 0} (tells : T → Type 0) (seen : T → List Exchange) (is_fo
     reach : Reaches c w (Final pieces all last)
 
   epochs-run : (lanes : List ShardHistory) (later : List (List ShardHistory)) (epoch : ℕ) (js : List (StoppedShard T)) (before es : List Entry) (pieces : List Piece) (w : World) → AllByRecursion Sound js → map lane_of js ≡ joined (lanes ∷ later) → Places epoch (lanes ∷ later) (gather_from (sent_of c.choice) before es)
-      → 1 ≤ length lanes → AreNumbers later → EndInTurn (lanes ∷ later) → Begins c pieces epoch (length lanes) before w → entries pieces ≡ before ++ es → AllRun pieces (before ++ es) js w
+      → 1 ≤ length lanes → AreNumbers later → EndInTurn (lanes ∷ later) → BeginsEpoch c pieces epoch (length lanes) before w → entries pieces ≡ before ++ es → AllRun pieces (before ++ es) js w
   epochs-run lanes [] epoch js before es pieces w sound e p some numbers turn b all = record {
     earlier = [];
     last = js;
     are = refl;
     reach = last-run epoch js sound (subst (λ (ls : List ShardHistory). 1 ≤ length ls) same some) (subst (λ (ls : List ShardHistory). AreEndedBy kind.Orderly (map put_into ls)) same turn) before es
         (subst (λ (ls : List ShardHistory). IsDealt epoch ls (gather_from (sent_of c.choice) before es)) same (subst (IsDealt epoch lanes) (sym (p.2 ∙ ap (λ (xs : List Sent). p.0 ++ xs) p.4 ∙ append-nil p.0)) p.3))
-        pieces w (subst (λ (ls : List ShardHistory). Begins c pieces epoch (length ls) before w) same b) all;
+        pieces w (subst (λ (ls : List ShardHistory). BeginsEpoch c pieces epoch (length ls) before w) same b) all;
   }
     where
       same : lanes ≡ map lane_of js
@@ -472,9 +472,9 @@ module _ {T : Type 0} (tells : T → Type 0) (seen : T → List Exchange) (is_fo
       begins = all ∙ ap (λ (xs : List Entry). before ++ xs) pt.are
 
       r1 : Reaches c w (IsAllPut c pieces epoch (length (map lane_of sp.first)) (fates epoch kind.Reshard sp.first now some_now by before pt.now dealt) (before ++ pt.now))
-      r1 = put-all epoch kind.Reshard sp.first now some_now by before pt.now dealt pieces pt.later w (subst (λ (ls : List ShardHistory). Begins c pieces epoch (length ls) before w) same b) begins
+      r1 = put-all epoch kind.Reshard sp.first now some_now by before pt.now dealt pieces pt.later w (subst (λ (ls : List ShardHistory). BeginsEpoch c pieces epoch (length ls) before w) same b) begins
 
-      r2 : Reaches c r1.world (Begins c pieces (suc epoch) (length next) (before ++ pt.now))
+      r2 : Reaches c r1.world (BeginsEpoch c pieces (suc epoch) (length next) (before ++ pt.now))
       r2 = reshard-run c pieces epoch (length (map lane_of sp.first)) (length next) (fates epoch kind.Reshard sp.first now some_now by before pt.now dealt) (before ++ pt.now) work.capacity numbers.0.0 numbers.0.1
           (fate-end epoch kind.Reshard sp.first now some_now by before pt.now dealt) (fate-resolved epoch kind.Reshard sp.first now some_now by before pt.now dealt) r1.world r1.holds
           (subst (lists.All c) r1.is (keeps-lists c r1.events w b.lists_are))
@@ -500,7 +500,7 @@ module _ {T : Type 0} (tells : T → Type 0) (seen : T → List Exchange) (is_fo
   fed-all : run_freely c (feeds fed) (start c) ≡ begun
   fed-all = feed-all c fed (start c) refl refl ∙ ap (λ ps. record (start c) { pieces = ps }) (sym fed_are)
 
-  begins : Begins c s.log.pieces 0 c.shards [] begun
+  begins : BeginsEpoch c s.log.pieces 0 c.shards [] begun
   begins = record {
     going = (refl, refl, refl);
     pieces_are = refl;
@@ -531,7 +531,7 @@ module _ {T : Type 0} (tells : T → Type 0) (seen : T → List Exchange) (is_fo
     where
       run : AllRun tells seen is_for c s.fleet.config set work s.log.pieces s.log.placed h.joined begun
       run = epochs-run tells seen is_for c s.fleet.config set work lanes later 0 h.joined [] s.log.placed s.log.pieces begun (sound-all tells seen is_for c s.fleet.config set work h.joined h.worked h.setup resolved) e p
-          (subst (λ (i : ℕ). 1 ≤ i) (sym numbers.0) work.shards) numbers.1 turn (subst (λ (i : ℕ). Begins c s.log.pieces 0 i [] begun) (sym numbers.0) begins) (sym read.all)
+          (subst (λ (i : ℕ). 1 ≤ i) (sym numbers.0) work.shards) numbers.1 turn (subst (λ (i : ℕ). BeginsEpoch c s.log.pieces 0 i [] begun) (sym numbers.0) begins) (sym read.all)
 
       leads : world_of c (feeds fed ++ run.reach.events) ≡ run.reach.world
       leads = run-append c (feeds fed) run.reach.events (start c) ∙ ap (run_freely c run.reach.events) fed-all ∙ run.reach.is
