@@ -1,7 +1,7 @@
 -- A shipper that was stopped in order, and left nothing, is a run of the machine.
 use Rattle.std.proofs.Common.{◌≡◌, ℕ, zero, suc, ◌+◌, ◌-◌, ◌<◌, ◌≤◌, ◌==◌, Bool, true, false, cond, List, [], ◌∷◌, ◌++◌, map, length, Option, None, Some, is_some, slice_get, refl, sym, ap, ◌∙◌, subst, append-nil, append_assoc, arith, ◌⊎◌, inl, inr}
 use Rattle.std.specs.List.{AllByRecursion, list_all}
-use Rattle.std.proofs.lemmas.List.{length-drop}
+use Rattle.std.proofs.lemmas.List.{length-drop, length-map, map-append}
 use Rattle.std.proofs.lemmas.Bool.{eq-eqb, eqb-true, and_parts}
 use Rattle.std.proofs.lemmas.Option.{same_Some, none-some}
 use Rattle.rw_types.specs.declared.entry.Entry.{Entry}
@@ -129,18 +129,10 @@ get_map f [] k x e = absurd (none-some x e)
 get_map f (y ∷ ys) zero x e = ap Some (ap f (same_Some _ _ e))
 get_map f (y ∷ ys) (suc k) x e = get_map f ys k x e
 
-map_both : {X Y : Type 0} (f : X → Y) (xs ys : List X) → map f (xs ++ ys) ≡ map f xs ++ map f ys
-map_both f [] ys = refl
-map_both f (x ∷ xs) ys = ap (λ zs. f x ∷ zs) (map_both f xs ys)
-
 map_get : {X Y : Type 0} (f : X → Y) (xs : List X) (k : ℕ) (y : Y) → slice_get (map f xs) k ≡ Some y → (x : X) × (slice_get xs k ≡ Some x) × (f x ≡ y)
 map_get f [] k y e = absurd (none-some y e)
 map_get f (x ∷ xs) zero y e = (x, refl, same_Some _ _ e)
 map_get f (x ∷ xs) (suc k) y e = map_get f xs k y e
-
-map_length : {X Y : Type 0} (f : X → Y) (xs : List X) → length (map f xs) ≡ length xs
-map_length f [] = refl
-map_length f (x ∷ xs) = ap suc (map_length f xs)
 
 -- ---- what was put is resolved
 place_count : (xs : List Item) → length (places_in xs) ≡ length (samples_in xs)
@@ -225,7 +217,7 @@ module _ {T : Type 0} (tells : T → Type 0) (seen : T → List Exchange) (is_fo
 
   all_put_resolved : (j : StoppedShard T) → (h : Sound j) → length (samples_in (put_of j.finished.ends)) ≤ length (after (start_of j.worker.value) h.worked.report.steps).core.resolved
   all_put_resolved j h = subst (λ (n : ℕ). length (samples_in (put_of j.finished.ends)) ≤ n) h.worked.report.counted
-      (subst (λ (n : ℕ). n ≤ j.finished.resolved) (map_length (λ (p : Place). p.pos) (places_in (put_of j.finished.ends)) ∙ place_count (put_of j.finished.ends))
+      (subst (λ (n : ℕ). n ≤ j.finished.resolved) (length-map (places_in (put_of j.finished.ends)) (λ (p : Place). p.pos) ∙ place_count (put_of j.finished.ends))
       (none_behind (length (positions_in (put_of j.finished.ends))) j.finished.resolved (length j.abandoned.items)
       (ap length h.worked.abandoned ∙ length-drop j.finished.resolved (positions_in (put_of j.finished.ends)))
       (eqb-true (length j.abandoned.items) 0 (and_parts (is_compared j.finished.ends) (length j.abandoned.items == 0) h.resolved).1)))
@@ -413,7 +405,7 @@ module _ {T : Type 0} (tells : T → Type 0) (seen : T → List Exchange) (is_fo
         pieces_are = ap (λ (x : World). x.pieces) over-is.same ∙ put-is.under.pieces_are;
         placed_are = ap (λ (x : World). x.placed) over-is.same ∙ put-is.under.placed;
         counted = ap (λ (x : World). x.filtered) over-is.same ∙ put-is.under.counted;
-        shards = over-is.count ∙ map_length lane_of js;
+        shards = over-is.count ∙ length-map js lane_of;
         each = λ k s j e at. let lt = subst (λ (i : ℕ). k < i) over-is.count (below over.shards k s e) in alike epoch kind.Orderly js sound some_lanes by before es dealt k s j lt (over-is.done k s e lt) at;
         reported = ap report over-is.same ∙ rw (put-is.under.going.0, all-placed, all-drained-now) refl
             ∙ ap Some (ap (λ ps. ended_as (fault ps) put.placed) put-is.under.pieces_are ∙ ap (λ (i : ℕ). ended_as (fault pieces) i) put-is.under.placed);
@@ -522,8 +514,8 @@ module _ {T : Type 0} (tells : T → Type 0) (seen : T → List Exchange) (is_fo
       filtered = ap (λ (x : World). x.filtered) leads ∙ last.counted ∙ ap (λ (ch : Choice). length (filtered ch s.log.placed)) choice ∙ sym h.filter_count;
       earlier = map finished_of run.earlier;
       last = map finished_of run.last;
-      workers = h.workers ∙ ap (map finished_of) run.are ∙ map_both finished_of run.earlier run.last;
-      shards = ap (λ (x : World). length x.shards) leads ∙ last.shards ∙ sym (map_length finished_of run.last);
+      workers = h.workers ∙ ap (map finished_of) run.are ∙ map-append finished_of run.earlier run.last;
+      shards = ap (λ (x : World). length x.shards) leads ∙ last.shards ∙ sym (length-map run.last finished_of);
       each = λ k m f e at. let g = map_get finished_of run.last k f at in subst (λ (y : Finished T). IsAlike y m) g.2 (last.each k m g.0 (ap (λ (x : World). slice_get x.shards k) (sym leads) ∙ e) g.1);
       outcome_is = ap report leads ∙ last.reported ∙ ap Some (ap (λ (o : Option TailFault). ended_as o (length s.log.placed)) read.fault_is ∙ sym out);
     },

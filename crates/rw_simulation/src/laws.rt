@@ -35,8 +35,9 @@ pub fn a_stopped_shard_is_a_run<T: Transport>()
     ensures { (j : StoppedShard T) → StopsAsShard T.tells T.seen T.is_for j }
 {}
 
-/// A shipper that was stopped in order with nothing left is a run of the machine, which reports the same. `orderly` asks for nothing that the shipper's
-/// own clauses do not say; `epochs` is of any epochs over which the samples may have been placed.
+/// A shipper that was stopped in order with nothing left is a run of the machine, which reports the same. `orderly` takes from the shipper's own clauses
+/// how its samples were placed and its epochs ended; that there are 1 to 1000 shards, and that the machine can work, it asks for. `epochs` is of any
+/// epochs over which the samples may have been placed.
 pub fn a_stopped_shipper_is_a_run<T: Transport>()
     ensures orderly { (s : Shipping T) (r : Report T) → StopsInOrder T.tells T.seen T.is_for s r }
     ensures epochs { (s : Shipping T) (r : Report T) → StopsAsRun T.tells T.seen T.is_for s r }

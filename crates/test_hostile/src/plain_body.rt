@@ -1,5 +1,6 @@
 //! A plain reading of a message: field by field, and each part spelled canonically in a list of its own.
 
+use crate::plain_segment::are_zeros;
 use rw_codes::put_uvarint;
 use rw_write_request::WireFault;
 use std::alloc::{AllocError, Global};
@@ -117,15 +118,6 @@ fn spell_label(text: &[u8], out: &mut Vec<u8>) -> Result<(), WireFault> {
     put_text(out, 0x0a, texts[0])?;
     put_text(out, 0x12, texts[1])?;
     Ok(())
-}
-
-fn are_zeros(bytes: &[u8]) -> bool {
-    for byte in bytes {
-        if *byte != 0 {
-            return false;
-        }
-    }
-    true
 }
 
 /// Spells a sample: the last value and the last timestamp count.

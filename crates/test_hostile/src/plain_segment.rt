@@ -55,7 +55,8 @@ fn fragment(kind: u8, behind: &[u8], at: usize) -> Found<'_> {
     Found::Fragment(kind, data, rest)
 }
 
-fn are_zeros(bytes: &[u8]) -> bool {
+/// Whether all bytes are 0.
+pub(crate) fn are_zeros(bytes: &[u8]) -> bool {
     for byte in bytes {
         if *byte != 0 {
             return false;
