@@ -8,7 +8,7 @@ use Rattle.rw_write_request.specs.Canon.{series_field, series_head, sample_field
 use Rattle.rw_write_request.specs.Message.{Sample, TimeSeries}
 use Rattle.rw_write_request.specs.Valid.{IsSample, IsSeries}
 use Rattle.rw_write_request.proofs.Spelled.{series-field-parts}
-use Rattle.rw_write_request.proofs.Fitting.{part_fits, one_more}
+use Rattle.rw_types.proofs.FittingLemmas.{part_fits, one_more}
 use Rattle.rw_batch.specs.Grouping.{LabelledSample, samples_of, distinct, message, series_at}
 use Rattle.rw_batch.specs.Kept.{samples_alone, parts_len, HasLabels}
 

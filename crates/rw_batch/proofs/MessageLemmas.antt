@@ -7,6 +7,7 @@ use Rattle.std.proofs.lemmas.List.Sums.{sum_by-cons}
 use Rattle.std.proofs.lemmas.Map.Keys.{IsDistinct-head, IsDistinct-tail, IsDistinct-cons}
 use Rattle.rw_types.specs.Labels.{Labels}
 use Rattle.rw_types.specs.LabelOrder.{labels_eq}
+use Rattle.rw_types.proofs.AllLemmas.{AllByRecursion-filter}
 use Rattle.rw_write_request.specs.Message.{Sample, TimeSeries, WriteRequest}
 use Rattle.rw_batch.specs.Grouping.{LabelledSample, samples_of, distinct, message, with_sample, labels_of, sample_count, with_labels}
 use Rattle.rw_batch.proofs.LabelLemmas.{eq-self, eq-flip, eq-left, eq-right}
@@ -172,14 +173,6 @@ apart : (l : Labels) (ms : List Labels) → AllByRecursion (λ x. labels_eq l x 
 apart l [] = tt
 apart l (m ∷ ms) = apart_as l m (filter (λ x. not (labels_eq l x)) ms) (labels_eq l m) refl (apart l ms)
 
-all_kept_as : {X : Type 0} (P : X → Type 0) (x : X) (xs : List X) (b : Bool) → P x → AllByRecursion P xs → AllByRecursion P (cond b (x ∷ xs) xs)
-all_kept_as P x xs true p h = (p, h)
-all_kept_as P x xs false p h = h
-
-all_kept : {X : Type 0} (P : X → Type 0) (p : X → Bool) (xs : List X) → AllByRecursion P xs → AllByRecursion P (filter p xs)
-all_kept P p [] h = tt
-all_kept P p (x ∷ xs) h = all_kept_as P x (filter p xs) (p x) h.0 (all_kept P p xs h.1)
-
 distinct_kept_as : (l : Labels) (ls : List Labels) (b : Bool) → AllByRecursion (λ x. labels_eq l x ≡ false) ls → IsDistinct labels_eq ls → IsDistinct labels_eq (cond b (l ∷ ls) ls)
 distinct_kept_as l ls true p h = IsDistinct-cons labels_eq l ls p h
 distinct_kept_as l ls false p h = h
@@ -187,7 +180,7 @@ distinct_kept_as l ls false p h = h
 distinct_kept : (p : Labels → Bool) (ls : List Labels) → IsDistinct labels_eq ls → IsDistinct labels_eq (filter p ls)
 distinct_kept p [] h = h
 distinct_kept p (l ∷ ls) h =
-    distinct_kept_as l (filter p ls) (p l) (all_kept (λ x. labels_eq l x ≡ false) p ls (IsDistinct-head labels_eq l ls h)) (distinct_kept p ls (IsDistinct-tail labels_eq l ls h))
+    distinct_kept_as l (filter p ls) (p l) (AllByRecursion-filter (λ x. labels_eq l x ≡ false) p ls (IsDistinct-head labels_eq l ls h)) (distinct_kept p ls (IsDistinct-tail labels_eq l ls h))
 
 distinct_is_distinct : (ls : List Labels) → IsDistinct labels_eq (distinct ls)
 unfolding distinct IsDistinct

@@ -10,9 +10,10 @@ use Rattle.std.proofs.lemmas.Grind.{flat_map-append}
 use Rattle.std.proofs.lemmas.Option.{slice_get-get_or, slice_get-map, get_or_from_slice_get}
 use Rattle.rw_types.specs.Labels.{Labels}
 use Rattle.rw_types.specs.LabelOrder.{labels_eq}
+use Rattle.rw_types.proofs.AllLemmas.{AllByRecursion-append}
 use Rattle.rw_write_request.specs.Canon.{sample_fields}
 use Rattle.rw_write_request.specs.Message.{Sample, TimeSeries, WriteRequest}
-use Rattle.rw_write_request.proofs.Spelled.{AllByRecursion-append, sample-field-length}
+use Rattle.rw_write_request.proofs.Spelled.{sample-field-length}
 use Rattle.rw_plain_queue.proofs.Lists.{get_front, get_below}
 use Rattle.rw_batch.specs.Grouping.{LabelledSample, message, with_labels, labels_of, distinct, series_at}
 use Rattle.rw_batch.specs.Kept.{samples_alone, field_at, GoesBack, IsTrail, IsLine, HasLines, Shared, AreRows}

@@ -11,6 +11,7 @@ ghost use Rattle.rw_batch.specs.Kept.{samples_alone, field_at, parts_len, HasLab
 
 use crate::fields::Fields;
 use crate::rows::Rows;
+use rw_types::put_bytes;
 use rw_write_request::{put_series_head, series_head_len};
 use std::alloc::AllocError;
 
@@ -21,7 +22,7 @@ fn series_len(rows: &Rows, place: usize) -> Option<usize>
     ensures none { IfNone result (2 ^ 64 ≤ parts_len (series_at rows.now.samples place)) }
 {
     let bytes = rows.sample_bytes(place);
-    let head = series_head_len(rows.labels(place).as_slice(), bytes)?;
+    let head = series_head_len(rows.labels(place), bytes)?;
     head.checked_add(bytes)
 }
 
@@ -35,15 +36,6 @@ pub(crate) fn body_len(rows: &Rows) -> Option<usize>
         total = total.checked_add(series_len(rows, place)?)?;
     }
     Some(total)
-}
-
-/// Appends bytes, for which there is room.
-fn put_bytes(out: &mut Vec<u8>, bytes: &[u8])
-    requires room { vec_len out.old + length bytes.now ≤ vec_capacity out.old }
-    ensures items { out.new.items ≡ out.old.items ++ bytes.now }
-    ensures capacity { vec_capacity out.old ≤ vec_capacity out.new }
-{
-    out.extend_from_slice(bytes).unwrap();
 }
 
 /// Appends the fields of the samples of these numbers.
@@ -74,7 +66,7 @@ fn put_series(out: &mut Vec<u8>, rows: &Rows, fields: &Fields, place: usize, row
     ensures capacity { vec_capacity out.old ≤ vec_capacity out.new }
     ensures row { vec_capacity row.new ≡ vec_capacity row.old }
 {
-    put_series_head(out, rows.labels(place).as_slice(), rows.sample_bytes(place));
+    put_series_head(out, rows.labels(place), rows.sample_bytes(place));
     rows.numbers(place, row);
     put_numbered(out, fields, row);
 }

@@ -8,7 +8,8 @@ use Rattle.rw_codes.specs.Varint.{groups}
 use Rattle.rw_types.specs.Labels.{Labels}
 use Rattle.rw_types.specs.LabelOrder.{labels_eq}
 use Rattle.rw_write_request.specs.Message.{Sample, TimeSeries, WriteRequest}
-use Rattle.rw_write_request.specs.Canon.{canon, label_fields, sample_field, sample_fields, series, series_field}
+use Rattle.rw_types.specs.LabelFields.{label_fields}
+use Rattle.rw_write_request.specs.Canon.{canon, sample_field, sample_fields, series, series_field}
 use Rattle.rw_batch.specs.Grouping.{LabelledSample, message, distinct, with_sample}
 use Rattle.rw_batch_bytes.specs.Sizes.{bytes_of, bytes_alone}
 use Rattle.rw_codes.proofs.Digits.{groups_some}

@@ -18,7 +18,8 @@ use Rattle.rw_head.specs.Blocks.{joined, first_blocks, sealed_of, open_of, AreFu
 use Rattle.rw_head.proofs.OrderLemmas.{above_at, eq_apart_above, holds_nowhere, not_less}
 use Rattle.rw_types.specs.Beginnings.{Begins}
 use Rattle.rw_types.specs.Rising.{Rises}
-use Rattle.rw_types.proofs.RisingLemmas.{AllByRecursion-right, Rises-left, Rises-right}
+use Rattle.rw_types.proofs.AllLemmas.{AllByRecursion-right}
+use Rattle.rw_types.proofs.RisingLemmas.{Rises-left, Rises-right}
 use Rattle.rw_types.proofs.TimeLemmas.{int_lt-asymm, int_lt-irrefl, int_lt-trans}
 
 -- ---- full blocks

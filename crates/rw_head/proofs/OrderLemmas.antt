@@ -15,7 +15,8 @@ use Rattle.rw_write_request.specs.Message.{Sample}
 use Rattle.rw_head.specs.Order.{Point, point_of, points, is_later, holds, accept_one, accept}
 use Rattle.rw_head.specs.Lists.{IsEarlier}
 use Rattle.rw_types.specs.Rising.{Rises}
-use Rattle.rw_types.proofs.RisingLemmas.{AllByRecursion-at, Rises-at, Rises-push}
+use Rattle.rw_types.proofs.AllLemmas.{AllByRecursion-at}
+use Rattle.rw_types.proofs.RisingLemmas.{Rises-at, Rises-push}
 use Rattle.rw_types.proofs.TimeLemmas.{int_lt-asymm, int_lt-irrefl, int_lt-trans}
 
 -- what is later than the last of a list that rises is later than its first

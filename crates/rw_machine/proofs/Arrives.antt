@@ -3,10 +3,11 @@ use Rattle.std.proofs.Common.{◌≡◌, ℕ, ◌+◌, ◌-◌, ◌<◌, ◌==�
 use Rattle.std.proofs.lemmas.Bool.{cases_eq, true≢false, not-false, cond-false, cond-true, ne_eqb}
 use Rattle.std.proofs.lemmas.Bool.Decides.{Decides-eqb}
 use Rattle.std.proofs.lemmas.List.{map-append}
-use Rattle.rw_machine.proofs.Steps.{either, all_append, all_map, same_is, is_same}
+use Rattle.rw_machine.proofs.Steps.{either, same_is, is_same}
 use Rattle.std.specs.List.{AllByRecursion}
 use Rattle.rw_types.specs.Rising.{Rises}
-use Rattle.rw_types.proofs.RisingLemmas.{AllByRecursion-weaker, Rises-left}
+use Rattle.rw_types.proofs.AllLemmas.{AllByRecursion-append, AllByRecursion-map, AllByRecursion-weaker}
+use Rattle.rw_types.proofs.RisingLemmas.{Rises-left}
 use Rattle.rw_head.specs.Lists.{IsEarlier}
 use Rattle.rw_machine.proofs.Risen.{IsEarlierPoint, Rises-risen}
 use Rattle.rw_machine.proofs.OrderRule.{accept_repeats, accept_later, holds_append, holds_right, distinct_apart, Took, take_message}
@@ -138,7 +139,7 @@ module _ (c : Setup) (w : World) (at : Inv c w) (r : Request) (r_ok : RequestOk 
     done_ok = at.done_ok;
     fresh = at.fresh;
     requests_ok = AllByRecursion-weaker (RequestOk c w.epoch w.shards (list_of w.head.store)) (RequestOk c w.epoch w.shards (list_of v.head.store)) (λ q q_ok. record { id_is = q_ok.id_is; kept = q_ok.kept; fate = fate q q_ok.fate }) w.requests at.requests_ok;
-    answers_ok = all_append (AnswerOk c w.epoch w.shards got) w.replies (record { id = r.id; status = v.status } ∷ []) (AllByRecursion-weaker (AnswerOk c w.epoch w.shards at.got) (AnswerOk c w.epoch w.shards got) older w.replies at.answers_ok) (f.new, tt);
+    answers_ok = AllByRecursion-append (AnswerOk c w.epoch w.shards got) w.replies (record { id = r.id; status = v.status } ∷ []) (AllByRecursion-weaker (AnswerOk c w.epoch w.shards at.got) (AnswerOk c w.epoch w.shards got) older w.replies at.answers_ok) (f.new, tt);
   }
     where
       fate : (q : Request) → ((Past w.epoch w.shards q.id × (is_let_in c q.batch ≡ true → AllByRecursion (InStore (list_of w.head.store)) q.batch)) ⊎ ((q.id.epoch ≡ w.epoch) × IsOpen (slice_get w.shards q.id.shard) q.batch)) → ((Past w.epoch w.shards q.id × (is_let_in c q.batch ≡ true → AllByRecursion (InStore (list_of v.head.store)) q.batch)) ⊎ ((q.id.epoch ≡ w.epoch) × IsOpen (slice_get w.shards q.id.shard) q.batch))
@@ -182,7 +183,7 @@ module _ (c : Setup) (w : World) (at : Inv c w) (r : Request) (r_ok : RequestOk 
   ls = distinct (map (λ (x : Placed). x.labels) r.batch)
 
   kept_ls : AllByRecursion (IsKept c) ls
-  kept_ls = all_distinct (IsKept c) (map (λ (x : Placed). x.labels) r.batch) (all_map (IsKept c) (λ (x : Placed). x.labels) r.batch r_ok.kept)
+  kept_ls = all_distinct (IsKept c) (map (λ (x : Placed). x.labels) r.batch) (AllByRecursion-map (IsKept c) (λ (x : Placed). x.labels) r.batch r_ok.kept)
 
   -- the head takes a batch again that it has already
   repeat_took : AllByRecursion (InStore (list_of w.head.store)) r.batch → Took (list_of w.head.store) (λ _. []) ls (accept_all (Some (list_of w.head.store)) (message r.batch))
@@ -235,7 +236,7 @@ module _ (c : Setup) (w : World) (at : Inv c w) (r : Request) (r_ok : RequestOk 
     first_took : at.got j ≡ [] → Took (list_of w.head.store) (λ l. pairs (of l r.batch)) ls (accept_all (Some (list_of w.head.store)) (message r.batch))
     first_took none =
         let store_is : (l : Labels) → IsKept c l → home at.width w.series l ≡ j → list_of w.head.store l ≡ kept_part l = λ l k h. at.stored l k ∙ ap (λ (n : ℕ). kept_part l ++ pairs (of l (at.got n))) h ∙ ap (λ b. kept_part l ++ pairs (of l b)) none ∙ append-nil (kept_part l) in
-        take_message r.batch (λ l. pairs (of l r.batch)) ls (list_of w.head.store) (distinct_apart (map (λ (x : Placed). x.labels) r.batch)) (AllByRecursion-weaker (λ l. IsKept c l × (home at.width w.series l ≡ j)) (λ l. accept (Some (list_of w.head.store l)) (pairs (of l r.batch)) ≡ Some (list_of w.head.store l ++ pairs (of l r.batch))) (λ l k. accept_later (list_of w.head.store l) (pairs (of l r.batch)) (subst (Rises IsEarlier) (λ i. sym (store_is l k.0 k.1) i ++ pairs (of l (batch_is i))) (ascends_batch l k.0 s (ap (slice_get w.shards) k.1 ∙ at_j)))) ls (all_distinct (λ l. IsKept c l × (home at.width w.series l ≡ j)) (map (λ (x : Placed). x.labels) r.batch) (all_map (λ l. IsKept c l × (home at.width w.series l ≡ j)) (λ (x : Placed). x.labels) r.batch homes)))
+        take_message r.batch (λ l. pairs (of l r.batch)) ls (list_of w.head.store) (distinct_apart (map (λ (x : Placed). x.labels) r.batch)) (AllByRecursion-weaker (λ l. IsKept c l × (home at.width w.series l ≡ j)) (λ l. accept (Some (list_of w.head.store l)) (pairs (of l r.batch)) ≡ Some (list_of w.head.store l ++ pairs (of l r.batch))) (λ l k. accept_later (list_of w.head.store l) (pairs (of l r.batch)) (subst (Rises IsEarlier) (λ i. sym (store_is l k.0 k.1) i ++ pairs (of l (batch_is i))) (ascends_batch l k.0 s (ap (slice_get w.shards) k.1 ∙ at_j)))) ls (all_distinct (λ l. IsKept c l × (home at.width w.series l ≡ j)) (map (λ (x : Placed). x.labels) r.batch) (AllByRecursion-map (λ l. IsKept c l × (home at.width w.series l ≡ j)) (λ (x : Placed). x.labels) r.batch homes)))
 
     first : at.got j ≡ [] → (next : head.Store) → Takes w.head r.batch next → Inv c (answered w r.id (taken_as next))
     first none next t =

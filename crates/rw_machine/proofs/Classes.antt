@@ -4,8 +4,8 @@ use Rattle.std.proofs.lemmas.Bool.{cases_eq, cond-false, cond-true}
 use Rattle.std.proofs.lemmas.Bool.Decides.{Decides-eqb}
 use Rattle.std.proofs.lemmas.List.{take-append-le}
 use Rattle.std.specs.List.{AllByRecursion}
-use Rattle.rw_types.proofs.RisingLemmas.{AllByRecursion-weaker}
-use Rattle.rw_machine.proofs.Steps.{always, either, Each, each_change, each_new, all_append}
+use Rattle.rw_types.proofs.AllLemmas.{AllByRecursion-append, AllByRecursion-weaker}
+use Rattle.rw_machine.proofs.Steps.{always, either, Each, each_change, each_new}
 use Rattle.rw_machine.proofs.Others.{pending_put, pending_take, pending_freeze, pending_lost, pending_send, others_flush, entries_grow, batch_part, settled_part}
 use Rattle.rw_machine.proofs.Places.{get_below}
 use Rattle.rw_machine.proofs.Names.{ledger_insert}
@@ -132,7 +132,7 @@ classes_place c w at = either (Classes c) (is_some w.draining) w (place_entry c 
     by_shard r t word l e stands up i None = at
     by_shard r t word l e stands up i (Some s) = either (Classes c) (has_room c.capacity s) _ w
         (λ _. classes_next c w (Sample r t word) w.names w.series w.filtered (change i (shard_put (next_sample w i l t word s)) w.shards) e (λ p _. refl) (subst (Accounted (get w.names w.placed) (rising t)) (sym stands) (subst (AccountedKept (get w.names w.placed)) (sym up) (inl unnamed)))
-        (each_change (λ i s. AllByRecursion (KeptAt c (suc w.placed) (log w)) (pending s)) (shard_put (next_sample w i l t word s)) i w.shards later (λ u _ h. subst (AllByRecursion (KeptAt c (suc w.placed) (log w))) (sym (pending_put (next_sample w i l t word s) u)) (all_append (KeptAt c (suc w.placed) (log w)) (pending u) (next_sample w i l t word s ∷ []) h ((lt_own, subst (KeptEntry c (log w) w.placed) (sym e) (subst (KeptKnown (rising t)) (sym stands) up)), tt)))) at)
+        (each_change (λ i s. AllByRecursion (KeptAt c (suc w.placed) (log w)) (pending s)) (shard_put (next_sample w i l t word s)) i w.shards later (λ u _ h. subst (AllByRecursion (KeptAt c (suc w.placed) (log w))) (sym (pending_put (next_sample w i l t word s) u)) (AllByRecursion-append (KeptAt c (suc w.placed) (log w)) (pending u) (next_sample w i l t word s ∷ []) h ((lt_own, subst (KeptEntry c (log w) w.placed) (sym e) (subst (KeptKnown (rising t)) (sym stands) up)), tt)))) at)
         (λ _. at)
       where
         lt_own : w.placed < suc w.placed

@@ -7,8 +7,8 @@ use Rattle.rw_retry.specs.declared.judgement.Judgement.{Judgement}
 use Rattle.rw_retry.specs.declared.judgement.Judgement.TheVariants.{Again, Done, Refused}
 use Rattle.rw_batch.specs.declared.batch.BatchId.{BatchId}
 use Rattle.std.specs.List.{AllByRecursion}
-use Rattle.rw_types.proofs.RisingLemmas.{AllByRecursion-weaker}
-use Rattle.rw_machine.proofs.Steps.{always, either, Each, each_change, each_new, all_append, all_get}
+use Rattle.rw_types.proofs.AllLemmas.{AllByRecursion-append, AllByRecursion-get, AllByRecursion-weaker}
+use Rattle.rw_machine.proofs.Steps.{always, either, Each, each_change, each_new}
 use Rattle.rw_machine.proofs.Places.{Numbered, numbered_push, numbered_right, at_change, get_changed, get_others}
 use Rattle.rw_machine.proofs.Others.{pending_parts, pending_put, pending_resolve}
 use Rattle.rw_machine.proofs.Invariant.{IsQuiet, IsOpen, Past, past_change, id_at, quiet_flush, quiet_take, quiet_freeze, quiet_send, quiet_lost, quiet_again}
@@ -153,7 +153,7 @@ send_ids w i (Some s) e at = either Ids (can_send s.core) _ w (λ h. sent (not-t
     new = request_by s
 
     same_batch : is_empty s.core.batch ≡ false → (r : Request) (j : ℕ) → slice_get w.requests j ≡ Some r → r.id ≡ batch_id s.core.batch → s.core.batch ≡ r.batch
-    same_batch full r j at_j ids = open_batch w.epoch i w.shards s e (at.rows i s e) full r (all_get (Fate w.epoch w.shards) w.requests j r at.fates at_j) ids
+    same_batch full r j at_j ids = open_batch w.epoch i w.shards s e (at.rows i s e) full r (AllByRecursion-get (Fate w.epoch w.shards) w.requests j r at.fates at_j) ids
 
     by_place : is_empty s.core.batch ≡ false → (r p : Request) (j k : ℕ) → r.id ≡ p.id → (slice_get w.requests j ≡ Some r) ⊎ (new ≡ r) → (slice_get w.requests k ≡ Some p) ⊎ (new ≡ p) → r.batch ≡ p.batch
     by_place full r p j k ids (inl x) (inl y) = at.one j k r p x y ids
@@ -167,7 +167,7 @@ send_ids w i (Some s) e at = either Ids (can_send s.core) _ w (λ h. sent (not-t
         let here : batch_id s.core.batch ≡ id_at w.epoch i (length s.core.resolved) = row_id w.epoch i s (at.rows i s e) full in
         record {
           rows = quiet.rows;
-          fates = all_append (Fate w.epoch (change i shard_send w.shards)) w.requests (new ∷ []) quiet.fates (
+          fates = AllByRecursion-append (Fate w.epoch (change i shard_send w.shards)) w.requests (new ∷ []) quiet.fates (
             record {
               id_is = refl;
               fate = inr (ap (λ (d : BatchId). d.epoch) here, subst (λ (o : Option Shard). IsOpen o s.core.batch) (sym (ap (λ (d : BatchId). slice_get (change i shard_send w.shards) d.shard) here ∙ get_changed i shard_send w.shards s e)) ((quiet_send s).same_batch full, full));

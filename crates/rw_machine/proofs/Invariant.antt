@@ -1,7 +1,7 @@
 -- What holds after every event, and that the small steps of a shard keep it.
 use Rattle.std.proofs.Common.{◌≡◌, ℕ, ◌+◌, ◌%◌, ◌<◌, ◌≤◌, Bool, true, false, cond, List, [], ◌∷◌, ◌++◌, length, map, take, Option, Some, None, is_some, slice_get, refl, sym, ap, ◌∙◌, subst, ◌&&◌, not, arith, inl, inr, ◌⊎◌}
 use Rattle.std.specs.List.{AllByRecursion, list_any}
-use Rattle.rw_types.proofs.RisingLemmas.{AllByRecursion-weaker}
+use Rattle.rw_types.proofs.AllLemmas.{AllByRecursion-weaker}
 use Rattle.rw_machine.proofs.Steps.{either, Each, each_change}
 use Rattle.rw_machine.proofs.Others.{pending_flush, pending_end, pending_take, pending_freeze, pending_lost}
 use Rattle.rw_machine.proofs.Places.{at_change, Numbered, length_change}

@@ -5,7 +5,7 @@ use Rattle.std.proofs.lemmas.Bool.{cases_eq, true≢false, or_right, cond-false,
 use Rattle.std.proofs.lemmas.Bool.Decides.{Decides-eqb}
 use Rattle.std.proofs.lemmas.List.{take-append-le, map-append}
 use Rattle.std.proofs.lemmas.List.Elements.{filter-append}
-use Rattle.rw_types.proofs.RisingLemmas.{AllByRecursion-left, AllByRecursion-weaker}
+use Rattle.rw_types.proofs.AllLemmas.{AllByRecursion-left, AllByRecursion-weaker}
 use Rattle.rw_machine.proofs.Steps.{either, each_change, same_is, is_same}
 use Rattle.rw_machine.proofs.Others.{entries_grow, known_kept, pending_parts, pending_put}
 use Rattle.rw_machine.proofs.Names.{ledger_insert, name_batch}

@@ -4,8 +4,8 @@ use Rattle.std.specs.List.{AllByRecursion, list_any}
 use Rattle.std.proofs.lemmas.Bool.{leb-true, true≢false, not-true, and_parts}
 use Rattle.std.proofs.lemmas.Bool.Decides.{Decides-eqb}
 use Rattle.std.proofs.lemmas.Option.{same_Some}
-use Rattle.rw_types.proofs.RisingLemmas.{AllByRecursion-left, AllByRecursion-right}
-use Rattle.rw_machine.proofs.Steps.{always, either, Each, each_change, each_new, all_append, and_both}
+use Rattle.rw_types.proofs.AllLemmas.{AllByRecursion-append, AllByRecursion-left, AllByRecursion-right}
+use Rattle.rw_machine.proofs.Steps.{always, either, Each, each_change, each_new, and_both}
 use Rattle.rw_machine.proofs.Others.{pending_put, pending_freeze, entries_grow}
 use Rattle.rw_machine.proofs.Places.{get_below, length_change}
 use Rattle.rw_machine.proofs.Invariant.{quiet_take, quiet_flush}
@@ -86,7 +86,7 @@ put_going c requests i x s own g = record {
   alive = g.alive;
   full_is = g.full_is;
   counted = (let a : length (s.put ++ x ∷ []) ≡ length s.put + 1 = length-append s.put (x ∷ []) in let b : length (pending (shard_put x s)) ≡ length (pending s) + 1 = ap length (pending_put x s) ∙ length-append (pending s) (x ∷ []) in let d : length s.put ≡ length s.core.resolved + length (pending s) = g.counted in omega arith);
-  mine = subst (AllByRecursion (λ (y : Placed). y.place.shard ≡ i)) (sym (pending_put x s)) (all_append (λ (y : Placed). y.place.shard ≡ i) (pending s) (x ∷ []) g.mine (own, tt));
+  mine = subst (AllByRecursion (λ (y : Placed). y.place.shard ≡ i)) (sym (pending_put x s)) (AllByRecursion-append (λ (y : Placed). y.place.shard ≡ i) (pending s) (x ∷ []) g.mine (own, tt));
   held = g.held;
   closes = g.closes;
   sent = g.sent;
@@ -206,7 +206,7 @@ resolve_going c requests i s g = record {
   alive = g.alive;
   full_is = g.full_is;
   counted = (let a : length (s.core.resolved ++ s.core.batch) ≡ length s.core.resolved + length s.core.batch = length-append s.core.resolved s.core.batch in let b : length (pending s) ≡ length (s.core.batch ++ s.core.builder) + length (samples_in s.queue) = length-append (s.core.batch ++ s.core.builder) (samples_in s.queue) in let e : length (s.core.batch ++ s.core.builder) ≡ length s.core.batch + length s.core.builder = length-append s.core.batch s.core.builder in let f : length (s.core.builder ++ samples_in s.queue) ≡ length s.core.builder + length (samples_in s.queue) = length-append s.core.builder (samples_in s.queue) in let d : length s.put ≡ length s.core.resolved + length (pending s) = g.counted in omega arith);
-  mine = all_append mine s.core.builder (samples_in s.queue) (AllByRecursion-right mine s.core.batch s.core.builder (AllByRecursion-left mine (s.core.batch ++ s.core.builder) (samples_in s.queue) g.mine)) (AllByRecursion-right mine (s.core.batch ++ s.core.builder) (samples_in s.queue) g.mine);
+  mine = AllByRecursion-append mine s.core.builder (samples_in s.queue) (AllByRecursion-right mine s.core.batch s.core.builder (AllByRecursion-left mine (s.core.batch ++ s.core.builder) (samples_in s.queue) g.mine)) (AllByRecursion-right mine (s.core.batch ++ s.core.builder) (samples_in s.queue) g.mine);
   held = g.held;
   closes = g.closes;
   sent = λ e _. absurd (true≢false e);

@@ -6,7 +6,7 @@ use Rattle.std.specs.FinMap.{FinMap, get, get-empty, insert}
 use Rattle.std.specs.Ordering.{nat_cmp}
 use Rattle.std.proofs.lemmas.Option.{same_Some}
 use Rattle.std.specs.List.{AllByRecursion}
-use Rattle.rw_types.proofs.RisingLemmas.{AllByRecursion-weaker}
+use Rattle.rw_types.proofs.AllLemmas.{AllByRecursion-weaker}
 use Rattle.rw_machine.proofs.Steps.{always, unless, either, Each, each_change, each_new}
 use Rattle.rw_machine.proofs.Frames.{restart_frame}
 use Rattle.rw_machine.proofs.Others.{pending_put, pending_resolve}

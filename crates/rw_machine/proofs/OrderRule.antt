@@ -5,8 +5,8 @@ use Rattle.std.proofs.lemmas.Bool.{true≢false, not-true, cond-false, cond-true
 use Rattle.std.specs.List.{AllByRecursion}
 use Rattle.rw_types.specs.Rising.{Rises}
 use Rattle.rw_head.specs.Lists.{IsEarlier}
-use Rattle.rw_types.proofs.RisingLemmas.{AllByRecursion-weaker}
-use Rattle.rw_machine.proofs.Steps.{either, all_filter, and_both, same_is, is_same}
+use Rattle.rw_types.proofs.AllLemmas.{AllByRecursion-filter, AllByRecursion-weaker}
+use Rattle.rw_machine.proofs.Steps.{either, and_both, same_is, is_same}
 use Rattle.rw_head.specs.Order.{accept, accept_one, holds, is_later}
 use Rattle.rw_machine.proofs.Views.{Pairs, Store, of, pairs, series_of}
 use Rattle.rw_machine.proofs.Heads.{store_at, put_series, accept_series, accept_all}
@@ -83,7 +83,7 @@ Apart (l ∷ ls) = AllByRecursion (λ m. labels_eq l m ≡ false) ls × Apart ls
 
 apart_filter : (p : Labels → Bool) (ls : List Labels) → Apart ls → Apart (filter p ls)
 apart_filter p [] h = tt
-apart_filter p (l ∷ ls) h = either Apart (p l) (l ∷ filter p ls) (filter p ls) (λ _. (all_filter (λ m. labels_eq l m ≡ false) p ls h.0, apart_filter p ls h.1)) (λ _. apart_filter p ls h.1)
+apart_filter p (l ∷ ls) h = either Apart (p l) (l ∷ filter p ls) (filter p ls) (λ _. (AllByRecursion-filter (λ m. labels_eq l m ≡ false) p ls h.0, apart_filter p ls h.1)) (λ _. apart_filter p ls h.1)
 
 passes : (p : Labels → Bool) (ls : List Labels) → AllByRecursion (λ m. p m ≡ true) (filter p ls)
 passes p [] = tt

@@ -33,7 +33,7 @@ use Rattle.rw_head.specs.Verdicts.{LabelLimits, accepted, judged, refusal, taken
 use Rattle.rw_head.specs.declared.verdict.Verdict.{Verdict}
 use Rattle.rw_head.proofs.StoreLemmas.{list_of-empty, list_of-with_list}
 use Rattle.std.specs.List.{AllByRecursion}
-use Rattle.rw_types.proofs.RisingLemmas.{AllByRecursion-left, AllByRecursion-right, AllByRecursion-weaker}
+use Rattle.rw_types.proofs.AllLemmas.{AllByRecursion-append, AllByRecursion-filter, AllByRecursion-get, AllByRecursion-left, AllByRecursion-map, AllByRecursion-right, AllByRecursion-weaker}
 use Rattle.rw_machine.specs.declared.event.Event.{Event}
 use Rattle.rw_machine.specs.declared.event.Event.TheVariants as event
 use Rattle.rw_machine.specs.declared.event.How.{How}
@@ -43,7 +43,7 @@ use Rattle.rw_machine.specs.Steps.{act, arrive, changed, endpoint_answer, flush_
 use Rattle.rw_machine.specs.Worlds.{Reply, Request, Setup, World, is_finished, log, start}
 use Rattle.rw_machine.specs.Promises.{HoldsNothingElse, Point}
 use Rattle.rw_machine.proofs.Views.{IsKept, logged_points, logged_from, shard_resolve}
-use Rattle.rw_machine.proofs.Steps.{always, either, Each, each_change, each_new, all_append, all_get, all_filter, all_map, same_is}
+use Rattle.rw_machine.proofs.Steps.{always, either, Each, each_change, each_new, same_is}
 use Rattle.rw_machine.proofs.Places.{logged_append, take_next}
 
 -- what `known` keeps is a kept label set
@@ -153,13 +153,13 @@ next_logged c es n l r t word e kept h = never (logged_points c l (take n es)) (
 pub all_distinct : (P : Labels → Type 0) (ls : List Labels) → AllByRecursion P ls → AllByRecursion P (distinct ls)
 unfolding distinct
 all_distinct P [] all = tt
-all_distinct P (l ∷ ls) all = (all.0, all_filter P (λ m. not (labels_eq l m)) (distinct ls) (all_distinct P ls all.1))
+all_distinct P (l ∷ ls) all = (all.0, AllByRecursion-filter P (λ m. not (labels_eq l m)) (distinct ls) (all_distinct P ls all.1))
 
 -- a fact of a batch's labels is one of its message's
 pub all_message : (P : Labels → Type 0) (batch : List Placed) → AllByRecursion (λ (x : Placed). P x.labels) batch → AllByRecursion (λ (s : TimeSeries). P s.labels) (grouping.message (map labelled batch))
 unfolding grouping.message
-all_message P batch all = all_map (λ (s : TimeSeries). P s.labels) (λ l. record { labels = l; samples = grouping.samples_of l (map labelled batch) }) (distinct (map (λ x. x.labels) (map labelled batch)))
-    (all_distinct P (map (λ x. x.labels) (map labelled batch)) (all_map P (λ x. x.labels) (map labelled batch) (all_map (λ x. P x.labels) labelled batch all)))
+all_message P batch all = AllByRecursion-map (λ (s : TimeSeries). P s.labels) (λ l. record { labels = l; samples = grouping.samples_of l (map labelled batch) }) (distinct (map (λ x. x.labels) (map labelled batch)))
+    (all_distinct P (map (λ x. x.labels) (map labelled batch)) (AllByRecursion-map P (λ x. x.labels) (map labelled batch) (AllByRecursion-map (λ x. P x.labels) labelled batch all)))
 
 abbrev SameList : Labels → Store → Result Store Verdict → Type 0
 SameList l store (Ok next) = list_of next l ≡ list_of store l
@@ -233,7 +233,7 @@ others_place c w at = either (OnlyLogged c) (is_some w.draining) w (place_entry 
     by_shard l t word logged i (Some s) = either (OnlyLogged c) (has_room c.capacity s) _ w
         (λ _. record {
           pending_logged = each_change (λ i s. AllByRecursion (IsLogged c (log w)) (pending s)) (shard_put (next_sample w i l t word s)) i w.shards at.pending_logged
-              (λ u _ all. subst (AllByRecursion (IsLogged c (log w))) (sym (pending_put (next_sample w i l t word s) u)) (all_append (IsLogged c (log w)) (pending u) (next_sample w i l t word s ∷ []) all (logged, tt)));
+              (λ u _ all. subst (AllByRecursion (IsLogged c (log w))) (sym (pending_put (next_sample w i l t word s) u)) (AllByRecursion-append (IsLogged c (log w)) (pending u) (next_sample w i l t word s ∷ []) all (logged, tt)));
           requests_logged = at.requests_logged;
           nothing_else = at.nothing_else;
         })
@@ -292,7 +292,7 @@ others_send c w i None e at = at
 others_send c w i (Some s) e at = either (OnlyLogged c) (can_send s.core) _ w
     (λ _. record {
       pending_logged = each_change (λ i s. AllByRecursion (IsLogged c (log w)) (pending s)) shard_send i w.shards at.pending_logged (λ u _ all. subst (AllByRecursion (IsLogged c (log w))) (sym (pending_send u)) all);
-      requests_logged = all_append (λ (r : Request). AllByRecursion (IsLogged c (log w)) r.batch) w.requests (request_by s ∷ []) at.requests_logged (batch_part (IsLogged c (log w)) s (at.pending_logged i s e), tt);
+      requests_logged = AllByRecursion-append (λ (r : Request). AllByRecursion (IsLogged c (log w)) r.batch) w.requests (request_by s ∷ []) at.requests_logged (batch_part (IsLogged c (log w)) s (at.pending_logged i s e), tt);
       nothing_else = at.nothing_else;
     })
     (λ _. at)
@@ -324,7 +324,7 @@ others_act c w (event.Flush i) at = same_pending c w i (flush_shard c w) (others
 others_act c w (event.Take i) at = same_pending c w i shard_take pending_take at
 others_act c w (event.Freeze i) at = same_pending c w i shard_freeze pending_freeze at
 others_act c w (event.Send i) at = others_send c w i (slice_get w.shards i) refl at
-others_act c w (event.Arrive k how) at = others_arrive c w how (slice_get w.requests k) (λ r e. all_get (λ (r : Request). AllByRecursion (IsLogged c (log w)) r.batch) w.requests k r at.requests_logged e) at
+others_act c w (event.Arrive k how) at = others_arrive c w how (slice_get w.requests k) (λ r e. AllByRecursion-get (λ (r : Request). AllByRecursion (IsLogged c (log w)) r.batch) w.requests k r at.requests_logged e) at
 others_act c w (event.Reply k) at = others_reply c w (slice_get w.replies k) at
 others_act c w (event.Lost i) at = same_pending c w i shard_lost pending_lost at
 others_act c w (event.Reshard n) at = either (OnlyLogged c) (not (is_some w.draining) && (not (is_finished w) && (nat_le 1 n && nat_le n 1000))) _ w (λ _. record { pending_logged = at.pending_logged; requests_logged = at.requests_logged; nothing_else = at.nothing_else }) (λ _. at)

@@ -5,7 +5,7 @@ use Rattle.rw_retry.specs.declared.judgement.Judgement.{Judgement}
 use Rattle.rw_retry.specs.declared.judgement.Judgement.TheVariants.{Again, Done, Refused}
 use Rattle.std.specs.List.{AllByRecursion}
 use Rattle.rw_machine.proofs.Ids.{one_batch}
-use Rattle.rw_machine.proofs.Steps.{always, either, Each, each_change, each_new, all_append, all_get}
+use Rattle.rw_machine.proofs.Steps.{always, either, Each, each_change, each_new}
 use Rattle.rw_machine.specs.declared.event.Event.{Event}
 use Rattle.rw_machine.specs.declared.event.Event.TheVariants as event
 use Rattle.rw_machine.specs.declared.event.How.{How}
@@ -23,6 +23,7 @@ use Rattle.rw_plain_queue.specs.declared.item.Kind.TheVariants as kind
 use Rattle.rw_types.specs.Labels.{Labels}
 use Rattle.rw_types.specs.declared.entry.Entry.{Entry}
 use Rattle.rw_types.specs.declared.entry.Entry.TheVariants.{Def, Sample}
+use Rattle.rw_types.proofs.AllLemmas.{AllByRecursion-append, AllByRecursion-get}
 
 -- a step of a shard that sends to the same target
 abbrev Stays : (Shard → Shard) → Type 0
@@ -98,7 +99,7 @@ send_carries c w i None e at = at
 send_carries c w i (Some s) e at = either (Carries c) (can_send s.core) _ w
     (λ _. record {
       targets = each_change (λ j u. u.core.target ≡ c.target) shard_send i w.shards at.targets (λ u _ h. send_stays u ∙ h);
-      bytes = all_append (CarriesItsBatch c) w.requests (request_by s ∷ []) at.bytes (ap (λ (t : Target). request_of t.host t.path (body_of s.core.batch)) (at.targets i s e), tt);
+      bytes = AllByRecursion-append (CarriesItsBatch c) w.requests (request_by s ∷ []) at.bytes (ap (λ (t : Target). request_of t.host t.path (body_of s.core.batch)) (at.targets i s e), tt);
     })
     (λ _. at)
 
@@ -139,7 +140,7 @@ pub carries_start : (c : Setup) → Carries c (start c)
 carries_start c = record { targets = each_new (λ i s. s.core.target ≡ c.target) c 0 0 (λ i. refl) c.shards; bytes = tt }
 
 pub carries_is : (c : Setup) (w : World) → Carries c w → CarriesEachBatch c w
-carries_is c w at k r e = all_get (CarriesItsBatch c) w.requests k r at.bytes e
+carries_is c w at k r e = AllByRecursion-get (CarriesItsBatch c) w.requests k r at.bytes e
 
 pub same_bytes : (c : Setup) (w : World) → Carries c w → HasOneBatchEachId w → SendsSameBytes w
 same_bytes c w at one i j r q r_at q_at ids =

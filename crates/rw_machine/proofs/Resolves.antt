@@ -4,8 +4,8 @@ use Rattle.std.specs.List.{AllByRecursion, list_all}
 use Rattle.std.proofs.lemmas.Bool.{cases_eq, true≢false, not-true, cond-false, cond-true, and_parts, ne_eqb}
 use Rattle.std.proofs.lemmas.Bool.Decides.{Decides-eqb}
 use Rattle.std.proofs.lemmas.List.{map-append}
-use Rattle.rw_types.proofs.RisingLemmas.{AllByRecursion-weaker}
-use Rattle.rw_machine.proofs.Steps.{either, each_new, all_append, all_filter, all_map, is_same}
+use Rattle.rw_types.proofs.AllLemmas.{AllByRecursion-append, AllByRecursion-filter, AllByRecursion-map, AllByRecursion-weaker}
+use Rattle.rw_machine.proofs.Steps.{either, each_new, is_same}
 use Rattle.rw_machine.proofs.OrderRule.{holds_right, holds_own}
 use Rattle.rw_machine.proofs.Places.{Numbered, numbered_more, numbered_left, numbered_right, numbered_all, length_change, get_changed, get_others, of_append}
 use Rattle.rw_machine.proofs.Invariant.{Inv, as_points, waits, home, id_at, Past, SampleOk, ShardOk, GotOk, DoneOk, IsOpen, InStore, RequestOk, AnswersOpen, AnswerOk, quiet, quiet_send, quiet_again, past_change}
@@ -85,7 +85,7 @@ send_keeps c w i (Some s) e at = either (Inv c) (can_send s.core) _ w (λ h. qui
       stored = at.stored;
       done_ok = at.done_ok;
       fresh = at.fresh;
-      requests_ok = all_append (RequestOk c w.epoch w.shards (list_of w.head.store)) w.requests (r ∷ []) at.requests_ok (new full, tt);
+      requests_ok = AllByRecursion-append (RequestOk c w.epoch w.shards (list_of w.head.store)) w.requests (r ∷ []) at.requests_ok (new full, tt);
       answers_ok = at.answers_ok;
     }
 
@@ -208,8 +208,8 @@ module _ (c : Setup) (w : World) (at : Inv c w) (j : ℕ) (s : Shard) (at_j : sl
   resolved_done l k =
       let old : AllByRecursion (DoneOk w.epoch shards w.placed at.ident) (at.done l) = AllByRecursion-weaker (DoneOk w.epoch w.shards w.placed at.ident) (DoneOk w.epoch shards w.placed at.ident) (λ q q_ok. (past (at.ident q.0) q_ok.0, q_ok.1)) (at.done l) (at.done_ok l k) in
       let mark : Placed → Point = λ x. (x.place.pos, x.t, x.word) in
-      let new : AllByRecursion (DoneOk w.epoch shards w.placed at.ident) (as_points (of l s.core.batch)) = all_map (DoneOk w.epoch shards w.placed at.ident) mark (of l s.core.batch) (all_filter (λ (x : Placed). DoneOk w.epoch shards w.placed at.ident (mark x)) (λ (x : Placed). labels_eq l x.labels) s.core.batch (each_of_batch (λ (x : Placed). DoneOk w.epoch shards w.placed at.ident (mark x)) (λ n x _ lt x_ok. (past_batch (at.ident x.place.pos) n x_ok.ident_is lt, x_ok.below)))) in
-      either (AllByRecursion (DoneOk w.epoch shards w.placed at.ident)) (home at.width w.series l == j) _ (at.done l) (λ _. all_append (DoneOk w.epoch shards w.placed at.ident) (at.done l) (as_points (of l s.core.batch)) old new) (λ _. old)
+      let new : AllByRecursion (DoneOk w.epoch shards w.placed at.ident) (as_points (of l s.core.batch)) = AllByRecursion-map (DoneOk w.epoch shards w.placed at.ident) mark (of l s.core.batch) (AllByRecursion-filter (λ (x : Placed). DoneOk w.epoch shards w.placed at.ident (mark x)) (λ (x : Placed). labels_eq l x.labels) s.core.batch (each_of_batch (λ (x : Placed). DoneOk w.epoch shards w.placed at.ident (mark x)) (λ n x _ lt x_ok. (past_batch (at.ident x.place.pos) n x_ok.ident_is lt, x_ok.below)))) in
+      either (AllByRecursion (DoneOk w.epoch shards w.placed at.ident)) (home at.width w.series l == j) _ (at.done l) (λ _. AllByRecursion-append (DoneOk w.epoch shards w.placed at.ident) (at.done l) (as_points (of l s.core.batch)) old new) (λ _. old)
 
   all_stored : at.got j ≡ s.core.batch → AllByRecursion (InStore (list_of w.head.store)) s.core.batch
   all_stored e = both s.core.batch (holds_each s.core.batch) (each_of_batch (λ (x : Placed). IsKept c x.labels × (home at.width w.series x.labels ≡ j)) (λ n x _ _ x_ok. (x_ok.kept, x_ok.home_is)))
@@ -300,7 +300,7 @@ reply_keeps c w (Some a) answers at = by_shard (slice_get w.shards a.id.shard) r
             each_of_batch Q more = numbered_all (SampleOk c w.epoch w.placed at.width w.series (get w.names) at.ident a.id.shard) Q (length s.core.resolved) (length s.core.resolved + length s.core.batch) s.core.batch refl (λ k x _ _ x_ok. more k x x_ok) (batch_numbered (SampleOk c w.epoch w.placed at.width w.series (get w.names) at.ident a.id.shard) s ok.numbered)
 
             of_batch : (Q : Point → Type 0) (l : Labels) → AllByRecursion (λ (x : Placed). Q (x.place.pos, x.t, x.word)) s.core.batch → AllByRecursion Q (as_points (of l s.core.batch))
-            of_batch Q l all = all_map Q (λ (x : Placed). (x.place.pos, x.t, x.word)) (of l s.core.batch) (all_filter (λ (x : Placed). Q (x.place.pos, x.t, x.word)) (λ (x : Placed). labels_eq l x.labels) s.core.batch all)
+            of_batch Q l all = AllByRecursion-map Q (λ (x : Placed). (x.place.pos, x.t, x.word)) (of l s.core.batch) (AllByRecursion-filter (λ (x : Placed). Q (x.place.pos, x.t, x.word)) (λ (x : Placed). labels_eq l x.labels) s.core.batch all)
 
             names : FinMap nat_cmp Reason
             names = name_all a.status (positions s.core.batch) w.names

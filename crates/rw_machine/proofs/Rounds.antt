@@ -2,7 +2,7 @@
 use Rattle.std.proofs.Common.{◌≡◌, ℕ, suc, ◌+◌, ◌-◌, ◌*◌, ◌<◌, ◌≤◌, Bool, true, false, cond, List, [], ◌∷◌, ◌++◌, length, map, take, Option, Some, None, Result, Ok, Err, is_some, slice_get, refl, sym, ap, ◌∙◌, subst, ℤ, ◌||◌, ◌&&◌, not, nat_lt, length-append, arith, inl, inr, ◌⊎◌}
 use Rattle.std.specs.List.{AllByRecursion, list_any}
 use Rattle.std.proofs.lemmas.Bool.{ltb-true, true≢false, not-true, cond-false, cond-true, and_parts}
-use Rattle.rw_types.proofs.RisingLemmas.{AllByRecursion-left}
+use Rattle.rw_types.proofs.AllLemmas.{AllByRecursion-left}
 use Rattle.rw_machine.proofs.Steps.{either, and_both}
 use Rattle.rw_machine.proofs.Places.{get_below}
 use Rattle.rw_machine.proofs.Live.{HasId, Going, same_id_own}

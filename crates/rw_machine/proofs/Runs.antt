@@ -2,7 +2,7 @@
 use Rattle.std.proofs.Common.{◌≡◌, ℕ, ◌+◌, Bool, true, false, cond, List, [], ◌∷◌, ◌++◌, length, map, filter, take, drop, Option, Some, None, is_some, slice_get, refl, sym, ap, ◌∙◌, subst, ℤ, ◌&&◌, not, nat_le, append-nil, append_assoc, arith, inl, inr, ◌⊎◌, is_none, take-append-drop}
 use Rattle.std.proofs.lemmas.List.{map-append}
 use Rattle.std.specs.List.{AllByRecursion}
-use Rattle.rw_machine.proofs.Steps.{always, unless, either, each_new, all_get, all_map, all_filter}
+use Rattle.rw_machine.proofs.Steps.{always, unless, either, each_new}
 use Rattle.rw_machine.proofs.Risen.{risen}
 use Rattle.rw_machine.proofs.Classes.{classes}
 use Rattle.rw_machine.proofs.Owed.{no_logged, owed_points}
@@ -38,6 +38,7 @@ use Rattle.rw_plain_queue.specs.Items.{Placed}
 use Rattle.rw_types.specs.LabelOrder.{labels_eq}
 use Rattle.rw_types.specs.Labels.{Labels, label_fault}
 use Rattle.rw_types.specs.declared.entry.Entry.{Entry}
+use Rattle.rw_types.proofs.AllLemmas.{AllByRecursion-filter, AllByRecursion-get, AllByRecursion-map}
 
 -- Inv speaks of nothing that Reshard, Close and Kill change
 still : (c : Setup) (w : World) (draining closed : Option ℕ) (killed : Bool) → Inv c w → Inv c (record w { draining = draining; closed = closed; killed = killed })
@@ -50,8 +51,8 @@ act_keeps c w (event.Flush i) at = quiet c w i (flush_shard c w) (quiet_flush c 
 act_keeps c w (event.Take i) at = quiet c w i shard_take quiet_take at
 act_keeps c w (event.Freeze i) at = quiet c w i shard_freeze quiet_freeze at
 act_keeps c w (event.Send i) at = send_keeps c w i (slice_get w.shards i) refl at
-act_keeps c w (event.Arrive k how) at = arrive_keeps c w how (slice_get w.requests k) (λ at' r e. all_get (RequestOk c w.epoch w.shards (list_of w.head.store)) w.requests k r at'.requests_ok e) at
-act_keeps c w (event.Reply k) at = reply_keeps c w (slice_get w.replies k) (λ a e at'. all_get (AnswerOk c w.epoch w.shards at'.got) w.replies k a at'.answers_ok e) at
+act_keeps c w (event.Arrive k how) at = arrive_keeps c w how (slice_get w.requests k) (λ at' r e. AllByRecursion-get (RequestOk c w.epoch w.shards (list_of w.head.store)) w.requests k r at'.requests_ok e) at
+act_keeps c w (event.Reply k) at = reply_keeps c w (slice_get w.replies k) (λ a e at'. AllByRecursion-get (AnswerOk c w.epoch w.shards at'.got) w.replies k a at'.answers_ok e) at
 act_keeps c w (event.Lost i) at = quiet c w i shard_lost quiet_lost at
 act_keeps c w (event.Reshard n) at = either (Inv c) (not (is_some w.draining) && (not (is_finished w) && (nat_le 1 n && nat_le n 1000))) (record w { draining = Some n }) w (λ _. still c w (Some n) w.closed w.killed at) (λ _. at)
 act_keeps c w event.Restart at = restart_keeps c w w.draining at
@@ -126,7 +127,7 @@ beginning c w at one l k = (tail.0 ++ u, sym whole)
     by_shard (Some s) e (inr g) =
         let more : List Placed = s.core.builder ++ samples_in s.queue in
         let ok = at.shards_ok (home at.width w.series l) s e in
-        let unnamed : AllByRecursion (λ (q : Point). (get w.names) q.0 ≡ None) (as_points (of l s.core.batch)) = all_map (λ (q : Point). (get w.names) q.0 ≡ None) (λ (x : Placed). (x.place.pos, x.t, x.word)) (of l s.core.batch) (all_filter (λ (x : Placed). (get w.names) x.place.pos ≡ None) (λ (x : Placed). labels_eq l x.labels) s.core.batch (numbered_all (SampleOk c w.epoch w.placed at.width w.series (get w.names) at.ident (home at.width w.series l)) (λ (x : Placed). (get w.names) x.place.pos ≡ None) (length s.core.resolved) (length s.core.resolved + length s.core.batch) s.core.batch refl (λ n x _ _ x_ok. x_ok.unnamed) (batch_numbered (SampleOk c w.epoch w.placed at.width w.series (get w.names) at.ident (home at.width w.series l)) s ok.numbered))) in
+        let unnamed : AllByRecursion (λ (q : Point). (get w.names) q.0 ≡ None) (as_points (of l s.core.batch)) = AllByRecursion-map (λ (q : Point). (get w.names) q.0 ≡ None) (λ (x : Placed). (x.place.pos, x.t, x.word)) (of l s.core.batch) (AllByRecursion-filter (λ (x : Placed). (get w.names) x.place.pos ≡ None) (λ (x : Placed). labels_eq l x.labels) s.core.batch (numbered_all (SampleOk c w.epoch w.placed at.width w.series (get w.names) at.ident (home at.width w.series l)) (λ (x : Placed). (get w.names) x.place.pos ≡ None) (length s.core.resolved) (length s.core.resolved + length s.core.batch) s.core.batch refl (λ n x _ _ x_ok. x_ok.unnamed) (batch_numbered (SampleOk c w.epoch w.placed at.width w.series (get w.names) at.ident (home at.width w.series l)) s ok.numbered))) in
         let split : map pair_of (owed_by (get w.names) (as_points (of l (pending s)))) ≡ pairs (of l s.core.batch) ++ map pair_of (owed_by (get w.names) (as_points (of l more))) =
         ap (λ ps. map pair_of (owed_by (get w.names) (as_points (of l ps)))) (pending_parts s) ∙ ap (λ ps. map pair_of (owed_by (get w.names) (as_points ps))) (of_append l s.core.batch more) ∙ ap (λ ps. map pair_of (owed_by (get w.names) ps)) (map-append _ (of l s.core.batch) (of l more)) ∙ ap (map pair_of) (owed_append (get w.names) (as_points (of l s.core.batch)) (as_points (of l more))) ∙ map-append pair_of (owed_by (get w.names) (as_points (of l s.core.batch))) (owed_by (get w.names) (as_points (of l more))) ∙ ap (λ ps. map pair_of ps ++ map pair_of (owed_by (get w.names) (as_points (of l more)))) (owed_all (get w.names) (as_points (of l s.core.batch)) unnamed) ∙ ap (λ ps. ps ++ map pair_of (owed_by (get w.names) (as_points (of l more)))) (pairs_of_points (of l s.core.batch)) in
         (map pair_of (owed_by (get w.names) (as_points (of l more))), ap (λ b. pairs (of l b) ++ map pair_of (owed_by (get w.names) (as_points (of l more)))) g.0 ∙ sym split)

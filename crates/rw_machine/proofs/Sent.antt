@@ -4,8 +4,8 @@ use Rattle.rw_head.specs.Store.{list_of}
 use Rattle.rw_retry.specs.Judgements.{judgement_of}
 use Rattle.rw_retry.specs.declared.judgement.Judgement.TheVariants.{Again, Done, Refused}
 use Rattle.std.specs.List.{AllByRecursion}
-use Rattle.rw_types.proofs.RisingLemmas.{AllByRecursion-weaker}
-use Rattle.rw_machine.proofs.Steps.{either, all_append, all_get}
+use Rattle.rw_types.proofs.AllLemmas.{AllByRecursion-append, AllByRecursion-get, AllByRecursion-weaker}
+use Rattle.rw_machine.proofs.Steps.{either}
 use Rattle.rw_machine.proofs.Frames.{place_frame, reply_frame, restart_frame}
 use Rattle.rw_machine.proofs.Ids.{get_kept, one_batch}
 use Rattle.rw_machine.proofs.Invariant.{Inv, RequestOk}
@@ -43,13 +43,13 @@ says_arrive c w how k None e at q = q
 says_arrive c w how k (Some r) e at q = by_how how
   where
     told : (status : ℕ) → (judgement_of status ≡ Done → is_let_in c r.batch ≡ true) × (judgement_of status ≡ Refused → is_let_in c r.batch ≡ false) → AllByRecursion (Says c w.requests) (w.replies ++ record { id = r.id; status = status } ∷ [])
-    told status tells = all_append (Says c w.requests) w.replies (record { id = r.id; status = status } ∷ []) q (record { at = k; request = r; stands = e; id_is = refl; done_in = tells.0; refused_out = tells.1 }, tt)
+    told status tells = AllByRecursion-append (Says c w.requests) w.replies (record { id = r.id; status = status } ∷ []) q (record { at = k; request = r; stands = e; id_is = refl; done_in = tells.0; refused_out = tells.1 }, tt)
 
     again : (status : ℕ) → judgement_of status ≡ Again → (judgement_of status ≡ Done → is_let_in c r.batch ≡ true) × (judgement_of status ≡ Refused → is_let_in c r.batch ≡ false)
     again status is = (λ d. let z : Again ≡ Done = sym is ∙ d in let never : Again ≡ Done → ⊥ = λ h. cc in absurd (never z), λ d. let z : Again ≡ Refused = sym is ∙ d in let never : Again ≡ Refused → ⊥ = λ h. cc in absurd (never z))
 
     by_how : (how : How) → EachSays c (arrive c w how (Some r))
-    by_how Plain = told (endpoint_answer c w.head r.batch).status (plain_tells c w at r (all_get (RequestOk c w.epoch w.shards (list_of w.head.store)) w.requests k r at.requests_ok e))
+    by_how Plain = told (endpoint_answer c w.head r.batch).status (plain_tells c w at r (AllByRecursion-get (RequestOk c w.epoch w.shards (list_of w.head.store)) w.requests k r at.requests_ok e))
     by_how Busy = told 429 (again 429 refl)
     by_how OutOfMemory = told 503 (again 503 refl)
 
@@ -72,8 +72,8 @@ pub never_both : (c : Setup) (events : List Event) → NeverTakesAndRefuses c (r
 never_both c events i j a b at_i at_j ids done refused =
     let w : World = run c events (start c) in
     let at : EachSays c w = along c (EachSays c) (says_act c) events (start c) (begins c) tt in
-    let x : Says c w.requests a = all_get (Says c w.requests) w.replies i a at at_i in
-    let y : Says c w.requests b = all_get (Says c w.requests) w.replies j b at at_j in
+    let x : Says c w.requests a = AllByRecursion-get (Says c w.requests) w.replies i a at at_i in
+    let y : Says c w.requests b = AllByRecursion-get (Says c w.requests) w.replies j b at at_j in
     let same : x.request.batch ≡ y.request.batch = one_batch c events x.at y.at x.request y.request x.stands y.stands (x.id_is ∙ ids ∙ sym y.id_is) in
     let both : true ≡ false = sym (x.done_in done) ∙ ap (is_let_in c) same ∙ y.refused_out refused in
     let never : true ≡ false → ⊥ = λ h. cc in never both

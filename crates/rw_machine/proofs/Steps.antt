@@ -1,6 +1,5 @@
 -- How a fact goes through one event.
-use Rattle.std.proofs.Common.{◌≡◌, ℕ, zero, suc, Bool, true, false, cond, List, [], ◌∷◌, ◌++◌, map, filter, Some, None, slice_get, refl, ap, subst, ◌+◌, arith, ◌&&◌}
-use Rattle.std.specs.List.{AllByRecursion}
+use Rattle.std.proofs.Common.{◌≡◌, ℕ, zero, suc, Bool, true, false, cond, List, [], ◌∷◌, Some, None, slice_get, refl, ap, subst, ◌+◌, arith, ◌&&◌}
 use Rattle.std.specs.Ordering.{is_eq}
 use Rattle.std.proofs.lemmas.Cmp.{tied_itself}
 use Rattle.rw_machine.specs.declared.event.Event.TheVariants as event
@@ -41,24 +40,6 @@ pub each_new : (Q : ℕ → Shard → Type 0) (c : Setup) (epoch k : ℕ) → ((
 each_new Q c epoch k one zero i s e = let no : None ≡ Some s → ⊥ = λ h. cc in absurd (no e)
 each_new Q c epoch k one (suc n) zero s e = let same : new_shard (new_core c.target epoch k c.batch) ≡ s = cc in subst (Q zero) same (subst (λ m. Q zero (new_shard (new_core c.target epoch m c.batch))) (omega arith) (one zero))
 each_new Q c epoch k one (suc n) (suc i) s e = each_new (λ j. Q (suc j)) c epoch (suc k) (λ j. subst (λ m. Q (suc j) (new_shard (new_core c.target epoch m c.batch))) (omega arith) (one (suc j))) n i s e
-
--- a fact of each element
-pub all_append : {X : Type 0} (P : X → Type 0) (xs ys : List X) → AllByRecursion P xs → AllByRecursion P ys → AllByRecursion P (xs ++ ys)
-all_append P [] ys all rest = rest
-all_append P (x ∷ xs) ys all rest = (all.0, all_append P xs ys all.1 rest)
-
-pub all_get : {X : Type 0} (P : X → Type 0) (xs : List X) (k : ℕ) (x : X) → AllByRecursion P xs → slice_get xs k ≡ Some x → P x
-all_get P [] k x all e = let no : None ≡ Some x → ⊥ = λ h. cc in absurd (no e)
-all_get P (y ∷ ys) zero x all e = let same : y ≡ x = cc in subst P same all.0
-all_get P (y ∷ ys) (suc k) x all e = all_get P ys k x all.1 e
-
-pub all_filter : {X : Type 0} (P : X → Type 0) (p : X → Bool) (xs : List X) → AllByRecursion P xs → AllByRecursion P (filter p xs)
-all_filter P p [] all = tt
-all_filter P p (x ∷ xs) all = either (AllByRecursion P) (p x) (x ∷ filter p xs) (filter p xs) (λ _. (all.0, all_filter P p xs all.1)) (λ _. all_filter P p xs all.1)
-
-pub all_map : {X Y : Type 0} (P : Y → Type 0) (f : X → Y) (xs : List X) → AllByRecursion (λ x. P (f x)) xs → AllByRecursion P (map f xs)
-all_map P f [] all = tt
-all_map P f (x ∷ xs) all = (all.0, all_map P f xs all.1)
 
 pub and_both : (a b : Bool) → a ≡ true → b ≡ true → (a && b) ≡ true
 and_both true b h k = k

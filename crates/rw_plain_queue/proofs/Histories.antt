@@ -2,7 +2,8 @@
 use Rattle.std.proofs.Common.{◌≡◌, inl, inr, ℕ, ◌<◌, ◌≤◌, ◌^◌, false, true≢false, List, [], ◌∷◌, ◌++◌, length, Some, refl, sym, ap, ◌∙◌, append_assoc, append-nil, length-append, arith}
 use Rattle.std.specs.Prelude.{slice_get}
 use Rattle.rw_types.specs.Rising.{Rises}
-use Rattle.rw_types.proofs.RisingLemmas.{AllByRecursion-from_get, Rises-left, Rises-push}
+use Rattle.rw_types.proofs.AllLemmas.{AllByRecursion-from_get}
+use Rattle.rw_types.proofs.RisingLemmas.{Rises-left, Rises-push}
 use Rattle.rw_types.specs.declared.place.Place.{Place}
 use Rattle.rw_plain_queue.specs.declared.item.Kind.{Kind}
 use Rattle.rw_plain_queue.specs.declared.item.Item.{Item}

@@ -15,7 +15,7 @@ use Rattle.rw_shard_core.specs.Shard.{AreInRow, positions_of, positions, name_al
 use Rattle.rw_shard_core.specs.Inside.{batch_part}
 use Rattle.rw_shard_core.specs.declared.shard.OpenBatch.{OpenBatch}
 use Rattle.rw_types.specs.Rising.{Rises}
-use Rattle.rw_types.proofs.RisingLemmas.{AllByRecursion-at, AllByRecursion-weaker}
+use Rattle.rw_types.proofs.AllLemmas.{AllByRecursion-at, AllByRecursion-weaker}
 use Rattle.rw_types.proofs.TimeLemmas.{nat_cmp-apart}
 use Rattle.rw_retry.specs.declared.judgement.Judgement.{Judgement}
 use Rattle.rw_retry.specs.declared.judgement.Judgement.TheVariants.{Done, Again, Refused}

@@ -6,7 +6,8 @@ use Rattle.std.proofs.lemmas.List.Elements.{Contains-append_cases, Contains-appe
 use Rattle.std.proofs.lemmas.Bool.{eq-eqb, eqb-true}
 use Rattle.std.proofs.lemmas.Option.{same_Some}
 use Rattle.rw_types.specs.Rising.{Rises}
-use Rattle.rw_types.proofs.RisingLemmas.{AllByRecursion-weaker, Rises-across, Rises-filter, Rises-left, Rises-right}
+use Rattle.rw_types.proofs.AllLemmas.{AllByRecursion-weaker}
+use Rattle.rw_types.proofs.RisingLemmas.{Rises-across, Rises-filter, Rises-left, Rises-right}
 use Rattle.rw_types.specs.declared.entry.Entry.{Entry}
 use Rattle.rw_types.specs.declared.entry.Entry.TheVariants as entry
 use Rattle.rw_types.specs.Gathering.{gather_from}

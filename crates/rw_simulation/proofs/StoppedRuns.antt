@@ -40,7 +40,7 @@ use Rattle.rw_shipper.specs.Shipping.{Shipping, HasStopped, Ends}
 use Rattle.rw_shipper.specs.declared.report.Report.{Report}
 use Rattle.rw_shipper.proofs.PlacementLemmas.{whole_is, whole_placed}
 use Rattle.rw_shipper.proofs.ShippingLemmas.{all_is, ends_last}
-use Rattle.rw_types.proofs.RisingLemmas.{AllByRecursion-left, AllByRecursion-right}
+use Rattle.rw_types.proofs.AllLemmas.{AllByRecursion-left, AllByRecursion-right}
 use Rattle.rw_machine.specs.Shards.{Shard, is_drained, shard_end, shard_flush}
 use Rattle.rw_machine.specs.Worlds.{Setup, World, Complete, start, log, ended_as, report}
 use Rattle.rw_machine.specs.Steps.{happens, mark, unless_over}

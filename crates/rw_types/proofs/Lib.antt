@@ -1,5 +1,8 @@
+pub mod AllLemmas
 pub mod AnswerLemmas
 pub mod BeginningLemmas
+pub mod FieldLemmas
+pub mod FittingLemmas
 pub mod GatherLemmas
 pub mod HashLemmas
 pub mod JudgeLemmas

@@ -3,6 +3,7 @@ pub mod Gathering
 pub mod Hashing
 pub mod LabelOrder
 pub mod Labels
+pub mod LabelFields
 pub mod Memory
 pub mod Requests
 pub mod Rising

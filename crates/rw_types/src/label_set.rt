@@ -5,6 +5,7 @@ ghost use Rattle.std.specs.Str.{is_utf8};
 ghost use Rattle.std.specs.List.{list_all};
 ghost use Rattle.std.specs.Ordering.{is_eq};
 ghost use Rattle.rw_types.specs.Hashing.{labels_hash};
+ghost use Rattle.rw_types.specs.LabelFields.{label_fields};
 ghost use Rattle.rw_types.specs.LabelOrder.{labels_cmp};
 ghost use Rattle.rw_types.specs.Labels.{Labels, IsLabelSet, bytes_label, text_label, is_text, text_len, label_fault};
 ghost use Rattle.rw_types.specs.declared.label_fault.LabelFault.TheVariants.{OutOfMemory, BadName};
@@ -12,6 +13,7 @@ ghost use Rattle.rw_types.specs.declared.names.Names.TheVariants.{Legacy, Utf8};
 
 use crate::judge::{are_longer_than, fault_of};
 use crate::label_fault::LabelFault;
+use crate::label_fields::{label_fields_len, put_label_fields};
 use crate::names::Names;
 use crate::raw_labels::RawLabels;
 use std::alloc::{AllocError, Global};
@@ -26,6 +28,8 @@ use std::marker::Model;
 #[derive(Debug, Drop)]
 pub struct LabelSet {
     labels: Vec<(String, String)>,
+    /// Their fields in a series of a message, kept so that a body takes them by one copy.
+    fields: Vec<u8>,
     /// The hash of all texts, kept so that a map looks at one number.
     hash: u64,
 }
@@ -33,6 +37,7 @@ pub struct LabelSet {
 impl Model for LabelSet {
     ghost use Rattle.std.specs.Prelude.{◌≡◌, ℕ, List, map};
     ghost use Rattle.rw_types.specs.Hashing.{labels_hash};
+    ghost use Rattle.rw_types.specs.LabelFields.{label_fields};
     ghost use Rattle.rw_types.specs.Labels.{IsLabelSet, text_label};
     ghost use Rattle.rw_types.specs.declared.names.Names.TheVariants.{Utf8};
 
@@ -41,6 +46,7 @@ impl Model for LabelSet {
     ghost view = { λ s. map text_label s.labels.items };
 
     ghost invariant = { λ s. IsLabelSet Utf8 (map text_label s.labels.items)
+        × (s.fields.items ≡ label_fields (map text_label s.labels.items))
         × (s.hash ≡ labels_hash (map text_label s.labels.items)) };
 }
 
@@ -51,6 +57,19 @@ fn hash_of(labels: &[(String, String)]) -> u64
     let mut state = FoldHasher::default();
     labels.hash(&mut state);
     state.finish()
+}
+
+/// Makes `fields` the fields of the labels, in the room that it has as far as it goes.
+fn overwrite_fields(fields: &mut Vec<u8>, labels: &[(String, String)]) -> Result<(), AllocError>
+    ensures { OnOk result (fields.new.items ≡ label_fields (map text_label labels.now)) }
+{
+    let Some(len) = label_fields_len(labels) else {
+        return Err(AllocError);
+    };
+    fields.clear();
+    fields.reserve_exact(len)?;
+    put_label_fields(fields, labels);
+    Ok(())
 }
 
 /// The bytes as a text.
@@ -153,21 +172,46 @@ fn replace_all(
     append_copies(labels, &new[labels.len()..])
 }
 
+/// Makes the labels the same as the new ones, and `fields` their fields.
+fn replace(
+    labels: &mut Vec<(String, String)>,
+    fields: &mut Vec<u8>,
+    new: &[(String, String)],
+) -> Result<(), AllocError>
+    ensures labels { OnOk result (map text_label labels.new.items ≡ map text_label new.now) }
+    ensures fields { OnOk result (fields.new.items ≡ label_fields (map text_label new.now)) }
+{
+    replace_all(labels, new)?;
+    overwrite_fields(fields, new)
+}
+
 impl LabelSet {
     /// The label set without labels. This takes no memory.
     pub fn empty(alloc: Global) -> LabelSet
         ensures { result ≡ [] }
     {
-        LabelSet::of(Vec::new(alloc))
+        let labels = Vec::new(alloc);
+        let hash = hash_of(&labels);
+        LabelSet {
+            labels,
+            fields: Vec::new(alloc),
+            hash,
+        }
     }
 
     /// The label set of these labels.
-    fn of(labels: Vec<(String, String)>) -> LabelSet
+    fn of(labels: Vec<(String, String)>) -> Result<LabelSet, AllocError>
         requires { IsLabelSet Utf8 (map text_label labels.items) }
-        ensures { result ≡ map text_label labels.items }
+        ensures { IfOk result (λ s. s ≡ map text_label labels.items) }
     {
+        let mut fields = Vec::new(*labels.allocator());
+        overwrite_fields(&mut fields, &labels)?;
         let hash = hash_of(&labels);
-        LabelSet { labels, hash }
+        Ok(LabelSet {
+            labels,
+            fields,
+            hash,
+        })
     }
 
     /// Overwrites the set with the label set of `labels`, in the memory that it has as far as that goes. `names` says which names are accepted.
@@ -182,8 +226,9 @@ impl LabelSet {
         if let Some(fault) = fault_of(names, labels) {
             return Err(fault);
         }
-        if replace_all(&mut self.labels, labels).is_err() {
+        if replace(&mut self.labels, &mut self.fields, labels).is_err() {
             self.labels.clear();
+            self.fields.clear();
             self.hash = hash_of(&self.labels);
             return Err(LabelFault::OutOfMemory);
         }
@@ -221,7 +266,7 @@ impl LabelSet {
         if let Some(fault) = fault_of(names, labels) {
             return Err(fault);
         }
-        Ok(LabelSet::of(texts_of(alloc, labels)?))
+        Ok(LabelSet::of(texts_of(alloc, labels)?)?)
     }
 
     /// The labels as (name, value), sorted by name in byte order.
@@ -230,6 +275,14 @@ impl LabelSet {
         ensures label_set { IsLabelSet Utf8 self.now }
     {
         self.labels.as_slice()
+    }
+
+    /// The fields of its labels in a series, in the canonical spelling (Remote-Write 1.0, `TimeSeries`).
+    pub fn fields(&self) -> &[u8]
+        ensures fields { result.now ≡ label_fields self.now }
+        ensures label_set { IsLabelSet Utf8 self.now }
+    {
+        self.fields.as_slice()
     }
 }
 
@@ -243,9 +296,9 @@ impl PartialEq for LabelSet {
 
     ghost laws = { partial_equiv_from_equiv (eq_by_cmp_equiv labels_cmp-total) };
 
-    // Texts are compared for equality many bytes at a time, which is quicker than to ask for their order.
+    // Labels that are not the same are not spelled alike, and one run of bytes is sooner compared than many texts.
     fn eq(&self, other: &LabelSet) -> bool {
-        self.labels == other.labels
+        self.fields == other.fields
     }
 }
 

@@ -7,6 +7,7 @@ mod entry;
 mod judge;
 mod label_bytes;
 mod label_fault;
+mod label_fields;
 mod label_set;
 mod names;
 mod place;
@@ -23,6 +24,10 @@ pub use device::{Failed, Sink, Source};
 pub use entry::Entry;
 pub use judge::is_metric_name;
 pub use label_fault::{LabelFault, MAX_LABEL_BYTES, MAX_LABELS};
+pub use label_fields::{
+    bytes_field_len, label_field_len, label_fields_len, put_bytes, put_field_front,
+    put_label_field, put_label_fields,
+};
 pub use label_set::LabelSet;
 pub use names::Names;
 pub use place::Place;

@@ -1,6 +1,5 @@
 pub mod Results
 pub mod Varints
-pub mod Fitting
 pub mod Validity
 pub mod Loop
 pub mod TextReads

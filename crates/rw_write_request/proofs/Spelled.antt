@@ -11,7 +11,9 @@ use Rattle.rw_write_request.specs.declared.kind.Kind.TheVariants as kinds
 use Rattle.rw_types.specs.Labels.{Label}
 use Rattle.rw_write_request.specs.Message.{Sample, TimeSeries, WriteRequest}
 use Rattle.rw_codes.specs.Varint.{uvarint, read_uvarint}
-use Rattle.rw_write_request.specs.Canon.{tag, bytes_field, string_field, fixed64_field, int64_field, label, label_field, sample, sample_field, label_fields, sample_fields, series, series_field, canon, series_head}
+use Rattle.rw_types.specs.LabelFields.{tag, bytes_field, string_field, label, label_field, label_fields}
+use Rattle.rw_types.proofs.AllLemmas.{AllByRecursion-append}
+use Rattle.rw_write_request.specs.Canon.{fixed64_field, int64_field, sample, sample_field, sample_fields, series, series_field, canon, series_head}
 use Rattle.rw_write_request.specs.Fields.{IsUvarint, Content, Varint, Fixed64, Bytes, Field, IsField, AreFields, known_wire, HasKnownWire, contents}
 use Rattle.rw_write_request.specs.Spells.{SpellsLabel, SpellsSample, EachSpells, SpellsSeries, Spells}
 use Rattle.rw_write_request.specs.Valid.{IsLabel, IsSample, IsSeries, IsMessage}
@@ -49,10 +51,6 @@ one_field a f h = (a, [], sym (nil-right a), h, refl)
     nil-right : (w : List ℕ) → w ++ [] ≡ w
     nil-right [] = refl
     nil-right (x ∷ w) = ap (λ (v : List ℕ). x ∷ v) (nil-right w)
-
-pub AllByRecursion-append : {X : Type 0} (P : X → Type 0) (xs ys : List X) → AllByRecursion P xs → AllByRecursion P ys → AllByRecursion P (xs ++ ys)
-AllByRecursion-append P [] ys h k = k
-AllByRecursion-append P (x ∷ xs) ys h k = (h.0, AllByRecursion-append P xs ys h.1 k)
 
 shorter_left : (a b : List ℕ) → length (a ++ b) < 2 ^ 64 → length a < 2 ^ 64
 shorter_left a b h = omega (arith, length-append a b)

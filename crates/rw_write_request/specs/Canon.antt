@@ -1,23 +1,12 @@
 -- The canonical spelling of a message: fields in number order, repeated ones in list order, the shortest
 -- varints, and neither a scalar whose bits are all zero nor an empty string.
-use Rattle.std.specs.Prelude.{ℕ, ◌+◌, ◌*◌, ◌==◌, if◌then◌else◌, ℤ, List, [], ◌∷◌, ◌++◌, length}
+use Rattle.std.specs.Prelude.{ℕ, ◌+◌, ◌==◌, if◌then◌else◌, ℤ, List, [], ◌++◌, length}
 use Rattle.std.specs.Int.{w64, to_le_bytes, cast_unsigned}
 use Rattle.std.specs.List.{flat_map}
-use Rattle.rw_types.specs.Labels.{Label, Labels}
+use Rattle.rw_types.specs.Labels.{Labels}
+use Rattle.rw_types.specs.LabelFields.{tag, bytes_field, label_fields}
 use Rattle.rw_write_request.specs.Message.{Sample, TimeSeries, WriteRequest}
 use Rattle.rw_codes.specs.Varint.{uvarint}
-
--- The tag of a field, `number * 8 + wire type`, is one byte for the numbers below 16.
-abbrev pub tag : ℕ → ℕ → List ℕ
-tag number wire = (number * 8 + wire) ∷ []
-
--- wire type 2: the length, then the bytes
-abbrev pub bytes_field : ℕ → List ℕ → List ℕ
-bytes_field number bytes = tag number 2 ++ uvarint (length bytes) ++ bytes
-
-abbrev pub string_field : ℕ → List ℕ → List ℕ
-string_field number [] = []
-string_field number (b ∷ bytes) = bytes_field number (b ∷ bytes)
 
 -- wire type 1: eight bytes, little-endian
 unfoldable pub fixed64_field : ℕ → ℕ → List ℕ
@@ -27,23 +16,13 @@ fixed64_field number word = if word == 0 then [] else tag number 1 ++ to_le_byte
 unfoldable pub int64_field : ℕ → ℤ → List ℕ
 int64_field number z = if cast_unsigned w64 z == 0 then [] else tag number 0 ++ uvarint (cast_unsigned w64 z)
 
--- Label: 1 name, 2 value
-unfoldable pub label : Label → List ℕ
-label l = string_field 1 l.0 ++ string_field 2 l.1
-
 -- Sample: 1 value, 2 timestamp
 unfoldable pub sample : Sample → List ℕ
 sample s = fixed64_field 1 s.0 ++ int64_field 2 s.1
 
 -- TimeSeries: 1 labels, 2 samples
-unfoldable pub label_field : Label → List ℕ
-label_field l = bytes_field 1 (label l)
-
 unfoldable pub sample_field : Sample → List ℕ
 sample_field s = bytes_field 2 (sample s)
-
-abbrev pub label_fields : Labels → List ℕ
-label_fields ls = flat_map label_field ls
 
 abbrev pub sample_fields : List Sample → List ℕ
 sample_fields ss = flat_map sample_field ss

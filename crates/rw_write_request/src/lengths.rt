@@ -1,65 +1,12 @@
 //! How long the canonical spelling of a message is.
 
-ghost use Rattle.std.specs.Prelude.{◌≡◌, ◌≤◌, ◌+◌, ◌^◌, length, map, IfSome, IfNone};
-ghost use Rattle.rw_codes.specs.Varint.{uvarint};
-ghost use Rattle.rw_types.specs.Labels.{text_label};
-ghost use Rattle.rw_write_request.specs.Canon.{string_field, label, label_field, label_fields, sample, sample_field, sample_fields, series, series_field, series_head, canon};
+ghost use Rattle.std.specs.Prelude.{◌≡◌, ◌≤◌, ◌+◌, ◌^◌, length, IfSome, IfNone};
+ghost use Rattle.rw_write_request.specs.Canon.{sample, sample_field, sample_fields, series, series_field, series_head, canon};
 ghost use Rattle.rw_write_request.specs.Texts.{series_of};
 
 use crate::message::{Message, Series};
 use rw_codes::uvarint_len;
-use rw_types::Word;
-
-/// The length of a length-delimited field of `len` bytes, with a tag of one byte; `None` where it does not fit 64 bits.
-pub fn bytes_field_len(len: usize) -> Option<usize>
-    ensures some { IfSome result (λ n. n ≡ 1 + length (uvarint len) + len) }
-    ensures none { IfNone result (2 ^ 64 ≤ 1 + length (uvarint len) + len) }
-{
-    len.checked_add(1 + uvarint_len(len as u64))
-}
-
-fn string_field_len(text: &str) -> Option<usize>
-    ensures some { IfSome result (λ n. n ≡ length (string_field 1 text.now)) }
-    ensures none { IfNone result (2 ^ 64 ≤ length (string_field 1 text.now)) }
-{
-    if text.is_empty() {
-        Some(0)
-    } else {
-        bytes_field_len(text.len())
-    }
-}
-
-#[tactic(auto, unfolding(crate::specs::Canon::label))]
-pub(crate) fn label_len(name: &str, value: &str) -> Option<usize>
-    ensures some { IfSome result (λ n. n ≡ length (label (name.now, value.now))) }
-    ensures none { IfNone result (2 ^ 64 ≤ length (label (name.now, value.now))) }
-{
-    let name = string_field_len(name)?;
-    let value = string_field_len(value)?;
-    name.checked_add(value)
-}
-
-/// The length of the field of a label in its series, in the canonical spelling; `None` where it does not fit 64 bits.
-#[tactic(auto, unfolding(crate::specs::Canon::label_field))]
-pub fn label_field_len(name: &str, value: &str) -> Option<usize>
-    ensures some { IfSome result (λ n. n ≡ length (label_field (name.now, value.now))) }
-    ensures none { IfNone result (2 ^ 64 ≤ length (label_field (name.now, value.now))) }
-{
-    let inner = label_len(name, value)?;
-    bytes_field_len(inner)
-}
-
-pub(crate) fn label_fields_len(labels: &[(String, String)]) -> Option<usize>
-    ensures some { IfSome result (λ n. n ≡ length (label_fields (map text_label labels.now))) }
-    ensures none { IfNone result (2 ^ 64 ≤ length (label_fields (map text_label labels.now))) }
-{
-    let mut total = 0usize;
-    for (name, value) in labels {
-        let field = label_field_len(name, value)?;
-        total = total.checked_add(field)?;
-    }
-    Some(total)
-}
+use rw_types::{LabelSet, Word, bytes_field_len, label_fields_len};
 
 #[tactic(auto, unfolding(crate::specs::Canon::sample, crate::specs::Canon::fixed64_field, crate::specs::Canon::int64_field))]
 pub(crate) fn sample_len(word: Word, timestamp: i64) -> usize
@@ -105,12 +52,11 @@ pub(crate) fn parts_len(labels: &[(String, String)], samples: &[(Word, i64)]) ->
 /// The length of what stands before the sample fields of a series with these labels, where these fields take `len` bytes; `None` where both
 /// together do not fit 64 bits.
 #[tactic(auto, unfolding(crate::specs::Canon::series_head))]
-pub fn series_head_len(labels: &[(String, String)], len: usize) -> Option<usize>
-    ensures some { IfSome result (λ n. n ≡ length (series_head (map text_label labels.now) len)) }
-    ensures none { IfNone result
-        (2 ^ 64 ≤ length (series_head (map text_label labels.now) len) + len) }
+pub fn series_head_len(labels: &LabelSet, len: usize) -> Option<usize>
+    ensures some { IfSome result (λ n. n ≡ length (series_head labels.now len)) }
+    ensures none { IfNone result (2 ^ 64 ≤ length (series_head labels.now len) + len) }
 {
-    let fields = label_fields_len(labels)?;
+    let fields = labels.fields().len();
     let inner = fields.checked_add(len)?;
     fields.checked_add(1 + uvarint_len(inner as u64))
 }

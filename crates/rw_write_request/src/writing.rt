@@ -1,65 +1,20 @@
 //! The canonical spelling of messages, written into room that was made before.
 
-ghost use Rattle.std.specs.Prelude.{◌≡◌, ◌≤◌, ◌<◌, ◌+◌, ◌^◌, ◌++◌, length, map, IfOk};
+ghost use Rattle.std.specs.Prelude.{◌≡◌, ◌≤◌, ◌<◌, ◌+◌, ◌^◌, ◌++◌, length, IfOk};
 ghost use Rattle.std.specs.Vec.{vec_len, vec_capacity};
 ghost use Rattle.std.specs.List.{AllByRecursion};
 ghost use Rattle.rw_codes.specs.Varint.{uvarint};
-ghost use Rattle.rw_types.specs.Labels.{text_label};
-ghost use Rattle.rw_write_request.specs.Canon.{tag, string_field, fixed64_field, int64_field, label_field, label_fields, sample_field, sample_fields, series_field, series_head, canon};
+ghost use Rattle.rw_types.specs.LabelFields.{tag};
+ghost use Rattle.rw_write_request.specs.Canon.{fixed64_field, int64_field, sample_field, sample_fields, series_field, series_head, canon};
 ghost use Rattle.rw_write_request.specs.Valid.{IsLabel, IsSample, IsSeries};
 ghost use Rattle.rw_write_request.specs.Spells.{Spells};
 ghost use Rattle.rw_write_request.specs.Texts.{series_of};
 
-use crate::lengths::{encoded_len, label_fields_len, label_len, parts_len, sample_len};
+use crate::lengths::{encoded_len, parts_len, sample_len};
 use crate::message::{Message, Series};
 use rw_codes::push_uvarint;
-use rw_types::Word;
+use rw_types::{LabelSet, Word, put_bytes, put_field_front, put_label_fields};
 use std::alloc::{AllocError, Global};
-
-fn put_bytes(out: &mut Vec<u8>, bytes: &[u8])
-    requires room { vec_len out.old + length bytes.now ≤ vec_capacity out.old }
-    ensures items { out.new.items ≡ out.old.items ++ bytes.now }
-    ensures capacity { vec_capacity out.old ≤ vec_capacity out.new }
-{
-    out.extend_from_slice(bytes).unwrap();
-}
-
-/// Appends the front of a field that holds `len` bytes: its tag and its length.
-fn put_field_front(out: &mut Vec<u8>, number: u8, len: usize)
-    requires number { number < 16 }
-    requires room { vec_len out.old + 1 + length (uvarint len) ≤ vec_capacity out.old }
-    ensures items { out.new.items ≡ out.old.items ++ tag number 2 ++ uvarint len }
-    ensures capacity { vec_capacity out.old ≤ vec_capacity out.new }
-{
-    out.push_reserved(number * 8 + 2);
-    push_uvarint(out, len as u64);
-}
-
-fn put_string_field(out: &mut Vec<u8>, number: u8, text: &str)
-    requires number { number < 16 }
-    requires room { vec_len out.old + length (string_field number text.now) ≤ vec_capacity out.old }
-    ensures items { out.new.items ≡ out.old.items ++ string_field number text.now }
-    ensures capacity { vec_capacity out.old ≤ vec_capacity out.new }
-{
-    if !text.is_empty() {
-        put_field_front(out, number, text.len());
-        put_bytes(out, text.as_bytes());
-    }
-}
-
-/// Appends the field of a label in its series to a vector that has room for it. This takes no memory.
-#[tactic(auto, unfolding(crate::specs::Canon::label_field, crate::specs::Canon::label))]
-pub fn put_label_field(out: &mut Vec<u8>, name: &str, value: &str)
-    requires room { vec_len out.old + length (label_field (name.now, value.now))
-        ≤ vec_capacity out.old }
-    ensures items { out.new.items ≡ out.old.items ++ label_field (name.now, value.now) }
-    ensures capacity { vec_capacity out.old ≤ vec_capacity out.new }
-{
-    let len = label_len(name, value).unwrap();
-    put_field_front(out, 1, len);
-    put_string_field(out, 1, name);
-    put_string_field(out, 2, value);
-}
 
 #[tactic(auto, unfolding(crate::specs::Canon::fixed64_field))]
 fn put_word(out: &mut Vec<u8>, word: Word)
@@ -110,32 +65,19 @@ pub fn put_series_front(out: &mut Vec<u8>, len: usize)
     put_field_front(out, 1, len);
 }
 
-fn put_label_fields(out: &mut Vec<u8>, labels: &[(String, String)])
-    requires room { vec_len out.old + length (label_fields (map text_label labels.now))
-        ≤ vec_capacity out.old }
-    ensures items { out.new.items ≡ out.old.items ++ label_fields (map text_label labels.now) }
-    ensures texts { AllByRecursion IsLabel (map text_label labels.now) }
-    ensures capacity { vec_capacity out.old ≤ vec_capacity out.new }
-{
-    for (name, value) in labels {
-        put_label_field(out, name, value);
-    }
-}
-
 /// Appends what stands before the sample fields of a series with these labels, where these fields take `len` bytes, to a vector that has room for
 /// it. This takes no memory.
 #[tactic(auto, unfolding(crate::specs::Canon::series_head))]
-pub fn put_series_head(out: &mut Vec<u8>, labels: &[(String, String)], len: usize)
-    requires fits { length (series_head (map text_label labels.now) len) + len < 2 ^ 64 }
-    requires room { vec_len out.old + length (series_head (map text_label labels.now) len)
-        ≤ vec_capacity out.old }
-    ensures items { out.new.items ≡ out.old.items ++ series_head (map text_label labels.now) len }
-    ensures texts { AllByRecursion IsLabel (map text_label labels.now) }
+pub fn put_series_head(out: &mut Vec<u8>, labels: &LabelSet, len: usize)
+    requires fits { length (series_head labels.now len) + len < 2 ^ 64 }
+    requires room { vec_len out.old + length (series_head labels.now len) ≤ vec_capacity out.old }
+    ensures items { out.new.items ≡ out.old.items ++ series_head labels.now len }
+    ensures texts { AllByRecursion IsLabel labels.now }
     ensures capacity { vec_capacity out.old ≤ vec_capacity out.new }
 {
-    let fields = label_fields_len(labels).unwrap();
-    put_series_front(out, fields + len);
-    put_label_fields(out, labels);
+    let fields = labels.fields();
+    put_series_front(out, fields.len() + len);
+    put_bytes(out, fields);
 }
 
 fn put_sample_fields(out: &mut Vec<u8>, samples: &[(Word, i64)])

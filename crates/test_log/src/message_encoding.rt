@@ -1,9 +1,8 @@
 use crate::message_rows::{ONE, WORD_OF_ONE, is_spelled};
 use crate::rows::{holds, none_is_wrong};
-use rw_types::Word;
+use rw_types::{Word, bytes_field_len, label_field_len, put_label_field};
 use rw_write_request::{
-    bytes_field_len, decode, encoded_len, label_field_len, put_label_field, put_sample_field,
-    put_series_front, sample_field_is_short,
+    decode, encoded_len, put_sample_field, put_series_front, sample_field_is_short,
 };
 use std::alloc::{AllocError, Global};
 

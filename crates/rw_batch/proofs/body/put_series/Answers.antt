@@ -12,12 +12,12 @@ use Rattle.rw_batch.proofs.body.put_series.Goals as goal
 pub put_series_head-requires-clause-fits : goal.put_series_head-requires-clause-fits
 put_series_head-requires-clause-fits c =
     let s = series_at c.args.rows.now.samples c.args.place in
-    rw (c.as_slice.ensures.labels ∙ c.labels.ensures, c.sample_bytes.ensures) (omega (arith, len_of_parts s, c.requires.fits))
+    rw (c.labels.ensures, c.sample_bytes.ensures) (omega (arith, len_of_parts s, c.requires.fits))
 
 pub put_series_head-requires-clause-room : goal.put_series_head-requires-clause-room
 put_series_head-requires-clause-room c =
     let s = series_at c.args.rows.now.samples c.args.place in
-    rw (c.as_slice.ensures.labels ∙ c.labels.ensures, c.sample_bytes.ensures) (omega (arith, len_of_parts s, c.requires.room))
+    rw (c.labels.ensures, c.sample_bytes.ensures) (omega (arith, len_of_parts s, c.requires.room))
 
 pub put_numbered-requires-clause-within : goal.put_numbered-requires-clause-within
 put_numbered-requires-clause-within c =
@@ -28,7 +28,7 @@ put_numbered-requires-clause-within c =
 pub put_numbered-requires-clause-room : goal.put_numbered-requires-clause-room
 put_numbered-requires-clause-room c =
     let s = series_at c.args.rows.now.samples c.args.place in
-    let head = c.put_series_head.ensures.items ∙ ap (λ (l : Labels). c.args.out.now.items ++ series_head l c.sample_bytes.result) (c.as_slice.ensures.labels ∙ c.labels.ensures)
+    let head = c.put_series_head.ensures.items ∙ ap (λ (l : Labels). c.args.out.now.items ++ series_head l c.sample_bytes.result) (c.labels.ensures)
     ∙ ap (λ (n : ℕ). c.args.out.now.items ++ series_head s.labels n) c.sample_bytes.ensures in
     let found = ap (flat_map (field_at c.args.fields.now.samples)) c.deref.ensures.value ∙ ap (λ (ss : List Sample). flat_map (field_at ss) c.numbers.new.row.items) c.requires.same ∙ c.numbers.ensures.fields in
     omega (arith, ap length head, length-append c.args.out.now.items (series_head s.labels (length (sample_fields s.samples))), ap length found, c.put_series_head.new.out.ok.0, c.args.out.now.ok.0, c.put_series_head.ensures.capacity, c.requires.room, len_of_parts s)
@@ -36,7 +36,7 @@ put_numbered-requires-clause-room c =
 pub returns-clause-items : goal.returns-clause-items
 returns-clause-items c =
     let s = series_at c.args.rows.now.samples c.args.place in
-    let head = c.put_series_head.ensures.items ∙ ap (λ (l : Labels). c.args.out.now.items ++ series_head l c.sample_bytes.result) (c.as_slice.ensures.labels ∙ c.labels.ensures)
+    let head = c.put_series_head.ensures.items ∙ ap (λ (l : Labels). c.args.out.now.items ++ series_head l c.sample_bytes.result) (c.labels.ensures)
     ∙ ap (λ (n : ℕ). c.args.out.now.items ++ series_head s.labels n) c.sample_bytes.ensures in
     let found = ap (flat_map (field_at c.args.fields.now.samples)) c.deref.ensures.value ∙ ap (λ (ss : List Sample). flat_map (field_at ss) c.numbers.new.row.items) c.requires.same ∙ c.numbers.ensures.fields in
     c.put_numbered.ensures.items ∙ joined s c.args.out.now.items c.put_series_head.new.out.items _ head found

@@ -2,7 +2,7 @@ use Rattle.std.proofs.Common.{length, ap, arith, rules}
 use Rattle.std.specs.Prelude.{FitsSigned}
 use Rattle.std.specs.Int.{w64}
 use Rattle.rw_write_request.specs.Canon.{sample_field}
-use Rattle.rw_write_request.proofs.Fitting.{part_fits, has_room, len_of, one_more}
+use Rattle.rw_types.proofs.FittingLemmas.{part_fits, has_room, len_of, one_more}
 use Rattle.rw_write_request.specs.Valid.{IsSample}
 use Rattle.rw_write_request.proofs.Validity.{all_more, all_taken}
 use Rattle.rw_write_request.proofs.Spelled.{same-sample-field}

@@ -2,10 +2,11 @@ use Rattle.std.proofs.Common.{◌≡◌, ◌++◌, ◌∷◌, [], ℕ, ℤ, leng
 use Rattle.std.proofs.lemmas.List.{length_push}
 use Rattle.std.proofs.lemmas.Int.{to_z-of_z}
 use Rattle.std.specs.Int.{w64, cast_signed, cast_unsigned}
+use Rattle.rw_types.proofs.AllLemmas.{AllByRecursion-append}
 use Rattle.rw_write_request.specs.Canon.{sample_field, sample_fields}
 use Rattle.rw_write_request.specs.Message.{Sample}
 use Rattle.rw_write_request.specs.Valid.{IsSample}
-use Rattle.rw_write_request.proofs.Spelled.{sample-field-length, same-sample-field, AllByRecursion-append}
+use Rattle.rw_write_request.proofs.Spelled.{sample-field-length, same-sample-field}
 use Rattle.rw_batch.specs.Kept.{AreFields}
 use Rattle.rw_batch.proofs.FieldLemmas.{fields_short, fields-push, marks_more}
 use Rattle.rw_batch.proofs.fields.Fields.push.Goals as goal

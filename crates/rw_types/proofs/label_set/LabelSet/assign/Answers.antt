@@ -4,4 +4,4 @@ use Rattle.rw_types.proofs.NameLemmas.{of_any_names}
 use Rattle.rw_types.proofs.label_set.LabelSet.assign.Goals as goal
 
 pub invariant_of-self-2 : goal.invariant_of-self-2
-invariant_of-self-2 c = (of_any_names c.args.names (map text_label c.replace_all.new.labels.items) (search rules), search rules)
+invariant_of-self-2 c = (of_any_names c.args.names (map text_label c.replace.new.labels.items) (search rules), search rules, search rules)

@@ -1,8 +1,8 @@
 use Rattle.std.proofs.Common.{◌≤◌, ◌^◌, length, map, arith}
 use Rattle.rw_types.specs.Labels.{text_label}
-use Rattle.rw_write_request.specs.Canon.{label_field, label_fields}
-use Rattle.rw_write_request.proofs.Fitting.{none_is, viewed_fits}
-use Rattle.rw_write_request.proofs.lengths.label_fields_len.Goals as goal
+use Rattle.rw_types.specs.LabelFields.{label_field, label_fields}
+use Rattle.rw_types.proofs.FittingLemmas.{none_is, viewed_fits}
+use Rattle.rw_types.proofs.label_fields.label_fields_len.Goals as goal
 
 pub returns-in_err-field-clause-none : goal.returns-in_err-field-clause-none
 returns-in_err-field-clause-none c =

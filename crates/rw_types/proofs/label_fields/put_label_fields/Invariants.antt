@@ -1,8 +1,8 @@
 use Rattle.std.proofs.Common.{◌≡◌, ◌≤◌, ◌++◌, take, map}
 use Rattle.std.specs.Vec.{vec_capacity}
 use Rattle.rw_types.specs.Labels.{text_label}
-use Rattle.rw_write_request.specs.Canon.{label_fields}
-use Rattle.rw_write_request.proofs.writing.put_label_fields.Given as goal
+use Rattle.rw_types.specs.LabelFields.{label_fields}
+use Rattle.rw_types.proofs.label_fields.put_label_fields.Given as goal
 
 abbrev pub invariant-loop-name : goal.invariant-loop-name
 invariant-loop-name l = record {
