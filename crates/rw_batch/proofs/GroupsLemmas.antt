@@ -1,5 +1,6 @@
 -- The series of a message that grows, and their numbers.
-use Rattle.std.proofs.Common.{◌≡◌, ℕ, ◌+◌, ◌<◌, zero, suc, List, [], ◌∷◌, ◌++◌, length, set, get_or, nat_eq, eqb-true, eq-eqb, Bool, true, false, cond, refl, sym, ◌∙◌, ap, subst, Some, slice_get, arith}
+use Rattle.std.proofs.Common.{◌≡◌, ℕ, ◌+◌, ◌<◌, zero, suc, List, [], ◌∷◌, ◌++◌, length, set, get_or, nat_eq, eqb-true, eq-eqb, Bool, true, false, cond, refl, sym, ◌∙◌, ap, subst, Option, Some, None, slice_get, arith}
+use Rattle.std.specs.Prelude.{IfSome}
 use Rattle.std.specs.List.{IsDistinct, list_any, position, AllByRecursion}
 use Rattle.std.proofs.lemmas.Bool.{both_ways, or_parts}
 use Rattle.std.proofs.lemmas.List.{map-append, length-set, length_push}
@@ -49,12 +50,24 @@ with_sample-at (g ∷ gs) (suc i) l s old d e f =
     ap (λ r. g ∷ r) (with_sample-at gs i l s old (IsDistinct-tail labels_eq g.labels (labels_of gs) d) e f)
     ∙ sym (with_sample-other l s g gs (apart_from_first l g.labels (labels_of gs) i (IsDistinct-head labels_eq g.labels (labels_of gs) d) e))
 
--- the place of a number is that of the labels that it stands for
-place_of : (n : ℕ) (l : Labels) (g : Groups) (i : ℕ) → StandsFor n l g → Some i ≡ position (nat_eq n) g.numbers → slice_get (labels_of g.series) i ≡ Some l
-place_of n l g i h e =
-    let found = position-Some (nat_eq n) g.numbers i 0 (sym e) in
-    let same : n ≡ get_or g.numbers i 0 = eqb-true n (get_or g.numbers i 0) found.1 in
-    (h i).0 (slice_get-get_or g.numbers i 0 found.0 ∙ ap Some (sym same))
+-- a number that is found stands there
+found_at : (n : ℕ) (ns : List ℕ) (i : ℕ) → Some i ≡ position (nat_eq n) ns → slice_get ns i ≡ Some n
+found_at n ns i e =
+    let found = position-Some (nat_eq n) ns i 0 (sym e) in
+    slice_get-get_or ns i 0 found.0 ∙ ap Some (sym (eqb-true n (get_or ns i 0) found.1))
+
+pub found_in : (n : ℕ) (ns : List ℕ) (gs : WriteRequest) (g : Groups) (r : Option ℕ) → record { numbers = ns; series = gs } ≡ g → r ≡ position (nat_eq n) ns
+    → IfSome r (λ i. slice_get g.numbers i ≡ Some n)
+found_in n ns gs g None view e = tt
+found_in n ns gs g (Some i) view e = ap (λ (h : Groups). slice_get h.numbers i) (sym view) ∙ found_at n ns i e
+
+-- the number that a view of them has at a place stands there
+pub viewed_at : (n : ℕ) (ns : List ℕ) (gs : WriteRequest) (g : Groups) (i : ℕ) → record { numbers = ns; series = gs } ≡ g → slice_get g.numbers i ≡ Some n → slice_get ns i ≡ Some n
+viewed_at n ns gs g i view e = ap (λ (h : Groups). slice_get h.numbers i) view ∙ e
+
+-- and is no new one
+pub known_at : (n : ℕ) (ns : List ℕ) (i : ℕ) → slice_get ns i ≡ Some n → ns ≡ with_number n ns
+known_at n ns i e = ap (λ (b : Bool). cond b ns (ns ++ n ∷ [])) (sym (any_passes_from_place (nat_eq n) ns i n e (eq-eqb n n refl)))
 
 -- no labels of the list
 none_same_as : (l m : Labels) (ls : List Labels) (b : Bool) → labels_eq l m ≡ b → (m ≡ l → ⊥) → list_any (labels_eq l) ls ≡ false → list_any (labels_eq l) (m ∷ ls) ≡ false
@@ -93,11 +106,10 @@ grouped_with_new n ns g gs none h =
 
 -- the series after a sample of a known number
 pub grown_at : (n : ℕ) (l : Labels) (s : Sample) (ns : List ℕ) (gs : WriteRequest) (g : Groups) (i : ℕ) (old : TimeSeries) → record { numbers = ns; series = gs } ≡ g
-    → StandsFor n l g → Some i ≡ position (nat_eq n) ns → IsDistinct labels_eq (labels_of gs) → old ≡ get_or gs i old
+    → StandsFor n l g → slice_get ns i ≡ Some n → IsDistinct labels_eq (labels_of gs) → old ≡ get_or gs i old
     → set gs i (record { labels = old.labels; samples = old.samples ++ s ∷ [] }) ≡ with_sample l s g.series
 grown_at n l s ns gs g i old view h p d f =
-    let before : Groups = record { numbers = ns; series = gs } in
-    with_sample-at gs i l s old d (place_of n l before i (subst (StandsFor n l) (sym view) h) p) f ∙ ap (λ (g : Groups). with_sample l s g.series) view
+    with_sample-at gs i l s old d ((subst (StandsFor n l) (sym view) h i).0 p) f ∙ ap (λ (g : Groups). with_sample l s g.series) view
 
 -- the series after a sample of a new number
 pub grown_by : (n : ℕ) (l : Labels) (s : Sample) (ns : List ℕ) (gs hs new : WriteRequest) (g : Groups) (x : TimeSeries) → record { numbers = ns; series = gs } ≡ g

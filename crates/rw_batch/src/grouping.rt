@@ -1,6 +1,6 @@
 //! Samples that are grouped by label set as they come.
 
-ghost use Rattle.std.specs.Prelude.{◌≡◌, ◌↔◌, ◌∷◌, [], ◌++◌, ◌==◌, false, length, map, IfOk, OnOk, OnErr, IsTrue};
+ghost use Rattle.std.specs.Prelude.{◌≡◌, ◌↔◌, ◌∷◌, [], ◌++◌, ◌==◌, false, length, map, Some, slice_get, IfOk, IfSome, IfNone, OnOk, OnErr, IsTrue};
 ghost use Rattle.std.specs.List.{IsDistinct, list_any};
 ghost use Rattle.rw_types.specs.Labels.{text_label};
 ghost use Rattle.rw_types.specs.LabelOrder.{labels_eq};
@@ -20,6 +20,8 @@ use std::marker::Model;
 pub struct Grouping {
     numbers: IndexSet<u64>,
     series: Vec<Series>,
+    /// Where the last sample went, unless it opened a series: a hint alone.
+    last: usize,
 }
 
 impl Model for Grouping {
@@ -77,6 +79,7 @@ impl Grouping {
         Grouping {
             numbers: IndexSet::new(alloc),
             series: Vec::new(alloc),
+            last: 0,
         }
     }
 
@@ -111,9 +114,38 @@ impl Grouping {
         ensures numbers { OnOk result (self.new.numbers ≡ with_number number self.old.numbers) }
         ensures err { OnErr result (self.new ≡ self.old) }
     {
-        match self.numbers.get_index_of(&number) {
-            Some(place) => push_sample(&mut self.series[place], (word, t)),
+        match self.place_of(number) {
+            Some(place) => {
+                self.last = place;
+                push_sample(&mut self.series[place], (word, t))
+            }
             None => self.open(number, labels, (word, t)),
+        }
+    }
+
+    /// Whether the series at this place has the number.
+    fn is_at(&self, place: usize, number: u64) -> bool
+        ensures { IsTrue result → slice_get self.now.numbers place ≡ Some number }
+    {
+        match self.numbers.get_index(place) {
+            Some(known) => *known == number,
+            None => false,
+        }
+    }
+
+    /// The place of the series of a number. That of the last sample is looked at first, and then the next one: samples of a series come together, or
+    /// the series of a log in the same order again and again.
+    fn place_of(&self, number: u64) -> Option<usize>
+        ensures some { IfSome result (λ place. slice_get self.now.numbers place ≡ Some number) }
+        ensures none { IfNone result (list_any (λ m. number == m) self.now.numbers ≡ false) }
+    {
+        let next = self.last.wrapping_add(1);
+        if self.is_at(self.last, number) {
+            Some(self.last)
+        } else if self.is_at(next, number) {
+            Some(next)
+        } else {
+            self.numbers.get_index_of(&number)
         }
     }
 
@@ -142,7 +174,7 @@ impl Grouping {
     pub fn into_message(self) -> Message
         ensures { result ≡ self.series }
     {
-        let Grouping { numbers: _, series } = self;
+        let Grouping { series, .. } = self;
         Message { series }
     }
 }
