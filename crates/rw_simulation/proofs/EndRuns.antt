@@ -1,5 +1,5 @@
 -- At the end of an epoch each shard is put its End, and its worker makes all the steps that are left.
-use Rattle.std.proofs.Common.{◌≡◌, ℕ, zero, suc, ◌+◌, ◌<◌, ◌≤◌, ◌==◌, ◌&&◌, Bool, true, false, not, cond, List, [], ◌∷◌, ◌++◌, map, length, Option, Some, slice_get, refl, sym, ap, ◌∙◌, subst, append-nil, length-append, arith, ◌⊎◌, inl, inr}
+use Rattle.std.proofs.Common.{◌≡◌, ℕ, zero, suc, ◌+◌, ◌<◌, ◌≤◌, ◌==◌, ◌&&◌, Bool, true, false, not, cond, List, [], ◌∷◌, ◌++◌, map, length, Some, slice_get, refl, sym, ap, ◌∙◌, subst, append-nil, length-append, arith, ◌⊎◌, inl, inr}
 use Rattle.std.specs.List.{list_all}
 use Rattle.std.proofs.lemmas.Bool.{lt-ltb, eq-eqb, both_ways}
 use Rattle.std.proofs.lemmas.Option.{same_Some, none-some}
@@ -20,7 +20,7 @@ use Rattle.rw_machine.proofs.Lists as lists
 use Rattle.rw_machine.proofs.Others.{samples_append}
 use Rattle.rw_machine.proofs.Places.{length_change}
 use Rattle.rw_machine.proofs.Steps.{and_both}
-use Rattle.rw_simulation.specs.Freely.{Happening, Of, run_freely}
+use Rattle.rw_simulation.specs.Freely.{Of, run_freely}
 use Rattle.rw_simulation.specs.WorkerRuns.{queued, happenings, steps_names, IsAfter, CanEnd}
 use Rattle.rw_simulation.specs.EpochRuns.{ShardFate, end_in, Reaches, IsAtEnd, IsPut}
 use Rattle.rw_simulation.proofs.Changes.{change-is, change-get, change-twice, not-over}

@@ -1,8 +1,7 @@
 -- An entry that the feeder places is one Place.
-use Rattle.std.proofs.Common.{◌≡◌, ℕ, ℤ, suc, ◌+◌, true, false, List, [], ◌∷◌, length, take, Some, None, slice_get, refl, sym, ap, ◌∙◌, subst, arith}
+use Rattle.std.proofs.Common.{◌≡◌, ℕ, ℤ, suc, ◌+◌, true, false, List, [], ◌∷◌, length, Some, None, slice_get, refl, sym, ap, ◌∙◌, subst, arith}
 use Rattle.std.specs.FinMap.{insert}
 use Rattle.std.specs.Prelude.{fold}
-use Rattle.rw_types.specs.Labels.{Labels}
 use Rattle.rw_types.specs.declared.entry.Entry.{Entry}
 use Rattle.rw_types.specs.declared.entry.Entry.TheVariants.{Def, Sample}
 use Rattle.rw_series_cache.specs.Known.{standing_of, known}
@@ -12,11 +11,11 @@ use Rattle.rw_router.specs.Fates.{Fate, Drops, Filters, Sends, fate, fate_by}
 use Rattle.rw_feeder.specs.Logs.{Sent, kept_sample, sent_by_fate, dropped_by_fate, with_name, filtered_by_fate}
 use Rattle.rw_shipper.specs.Placement.{shard_of}
 use Rattle.rw_machine.specs.Shards.{Shard, has_room, shard_put}
-use Rattle.rw_machine.specs.Worlds.{Setup, World, log, is_over}
-use Rattle.rw_machine.specs.Steps.{change, next_sample, place_as, place_entry, put_if_room, unless_over}
+use Rattle.rw_machine.specs.Worlds.{Setup, World, is_over}
+use Rattle.rw_machine.specs.Steps.{next_sample, place_as, place_entry, put_if_room, unless_over}
 use Rattle.rw_machine.specs.Steps as machine
 use Rattle.rw_machine.specs.declared.event.Event.TheVariants as event
-use Rattle.rw_simulation.proofs.Entries.{IsBefore, HasRoomFor, placed_as, put_each, after_entry, IsEntryRun}
+use Rattle.rw_simulation.proofs.Entries.{HasRoomFor, placed_as, put_each, after_entry, IsEntryRun}
 use Rattle.rw_simulation.proofs.Changes.{change-is}
 
 pub over_not : (w : World) → w.killed ≡ false → w.closed ≡ None → is_over w ≡ false

@@ -5,7 +5,7 @@ use Rattle.rw_machine.specs.Steps.{act, happens, turned_away}
 use Rattle.rw_machine.specs.declared.event.Event.{Event}
 use Rattle.rw_machine.proofs.Steps.{unless}
 use Rattle.rw_machine.proofs.Counts.{Count, count_act, count_start}
-use Rattle.rw_machine.proofs.Lists.{Lists, all_act, all_start}
+use Rattle.rw_machine.proofs.Lists.{all_act, all_start}
 use Rattle.rw_machine.proofs.Lists as lists
 use Rattle.rw_machine.proofs.Ids.{Ids, act_ids, ids_start}
 use Rattle.rw_machine.proofs.Requests.{Carries, act_carries, carries_start, carries_is, same_bytes}

@@ -1,23 +1,21 @@
 -- The number of shards changes: those at hand are ended once all is resolved, and the next ones begin.
-use Rattle.std.proofs.Common.{◌≡◌, ℕ, suc, ◌<◌, ◌≤◌, ◌==◌, ◌&&◌, Bool, true, false, not, cond, nat_le, List, [], ◌∷◌, ◌++◌, length, None, Some, is_some, slice_get, refl, sym, ap, ◌∙◌, subst, arith}
-use Rattle.std.specs.List.{list_all}
+use Rattle.std.proofs.Common.{◌≡◌, ℕ, suc, ◌<◌, ◌≤◌, ◌&&◌, Bool, true, false, not, cond, nat_le, List, [], ◌∷◌, ◌++◌, length, None, Some, is_some, refl, ap, ◌∙◌, arith}
 use Rattle.std.proofs.lemmas.Bool.{le-leb}
 use Rattle.rw_types.specs.declared.entry.Entry.{Entry}
 use Rattle.rw_wal_format.specs.Pieces.{Piece}
 use Rattle.rw_series_cache.specs.Numbers.{series_of}
 use Rattle.rw_plain_queue.specs.declared.item.Kind.TheVariants as kind
 use Rattle.rw_feeder.specs.Logs.{filtered}
-use Rattle.rw_machine.specs.Shards.{Shard, is_drained, shard_end}
-use Rattle.rw_machine.specs.Worlds.{Setup, World, new_shards, is_finished, all_drained, is_over}
+use Rattle.rw_machine.specs.Shards.{Shard, shard_end}
+use Rattle.rw_machine.specs.Worlds.{Setup, World, new_shards, is_finished, all_drained}
 use Rattle.rw_machine.specs.Steps.{happens, mark, restart_as, unless_over}
 use Rattle.rw_machine.specs.declared.event.Event.TheVariants as event
 use Rattle.rw_machine.proofs.Lists as lists
 use Rattle.rw_machine.proofs.Steps.{and_both, each_new}
-use Rattle.rw_simulation.specs.Freely.{Happening, Of, run_freely}
+use Rattle.rw_simulation.specs.Freely.{Of, run_freely}
 use Rattle.rw_simulation.specs.EpochRuns.{ShardFate, IsAllPut, Reaches}
 use Rattle.rw_simulation.proofs.Changes.{run-append}
 use Rattle.rw_simulation.proofs.EntryRuns.{over_not}
-use Rattle.rw_simulation.proofs.FreeLaws.{keeps-lists}
 use Rattle.rw_simulation.proofs.EndRuns.{IsResolvedFate, ClosedBelow, end-all, drained-all}
 
 -- the machine at the beginning of an epoch of so many shards, with these entries placed
