@@ -1,3 +1,4 @@
+pub mod AbandonedRuns
 pub mod Changes
 pub mod Eager
 pub mod EndRuns
@@ -5,9 +6,12 @@ pub mod Entries
 pub mod EntryRuns
 pub mod EpochRuns
 pub mod FleetRuns
+pub mod FlushedShards
 pub mod FreeLaws
 pub mod MarkRuns
+pub mod Positions
 pub mod ReshardRuns
+pub mod RisingOrders
 pub mod StoppedRuns
 pub mod StoppedShards
 pub mod WorkerLists

@@ -1,5 +1,5 @@
 -- A shipper that was stopped in order, and left nothing, is a run of the machine.
-use Rattle.std.proofs.Common.{◌≡◌, ℕ, zero, suc, ◌+◌, ◌-◌, ◌<◌, ◌≤◌, ◌==◌, Bool, true, false, cond, List, [], ◌∷◌, ◌++◌, map, length, Option, None, Some, is_some, slice_get, refl, sym, ap, ◌∙◌, subst, append-nil, append_assoc, arith, ◌⊎◌, inl, inr}
+use Rattle.std.proofs.Common.{◌≡◌, ℕ, zero, suc, ◌-◌, ◌<◌, ◌≤◌, ◌==◌, Bool, true, false, cond, List, [], ◌∷◌, ◌++◌, map, length, Option, None, Some, is_some, slice_get, refl, sym, ap, ◌∙◌, subst, append-nil, append_assoc, arith, ◌⊎◌, inl, inr}
 use Rattle.std.specs.List.{AllByRecursion, list_all}
 use Rattle.std.proofs.lemmas.List.{length-drop, length-map, map-append}
 use Rattle.std.proofs.lemmas.Bool.{eq-eqb, eqb-true, and_parts}
@@ -27,7 +27,7 @@ use Rattle.rw_worker.specs.Transcript.{Exchange}
 use Rattle.rw_worker.specs.Setups.{start_of}
 use Rattle.rw_worker.specs.Steps.{Working, Step, Takes, Freezes, Sends, Waits, AreSteps, after, after_step, items_of}
 use Rattle.rw_fleet.specs.ShardHistories.{ShardHistory, IsSetUp, AreSetUp, put_into}
-use Rattle.rw_fleet.specs.Work.{IsWorked, AreWorked, AreResolved, AreEndedBy, IsEndedBy, lane_of, finished_of, put_of, is_compared, is_resolved, positions_in}
+use Rattle.rw_fleet.specs.Work.{IsWorked, AreWorked, AreResolved, AreEndedBy, IsEndedBy, lane_of, finished_of, put_of, taken_of, is_compared, is_resolved, positions_in}
 use Rattle.rw_fleet.specs.declared.joined.StoppedShard.{StoppedShard}
 use Rattle.rw_fleet.specs.declared.joined.Finished.{Finished}
 use Rattle.rw_fleet.specs.Fleets.{EndBy}
@@ -42,7 +42,7 @@ use Rattle.rw_shipper.proofs.PlacementLemmas.{whole_is, whole_placed}
 use Rattle.rw_shipper.proofs.ShippingLemmas.{all_is, ends_last}
 use Rattle.rw_types.proofs.AllLemmas.{AllByRecursion-left, AllByRecursion-right}
 use Rattle.rw_machine.specs.Shards.{Shard, is_drained, shard_end, shard_flush}
-use Rattle.rw_machine.specs.Worlds.{Setup, World, Complete, start, log, ended_as, report}
+use Rattle.rw_machine.specs.Worlds.{Setup, World, Ending, Complete, start, log, ended_as, report}
 use Rattle.rw_machine.specs.Steps.{happens, mark, unless_over}
 use Rattle.rw_machine.specs.declared.event.Event.TheVariants as event
 use Rattle.rw_machine.specs.Promises.{CanWork}
@@ -53,15 +53,15 @@ use Rattle.rw_simulation.specs.EpochRuns.{ShardFate, end_in, IsAllPut, Reaches}
 use Rattle.rw_simulation.specs.FleetRuns.{IsShardRun, fate_by, fate_at}
 use Rattle.rw_simulation.specs.StoppedShards.{IsShardOf}
 use Rattle.rw_machine.specs.Endings.{ending_of}
-use Rattle.rw_simulation.specs.StoppedRuns.{IsSetAs, HasNumbers, AreNumbers, EndInTurn, first_number, IsAlike, IsRun, StopsAsRun, StopsInOrder}
+use Rattle.rw_simulation.specs.StoppedRuns.{IsSetAs, HasNumbers, AreNumbers, EndInTurn, first_number, IsAlike, Tells, IsRun, StopsAsRun, StopsInOrder}
 use Rattle.rw_simulation.proofs.Changes.{run-append}
 use Rattle.rw_simulation.proofs.ReshardRuns.{BeginsEpoch, reshard-run}
 use Rattle.rw_simulation.proofs.WorkerLists.{core_after, after-is, ended-after, last_tail}
 use Rattle.rw_simulation.proofs.EntryRuns.{over_not}
 use Rattle.rw_simulation.proofs.FreeLaws.{keeps-lists}
 use Rattle.rw_simulation.proofs.FleetRuns.{fleet-run, get_lane}
-use Rattle.rw_simulation.proofs.StoppedShards.{compared-is-run, same_items}
-use Rattle.rw_simulation.proofs.EpochRuns.{one_at_most}
+use Rattle.rw_simulation.proofs.StoppedShards.{compared-is-run, has-taken, same_items}
+use Rattle.rw_simulation.proofs.EpochRuns.{stay, one_at_most}
 use Rattle.rw_simulation.proofs.EndRuns.{HasCome, IsResolvedFate, ClosedBelow, end-all, drained-all, below}
 
 -- ---- an End that was taken
@@ -102,10 +102,10 @@ end_is put k last ended by =
     ap end_in ended.2 ∙ end_in_last ended.0 ended.1 (subst EndIsLast ended.2 last) ∙ ap Some (by ended.1 ended.0 ended.2)
 
 -- ---- all pieces are fed
-abbrev Fed : Type 0
+abbrev pub Fed : Type 0
 Fed = piece.Piece
 
-abbrev feeds : List Fed → List Happening
+abbrev pub feeds : List Fed → List Happening
 feeds [] = []
 feeds (p ∷ ps) = Of (event.Feed p) ∷ feeds ps
 
@@ -124,12 +124,12 @@ ended_by_at kd [] k put h e = absurd (none-some put e)
 ended_by_at kd (x ∷ xs) zero put h e = let is : x ≡ put = same_Some _ _ e in subst (IsEndedBy kd) is h.0
 ended_by_at kd (x ∷ xs) (suc k) put h e = ended_by_at kd xs k put h.1 e
 
-get_map : {X Y : Type 0} (f : X → Y) (xs : List X) (k : ℕ) (x : X) → slice_get xs k ≡ Some x → slice_get (map f xs) k ≡ Some (f x)
+pub get_map : {X Y : Type 0} (f : X → Y) (xs : List X) (k : ℕ) (x : X) → slice_get xs k ≡ Some x → slice_get (map f xs) k ≡ Some (f x)
 get_map f [] k x e = absurd (none-some x e)
 get_map f (y ∷ ys) zero x e = ap Some (ap f (same_Some _ _ e))
 get_map f (y ∷ ys) (suc k) x e = get_map f ys k x e
 
-map_get : {X Y : Type 0} (f : X → Y) (xs : List X) (k : ℕ) (y : Y) → slice_get (map f xs) k ≡ Some y → (x : X) × (slice_get xs k ≡ Some x) × (f x ≡ y)
+pub map_get : {X Y : Type 0} (f : X → Y) (xs : List X) (k : ℕ) (y : Y) → slice_get (map f xs) k ≡ Some y → (x : X) × (slice_get xs k ≡ Some x) × (f x ≡ y)
 map_get f [] k y e = absurd (none-some y e)
 map_get f (x ∷ xs) zero y e = (x, refl, same_Some _ _ e)
 map_get f (x ∷ xs) (suc k) y e = map_get f xs k y e
@@ -201,19 +201,73 @@ part choice before (y ∷ ys) (x ∷ xs) rest e = by_entry (λ zs given. part ch
         given : z ∷ gather_from (sent_of choice) (before ++ y ∷ []) ys ≡ x ∷ (xs ++ rest)
         given = ap (λ ss. ss ++ gather_from (sent_of choice) (before ++ y ∷ []) ys) (sym one) ∙ e
 
+-- ---- the epochs before the last one: each was ended because the number of shards changed, to that of the next one
+abbrev pub AreBefore : List (List ShardHistory) → List ShardHistory → Type 0
+AreBefore [] last = Unit {0}
+AreBefore (lanes ∷ turned) last = (1 ≤ length lanes) × AreEndedBy kind.Reshard (map put_into lanes) × IsShardCount (first_number turned last) × AreBefore turned last
+
+first_count : (turned : List (List ShardHistory)) (last : List ShardHistory) → AreTurned turned → IsShardCount (length last) → IsShardCount (first_number turned last)
+first_count [] last turns number = number
+first_count (x ∷ xs) last turns number = turns.0
+
+pub turned-before : (turned : List (List ShardHistory)) (last : List ShardHistory) → AreTurned turned → IsShardCount (length last) → AreBefore turned last
+turned-before [] last turns number = tt
+turned-before (x ∷ xs) last turns number = (turns.0.0, turns.1, first_count xs last turns.2 number, turned-before xs last turns.2 number)
+
+-- all epochs, with the last one apart
+record Divided (lanes : List ShardHistory) (later : List (List ShardHistory)) : Type 0 where
+  turned : List (List ShardHistory)
+  last : List ShardHistory
+  are : lanes ∷ later ≡ turned ++ last ∷ []
+  first : first_number turned last ≡ length lanes
+  before : AreBefore turned last
+  some : 1 ≤ length last
+  by : AreEndedBy kind.Orderly (map put_into last)
+
+divide : (lanes : List ShardHistory) (later : List (List ShardHistory)) → 1 ≤ length lanes → AreNumbers later → EndInTurn (lanes ∷ later) → Divided lanes later
+divide lanes [] some numbers turn = record { turned = []; last = lanes; are = refl; first = refl; before = tt; some = some; by = turn }
+divide lanes (next ∷ later) some numbers turn = let d = divide next later numbers.0.0 numbers.1 turn.1 in record {
+  turned = lanes ∷ d.turned;
+  last = d.last;
+  are = ap (λ (es : List (List ShardHistory)). lanes ∷ es) d.are;
+  first = refl;
+  before = (some, turn.0, subst IsShardCount (sym d.first) numbers.0, d.before);
+  some = d.some;
+  by = d.by;
+}
+
+joined-last : (turned : List (List ShardHistory)) (last : List ShardHistory) → joined (turned ++ last ∷ []) ≡ joined turned ++ last
+joined-last [] last = append-nil last
+joined-last (x ∷ xs) last = ap (λ (ls : List ShardHistory). x ++ ls) (joined-last xs last) ∙ sym (append_assoc x (joined xs) last)
+
+-- of an outcome that leaves nothing the report says the same
+tells-so : (o : Outcome) (found : Option Ending) → (IsAbandoned o → ⊥) → found ≡ Some (ending_of o) → Tells o found
+tells-so (outcome.Complete end) found whole e = e
+tells-so (outcome.Abandoned placed samples) found whole e = absurd (whole tt)
+tells-so (outcome.Damaged f) found whole e = e
+
 none_below : (k : ℕ) → k < 0 → ⊥
 none_below k lt = omega arith
 
 module _ {T : Type 0} (tells : T → Type 0) (seen : T → List Exchange) (is_for : ℕ → ℕ → T → Type 0) (c : Setup) (config : ConfigFields) (set : IsSetAs c config) (work : CanWork c) where
-  -- what is known of each shard: it is set up so, it did what its worker reports, and nothing is left
-  record Sound (j : StoppedShard T) : Type 0 where
-    worked : IsWorked tells seen is_for j
-    up : IsSetUp config j.worker.value
-    resolved : is_resolved j ≡ true
+  -- what is known of each shard: it is set up so, and it did what its worker reports
+  pub record Known (j : StoppedShard T) : Type 0 where
+    pub worked : IsWorked tells seen is_for j
+    pub up : IsSetUp config j.worker.value
 
-  sound-all : (js : List (StoppedShard T)) → AreWorked tells seen is_for js → AreSetUp config (map lane_of js) → AreResolved js → AllByRecursion Sound js
-  sound-all [] h up r = tt
-  sound-all (j ∷ js) h up r = (record { worked = h.0; up = up.0; resolved = r 0 j refl }, sound-all js h.1 up.1 (λ k i e. r (suc k) i e))
+  pub known-all : (js : List (StoppedShard T)) → AreWorked tells seen is_for js → AreSetUp config (map lane_of js) → AllByRecursion Known js
+  known-all [] h up = tt
+  known-all (j ∷ js) h up = (record { worked = h.0; up = up.0 }, known-all js h.1 up.1)
+
+  -- and nothing is left
+  pub record Sound (j : StoppedShard T) : Type 0 where
+    pub worked : IsWorked tells seen is_for j
+    pub up : IsSetUp config j.worker.value
+    pub resolved : is_resolved j ≡ true
+
+  pub sound-all : (js : List (StoppedShard T)) → AllByRecursion Known js → AreResolved js → AllByRecursion Sound js
+  sound-all [] h r = tt
+  sound-all (j ∷ js) h r = (record { worked = h.0.worked; up = h.0.up; resolved = r 0 j refl }, sound-all js h.1 (λ k i e. r (suc k) i e))
 
   all_put_resolved : (j : StoppedShard T) → (h : Sound j) → length (samples_in (put_of j.finished.ends)) ≤ length (after (start_of j.worker.value) h.worked.report.steps).core.resolved
   all_put_resolved j h = subst (λ (n : ℕ). length (samples_in (put_of j.finished.ends)) ≤ n) h.worked.report.counted
@@ -323,6 +377,12 @@ module _ {T : Type 0} (tells : T → Type 0) (seen : T → List Exchange) (is_fo
     alike : (k : ℕ) (m : Shard) (j : StoppedShard T) → k < n → HasCome m (fates k) → slice_get js k ≡ Some j → IsAlike j.finished m
     alike k m j lt come at = record {
       put = come.put ∙ ap (λ (o : Option ShardHistory). (fate_by o (steps k) []).put) l.1 ∙ ap (λ (x : ShardHistory). samples_in x.put) (sym g.lane) ∙ ap (λ (y : StoppedShard T). samples_in (put_of y.finished.ends)) same;
+      taken = ap (λ (y : Core). y.taken) come.core
+          ∙ ap (λ (o : Option ShardHistory). (fate_by o (steps k) []).worker.core.taken) l.1
+          ∙ ap (λ (ss : List Step). (after (start_of l.0.setup) ss).core.taken) (sym g.steps)
+          ∙ ap (λ (x : ShardHistory). (after (start_of x.setup) g.sound.worked.report.steps).core.taken) (sym g.lane)
+          ∙ has-taken tells seen is_for g.j g.sound.worked
+          ∙ ap (λ (y : StoppedShard T). samples_in (taken_of y.finished.ends)) same;
       resolved = ap (λ (y : Core). length y.resolved) come.core
           ∙ ap (λ (o : Option ShardHistory). length (fate_by o (steps k) []).worker.core.resolved) l.1
           ∙ ap (λ (ss : List Step). length (after (start_of l.0.setup) ss).core.resolved) (sym g.steps)
@@ -412,32 +472,31 @@ module _ {T : Type 0} (tells : T → Type 0) (seen : T → List Exchange) (is_fo
       };
     }
 
-  -- ---- all epochs
-  record AllRun (pieces : List Piece) (all : List Entry) (js : List (StoppedShard T)) (w : World) : Type 0 where
-    earlier : List (StoppedShard T)
-    last : List (StoppedShard T)
-    are : js ≡ earlier ++ last
-    reach : Reaches c w (Final pieces all last)
+  -- ---- the epochs before the last one
+  pub record AtLast (pieces : List Piece) (last : List ShardHistory) (before es : List Entry) (w : World) : Type 0 where
+    pub epoch : ℕ
+    pub now : List Entry
+    pub later : List Entry
+    pub are : es ≡ now ++ later
+    pub dealt : IsDealt epoch last (gather_from (sent_of c.choice) (before ++ now) later)
+    pub reach : Reaches c w (BeginsEpoch c pieces epoch (length last) (before ++ now))
 
-  epochs-run : (lanes : List ShardHistory) (later : List (List ShardHistory)) (epoch : ℕ) (js : List (StoppedShard T)) (before es : List Entry) (pieces : List Piece) (w : World) → AllByRecursion Sound js → map lane_of js ≡ joined (lanes ∷ later) → Places epoch (lanes ∷ later) (gather_from (sent_of c.choice) before es)
-      → 1 ≤ length lanes → AreNumbers later → EndInTurn (lanes ∷ later) → BeginsEpoch c pieces epoch (length lanes) before w → entries pieces ≡ before ++ es → AllRun pieces (before ++ es) js w
-  epochs-run lanes [] epoch js before es pieces w sound e p some numbers turn b all = record {
-    earlier = [];
-    last = js;
+  pub turned-run : (turned : List (List ShardHistory)) (last : List ShardHistory) (epoch : ℕ) (js : List (StoppedShard T)) (before es rest : List Entry) (pieces : List Piece) (w : World) → AllByRecursion Sound js → map lane_of js ≡ joined turned
+      → Places epoch (turned ++ last ∷ []) (gather_from (sent_of c.choice) before es) → AreBefore turned last → BeginsEpoch c pieces epoch (first_number turned last) before w → entries pieces ≡ before ++ (es ++ rest) → AtLast pieces last before es w
+  turned-run [] last epoch js before es rest pieces w sound e p turned b all = record {
+    epoch = epoch;
+    now = [];
+    later = es;
     are = refl;
-    reach = last-run epoch js sound (subst (λ (ls : List ShardHistory). 1 ≤ length ls) same some) (subst (λ (ls : List ShardHistory). AreEndedBy kind.Orderly (map put_into ls)) same turn) before es
-        (subst (λ (ls : List ShardHistory). IsDealt epoch ls (gather_from (sent_of c.choice) before es)) same (subst (IsDealt epoch lanes) (sym (p.2 ∙ ap (λ (xs : List Sent). p.0 ++ xs) p.4 ∙ append-nil p.0)) p.3))
-        pieces w (subst (λ (ls : List ShardHistory). BeginsEpoch c pieces epoch (length ls) before w) same b) all;
+    dealt = subst (λ (bs : List Entry). IsDealt epoch last (gather_from (sent_of c.choice) bs es)) (sym (append-nil before)) (subst (IsDealt epoch last) (sym (p.2 ∙ ap (λ (xs : List Sent). p.0 ++ xs) p.4 ∙ append-nil p.0)) p.3);
+    reach = stay c w (BeginsEpoch c pieces epoch (length last) (before ++ [])) (subst (λ (bs : List Entry). BeginsEpoch c pieces epoch (length last) bs w) (sym (append-nil before)) b);
   }
+  turned-run (lanes ∷ turned) last epoch js before es rest pieces w sound e p turns b all =
+      with-later (turned-run turned last (suc epoch) sp.later (before ++ pt.now) pt.later rest pieces r2.world (AllByRecursion-right Sound sp.first sp.later both) sp.later_is (subst (Places (suc epoch) (turned ++ last ∷ [])) (sym pt.rest_is) p.4) turns.3 r2.holds
+      (begins ∙ sym (append_assoc before pt.now (pt.later ++ rest))))
     where
-      same : lanes ≡ map lane_of js
-      same = sym (e ∙ append-nil lanes)
-  epochs-run lanes (next ∷ later) epoch js before es pieces w sound e p some numbers turn b all =
-      with-rest (epochs-run next later (suc epoch) sp.later (before ++ pt.now) pt.later pieces r2.world (AllByRecursion-right Sound sp.first sp.later both) sp.later_is (subst (Places (suc epoch) (next ∷ later)) (sym pt.rest_is) p.4) numbers.0.0 numbers.1 turn.1 r2.holds
-      (begins ∙ sym (append_assoc before pt.now pt.later)))
-    where
-      sp : Split lane_of js lanes (joined (next ∷ later))
-      sp = split_map lane_of js lanes (joined (next ∷ later)) e
+      sp : Split lane_of js lanes (joined turned)
+      sp = split_map lane_of js lanes (joined turned) e
 
       pt : Parted c.choice before es p.0 p.1
       pt = part c.choice before es p.0 p.1 p.2
@@ -452,47 +511,49 @@ module _ {T : Type 0} (tells : T → Type 0) (seen : T → List Exchange) (is_fo
       same = sym sp.first_is
 
       some_now : 1 ≤ length (map lane_of sp.first)
-      some_now = subst (λ (ls : List ShardHistory). 1 ≤ length ls) same some
+      some_now = subst (λ (ls : List ShardHistory). 1 ≤ length ls) same turns.0
 
       by : AreEndedBy kind.Reshard (map put_into (map lane_of sp.first))
-      by = subst (λ (ls : List ShardHistory). AreEndedBy kind.Reshard (map put_into ls)) same turn.0
+      by = subst (λ (ls : List ShardHistory). AreEndedBy kind.Reshard (map put_into ls)) same turns.1
 
       dealt : IsDealt epoch (map lane_of sp.first) (gather_from (sent_of c.choice) before pt.now)
       dealt = subst (λ (ls : List ShardHistory). IsDealt epoch ls (gather_from (sent_of c.choice) before pt.now)) same (subst (IsDealt epoch lanes) (sym pt.first_is) p.3)
 
-      begins : entries pieces ≡ before ++ (pt.now ++ pt.later)
-      begins = all ∙ ap (λ (xs : List Entry). before ++ xs) pt.are
+      begins : entries pieces ≡ before ++ (pt.now ++ (pt.later ++ rest))
+      begins = all ∙ ap (λ (xs : List Entry). before ++ (xs ++ rest)) pt.are ∙ ap (λ (xs : List Entry). before ++ xs) (append_assoc pt.now pt.later rest)
 
       r1 : Reaches c w (IsAllPut c pieces epoch (length (map lane_of sp.first)) (fates epoch kind.Reshard sp.first now some_now by before pt.now dealt) (before ++ pt.now))
-      r1 = put-all epoch kind.Reshard sp.first now some_now by before pt.now dealt pieces pt.later w (subst (λ (ls : List ShardHistory). BeginsEpoch c pieces epoch (length ls) before w) same b) begins
+      r1 = put-all epoch kind.Reshard sp.first now some_now by before pt.now dealt pieces (pt.later ++ rest) w (subst (λ (ls : List ShardHistory). BeginsEpoch c pieces epoch (length ls) before w) same b) begins
 
-      r2 : Reaches c r1.world (BeginsEpoch c pieces (suc epoch) (length next) (before ++ pt.now))
-      r2 = reshard-run c pieces epoch (length (map lane_of sp.first)) (length next) (fates epoch kind.Reshard sp.first now some_now by before pt.now dealt) (before ++ pt.now) work.capacity numbers.0.0 numbers.0.1
+      r2 : Reaches c r1.world (BeginsEpoch c pieces (suc epoch) (first_number turned last) (before ++ pt.now))
+      r2 = reshard-run c pieces epoch (length (map lane_of sp.first)) (first_number turned last) (fates epoch kind.Reshard sp.first now some_now by before pt.now dealt) (before ++ pt.now) work.capacity turns.2.0 turns.2.1
           (fate-end epoch kind.Reshard sp.first now some_now by before pt.now dealt) (fate-resolved epoch kind.Reshard sp.first now some_now by before pt.now dealt) r1.world r1.holds
           (subst (lists.All c) r1.is (keeps-lists c r1.events w b.lists_are))
 
-      with-rest : AllRun pieces ((before ++ pt.now) ++ pt.later) sp.later r2.world → AllRun pieces (before ++ es) js w
-      with-rest rest = record {
-        earlier = sp.first ++ rest.earlier;
-        last = rest.last;
-        are = sp.are ∙ ap (λ (xs : List (StoppedShard T)). sp.first ++ xs) rest.are ∙ sym (append_assoc sp.first rest.earlier rest.last);
+      with-later : AtLast pieces last (before ++ pt.now) pt.later r2.world → AtLast pieces last before es w
+      with-later a = record {
+        epoch = a.epoch;
+        now = pt.now ++ a.now;
+        later = a.later;
+        are = pt.are ∙ ap (λ (xs : List Entry). pt.now ++ xs) a.are ∙ sym (append_assoc pt.now a.now a.later);
+        dealt = subst (λ (bs : List Entry). IsDealt a.epoch last (gather_from (sent_of c.choice) bs a.later)) (append_assoc before pt.now a.now) a.dealt;
         reach = record {
-          events = r1.events ++ (r2.events ++ rest.reach.events);
-          world = rest.reach.world;
-          is = run-append c r1.events (r2.events ++ rest.reach.events) w ∙ ap (run_freely c (r2.events ++ rest.reach.events)) r1.is ∙ run-append c r2.events rest.reach.events r1.world ∙ ap (run_freely c rest.reach.events) r2.is ∙ rest.reach.is;
-          holds = subst (λ (xs : List Entry). Final pieces xs rest.last rest.reach.world) (append_assoc before pt.now pt.later ∙ ap (λ (xs : List Entry). before ++ xs) (sym pt.are)) rest.reach.holds;
+          events = r1.events ++ (r2.events ++ a.reach.events);
+          world = a.reach.world;
+          is = run-append c r1.events (r2.events ++ a.reach.events) w ∙ ap (run_freely c (r2.events ++ a.reach.events)) r1.is ∙ run-append c r2.events a.reach.events r1.world ∙ ap (run_freely c a.reach.events) r2.is ∙ a.reach.is;
+          holds = subst (λ (bs : List Entry). BeginsEpoch c pieces a.epoch (length last) bs a.reach.world) (append_assoc before pt.now a.now) a.reach.holds;
         };
       }
 
 -- ---- from the start
 module _ {T : Type 0} (tells : T → Type 0) (seen : T → List Exchange) (is_for : ℕ → ℕ → T → Type 0) (c : Setup) (s : Shipping T) (r : Report T) (fed : List Fed) (h : HasStopped tells seen is_for s r) (set : IsSetAs c s.fleet.config) (choice : c.choice ≡ s.log.choice) (work : CanWork c) (fed_are : s.log.pieces ≡ map piece_of fed) where
-  abbrev begun : World
+  abbrev pub begun : World
   begun = record (start c) { pieces = s.log.pieces }
 
-  fed-all : run_freely c (feeds fed) (start c) ≡ begun
+  pub fed-all : run_freely c (feeds fed) (start c) ≡ begun
   fed-all = feed-all c fed (start c) refl refl ∙ ap (λ ps. record (start c) { pieces = ps }) (sym fed_are)
 
-  begins : BeginsEpoch c s.log.pieces 0 c.shards [] begun
+  pub begins : BeginsEpoch c s.log.pieces 0 c.shards [] begun
   begins = record {
     going = (refl, refl, refl);
     pieces_are = refl;
@@ -504,32 +565,54 @@ module _ {T : Type 0} (tells : T → Type 0) (seen : T → List Exchange) (is_fo
     lists_are = subst (lists.All c) fed-all (keeps-lists c (feeds fed) (start c) (lists.all_start c));
   }
 
-  finish : (epochs : List (List ShardHistory)) → map lane_of h.joined ≡ joined epochs → Places 0 epochs (sent c.choice s.log.placed) → HasNumbers c epochs → EndInTurn epochs → AreResolved h.joined → (found : Option TailFault) → HasRead s.log.pieces s.log.placed found → ending_of r.outcome ≡ ended_as found (length s.log.placed) → IsRun c s r
-  finish [] e p numbers turn resolved found read out = absurd numbers
-  finish (lanes ∷ later) e p numbers turn resolved found read out = (
-    feeds fed ++ run.reach.events,
+  finish : (epochs : List (List ShardHistory)) → map lane_of h.joined ≡ joined epochs → Places 0 epochs (sent c.choice s.log.placed) → HasNumbers c epochs → EndInTurn epochs → AreResolved h.joined → (IsAbandoned r.outcome → ⊥) → (found : Option TailFault) → HasRead s.log.pieces s.log.placed found → ending_of r.outcome ≡ ended_as found (length s.log.placed) → IsRun c s r
+  finish [] e p numbers turn resolved whole found read out = absurd numbers
+  finish (lanes ∷ later) e p numbers turn resolved whole found read out = (
+    events,
     record {
       log = ap (λ (x : World). x.pieces) leads ∙ last.pieces_are;
       placed = ap (λ (x : World). x.placed) leads ∙ last.placed_are;
       filtered = ap (λ (x : World). x.filtered) leads ∙ last.counted ∙ ap (λ (ch : Choice). length (filtered ch s.log.placed)) choice ∙ sym h.filter_count;
-      earlier = map finished_of run.earlier;
-      last = map finished_of run.last;
-      workers = h.workers ∙ ap (map finished_of) run.are ∙ map-append finished_of run.earlier run.last;
-      shards = ap (λ (x : World). length x.shards) leads ∙ last.shards ∙ sym (length-map run.last finished_of);
-      each = λ k m f e at. let g = map_get finished_of run.last k f at in subst (λ (y : Finished T). IsAlike y m) g.2 (last.each k m g.0 (ap (λ (x : World). slice_get x.shards k) (sym leads) ∙ e) g.1);
-      outcome_is = ap report leads ∙ last.reported ∙ ap Some (ap (λ (o : Option TailFault). ended_as o (length s.log.placed)) read.fault_is ∙ sym out);
+      earlier = map finished_of sp.first;
+      last = map finished_of sp.later;
+      workers = h.workers ∙ ap (map finished_of) sp.are ∙ map-append finished_of sp.first sp.later;
+      shards = ap (λ (x : World). length x.shards) leads ∙ last.shards ∙ sym (length-map sp.later finished_of);
+      each = λ k m f e at. let g = map_get finished_of sp.later k f at in subst (λ (y : Finished T). IsAlike y m) g.2 (last.each k m g.0 (ap (λ (x : World). slice_get x.shards k) (sym leads) ∙ e) g.1);
+      outcome_is = tells-so r.outcome (report (world_of c events)) whole (ap report leads ∙ last.reported ∙ ap Some (ap (λ (o : Option TailFault). ended_as o (length s.log.placed)) read.fault_is ∙ sym out));
     },
   )
     where
-      run : AllRun tells seen is_for c s.fleet.config set work s.log.pieces s.log.placed h.joined begun
-      run = epochs-run tells seen is_for c s.fleet.config set work lanes later 0 h.joined [] s.log.placed s.log.pieces begun (sound-all tells seen is_for c s.fleet.config set work h.joined h.worked h.setup resolved) e p
-          (subst (λ (i : ℕ). 1 ≤ i) (sym numbers.0) work.shards) numbers.1 turn (subst (λ (i : ℕ). BeginsEpoch c s.log.pieces 0 i [] begun) (sym numbers.0) begins) (sym read.all)
+      d : Divided lanes later
+      d = divide lanes later (subst (λ (i : ℕ). 1 ≤ i) (sym numbers.0) work.shards) numbers.1 turn
 
-      leads : world_of c (feeds fed ++ run.reach.events) ≡ run.reach.world
-      leads = run-append c (feeds fed) run.reach.events (start c) ∙ ap (run_freely c run.reach.events) fed-all ∙ run.reach.is
+      sp : Split lane_of h.joined (joined d.turned) d.last
+      sp = split_map lane_of h.joined (joined d.turned) d.last (e ∙ ap joined d.are ∙ joined-last d.turned d.last)
 
-      last : Final tells seen is_for c s.fleet.config set work s.log.pieces s.log.placed run.last run.reach.world
-      last = run.reach.holds
+      sound : AllByRecursion (Sound tells seen is_for c s.fleet.config set work) (sp.first ++ sp.later)
+      sound = subst (AllByRecursion (Sound tells seen is_for c s.fleet.config set work)) sp.are (sound-all tells seen is_for c s.fleet.config set work h.joined (known-all tells seen is_for c s.fleet.config set work h.joined h.worked h.setup) resolved)
+
+      at-last : AtLast tells seen is_for c s.fleet.config set work s.log.pieces d.last [] s.log.placed begun
+      at-last = turned-run tells seen is_for c s.fleet.config set work d.turned d.last 0 sp.first [] s.log.placed [] s.log.pieces begun
+          (AllByRecursion-left (Sound tells seen is_for c s.fleet.config set work) sp.first sp.later sound) sp.first_is (subst (λ (es : List (List ShardHistory)). Places 0 es (sent c.choice s.log.placed)) d.are p) d.before
+          (subst (λ (i : ℕ). BeginsEpoch c s.log.pieces 0 i [] begun) (sym (d.first ∙ numbers.0)) begins) (sym read.all ∙ sym (append-nil s.log.placed))
+
+      same : d.last ≡ map lane_of sp.later
+      same = sym sp.later_is
+
+      final : Reaches c at-last.reach.world (Final tells seen is_for c s.fleet.config set work s.log.pieces (at-last.now ++ at-last.later) sp.later)
+      final = last-run tells seen is_for c s.fleet.config set work at-last.epoch sp.later (AllByRecursion-right (Sound tells seen is_for c s.fleet.config set work) sp.first sp.later sound)
+          (subst (λ (ls : List ShardHistory). 1 ≤ length ls) same d.some) (subst (λ (ls : List ShardHistory). AreEndedBy kind.Orderly (map put_into ls)) same d.by) at-last.now at-last.later
+          (subst (λ (ls : List ShardHistory). IsDealt at-last.epoch ls (gather_from (sent_of c.choice) at-last.now at-last.later)) same at-last.dealt) s.log.pieces at-last.reach.world
+          (subst (λ (ls : List ShardHistory). BeginsEpoch c s.log.pieces at-last.epoch (length ls) at-last.now at-last.reach.world) same at-last.reach.holds) (sym read.all ∙ at-last.are)
+
+      events : List Happening
+      events = feeds fed ++ (at-last.reach.events ++ final.events)
+
+      leads : world_of c events ≡ final.world
+      leads = run-append c (feeds fed) (at-last.reach.events ++ final.events) (start c) ∙ ap (run_freely c (at-last.reach.events ++ final.events)) fed-all ∙ run-append c at-last.reach.events final.events begun ∙ ap (run_freely c final.events) at-last.reach.is ∙ final.is
+
+      last : Final tells seen is_for c s.fleet.config set work s.log.pieces s.log.placed sp.later final.world
+      last = subst (λ (es : List Entry). Final tells seen is_for c s.fleet.config set work s.log.pieces es sp.later final.world) (sym at-last.are) final.holds
 
 pub stops-as-run : {T : Type 0} (tells : T → Type 0) (seen : T → List Exchange) (is_for : ℕ → ℕ → T → Type 0) (s : Shipping T) (r : Report T) → StopsAsRun tells seen is_for s r
 stops-as-run {T} tells seen is_for s r c fed h epochs machine work fed_are e p numbers turn left = by_outcome r.outcome refl h.ends left
@@ -538,9 +621,9 @@ stops-as-run {T} tells seen is_for s r c fed h epochs machine work fed_are e p n
     placed = subst (λ (ch : Choice). Places 0 epochs (sent ch s.log.placed)) (sym machine.1) p
 
     by_outcome : (o : Outcome) → r.outcome ≡ o → Ends s h.joined o → (IsAbandoned o → ⊥) → IsRun c s r
-    by_outcome (outcome.Complete end) is ended left = finish tells seen is_for c s r fed h machine.0 machine.1 work fed_are epochs e placed numbers turn ended.2 None ended.1 (ap ending_of is ∙ ap Complete ended.0)
-    by_outcome (outcome.Damaged f) is ended left = finish tells seen is_for c s r fed h machine.0 machine.1 work fed_are epochs e placed numbers turn ended.1 (Some f) ended.0 (ap ending_of is)
-    by_outcome (outcome.Abandoned count samples) is ended left = absurd (left tt)
+    by_outcome (outcome.Complete end) is ended whole = finish tells seen is_for c s r fed h machine.0 machine.1 work fed_are epochs e placed numbers turn ended.2 left None ended.1 (ap ending_of is ∙ ap Complete ended.0)
+    by_outcome (outcome.Damaged f) is ended whole = finish tells seen is_for c s r fed h machine.0 machine.1 work fed_are epochs e placed numbers turn ended.1 left (Some f) ended.0 (ap ending_of is)
+    by_outcome (outcome.Abandoned count samples) is ended whole = absurd (whole tt)
 
 -- ---- the epochs that the shipper knows, and the last one
 turn_of : (es : List (List ShardHistory)) (last : List ShardHistory) → AreTurned es → AreEndedBy kind.Orderly (map put_into last) → EndInTurn (es ++ last ∷ [])

@@ -1,14 +1,19 @@
--- A shipper that was stopped in order, and left nothing, is a run of the machine of events.
-use Rattle.std.specs.Prelude.{◌≡◌, ℕ, List, [], ◌∷◌, ◌++◌, length, map, Some, slice_get, ⊤}
+-- A shipper that was stopped is a run of the machine of events, whether it left nothing or abandoned what was left.
+use Rattle.std.specs.Prelude.{◌≡◌, ℕ, ◌<◌, List, [], ◌∷◌, ◌++◌, length, map, Option, Some, slice_get, IsPermutation, ⊤}
+use Rattle.rw_types.specs.Beginnings.{Begins}
+use Rattle.rw_types.specs.Rising.{Rises}
+use Rattle.rw_wal_format.specs.Pieces.{entries}
 use Rattle.rw_wal_tail.specs.Fed.{piece_of}
 use Rattle.rw_wal_tail.specs.declared.piece.Piece.{Piece}
 use Rattle.rw_shard_core.specs.declared.config.ConfigFields.{ConfigFields}
+use Rattle.rw_shard_core.specs.declared.outcome.Outcome.{Outcome}
+use Rattle.rw_shard_core.specs.declared.outcome.Outcome.TheVariants as outcome
 use Rattle.rw_plain_queue.specs.Items.{samples_in}
 use Rattle.rw_plain_queue.specs.declared.item.Kind.TheVariants.{Orderly, Reshard}
 use Rattle.rw_worker.specs.Transcript.{Exchange}
 use Rattle.rw_fleet.specs.ShardHistories.{ShardHistory, put_into}
-use Rattle.rw_fleet.specs.Work.{AreEndedBy, lane_of, put_of}
-use Rattle.rw_fleet.specs.Fleets.{EndBy}
+use Rattle.rw_fleet.specs.Work.{AreEndedBy, AreResolved, lane_of, put_of, taken_of}
+use Rattle.rw_fleet.specs.Fleets.{Shards, AreAll, EndBy}
 use Rattle.rw_fleet.specs.declared.joined.Finished.{Finished}
 use Rattle.rw_feeder.specs.Logs.{sent}
 use Rattle.rw_shipper.specs.Placement.{IsShardCount, Places, joined}
@@ -16,8 +21,7 @@ use Rattle.rw_shipper.specs.Reports.{IsAbandoned}
 use Rattle.rw_shipper.specs.Shipping.{Shipping, PlacesAll, HasStopped}
 use Rattle.rw_shipper.specs.declared.report.Report.{Report}
 use Rattle.rw_machine.specs.Shards.{Shard}
-use Rattle.rw_machine.specs.Endings.{ending_of}
-use Rattle.rw_machine.specs.Worlds.{Setup, World, report}
+use Rattle.rw_machine.specs.Worlds.{Setup, World, Ending, Complete, Abandoned, Damaged, report}
 use Rattle.rw_machine.specs.Promises.{CanWork}
 use Rattle.rw_simulation.specs.Freely.{Happening}
 use Rattle.rw_simulation.specs.FreeLaws.{world_of}
@@ -48,10 +52,22 @@ EndInTurn [] = ⊤
 EndInTurn (lanes ∷ []) = AreEndedBy Orderly (map put_into lanes)
 EndInTurn (lanes ∷ next ∷ later) = AreEndedBy Reshard (map put_into lanes) × EndInTurn (next ∷ later)
 
--- the machine's shard was put what the worker's queue was put, and has resolved as many samples
+-- the machine's shard was put what the worker's queue was put, has taken the same, and has resolved as many samples
 pub record IsAlike {T : Type 0} (f : Finished T) (m : Shard) : Type 0 where
   pub put : m.put ≡ samples_in (put_of f.ends)
+  pub taken : m.core.taken ≡ samples_in (taken_of f.ends)
   pub resolved : length m.core.resolved ≡ f.resolved
+
+-- the second list has the numbers of the first one, in rising order
+pub record IsRisingOrderOf (xs ys : List ℕ) : Type 0 where
+  pub same : IsPermutation xs ys
+  pub rises : Rises (λ x y. x < y) ys
+
+-- the machine's report is the outcome; the samples that are left it tells in rising order, where the shipper has them shard by shard
+abbrev pub Tells : Outcome → Option Ending → Type 0
+Tells (outcome.Complete end) found = found ≡ Some (Complete end)
+Tells (outcome.Abandoned placed samples) found = (left : List ℕ) × (found ≡ Some (Abandoned placed left)) × IsRisingOrderOf samples.items left
+Tells (outcome.Damaged f) found = found ≡ Some (Damaged f)
 
 -- The machine comes to what the shipper reports: its shards are those of the last epoch.
 pub record ComesTo {T : Type 0} (c : Setup) (s : Shipping T) (r : Report T) (w : World) : Type 0 where
@@ -63,7 +79,7 @@ pub record ComesTo {T : Type 0} (c : Setup) (s : Shipping T) (r : Report T) (w :
   pub workers : r.workers.items ≡ earlier ++ last
   pub shards : length w.shards ≡ length last
   pub each : (k : ℕ) (m : Shard) (f : Finished T) → slice_get w.shards k ≡ Some m → slice_get last k ≡ Some f → IsAlike f m
-  pub outcome_is : report w ≡ Some (ending_of r.outcome)
+  pub outcome_is : Tells r.outcome (report w)
 
 -- some free schedule of the machine leads there
 abbrev pub IsRun : {T : Type 0} → Setup → Shipping T → Report T → Type 0
@@ -85,3 +101,9 @@ abbrev pub StopsInOrder : {T : Type 0} → (T → Type 0) → (T → List Exchan
 StopsInOrder tells seen is_for s r =
     (c : Setup) (fed : List Piece) (h : HasStopped tells seen is_for s r) (p : PlacesAll s.log s.fleet) → IsMachineOf c s → CanWork c → s.log.pieces ≡ map piece_of fed → IsShardCount (length s.fleet.current) → first_number p.epochs s.fleet.current ≡ c.shards
     → EndBy Orderly s.fleet r.workers.items → (IsAbandoned r.outcome → ⊥) → IsRun c s r
+
+-- So it is of every shipper that abandoned what was left, however it was stopped. `before` is the fleet as it stood before its last shards were ended: that of the shipper, or where a reshard failed that before it. The shards of the epochs before had resolved all.
+abbrev pub StopsAbandoned : {T : Type 0} → (T → Type 0) → (T → List Exchange) → (ℕ → ℕ → T → Type 0) → Shipping T → Report T → Type 0
+StopsAbandoned {T} tells seen is_for s r =
+    (c : Setup) (fed : List Piece) (h : HasStopped tells seen is_for s r) (before : Shards T) (p : PlacesAll s.log before) → IsMachineOf c s → CanWork c → s.log.pieces ≡ map piece_of fed → Begins s.log.placed (entries s.log.pieces)
+    → AreAll before h.joined → AreResolved before.ended → IsShardCount (length before.current) → first_number p.epochs before.current ≡ c.shards → IsAbandoned r.outcome → IsRun c s r

@@ -10,7 +10,7 @@ ghost use Rattle.rw_simulation.specs.FreeLaws.{KeepsLaws, world_of};
 ghost use Rattle.rw_simulation.specs.WorkerRuns.{IsWorkerRun};
 ghost use Rattle.rw_simulation.specs.FleetRuns.{IsFleetRun};
 ghost use Rattle.rw_simulation.specs.StoppedShards.{StopsAsShard};
-ghost use Rattle.rw_simulation.specs.StoppedRuns.{StopsAsRun, StopsInOrder};
+ghost use Rattle.rw_simulation.specs.StoppedRuns.{StopsAbandoned, StopsAsRun, StopsInOrder};
 
 use rw_worker::Transport;
 
@@ -35,10 +35,13 @@ pub fn a_stopped_shard_is_a_run<T: Transport>()
     ensures { (j : StoppedShard T) → StopsAsShard T.tells T.seen T.is_for j }
 {}
 
-/// A shipper that was stopped in order with nothing left is a run of the machine, which reports the same. `orderly` takes from the shipper's own clauses
-/// how its samples were placed and its epochs ended; that there are 1 to 1000 shards, and that the machine can work, it asks for. `epochs` is of any
-/// epochs over which the samples may have been placed.
+/// A shipper that was stopped is a run of the machine, which reports the same. `orderly` is of one that was stopped in order with nothing left: it takes
+/// from the shipper's own clauses how its samples were placed and its epochs ended; that there are 1 to 1000 shards, and that the machine can work, it
+/// asks for. `epochs` is of any epochs over which the samples may have been placed. `abandoned` is of one that left what was not resolved, however it
+/// was stopped: the machine is killed, and tells the samples that are left in rising order. It asks that the shards of the epochs before had resolved
+/// all, and that the entries placed are a beginning of those fed.
 pub fn a_stopped_shipper_is_a_run<T: Transport>()
     ensures orderly { (s : Shipping T) (r : Report T) → StopsInOrder T.tells T.seen T.is_for s r }
     ensures epochs { (s : Shipping T) (r : Report T) → StopsAsRun T.tells T.seen T.is_for s r }
+    ensures abandoned { (s : Shipping T) (r : Report T) → StopsAbandoned T.tells T.seen T.is_for s r }
 {}
