@@ -1,7 +1,9 @@
 //! The entries of a log, one after the other.
 
 ghost use Rattle.std.specs.Prelude.{◌≡◌, ◌++◌, ◌∷◌, [], length, OnOk, OnErr, IfOk};
+ghost use Rattle.rw_types.specs.Beginnings.{Begins};
 ghost use Rattle.rw_types.specs.declared.entry.Entry.{Entry};
+ghost use Rattle.rw_wal_format.specs.Pieces.{entries};
 ghost use Rattle.rw_wal_tail.specs.Fed.{piece_of};
 ghost use Rattle.rw_feeder.specs.Logs.{named, dropped, filtered};
 ghost use Rattle.rw_feeder.specs.Feeders.{Reads, IsDropped, IsToBeSent, Judges, HasPlaced};
@@ -167,6 +169,7 @@ impl Feeder {
     pub fn finish(self) -> (Ledger, u64)
         ensures names { result.0.names ≡ named (dropped self.choice self.placed) }
         ensures filtered { result.1 ≡ length (filtered self.choice self.placed) }
+        ensures begins { Begins (self.placed ++ self.hand) (entries self.pieces) }
     {
         let Feeder { part, router, .. } = self;
         (part, router.filtered())

@@ -5,6 +5,7 @@ use Rattle.std.proofs.lemmas.List.{length-set, map-append}
 use Rattle.std.proofs.lemmas.Option.{same_Some}
 use Rattle.rw_worker.specs.Transcript.{Exchange}
 use Rattle.rw_shipper.specs.declared.report.Report.{Report}
+use Rattle.rw_types.specs.Beginnings.{Begins}
 use Rattle.rw_types.specs.declared.entry.Entry.{Entry}
 use Rattle.rw_types.specs.declared.entry.Entry.TheVariants as entry
 use Rattle.rw_types.specs.declared.place.Place.{Place}
@@ -321,3 +322,7 @@ module _ {T : Type 0} where
   lists_cut js fs NotAll placed damage o is cut whole left =
       let c = cut refl in
       subst ListsCut (sym is) (c.0, c.1.finished, at_finished js c.0 c.1 c.2, c.3)
+
+-- what is in hand was not placed
+pub begins_less : {A : Type 0} (placed hand all : List A) → Begins (placed ++ hand) all → Begins placed all
+begins_less placed hand all h = (hand ++ h.0, h.1 ∙ append_assoc placed hand h.0)

@@ -8,7 +8,8 @@ use Rattle.rw_fleet.specs.Fleets.{Shards, AreAll, EndBy}
 use Rattle.rw_fleet.specs.declared.running.Fault.{Fault}
 use Rattle.rw_fleet.specs.declared.running.Fault.TheVariants as queue_fault
 use Rattle.rw_types.specs.declared.entry.Entry.{Entry}
-use Rattle.rw_wal_format.specs.Pieces.{Piece}
+use Rattle.rw_types.specs.Beginnings.{Begins}
+use Rattle.rw_wal_format.specs.Pieces.{Piece, entries}
 use Rattle.rw_wal_format.specs.declared.tail_fault.TailFault.{TailFault}
 use Rattle.rw_ledger.specs.Names.{Named}
 use Rattle.rw_shard_core.specs.declared.outcome.Outcome.{Outcome}
@@ -103,7 +104,7 @@ Ends s js (outcome.Complete end) = (end ≡ length s.log.placed) × HasRead s.lo
 Ends s js (outcome.Damaged f) = HasRead s.log.pieces s.log.placed (Some f) × AreResolved js
 Ends s js (outcome.Abandoned placed samples) = (placed ≡ length s.log.placed) × (samples.items ≡ abandoned_in js)
 
--- The shards of all epochs were put the samples of the entries placed, and did what their workers report; the other samples are named, or counted.
+-- The entries placed are the first ones of those fed. The shards of all epochs were put their samples, and did what their workers report; the other samples are named, or counted.
 pub record HasStopped {T : Type 0} (tells : T → Type 0) (seen : T → List Exchange) (is_for : ℕ → ℕ → T → Type 0) (s : Shipping T) (r : Report T) : Type 0 where
   pub joined : List (StoppedShard T)
   pub own : Named
@@ -115,4 +116,5 @@ pub record HasStopped {T : Type 0} (tells : T → Type 0) (seen : T → List Exc
   pub all : AreAll s.fleet joined
   pub names : own.names ≡ named (dropped s.log.choice s.log.placed)
   pub filter_count : r.filtered ≡ length (filtered s.log.choice s.log.placed)
+  pub read : Begins s.log.placed (entries s.log.pieces)
   pub ends : Ends s joined r.outcome

@@ -3,7 +3,7 @@ use Rattle.rw_worker.specs.Report.{is_hard}
 use Rattle.rw_fleet.specs.Fleets.{EndBy}
 use Rattle.rw_shipper.specs.Reports.{kind_of}
 use Rattle.rw_shipper.specs.Shipping.{Shipping}
-use Rattle.rw_shipper.proofs.ShippingLemmas.{places_whole, stopped_seen, read_of, ends_so, is_abandoned, lists_cut}
+use Rattle.rw_shipper.proofs.ShippingLemmas.{places_whole, stopped_seen, read_of, ends_so, is_abandoned, lists_cut, begins_less}
 use Rattle.rw_shipper.proofs.shipper.Shipper.stop.Goals as goal
 
 pub returns-clause-stopped : goal.returns-clause-stopped
@@ -22,6 +22,7 @@ returns-clause-stopped g c =
       all = l.all;
       names = c.finish-part.ensures.names;
       filter_count = c.finish-part.ensures.filtered;
+      read = begins_less c.self.inside.feeder.placed c.self.inside.feeder.hand _ c.finish-part.ensures.begins;
       ends = ends_so (record { log = c.self.inside.feeder; fleet = c.self.inside.fleet; fault = c.self.inside.fault; limit = c.self.inside.cuts.limit }) l.joined c.args.is_hard c.finish_listed-lists.result.1 c.args.placed c.self.inside.damage _ _ (c.requires.placed ∙ ap (λ (s : Shipping _). length s.log.placed) (sym view)) l.samples l.resolved
           (λ soft. read_of c.self.inside.feeder c.self.inside.fault c.self.inside.damage c.self.invariant.2 (ap (λ (s : Shipping _). s.fault) view ∙ c.requires.ready soft)) o.hard o.apart o.whole;
     })
