@@ -5,7 +5,6 @@ use Rattle.std.proofs.lemmas.Bool.{eqb-true, and_parts}
 use Rattle.std.proofs.lemmas.List.{length-map, map-append}
 use Rattle.std.proofs.lemmas.List.Folds.{list_any-append}
 use Rattle.std.proofs.lemmas.Option.{same_Some, none-some}
-use Rattle.rw_types.specs.Beginnings.{Begins}
 use Rattle.rw_types.specs.declared.entry.Entry.{Entry}
 use Rattle.rw_types.specs.declared.place.Place.{Place}
 use Rattle.rw_types.specs.Gathering.{gather_from}
@@ -374,7 +373,7 @@ module _ {T : Type 0} (tells : T → Type 0) (seen : T → List Exchange) (is_fo
 
 -- ---- from the start
 module _ {T : Type 0} (tells : T → Type 0) (seen : T → List Exchange) (is_for : ℕ → ℕ → T → Type 0) (c : Setup) (s : Shipping T) (r : Report T) (fed : List Fed) (h : HasStopped tells seen is_for s r) (was : Shards T) (p : PlacesAll s.log was) (set : IsSetAs c s.fleet.config) (choice : c.choice ≡ s.log.choice) (work : CanWork c) (fed_are : s.log.pieces ≡ map piece_of fed)
-    (beginning : Begins s.log.placed (entries s.log.pieces)) (all : AreAll was h.joined) (resolved : AreResolved was.ended) (number : IsShardCount (length was.current)) (first : first_number p.epochs was.current ≡ c.shards) where
+    (all : AreAll was h.joined) (resolved : AreResolved was.ended) (number : IsShardCount (length was.current)) (first : first_number p.epochs was.current ≡ c.shards) where
   abbrev last : List (StoppedShard T)
   last = all.0
 
@@ -402,13 +401,13 @@ module _ {T : Type 0} (tells : T → Type 0) (seen : T → List Exchange) (is_fo
   origin = begun tells seen is_for c s r fed h set choice work fed_are
 
   at-last : AtLast tells seen is_for c s.fleet.config set work s.log.pieces (map lane_of last) [] s.log.placed origin
-  at-last = turned-run tells seen is_for c s.fleet.config set work p.epochs (map lane_of last) 0 was.ended [] s.log.placed beginning.0 s.log.pieces origin sound p.ended_is placed (turned-before p.epochs (map lane_of last) p.turned (subst IsShardCount (sym same) number))
-      (subst (λ (i : ℕ). BeginsEpoch c s.log.pieces 0 i [] origin) (sym (first-is p.epochs ∙ first)) (begins tells seen is_for c s r fed h set choice work fed_are)) beginning.1
+  at-last = turned-run tells seen is_for c s.fleet.config set work p.epochs (map lane_of last) 0 was.ended [] s.log.placed h.read.0 s.log.pieces origin sound p.ended_is placed (turned-before p.epochs (map lane_of last) p.turned (subst IsShardCount (sym same) number))
+      (subst (λ (i : ℕ). BeginsEpoch c s.log.pieces 0 i [] origin) (sym (first-is p.epochs ∙ first)) (begins tells seen is_for c s r fed h set choice work fed_are)) h.read.1
 
   last-run : Reaches c at-last.reach.world (Killed tells seen is_for c s.fleet.config set work s.log.pieces (at-last.now ++ at-last.later) last)
-  last-run = abandoned-run tells seen is_for c s.fleet.config set work at-last.epoch last known-last (subst (λ (m : ℕ). 1 ≤ m) (sym same ∙ length-map last lane_of) number.0) at-last.now at-last.later beginning.0 at-last.dealt s.log.pieces at-last.reach.world
+  last-run = abandoned-run tells seen is_for c s.fleet.config set work at-last.epoch last known-last (subst (λ (m : ℕ). 1 ≤ m) (sym same ∙ length-map last lane_of) number.0) at-last.now at-last.later h.read.0 at-last.dealt s.log.pieces at-last.reach.world
       (subst (λ (m : ℕ). BeginsEpoch c s.log.pieces at-last.epoch m at-last.now at-last.reach.world) (length-map last lane_of) at-last.reach.holds)
-      (beginning.1 ∙ ap (λ (xs : List Entry). xs ++ beginning.0) at-last.are ∙ append_assoc at-last.now at-last.later beginning.0)
+      (h.read.1 ∙ ap (λ (xs : List Entry). xs ++ h.read.0) at-last.are ∙ append_assoc at-last.now at-last.later h.read.0)
 
   abbrev events : List Happening
   events = feeds fed ++ (at-last.reach.events ++ last-run.events)
@@ -452,4 +451,4 @@ module _ {T : Type 0} (tells : T → Type 0) (seen : T → List Exchange) (is_fo
   )
 
 pub stops-abandoned : {T : Type 0} (tells : T → Type 0) (seen : T → List Exchange) (is_for : ℕ → ℕ → T → Type 0) (s : Shipping T) (r : Report T) → StopsAbandoned tells seen is_for s r
-stops-abandoned {T} tells seen is_for s r c fed h was p machine work fed_are beginning all resolved number first left = whole-run tells seen is_for c s r fed h was p machine.0 machine.1 work fed_are beginning all resolved number first left
+stops-abandoned {T} tells seen is_for s r c fed h was p machine work fed_are all resolved number first left = whole-run tells seen is_for c s r fed h was p machine.0 machine.1 work fed_are all resolved number first left

@@ -1,8 +1,6 @@
 -- A shipper that was stopped is a run of the machine of events, whether it left nothing or abandoned what was left.
 use Rattle.std.specs.Prelude.{◌≡◌, ℕ, ◌<◌, List, [], ◌∷◌, ◌++◌, length, map, Option, Some, slice_get, IsPermutation, ⊤}
-use Rattle.rw_types.specs.Beginnings.{Begins}
 use Rattle.rw_types.specs.Rising.{Rises}
-use Rattle.rw_wal_format.specs.Pieces.{entries}
 use Rattle.rw_wal_tail.specs.Fed.{piece_of}
 use Rattle.rw_wal_tail.specs.declared.piece.Piece.{Piece}
 use Rattle.rw_shard_core.specs.declared.config.ConfigFields.{ConfigFields}
@@ -105,5 +103,5 @@ StopsInOrder tells seen is_for s r =
 -- So it is of every shipper that abandoned what was left, however it was stopped. `before` is the fleet as it stood before its last shards were ended: that of the shipper, or where a reshard failed that before it. The shards of the epochs before had resolved all.
 abbrev pub StopsAbandoned : {T : Type 0} → (T → Type 0) → (T → List Exchange) → (ℕ → ℕ → T → Type 0) → Shipping T → Report T → Type 0
 StopsAbandoned {T} tells seen is_for s r =
-    (c : Setup) (fed : List Piece) (h : HasStopped tells seen is_for s r) (before : Shards T) (p : PlacesAll s.log before) → IsMachineOf c s → CanWork c → s.log.pieces ≡ map piece_of fed → Begins s.log.placed (entries s.log.pieces)
+    (c : Setup) (fed : List Piece) (h : HasStopped tells seen is_for s r) (before : Shards T) (p : PlacesAll s.log before) → IsMachineOf c s → CanWork c → s.log.pieces ≡ map piece_of fed
     → AreAll before h.joined → AreResolved before.ended → IsShardCount (length before.current) → first_number p.epochs before.current ≡ c.shards → IsAbandoned r.outcome → IsRun c s r

@@ -39,7 +39,7 @@ pub fn a_stopped_shard_is_a_run<T: Transport>()
 /// from the shipper's own clauses how its samples were placed and its epochs ended; that there are 1 to 1000 shards, and that the machine can work, it
 /// asks for. `epochs` is of any epochs over which the samples may have been placed. `abandoned` is of one that left what was not resolved, however it
 /// was stopped: the machine is killed, and tells the samples that are left in rising order. It asks that the shards of the epochs before had resolved
-/// all, and that the entries placed are a beginning of those fed.
+/// all.
 pub fn a_stopped_shipper_is_a_run<T: Transport>()
     ensures orderly { (s : Shipping T) (r : Report T) → StopsInOrder T.tells T.seen T.is_for s r }
     ensures epochs { (s : Shipping T) (r : Report T) → StopsAsRun T.tells T.seen T.is_for s r }
