@@ -350,7 +350,7 @@ unnamed_reply w (Some a) at = by_shard (slice_get w.shards a.id.shard) refl
     by_shard None e = at
     by_shard (Some s) e = either Unnamed (is_answer a.id s.core) (settled w a.id.shard s a.status) w (λ _. by_judgement s e (judgement_of a.status)) (λ _. at)
 
-unnamed_act : (c : Setup) (w : World) (e : Event) → Unnamed w → Unnamed (act c w e)
+pub unnamed_act : (c : Setup) (w : World) (e : Event) → Unnamed w → Unnamed (act c w e)
 unnamed_act c w (event.Feed piece) at = either Unnamed (is_some w.closed) w _ (λ _. at) (λ _. record { ident = at.ident; numbered = at.numbered; fresh = at.fresh })
 unnamed_act c w event.Place at = unnamed_place c w at
 unnamed_act c w (event.Flush i) at = unnamed_quiet w i (flush_shard c w) (quiet_flush c w) at
@@ -382,7 +382,7 @@ unnamed_act c w event.Restart at = by_draining w.draining
 unnamed_act c w event.Close at = either Unnamed (is_some w.closed) w _ (λ _. at) (λ _. record { ident = at.ident; numbered = at.numbered; fresh = at.fresh })
 unnamed_act c w event.Kill at = record { ident = at.ident; numbered = at.numbered; fresh = at.fresh }
 
-unnamed_begins : (c : Setup) → Unnamed (start c)
+pub unnamed_begins : (c : Setup) → Unnamed (start c)
 unnamed_begins c = record { ident = λ p. (0, 0); numbered = each_new (AreUnnamed (λ p. (0, 0)) 0 (start c).names) c 0 0 (λ _. tt) c.shards; fresh = λ p _. get-empty nat_cmp p }
 
 pub unnamed_at : (c : Setup) (events : List Event) → Unnamed (run c events (start c))
@@ -440,7 +440,7 @@ module _ (c : Setup) (p : ℕ) (r : Reason) where
       by_shard None e = q
       by_shard (Some u) e = either Named (is_answer a.id u.core) (settled w a.id.shard u a.status) w (λ _. by_judgement u e (judgement_of a.status)) (λ _. q)
 
-  stays_act : (w : World) (e : Event) → Unnamed w → Named w → Named (act c w e)
+  pub stays_act : (w : World) (e : Event) → Unnamed w → Named w → Named (act c w e)
   stays_act w (event.Feed piece) at q = either Named (is_some w.closed) w _ (λ _. q) (λ _. q)
   stays_act w event.Place at q = stays_place w at q
   stays_act w (event.Flush i) at q = q

@@ -274,10 +274,10 @@ module _ {T : Type 0} where
   pub compared_shut : (was shut : Shards T) → HasClosed was shut → HasCompared was shut
   compared_shut was shut h = (h.3, h.4, inl h.2)
 
-  pub compared_open : (was shut now : Shards T) → HasClosed was shut → now ≡ record shut { current = now.current } → AreResolved shut.ended → HasCompared was now
-  compared_open was shut now h is resolved =
+  pub compared_open : (was shut now : Shards T) → HasClosed was shut → now ≡ record shut { current = now.current } → AreResolved shut.ended → AreFresh now.epoch now.current → HasCompared was now
+  compared_open was shut now h is resolved fresh =
       let ended : now.ended ≡ shut.ended = ap (λ (s : Shards T). s.ended) is in
-      (subst (λ js. AreAll was js) (sym ended) h.3, subst (λ (js : List (StoppedShard T)). EndBy Reshard was (map finished_of js)) (sym ended) h.4, inr (subst (λ (js : List (StoppedShard T)). AreResolved js) (sym ended) resolved))
+      (subst (λ js. AreAll was js) (sym ended) h.3, subst (λ (js : List (StoppedShard T)). EndBy Reshard was (map finished_of js)) (sym ended) h.4, inr (subst (λ (js : List (StoppedShard T)). AreResolved js) (sym ended) resolved, fresh))
 
   abandons : (s : Shipping T) (js : List (StoppedShard T)) (placed : ℕ) (samples : List ℕ) (o : Outcome) → IsAbandonedAt placed samples o → placed ≡ length s.log.placed → samples ≡ abandoned_in js → Ends s js o
   abandons s js placed samples (outcome.Complete end) h a b = absurd h

@@ -1,7 +1,7 @@
 -- What contracts see of a shipper.
 use Rattle.std.specs.Prelude.{◌≡◌, ◌⊎◌, List, [], ◌∷◌, ◌++◌, length, map, Option, Some, None, Result, Ok, Err, ⊤, ℕ}
 use Rattle.rw_worker.specs.Transcript.{Exchange}
-use Rattle.rw_fleet.specs.ShardHistories.{AreSetUp, marks_of}
+use Rattle.rw_fleet.specs.ShardHistories.{AreFresh, AreSetUp, marks_of}
 use Rattle.rw_plain_queue.specs.declared.item.Kind.TheVariants.{Reshard}
 use Rattle.rw_fleet.specs.Work.{lane_of, finished_of, AreResolved, AreWorked}
 use Rattle.rw_fleet.specs.Fleets.{Shards, AreAll, EndBy}
@@ -54,9 +54,9 @@ abbrev pub IsRead : Sorting → Option Fault → Option TailFault → Type 0
 IsRead log None damage = HasRead log.pieces log.placed damage
 IsRead log (Some f) damage = ⊤
 
--- each shard of the epoch has ended, by an End that asks for all, and what it was put was compared with what its worker took, before the next epoch has a queue
+-- Each shard of the epoch has ended, by an End that asks for all. The next epoch has a queue only where all that was put is resolved, and nothing was put into those that it has.
 abbrev pub HasCompared : {T : Type 0} → Shards T → Shards T → Type 0
-HasCompared old new = AreAll old new.ended × EndBy Reshard old (map finished_of new.ended) × ((new.current ≡ []) ⊎ AreResolved new.ended)
+HasCompared old new = AreAll old new.ended × EndBy Reshard old (map finished_of new.ended) × ((new.current ≡ []) ⊎ (AreResolved new.ended × AreFresh new.epoch new.current))
 
 -- more entries may have been placed, and their samples put: the rest is as it was, and without a limit no mark was put
 pub record GoesOn {T : Type 0} (limit : Option ℕ) (old new : Sorting) (was now : Shards T) : Type 0 where
