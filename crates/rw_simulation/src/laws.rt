@@ -35,7 +35,8 @@ pub fn a_stopped_shard_is_a_run<T: Transport>()
     ensures { (j : StoppedShard T) → StopsAsShard T.tells T.seen T.is_for j }
 {}
 
-/// A shipper that was stopped is a run of the machine, which reports the same. `orderly` is of one that was stopped in order with nothing left: it takes
+/// A shipper that was stopped is a run of the machine, which reports the same, names what the parts of its report name together, and sent what its workers
+/// exchanged. `orderly` is of one that was stopped in order with nothing left: it takes
 /// from the shipper's own clauses how its samples were placed and its epochs ended; that there are 1 to 1000 shards, and that the machine can work, it
 /// asks for. `epochs` is of any epochs over which the samples may have been placed. `abandoned` is of one that left what was not resolved, however it
 /// was stopped: the machine is killed, and tells the samples that are left in rising order. It asks that the shards of the epochs before had resolved
