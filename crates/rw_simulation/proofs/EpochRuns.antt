@@ -290,6 +290,7 @@ module _ (c : Setup) (past : Past) (pieces : List Piece) (epoch n : ℕ) (fates 
 
   -- an entry that gives a sample, which is next in its shard
   place-one : (before es : List Entry) (e : Entry) (x : Sent) (v : World) → sent_of c.choice before e ≡ x ∷ [] → StandsAt before (e ∷ es) (shard_of n x.series) v → Reaches c v (More before e es)
+  unfolding way-after
   place-one before es e x v one st = by_item st.x st.starts st.sample
     where
       k : ℕ
@@ -427,10 +428,10 @@ module _ (c : Setup) (past : Past) (pieces : List Piece) (epoch n : ℕ) (fates 
       (λ v next. subst (λ (xs : List Entry). Reaches c v (IsUnderWay c past pieces epoch n fates xs [])) (append_assoc before (e ∷ []) es) (place-all (before ++ e ∷ []) es v shards next))
 
 -- all the entries are placed, each shard being put its samples and its worker making its steps
-abbrev pub IsEpochRun : Setup → Type 0
-IsEpochRun c =
-    (past : Past) (pieces : List Piece) (epoch n : ℕ) (fates : ℕ → ShardFate) (before es : List Entry) (w : World) → 1 ≤ c.capacity → 1 ≤ n
+abbrev pub IsEpochRun : Setup → Past → Type 0
+IsEpochRun c past =
+    (pieces : List Piece) (epoch n : ℕ) (fates : ℕ → ShardFate) (before es : List Entry) (w : World) → 1 ≤ c.capacity → 1 ≤ n
     → IsUnderWay c past pieces epoch n fates before es w → Reaches c w (IsUnderWay c past pieces epoch n fates (before ++ es) [])
 
-pub epoch-run : (c : Setup) → IsEpochRun c
+pub epoch-run : (c : Setup) (past : Past) → IsEpochRun c past
 epoch-run c past pieces epoch n fates before es w some shards under = place-all c past pieces epoch n fates some before es w shards under

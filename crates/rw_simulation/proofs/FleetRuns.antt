@@ -1,5 +1,5 @@
 -- What a shard of the fleet was put, and did, is what a shard of the machine may be put and do.
-use Rattle.std.proofs.Common.{◌≡◌, ℕ, zero, suc, ◌+◌, ◌<◌, ◌≤◌, true, false, not, ◌||◌, nat_le, List, [], ◌∷◌, map, length, Option, Some, None, slice_get, refl, sym, ap, ◌∙◌, subst, arith, inl}
+use Rattle.std.proofs.Common.{◌≡◌, ℕ, zero, suc, ◌+◌, ◌<◌, ◌≤◌, true, false, not, ◌||◌, nat_le, List, [], ◌∷◌, ◌++◌, map, length, Option, Some, None, slice_get, refl, sym, ap, ◌∙◌, subst, arith, inl}
 use Rattle.std.proofs.lemmas.Bool.{lt-leb, both_ways}
 use Rattle.std.proofs.lemmas.List.{map-append}
 use Rattle.std.specs.FinMap.{empty}
@@ -138,6 +138,6 @@ under-way c past pieces epoch lanes steps left before es w some h = record {
         (subst (λ (xs : List Sent). IsOnTheWayWith c epoch k w.requests empty (new_shard (new_core c.target epoch k c.batch)) xs (fate_of lane.0 (steps k) (left k))) (h.dealt.each k lane.0 lane.1).2
         (run-on-the-way c epoch k w.requests lane.0 (steps k) (left k) some (h.unsent k) (h.runs k lane.0 lane.1))))
 
-pub fleet-run : (c : Setup) → IsFleetRun c
+pub fleet-run : (c : Setup) (past : Past) → IsFleetRun c past
 fleet-run c past pieces epoch lanes steps left before es w room batch shards h =
     whole-epoch-run c past pieces epoch (length lanes) (fate_at lanes steps left) before es w room shards (under-way c past pieces epoch lanes steps left before es w batch h)

@@ -142,12 +142,12 @@ module _ (c : Setup) (past : Past) (pieces : List Piece) (epoch n : ℕ) (fates 
       none_below k lt = omega arith
 
 -- all the entries are placed, and all marks are put
-abbrev pub IsWholeEpochRun : Setup → Type 0
-IsWholeEpochRun c =
-    (past : Past) (pieces : List Piece) (epoch n : ℕ) (fates : ℕ → ShardFate) (before es : List Entry) (w : World) → 1 ≤ c.capacity → 1 ≤ n
+abbrev pub IsWholeEpochRun : Setup → Past → Type 0
+IsWholeEpochRun c past =
+    (pieces : List Piece) (epoch n : ℕ) (fates : ℕ → ShardFate) (before es : List Entry) (w : World) → 1 ≤ c.capacity → 1 ≤ n
     → IsUnderWay c past pieces epoch n fates before es w → Reaches c w (IsAllPut c past pieces epoch n fates (before ++ es))
 
-pub whole-epoch-run : (c : Setup) → IsWholeEpochRun c
+pub whole-epoch-run : (c : Setup) (past : Past) → IsWholeEpochRun c past
 whole-epoch-run c past pieces epoch n fates before es w some shards under =
     go-on c w (IsUnderWay c past pieces epoch n fates (before ++ es) []) (IsAllPut c past pieces epoch n fates (before ++ es)) (epoch-run c past pieces epoch n fates before es w some shards under)
     (λ v done. put-all c past pieces epoch n fates (before ++ es) some v done)

@@ -1,5 +1,5 @@
 -- What is known of the epochs that are over, by the shards that were joined.
-use Rattle.std.proofs.Common.{◌≡◌, ◌⊎◌, inl, inr, ℕ, zero, suc, ◌+◌, ◌<◌, List, [], ◌∷◌, ◌++◌, length, map, Some, slice_get, refl, sym, ap, ◌∙◌, subst, arith}
+use Rattle.std.proofs.Common.{◌≡◌, ◌⊎◌, inl, inr, ℕ, zero, suc, ◌<◌, List, [], ◌∷◌, ◌++◌, length, map, Some, slice_get, refl, sym, ap, ◌∙◌, subst, arith}
 use Rattle.std.specs.FinMap.{empty, get}
 use Rattle.std.proofs.lemmas.Option.{same_Some, none-some}
 use Rattle.rw_types.proofs.AllLemmas.{AllByRecursion-weaker}
@@ -28,9 +28,9 @@ get-first [] ys i x e = absurd (none-some x e)
 get-first (z ∷ zs) ys zero x e = e
 get-first (z ∷ zs) ys (suc i) x e = get-first zs ys i x e
 
-pub get-second : {X : Type 0} (xs ys : List X) (i : ℕ) (y : X) → slice_get ys i ≡ Some y → slice_get (xs ++ ys) (length xs + i) ≡ Some y
-get-second [] ys i y e = e
-get-second (x ∷ xs) ys i y e = get-second xs ys i y e
+pub get-second : {X : Type 0} (xs ys : List X) (i : ℕ) (y : X) → slice_get ys i ≡ Some y → (k : ℕ) × (slice_get (xs ++ ys) k ≡ Some y)
+get-second [] ys i y e = (i, e)
+get-second (x ∷ xs) ys i y e = let h = get-second xs ys i y e in (suc h.0, h.1)
 
 get-either : {X : Type 0} (xs ys : List X) (i : ℕ) (z : X) → slice_get (xs ++ ys) i ≡ Some z → (slice_get xs i ≡ Some z) ⊎ ((k : ℕ) × (slice_get ys k ≡ Some z))
 get-either [] ys i z e = inr (i, e)
@@ -93,7 +93,7 @@ module _ {T : Type 0} (tells : T → Type 0) (seen : T → List Exchange) where
 
       named_so : (p : ℕ) (reason : Reason) → (past_of done).named p reason ⊎ ((k : ℕ) × (k < n) × (get (fates k).worker.ledger.names p ≡ Some reason)) → (past_of (done ++ js)).named p reason
       named_so p reason (inl (i, j, e, h)) = (i, j, get-first done js i j e, h)
-      named_so p reason (inr (k, lt, h)) = let g = found k lt in (length done + k, g.0, get-second done js k g.0 g.1, ap (λ (m : Names). get m p) (sym (reports k g.0 g.1).part_is) ∙ h)
+      named_so p reason (inr (k, lt, h)) = let g = found k lt in let at = get-second done js k g.0 g.1 in (at.0, g.0, at.1, ap (λ (m : Names). get m p) (sym (reports k g.0 g.1).part_is) ∙ h)
 
       names_so : (p : ℕ) (reason : Reason) → (past_of (done ++ js)).named p reason → (past_of done).named p reason ⊎ ((k : ℕ) × (k < n) × (get (fates k).worker.ledger.names p ≡ Some reason))
       names_so p reason (i, j, e, h) = by_place (get-either done js i j e)
@@ -116,7 +116,7 @@ module _ {T : Type 0} (tells : T → Type 0) (seen : T → List Exchange) where
       had_so e k (j, a) = (j, record { i = a.i; at = get-first done js a.i j a.at; epoch_is = a.epoch_is; shard_is = a.shard_is })
 
       has_so : (k : ℕ) → k < n → (past_of (done ++ js)).has epoch k
-      has_so k lt = let g = found k lt in let r = reports k g.0 g.1 in (g.0, record { i = length done + k; at = get-second done js k g.0 g.1; epoch_is = r.epoch_is; shard_is = r.shard_is })
+      has_so k lt = let g = found k lt in let r = reports k g.0 g.1 in let at = get-second done js k g.0 g.1 in (g.0, record { i = at.0; at = at.1; epoch_is = r.epoch_is; shard_is = r.shard_is })
 
   module _ (is_for : ℕ → ℕ → T → Type 0) where
     -- what a worker's transport tells are the exchanges of its steps
@@ -158,7 +158,7 @@ module _ {T : Type 0} (tells : T → Type 0) (seen : T → List Exchange) where
           ∙ (t.sent g.0.worker.value.queue.epoch g.0.worker.value.queue.shard (map request_in (seen g.0.finished.transport)) (g.0, record { i = k; at = g.1; epoch_is = refl; shard_is = refl }, tells_so, refl)).1) told
 
       one-of : (q : Request) → IsOwned (past_of h.joined) epoch 0 q → IsOfOne (map finished_of h.joined) q
-      one-of q (inl (lt, j, a)) = (a.i, j.finished, get_map finished_of h.joined a.i j a.at, sym (ap (λ x. x.epoch) (queue-at j a.i a.at) ∙ a.epoch_is), sym (ap (λ x. x.shard) (queue-at j a.i a.at) ∙ a.shard_is))
+      one-of q (inl (lt, h')) = let j = h'.0 in let a = h'.1 in (a.i, j.finished, get_map finished_of h.joined a.i j a.at, sym (ap (λ x. x.epoch) (queue-at j a.i a.at) ∙ a.epoch_is), sym (ap (λ x. x.shard) (queue-at j a.i a.at) ∙ a.shard_is))
       one-of q (inr (same, lt)) = no_shard q.id.shard lt
 
       pub sends-all : SendsAll tells seen w.requests r.workers.items

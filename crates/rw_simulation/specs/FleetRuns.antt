@@ -57,7 +57,7 @@ pub record IsBeginning (c : Setup) (past : Past) (pieces : List Piece) (epoch : 
   pub runs : (k : ℕ) (l : ShardHistory) → slice_get lanes k ≡ Some l → IsShardRun c epoch k l (steps k) (left k)
 
 -- the fleet's epoch is a run of the machine, which comes to what the workers report
-abbrev pub IsFleetRun : Setup → Type 0
-IsFleetRun c =
-    (past : Past) (pieces : List Piece) (epoch : ℕ) (lanes : List ShardHistory) (steps : ℕ → List Step) (left : ℕ → List Item) (before es : List Entry) (w : World) → 1 ≤ c.capacity → 1 ≤ c.batch → 1 ≤ length lanes
+abbrev pub IsFleetRun : Setup → Past → Type 0
+IsFleetRun c past =
+    (pieces : List Piece) (epoch : ℕ) (lanes : List ShardHistory) (steps : ℕ → List Step) (left : ℕ → List Item) (before es : List Entry) (w : World) → 1 ≤ c.capacity → 1 ≤ c.batch → 1 ≤ length lanes
     → IsBeginning c past pieces epoch lanes steps left before es w → Reaches c w (IsAllPut c past pieces epoch (length lanes) (fate_at lanes steps left) (before ++ es))

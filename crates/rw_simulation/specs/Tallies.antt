@@ -1,5 +1,5 @@
 -- What the machine has named and sent so far, by whose it is.
-use Rattle.std.specs.Prelude.{◌≡◌, ◌⊎◌, ◌&&◌, ◌==◌, ℕ, ◌<◌, List, filter, map, Some}
+use Rattle.std.specs.Prelude.{◌≡◌, ◌⊎◌, ◌&&◌, ◌==◌, ℕ, ◌<◌, Bool, true, List, filter, map, Option, Some, slice_get}
 use Rattle.std.specs.List.{AllByRecursion}
 use Rattle.std.specs.Ordering.{nat_cmp}
 use Rattle.std.specs.FinMap.{FinMap, get}
@@ -20,6 +20,19 @@ pub record Past : Type 1 where
   pub named : ℕ → Reason → Type 0
   pub sent : ℕ → ℕ → List (List ℕ) → Type 0
   pub has : ℕ → ℕ → Type 0
+
+-- the same, in lists and functions: the names of each worker, what a shard sent, and whether there was such a shard
+pub record Earlier : Type 0 where
+  pub parts : List (FinMap nat_cmp Reason)
+  pub sent : ℕ → ℕ → Option (List (List ℕ))
+  pub had : ℕ → ℕ → Bool
+
+abbrev pub past_by : Earlier → Past
+past_by earlier = record {
+  named = λ p reason. (i : ℕ) × (part : FinMap nat_cmp Reason) × (slice_get earlier.parts i ≡ Some part) × (get part p ≡ Some reason);
+  sent = λ e k bytes. earlier.sent e k ≡ Some bytes;
+  has = λ e k. earlier.had e k ≡ true;
+}
 
 -- a position is named by the feeder, by a worker of an epoch that is over, or by one of the n that work
 abbrev pub IsNamedSo : Setup → Past → ℕ → List Entry → (ℕ → FinMap nat_cmp Reason) → ℕ → Reason → Type 0
