@@ -1,6 +1,7 @@
 -- A shipper that abandoned what was left is a run of the machine, which is killed.
 use Rattle.std.proofs.Common.{◌≡◌, ℕ, zero, suc, ◌+◌, ◌≤◌, ◌==◌, ◌||◌, true, List, [], ◌∷◌, ◌++◌, map, length, drop, filter, Option, None, Some, slice_get, refl, sym, ap, ◌∙◌, subst, append-nil, append_assoc, arith, ◌⊎◌, inl, inr}
 use Rattle.std.specs.List.{AllByRecursion, list_any}
+use Rattle.std.specs.FinMap.{empty}
 use Rattle.std.proofs.lemmas.Bool.{eqb-true, and_parts}
 use Rattle.std.proofs.lemmas.List.{length-map, map-append}
 use Rattle.std.proofs.lemmas.List.Folds.{list_any-append}
@@ -21,7 +22,7 @@ use Rattle.rw_shard_core.specs.declared.outcome.Outcome.{Outcome}
 use Rattle.rw_shard_core.specs.declared.outcome.Outcome.TheVariants as outcome
 use Rattle.rw_worker.specs.Transcript.{Exchange}
 use Rattle.rw_worker.specs.Setups.{start_of}
-use Rattle.rw_worker.specs.Steps.{Working, Step, Takes, Freezes, Sends, Waits, working, after, items_of}
+use Rattle.rw_worker.specs.Steps.{Working, Step, Takes, Freezes, Sends, Waits, working, after, items_of, exchanges_of}
 use Rattle.rw_fleet.specs.ShardHistories.{ShardHistory}
 use Rattle.rw_fleet.specs.Work.{AreResolved, is_compared, lane_of, finished_of, put_of, taken_of, positions_in}
 use Rattle.rw_fleet.specs.Fleets.{Shards, AreAll}
@@ -35,7 +36,7 @@ use Rattle.rw_shipper.specs.Shipping.{Shipping, PlacesAll, HasStopped, Ends}
 use Rattle.rw_shipper.specs.declared.report.Report.{Report}
 use Rattle.rw_shipper.proofs.PlacementLemmas.{whole_placed}
 use Rattle.rw_machine.specs.Shards.{Shard, Queued, pending, samples_in as waiting_in}
-use Rattle.rw_machine.specs.Worlds.{Setup, World, Abandoned, start, new_shards, is_pending, up_to, report}
+use Rattle.rw_machine.specs.Worlds.{Setup, Request, World, Abandoned, start, new_shards, is_pending, up_to, report}
 use Rattle.rw_machine.specs.Steps.{happens, unless_over}
 use Rattle.rw_machine.specs.declared.event.Event.TheVariants as event
 use Rattle.rw_machine.specs.Promises.{CanWork}
@@ -43,22 +44,25 @@ use Rattle.rw_machine.proofs.Lists.{Lists}
 use Rattle.rw_machine.proofs.Lists as lists
 use Rattle.rw_simulation.specs.Freely.{Happening, Of, run_freely}
 use Rattle.rw_simulation.specs.FreeLaws.{world_of}
-use Rattle.rw_simulation.specs.WorkerRuns.{queued}
+use Rattle.rw_simulation.specs.WorkerRuns.{queued, sent_bytes, request_in}
+use Rattle.rw_simulation.specs.Tallies.{Past, IsTallied, requests_of}
 use Rattle.rw_simulation.specs.EpochRuns.{StartsByTaking, ShardFate, end_in, IsAtEnd, IsPut, IsAllPut, Reaches}
 use Rattle.rw_simulation.specs.FleetRuns.{IsShardRun, fate_of, fate_by, fate_at}
 use Rattle.rw_simulation.specs.StoppedShards.{IsShardOf}
 use Rattle.rw_simulation.specs.StoppedRuns.{IsSetAs, IsAlike, IsRisingOrderOf, Tells, IsRun, first_number, StopsAbandoned}
 use Rattle.rw_simulation.proofs.Changes.{run-append}
 use Rattle.rw_simulation.proofs.EntryRuns.{over_not}
-use Rattle.rw_simulation.proofs.FreeLaws.{keeps-lists}
+use Rattle.rw_simulation.proofs.FreeLaws.{keeps-laws}
 use Rattle.rw_simulation.proofs.FleetRuns.{fleet-run}
 use Rattle.rw_simulation.proofs.ReshardRuns.{BeginsEpoch}
-use Rattle.rw_simulation.proofs.EndRuns.{HasCome}
+use Rattle.rw_simulation.proofs.EndRuns.{HasCome, tallies-at}
+use Rattle.rw_simulation.proofs.Tallies.{Names, lists-at, tallied-next}
+use Rattle.rw_simulation.proofs.Pasts.{get_map, map_get, past_of, ReportsAt, passes-of, seen-is, names-all, sends-all}
 use Rattle.rw_simulation.proofs.StoppedShards.{has-taken, with-what-is-left}
 use Rattle.rw_simulation.proofs.RisingOrders.{is_in, passing-permutes, passing-rises}
 use Rattle.rw_simulation.proofs.Positions.{position_of, ArePartOf, AreApart, part-of, part-dropped, positions_in-is, all-apart}
-use Rattle.rw_simulation.proofs.FlushedShards.{flushed, flushed_step, flushed_lane, samples_in-flushed, end_in-flushed, goes-alike, run-flushed}
-use Rattle.rw_simulation.proofs.StoppedRuns.{Fed, feeds, get_map, map_get, Known, known-all, Sound, sound-all, AtLast, turned-before, turned-run, begun, fed-all, begins}
+use Rattle.rw_simulation.proofs.FlushedShards.{flushed, flushed_step, flushed_lane, samples_in-flushed, end_in-flushed, exchanges_of-flushed, names-flushed, goes-alike, run-flushed}
+use Rattle.rw_simulation.proofs.StoppedRuns.{Fed, feeds, Known, known-all, Sound, sound-all, AtLast, turned-before, turned-run, begun, fed-all, begins}
 
 -- ---- a shard to which no End is to come has done all
 no_queued : (x : Queued) (xs : List Queued) → [] ≡ x ∷ xs → ⊥
@@ -71,14 +75,16 @@ none-taken (Freezes ∷ ss) left starts e = absurd starts
 none-taken (Sends x ∷ ss) left starts e = absurd starts
 none-taken (Waits ∷ ss) left starts e = absurd starts
 
-come-with : (c : Setup) (epoch k : ℕ) (s : Shard) (f : ShardFate) (p : IsPut c epoch k s f) → f.end ≡ None → (ps : List Item) → p.way.coming.puts ≡ ps → HasCome s f
-come-with c epoch k s f p open_still (item.Sample place t word labels ∷ ps) is = absurd (subst IsAtEnd is p.at_end)
-come-with c epoch k s f p open_still (item.Flush ∷ ps) is = absurd (subst IsAtEnd is p.at_end)
-come-with c epoch k s f p open_still (item.End kind ∷ ps) is = absurd (none-some kind (sym open_still ∙ sym p.way.end ∙ ap end_in is))
-come-with c epoch k s f p open_still [] is = record {
+come-with : (c : Setup) (epoch k : ℕ) (requests : List Request) (part : Names) (s : Shard) (f : ShardFate) (p : IsPut c epoch k requests part s f) → f.end ≡ None → (ps : List Item) → p.way.coming.puts ≡ ps → HasCome epoch k requests part s f
+come-with c epoch k requests part s f p open_still (item.Sample place t word labels ∷ ps) is = absurd (subst IsAtEnd is p.at_end)
+come-with c epoch k requests part s f p open_still (item.Flush ∷ ps) is = absurd (subst IsAtEnd is p.at_end)
+come-with c epoch k requests part s f p open_still (item.End kind ∷ ps) is = absurd (none-some kind (sym open_still ∙ sym p.way.end ∙ ap end_in is))
+come-with c epoch k requests part s f p open_still [] is = record {
   put = sym (append-nil s.put) ∙ ap (λ (xs : List Item). s.put ++ samples_in xs) (sym is) ∙ p.way.put;
   core = ap (λ (ss : List Step). (after (working s.core p.way.coming.ledger) ss).core) (sym none) ∙ ap (λ (x : Working). x.core) p.way.worker;
   queue = queue_is ∙ ap (λ (ss : List Step). map queued (items_of ss) ++ p.way.coming.left) none ∙ p.way.left;
+  requests_are = sym (append-nil (map sent_bytes (requests_of epoch k requests))) ∙ ap (λ (ss : List Step). map sent_bytes (requests_of epoch k requests) ++ map request_in (exchanges_of ss)) (sym none) ∙ p.way.requests_are;
+  part_is = ap (λ (x : Working). x.ledger.names) (sym p.way.worker) ∙ ap (λ (ss : List Step). (after (working s.core p.way.coming.ledger) ss).ledger.names) none ∙ p.part_is;
 }
   where
     queue_is : s.queue ≡ map queued (items_of p.way.coming.steps) ++ p.way.coming.left
@@ -91,8 +97,8 @@ come-with c epoch k s f p open_still [] is = record {
     none : p.way.coming.steps ≡ []
     none = by_eager p.way.ready.eager
 
-come : (c : Setup) (epoch k : ℕ) (s : Shard) (f : ShardFate) → IsPut c epoch k s f → f.end ≡ None → HasCome s f
-come c epoch k s f p open_still = come-with c epoch k s f p open_still p.way.coming.puts refl
+come : (c : Setup) (epoch k : ℕ) (requests : List Request) (part : Names) (s : Shard) (f : ShardFate) → IsPut c epoch k requests part s f → f.end ≡ None → HasCome epoch k requests part s f
+come c epoch k requests part s f p open_still = come-with c epoch k requests part s f p open_still p.way.coming.puts refl
 
 -- ---- what is left of a shard
 places_in-is : (xs : List Item) → places_in xs ≡ map (λ (x : Placed). x.place) (samples_in xs)
@@ -151,7 +157,7 @@ module _ {T : Type 0} (tells : T → Type 0) (seen : T → List Exchange) (is_fo
   KnownOf = Known tells seen is_for c config set work
 
   -- the machine is killed, with these shards at the end
-  record Killed (pieces : List Piece) (all : List Entry) (last : List (StoppedShard T)) (v : World) : Type 0 where
+  record Killed (done : List (StoppedShard T)) (pieces : List Piece) (all : List Entry) (last : List (StoppedShard T)) (v : World) : Type 0 where
     pieces_are : v.pieces ≡ pieces
     placed_are : v.placed ≡ length all
     counted : v.filtered ≡ length (filtered c.choice all)
@@ -160,6 +166,8 @@ module _ {T : Type 0} (tells : T → Type 0) (seen : T → List Exchange) (is_fo
     left : List ℕ
     reported : report v ≡ Some (Abandoned (length all) left)
     order : IsRisingOrderOf (abandoned_in last) left
+    epoch : ℕ
+    tallied : IsTallied c (past_of tells seen (done ++ last)) epoch 0 all (λ k. empty) v
 
   -- what the workers did, with a Flush for an End
   abbrev soft_lane : StoppedShard T → ShardHistory
@@ -189,7 +197,10 @@ module _ {T : Type 0} (tells : T → Type 0) (seen : T → List Exchange) (is_fo
 
   -- ---- the last epoch
   module _ (epoch : ℕ) (js : List (StoppedShard T)) (known : AllByRecursion KnownOf js) (some : 1 ≤ length js) (before es rest : List Entry) (dealt : IsDealt epoch (map lane_of js) (gather_from (sent_of c.choice) before es))
-      (pieces : List Piece) (w : World) (b : BeginsEpoch c pieces epoch (length js) before w) (begins-so : entries pieces ≡ before ++ (es ++ rest)) where
+      (done : List (StoppedShard T)) (pieces : List Piece) (w : World) (b : BeginsEpoch c (past_of tells seen done) pieces epoch (length js) before w) (begins-so : entries pieces ≡ before ++ (es ++ rest)) where
+    abbrev past : Past
+    past = past_of tells seen done
+
     abbrev lanes : List ShardHistory
     lanes = map soft_lane js
 
@@ -254,8 +265,8 @@ module _ {T : Type 0} (tells : T → Type 0) (seen : T → List Exchange) (is_fo
       none = λ none. absurd (no_lane n some_lanes (ap length none));
     }
 
-    reach : Reaches c w (IsAllPut c pieces epoch n goals (before ++ es))
-    reach = fleet-run c pieces epoch lanes (λ k. steps_in js known k) (λ k. rest_in js known k) before es w work.capacity work.batch some_lanes (record {
+    reach : Reaches c w (IsAllPut c past pieces epoch n goals (before ++ es))
+    reach = fleet-run c past pieces epoch lanes (λ k. steps_in js known k) (λ k. rest_in js known k) before es w work.capacity work.batch some_lanes (record {
       going = b.going;
       pieces_are = b.pieces_are;
       epoch_is = b.epoch_is;
@@ -265,6 +276,8 @@ module _ {T : Type 0} (tells : T → Type 0) (seen : T → List Exchange) (is_fo
       begins = begins-so;
       series = b.series;
       counted = b.counted;
+      tallied = subst (λ (m : ℕ). IsTallied c past epoch m before (λ k. empty) w) (sym n-is) b.tallied;
+      unsent = b.unsent;
       dealt = dealt-so;
       runs = runs;
     })
@@ -272,19 +285,42 @@ module _ {T : Type 0} (tells : T → Type 0) (seen : T → List Exchange) (is_fo
     abbrev put : World
     put = reach.world
 
-    put-is : IsAllPut c pieces epoch n goals (before ++ es) put
+    put-is : IsAllPut c past pieces epoch n goals (before ++ es) put
     put-is = reach.holds
 
     lists-put : lists.All c put
-    lists-put = subst (lists.All c) reach.is (keeps-lists c reach.events w b.lists_are)
+    lists-put = lists-at c put put-is.under.tallied.reached
 
     -- ---- each shard has come to what its worker reports
     goal-open : (k : ℕ) (o : Option ShardHistory) → slice_get lanes k ≡ o → (fate_by o (steps k) (left_at k)).end ≡ None
     goal-open k None e = refl
     goal-open k (Some l) e = let g = map_get soft_lane js k l e in subst (λ (x : ShardHistory). end_in x.put ≡ None) g.2 (end_in-flushed (put_of g.0.finished.ends))
 
-    come-at : (k : ℕ) (m : Shard) (j : StoppedShard T) → slice_get put.shards k ≡ Some m → slice_get js k ≡ Some j → HasCome m (fate_of (soft_lane j) (steps k) (left_at k))
-    come-at k m j e at = subst (λ (o : Option ShardHistory). HasCome m (fate_by o (steps k) (left_at k))) (get_map soft_lane js k j at) (come c epoch k m (goals k) (put-is.each k m e) (goal-open k (slice_get lanes k) refl))
+    come-goal : (k : ℕ) (m : Shard) → slice_get put.shards k ≡ Some m → HasCome epoch k put.requests (put-is.under.parts k) m (goals k)
+    come-goal k m e = come c epoch k put.requests (put-is.under.parts k) m (goals k) (put-is.each k m e) (goal-open k (slice_get lanes k) refl)
+
+    come-at : (k : ℕ) (m : Shard) (j : StoppedShard T) → slice_get put.shards k ≡ Some m → slice_get js k ≡ Some j → HasCome epoch k put.requests (put-is.under.parts k) m (fate_of (soft_lane j) (steps k) (left_at k))
+    come-at k m j e at = subst (λ (o : Option ShardHistory). HasCome epoch k put.requests (put-is.under.parts k) m (fate_by o (steps k) (left_at k))) (get_map soft_lane js k j at) (come-goal k m e)
+
+    -- each shard's goal is what it reports
+    reports-at : (k : ℕ) (j : StoppedShard T) → slice_get js k ≡ Some j → ReportsAt tells seen epoch k (goals k) j
+    reports-at k j at = record {
+      epoch_is = (dealt.each k (lane_of j) (get_map lane_of js k j at)).0;
+      shard_is = (dealt.each k (lane_of j) (get_map lane_of js k j at)).1;
+      part_is = ap (λ (o : Option ShardHistory). (fate_by o (steps k) (left_at k)).worker.ledger.names) (get_map soft_lane js k j at)
+          ∙ ap (λ (ss : List Step). (after (start_of j.worker.value) ss).ledger.names) (sym f.steps)
+          ∙ ap (λ (x : StoppedShard T). (after (start_of x.worker.value) (map flushed_step f.known.worked.report.steps)).ledger.names) (sym f.same)
+          ∙ names-flushed (start_of f.it.worker.value) f.known.worked.report.steps refl f.known.worked.report.made.allowed
+          ∙ sym f.known.worked.report.names
+          ∙ ap (λ (x : StoppedShard T). x.part.names) f.same;
+      sent_is = λ told. ap (λ (o : Option ShardHistory). (fate_by o (steps k) (left_at k)).requests) (get_map soft_lane js k j at)
+          ∙ ap (λ (ss : List Step). map request_in (exchanges_of ss)) (sym f.steps)
+          ∙ ap (map request_in) (exchanges_of-flushed f.known.worked.report.steps ∙ sym (seen-is tells seen is_for f.it f.known.worked (subst (λ (x : StoppedShard T). tells x.finished.transport) (sym f.same) told)))
+          ∙ ap (λ (x : StoppedShard T). map request_in (seen x.finished.transport)) f.same;
+    }
+      where
+        f : FoundAt js known k j
+        f = find-at js known k j at
 
     resolved-is : (k : ℕ) (j : StoppedShard T) → slice_get js k ≡ Some j → length (after (start_of j.worker.value) (steps k)).core.resolved ≡ j.finished.resolved
     resolved-is k j at = subst (λ (x : StoppedShard T). length (after (start_of x.worker.value) (steps k)).core.resolved ≡ x.finished.resolved) f.same
@@ -351,7 +387,7 @@ module _ {T : Type 0} (tells : T → Type 0) (seen : T → List Exchange) (is_fo
     abbrev left : List ℕ
     left = filter (is_pending killed) (up_to (length (before ++ es)))
 
-    abandoned-run : Reaches c w (Killed pieces (before ++ es) js)
+    abandoned-run : Reaches c w (Killed done pieces (before ++ es) js)
     abandoned-run = record {
       events = reach.events ++ Of event.Kill ∷ [];
       world = killed;
@@ -368,6 +404,9 @@ module _ {T : Type 0} (tells : T → Type 0) (seen : T → List Exchange) (is_fo
           same = passing-permutes (length (before ++ es)) (abandoned_in js) (is_pending killed) tells-left apart.differ apart.below;
           rises = passing-rises (length (before ++ es)) (is_pending killed);
         };
+        epoch = suc epoch;
+        tallied = tallied-next c past epoch n (past_of tells seen (done ++ js)) (before ++ es) put-is.under.parts (λ k. (goals k).worker.ledger.names) (λ k. (goals k).requests) put killed (Of event.Kill ∷ []) 0 put-is.under.tallied kills refl refl
+            (tallies-at epoch n goals put.requests put-is.under.parts put.shards put-is.under.count (λ k m e lt. come-goal k m e)) (passes-of tells seen c epoch n done js goals (sym n-is) reports-at);
       };
     }
 
@@ -400,13 +439,13 @@ module _ {T : Type 0} (tells : T → Type 0) (seen : T → List Exchange) (is_fo
   abbrev origin : World
   origin = begun tells seen is_for c s r fed h set choice work fed_are
 
-  at-last : AtLast tells seen is_for c s.fleet.config set work s.log.pieces (map lane_of last) [] s.log.placed origin
-  at-last = turned-run tells seen is_for c s.fleet.config set work p.epochs (map lane_of last) 0 was.ended [] s.log.placed h.read.0 s.log.pieces origin sound p.ended_is placed (turned-before p.epochs (map lane_of last) p.turned (subst IsShardCount (sym same) number))
-      (subst (λ (i : ℕ). BeginsEpoch c s.log.pieces 0 i [] origin) (sym (first-is p.epochs ∙ first)) (begins tells seen is_for c s r fed h set choice work fed_are)) h.read.1
+  at-last : AtLast tells seen is_for c s.fleet.config set work was.ended s.log.pieces (map lane_of last) [] s.log.placed origin
+  at-last = turned-run tells seen is_for c s.fleet.config set work p.epochs (map lane_of last) 0 [] was.ended [] s.log.placed h.read.0 s.log.pieces origin sound p.ended_is placed (turned-before p.epochs (map lane_of last) p.turned (subst IsShardCount (sym same) number))
+      (subst (λ (i : ℕ). BeginsEpoch c (past_of tells seen []) s.log.pieces 0 i [] origin) (sym (first-is p.epochs ∙ first)) (begins tells seen is_for c s r fed h set choice work fed_are)) h.read.1
 
-  last-run : Reaches c at-last.reach.world (Killed tells seen is_for c s.fleet.config set work s.log.pieces (at-last.now ++ at-last.later) last)
-  last-run = abandoned-run tells seen is_for c s.fleet.config set work at-last.epoch last known-last (subst (λ (m : ℕ). 1 ≤ m) (sym same ∙ length-map last lane_of) number.0) at-last.now at-last.later h.read.0 at-last.dealt s.log.pieces at-last.reach.world
-      (subst (λ (m : ℕ). BeginsEpoch c s.log.pieces at-last.epoch m at-last.now at-last.reach.world) (length-map last lane_of) at-last.reach.holds)
+  last-run : Reaches c at-last.reach.world (Killed tells seen is_for c s.fleet.config set work was.ended s.log.pieces (at-last.now ++ at-last.later) last)
+  last-run = abandoned-run tells seen is_for c s.fleet.config set work at-last.epoch last known-last (subst (λ (m : ℕ). 1 ≤ m) (sym same ∙ length-map last lane_of) number.0) at-last.now at-last.later h.read.0 at-last.dealt was.ended s.log.pieces at-last.reach.world
+      (subst (λ (m : ℕ). BeginsEpoch c (past_of tells seen was.ended) s.log.pieces at-last.epoch m at-last.now at-last.reach.world) (length-map last lane_of) at-last.reach.holds)
       (h.read.1 ∙ ap (λ (xs : List Entry). xs ++ h.read.0) at-last.are ∙ append_assoc at-last.now at-last.later h.read.0)
 
   abbrev events : List Happening
@@ -419,8 +458,13 @@ module _ {T : Type 0} (tells : T → Type 0) (seen : T → List Exchange) (is_fo
       ∙ ap (run_freely c last-run.events) at-last.reach.is
       ∙ last-run.is
 
-  over : Killed tells seen is_for c s.fleet.config set work s.log.pieces (at-last.now ++ at-last.later) last last-run.world
+  over : Killed tells seen is_for c s.fleet.config set work was.ended s.log.pieces (at-last.now ++ at-last.later) last last-run.world
   over = last-run.holds
+
+  tallied : IsTallied c (past_of tells seen h.joined) over.epoch 0 s.log.placed (λ k. empty) (world_of c events)
+  tallied = subst (λ (js : List (StoppedShard T)). IsTallied c (past_of tells seen js) over.epoch 0 s.log.placed (λ k. empty) (world_of c events)) (sym all.1)
+      (subst (λ (v : World). IsTallied c (past_of tells seen (was.ended ++ last)) over.epoch 0 s.log.placed (λ k. empty) v) (sym leads)
+      (subst (λ (es : List Entry). IsTallied c (past_of tells seen (was.ended ++ last)) over.epoch 0 es (λ k. empty) last-run.world) (sym at-last.are) over.tallied))
 
   left-is : abandoned_in h.joined ≡ abandoned_in last
   left-is = ap abandoned_in all.1 ∙ abandoned_in-append was.ended last ∙ ap (λ (ps : List ℕ). ps ++ abandoned_in last) (abandoned_in-none was.ended resolved)
@@ -434,7 +478,7 @@ module _ {T : Type 0} (tells : T → Type 0) (seen : T → List Exchange) (is_fo
     subst (λ (xs : List ℕ). IsRisingOrderOf xs over.left) (sym (ends.1 ∙ left-is)) over.order,
   )
 
-  whole-run : IsAbandoned r.outcome → IsRun c s r
+  whole-run : IsAbandoned r.outcome → IsRun tells seen c s r
   whole-run stopped = (
     events,
     record {
@@ -446,8 +490,11 @@ module _ {T : Type 0} (tells : T → Type 0) (seen : T → List Exchange) (is_fo
       workers = h.workers ∙ ap (map finished_of) all.1 ∙ map-append finished_of was.ended last;
       shards = ap (λ (x : World). length x.shards) leads ∙ over.shards ∙ sym (length-map last finished_of);
       each = λ k m f e at. let g = map_get finished_of last k f at in subst (λ (y : Finished T). IsAlike y m) g.2 (over.each k m g.0 (ap (λ (x : World). slice_get x.shards k) (sym leads) ∙ e) g.1);
+      names = names-all tells seen is_for c s r h choice over.epoch (world_of c events) tallied;
+      requests = sends-all tells seen is_for c s r h choice over.epoch (world_of c events) tallied;
       outcome_is = tells-left-so r.outcome h.ends stopped;
     },
+    keeps-laws c events,
   )
 
 pub stops-abandoned : {T : Type 0} (tells : T → Type 0) (seen : T → List Exchange) (is_for : ℕ → ℕ → T → Type 0) (s : Shipping T) (r : Report T) → StopsAbandoned tells seen is_for s r

@@ -1,23 +1,24 @@
 -- A shard is put one item, and its worker makes the steps up to its next take.
-use Rattle.std.proofs.Common.{◌≡◌, ℕ, suc, ◌+◌, ◌<◌, ◌≤◌, Bool, true, false, List, [], ◌∷◌, ◌++◌, map, length, Some, None, slice_get, refl, sym, ap, ◌∙◌, subst, append_assoc, length-append, arith, ◌⊎◌, inl, inr}
-use Rattle.std.specs.Ordering.{nat_cmp}
-use Rattle.std.specs.FinMap.{FinMap}
-use Rattle.rw_ledger.specs.declared.ledger.Reason.{Reason}
+use Rattle.std.proofs.Common.{◌≡◌, ℕ, suc, ◌+◌, ◌<◌, ◌≤◌, Bool, true, false, List, [], ◌∷◌, ◌++◌, map, length, Some, None, slice_get, refl, sym, ap, ◌∙◌, subst, append-nil, append_assoc, length-append, arith, ◌⊎◌, inl, inr}
+use Rattle.std.specs.List.{AllByRecursion}
+use Rattle.std.proofs.lemmas.List.{map-append}
 use Rattle.rw_plain_queue.specs.Items.{is_end}
 use Rattle.rw_plain_queue.specs.declared.item.Item.{Item}
 use Rattle.rw_plain_queue.specs.declared.item.Item.TheVariants.{Sample, Flush, End}
 use Rattle.rw_shard_core.specs.Shard.{Core}
-use Rattle.rw_worker.specs.Steps.{Working, working, Step, Takes, Freezes, Sends, Waits, AreSteps, after, after_step, items_of}
+use Rattle.rw_worker.specs.Steps.{Working, working, Step, Takes, Freezes, Sends, Waits, AreSteps, after, after_step, items_of, exchanges_of}
+use Rattle.rw_worker.proofs.StepLemmas.{exchanges-append}
 use Rattle.rw_machine.specs.Shards.{Shard, Queued, One, FlushMark, EndMark}
 use Rattle.rw_machine.specs.Worlds.{Setup, Request, World}
 use Rattle.rw_machine.specs.Worlds as worlds
 use Rattle.rw_simulation.specs.Freely.{Happening, run_freely}
-use Rattle.rw_simulation.specs.WorkerRuns.{queued, happenings, steps_names, IsAfter, IsShardNumbered}
+use Rattle.rw_simulation.specs.WorkerRuns.{queued, happenings, steps_names, IsAfter, IsIdOf, IsShardNumbered, sent_bytes, request_in}
 use Rattle.rw_simulation.specs.EpochRuns.{Coming, StartsByTaking, IsReady}
 use Rattle.rw_simulation.proofs.Changes.{change-same}
 use Rattle.rw_simulation.proofs.WorkerSteps.{moved}
-use Rattle.rw_simulation.proofs.WorkerLists.{after-is, numbered-after, ended-after, no_items as some_item}
+use Rattle.rw_simulation.proofs.WorkerLists.{after-is, numbered-after, epoch-all, ended-after, no_items as some_item}
 use Rattle.rw_simulation.proofs.WorkerRuns.{worker-run}
+use Rattle.rw_simulation.proofs.Tallies.{Names, GrowAlike, alike-self, alike-by}
 
 -- the steps up to the next take, and those from it on
 abbrev pub no_takes : List Step → List Step
@@ -106,10 +107,14 @@ pub record GoesThrough (c : Setup) (w : World) (k : ℕ) (s : Shard) (d : Coming
   pub puts_are : coming.puts ≡ puts
   pub left_is : coming.left ≡ d.left
   pub worker_is : after (working shard.core coming.ledger) coming.steps ≡ after (working s.core d.ledger) d.steps
-  pub names : FinMap nat_cmp Reason
-  pub requests : List Request
+  pub epoch_is : shard.core.epoch ≡ s.core.epoch
+  pub names : Names
+  pub grow : GrowAlike w.names names d.ledger.names coming.ledger.names
+  pub more : List Request
+  pub ids : AllByRecursion (IsIdOf s.core.epoch k) more
+  pub sent_is : map sent_bytes more ++ map request_in (exchanges_of coming.steps) ≡ map request_in (exchanges_of d.steps)
   pub replies : List worlds.Reply
-  pub is : run_freely c events w ≡ moved w k shard names requests replies
+  pub is : run_freely c events w ≡ moved w k shard names (w.requests ++ more) replies
 
 tail_is : (x y : Queued) (xs ys : List Queued) → x ∷ xs ≡ y ∷ ys → xs ≡ ys
 tail_is x y xs ys e = cc
@@ -149,10 +154,14 @@ put-one c w k s x puts d is more h alive unclosed e = by_steps d.steps refl
       puts_are = refl;
       left_is = refl;
       worker_is = ap (after (working s.core d.ledger)) (sym none);
+      epoch_is = refl;
       names = w.names;
-      requests = w.requests;
+      grow = alike-self w.names d.ledger.names;
+      more = [];
+      ids = tt;
+      sent_is = ap (λ (ss : List Step). map request_in (exchanges_of ss)) (sym none);
       replies = w.replies;
-      is = ap (λ ss. record w { shards = ss }) (sym (change-same k w.shards (with_item s x) e));
+      is = ap (λ ss. record w { shards = ss }) (sym (change-same k w.shards (with_item s x) e)) ∙ ap (λ rs. moved w k (with_item s x) w.names rs w.replies) (sym (append-nil w.requests));
     }
     by_steps (Freezes ∷ ss) some = absurd (subst StartsByTaking some h.starts)
     by_steps (Sends f ∷ ss) some = absurd (subst StartsByTaking some h.starts)
@@ -182,8 +191,15 @@ put-one c w k s x puts d is more h alive unclosed e = by_steps d.steps refl
           puts_are = refl;
           left_is = refl;
           worker_is = sym (after_both (working s.core d.ledger) (Takes y ∷ no_takes ss) (from_take ss)) ∙ ap (after (working s.core d.ledger)) (ap (λ xs. Takes y ∷ xs) (both_parts ss) ∙ sym some);
+          epoch_is = epoch-all (working s.core d.ledger) (Takes y ∷ no_takes ss) (steps_front (working s.core d.ledger) (Takes y ∷ no_takes ss) (from_take ss) allowed);
           names = steps_names (Takes y ∷ no_takes ss) (working s.core d.ledger) w.names;
-          requests = w.requests ++ ran.requests;
+          grow = subst (λ (m : Names). GrowAlike w.names (steps_names (Takes y ∷ no_takes ss) (working s.core d.ledger) w.names) d.ledger.names m) (sym ran.ledger_is) (alike-by (Takes y ∷ no_takes ss) (working s.core d.ledger) w.names d.ledger.names);
+          more = ran.requests;
+          ids = ran.ids;
+          sent_is = ap (λ (bs : List (List ℕ)). bs ++ map request_in (exchanges_of (from_take ss))) ran.sent
+              ∙ sym (map-append request_in (exchanges_of (Takes y ∷ no_takes ss)) (exchanges_of (from_take ss)))
+              ∙ ap (map request_in) (sym (exchanges-append (Takes y ∷ no_takes ss) (from_take ss)))
+              ∙ ap (λ (ss : List Step). map request_in (exchanges_of ss)) (ap (λ xs. Takes y ∷ xs) (both_parts ss) ∙ sym some);
           replies = w.replies ++ ran.replies;
           is = ran.is;
         }

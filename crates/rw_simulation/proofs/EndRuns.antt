@@ -1,8 +1,10 @@
 -- At the end of an epoch each shard is put its End, and its worker makes all the steps that are left.
 use Rattle.std.proofs.Common.{◌≡◌, ℕ, zero, suc, ◌+◌, ◌<◌, ◌≤◌, ◌==◌, ◌&&◌, Bool, true, false, not, cond, List, [], ◌∷◌, ◌++◌, map, length, Some, slice_get, refl, sym, ap, ◌∙◌, subst, append-nil, length-append, arith, ◌⊎◌, inl, inr}
-use Rattle.std.specs.List.{list_all}
+use Rattle.std.specs.List.{AllByRecursion, list_all}
 use Rattle.std.proofs.lemmas.Bool.{lt-ltb, eq-eqb, both_ways}
+use Rattle.std.proofs.lemmas.List.{map-append}
 use Rattle.std.proofs.lemmas.Option.{same_Some, none-some}
+use Rattle.rw_types.specs.declared.entry.Entry.{Entry}
 use Rattle.rw_plain_queue.specs.Items.{Placed}
 use Rattle.rw_plain_queue.specs.Items as items
 use Rattle.rw_plain_queue.specs.History.{EndIsLast}
@@ -12,29 +14,35 @@ use Rattle.rw_plain_queue.specs.declared.item.Kind.{Kind}
 use Rattle.rw_shard_core.specs.Shard.{Core}
 use Rattle.rw_worker.specs.Steps.{Working, Step, working, after, items_of}
 use Rattle.rw_machine.specs.Shards.{Shard, Queued, EndMark, has_room, is_drained, samples_in, shard_end}
-use Rattle.rw_machine.specs.Worlds.{Setup, World}
+use Rattle.rw_machine.specs.Worlds.{Setup, Request, World}
 use Rattle.rw_machine.specs.Steps.{change, flush_shard, happens, mark, unless_over}
 use Rattle.rw_machine.specs.declared.event.Event.TheVariants as event
 use Rattle.rw_machine.proofs.Lists.{Lists}
-use Rattle.rw_machine.proofs.Lists as lists
 use Rattle.rw_machine.proofs.Others.{samples_append}
 use Rattle.rw_machine.proofs.Places.{length_change}
 use Rattle.rw_machine.proofs.Steps.{and_both}
 use Rattle.rw_simulation.specs.Freely.{Of, run_freely}
-use Rattle.rw_simulation.specs.WorkerRuns.{queued, happenings, steps_names, IsAfter, CanEnd}
+use Rattle.rw_simulation.specs.WorkerRuns.{queued, happenings, steps_names, IsAfter, IsIdOf, CanEnd, sent_bytes}
+use Rattle.rw_simulation.specs.Tallies.{Past, IsTallied, requests_of}
 use Rattle.rw_simulation.specs.EpochRuns.{ShardFate, end_in, Reaches, IsAtEnd, IsPut}
 use Rattle.rw_simulation.proofs.Changes.{change-is, change-get, change-twice, not-over}
 use Rattle.rw_simulation.proofs.WorkerSteps.{moved}
 use Rattle.rw_simulation.proofs.WorkerRuns.{worker-run}
-use Rattle.rw_simulation.proofs.FreeLaws.{keeps-lists}
 use Rattle.rw_simulation.proofs.Eager.{has-room}
-use Rattle.rw_simulation.proofs.EpochRuns.{stay, go-on, each-update, get_within}
+use Rattle.rw_simulation.proofs.Tallies.{Names, GrowAlike, alike-by, own-requests, other-requests, lists-at, with_part, part-own, part-other, tallied-shard}
+use Rattle.rw_simulation.proofs.EpochRuns.{stay, go-on, each-update, below, get_within}
+use Rattle.rw_simulation.proofs.MarkRuns.{put-still}
 
--- the shard has come to its fate
-pub record HasCome (s : Shard) (f : ShardFate) : Type 0 where
+-- the shard has come to its fate, and so have its requests and its names
+pub record HasCome (epoch k : ℕ) (requests : List Request) (part : Names) (s : Shard) (f : ShardFate) : Type 0 where
   pub put : s.put ≡ f.put
   pub core : s.core ≡ f.worker.core
   pub queue : s.queue ≡ f.left
+  pub requests_are : map sent_bytes (requests_of epoch k requests) ≡ f.requests
+  pub part_is : f.worker.ledger.names ≡ part
+
+come-still : (epoch j k : ℕ) (requests more : List Request) (now : Names) (parts : ℕ → Names) (s : Shard) (f : ShardFate) → (j ≡ k → ⊥) → AllByRecursion (IsIdOf epoch k) more → HasCome epoch j requests (parts j) s f → HasCome epoch j (requests ++ more) (with_part k now parts j) s f
+come-still epoch j k requests more now parts s f differ ids h = record { put = h.put; core = h.core; queue = h.queue; requests_are = ap (map sent_bytes) (other-requests epoch j k requests more differ ids) ∙ h.requests_are; part_is = h.part_is ∙ sym (part-other k now parts j differ) }
 
 -- its End was taken, and no fewer samples are resolved than it was put
 abbrev pub IsResolvedFate : ShardFate → Type 0
@@ -49,8 +57,8 @@ no_more_resolved c s h =
 both_at_most : (a b : ℕ) → a ≤ b → b ≤ a → a ≡ b
 both_at_most a b h k = omega arith
 
-drained : (c : Setup) (s : Shard) (f : ShardFate) → Lists c s → HasCome s f → IsResolvedFate f → is_drained s ≡ true
-drained c s f l h r = and_both s.core.ended (length s.core.resolved == length s.put) (ap (λ (k : Core). k.ended) h.core ∙ r.0)
+drained : (c : Setup) (epoch k : ℕ) (requests : List Request) (part : Names) (s : Shard) (f : ShardFate) → Lists c s → HasCome epoch k requests part s f → IsResolvedFate f → is_drained s ≡ true
+drained c epoch k requests part s f l h r = and_both s.core.ended (length s.core.resolved == length s.put) (ap (λ (k : Core). k.ended) h.core ∙ r.0)
     (eq-eqb (length s.core.resolved) (length s.put) (both_at_most (length s.core.resolved) (length s.put) (no_more_resolved c s l) all_resolved))
   where
     all_resolved : length s.put ≤ length s.core.resolved
@@ -99,17 +107,18 @@ weaker k m le = omega arith
 not_above : (m : ℕ) → suc m ≤ m → ⊥
 not_above m le = omega arith
 
-module _ (c : Setup) (epoch n : ℕ) (fates : ℕ → ShardFate) (kind : Kind) (ends : (k : ℕ) → k < n → (fates k).end ≡ Some kind) (u : World) (alive : u.killed ≡ false) (asks : (s : Shard) → mark u s ≡ shard_end kind s) (some : 1 ≤ c.capacity) where
+module _ (c : Setup) (past : Past) (epoch n : ℕ) (fates : ℕ → ShardFate) (placed : List Entry) (kind : Kind) (ends : (k : ℕ) → k < n → (fates k).end ≡ Some kind) (u : World) (alive : u.killed ≡ false) (asks : (s : Shard) → mark u s ≡ shard_end kind s) (some : 1 ≤ c.capacity) where
   -- The first m shards have come to their fates, and the others have been put all but their Ends. Else nothing has changed since u.
   pub record ClosedBelow (m : ℕ) (w : World) : Type 0 where
     pub same : w ≡ record u { shards = w.shards; names = w.names; requests = w.requests; replies = w.replies }
     pub count : length w.shards ≡ n
-    pub lists_are : lists.All c w
-    pub done : (k : ℕ) (s : Shard) → slice_get w.shards k ≡ Some s → k < m → HasCome s (fates k)
-    pub still : (k : ℕ) (s : Shard) → slice_get w.shards k ≡ Some s → m ≤ k → IsPut c epoch k s (fates k)
+    pub parts : ℕ → Names
+    pub tallied : IsTallied c past epoch n placed parts w
+    pub done : (k : ℕ) (s : Shard) → slice_get w.shards k ≡ Some s → k < m → HasCome epoch k w.requests (parts k) s (fates k)
+    pub still : (k : ℕ) (s : Shard) → slice_get w.shards k ≡ Some s → m ≤ k → IsPut c epoch k w.requests (parts k) s (fates k)
 
   -- the End of shard m, and then all its steps
-  end-it : (m : ℕ) (w : World) (s : Shard) → ClosedBelow m w → slice_get w.shards m ≡ Some s → (p : IsPut c epoch m s (fates m)) → p.way.coming.puts ≡ item.End kind ∷ [] → Reaches c w (ClosedBelow (suc m))
+  end-it : (m : ℕ) (w : World) (s : Shard) → (h : ClosedBelow m w) → slice_get w.shards m ≡ Some s → (p : IsPut c epoch m w.requests (h.parts m) s (fates m)) → p.way.coming.puts ≡ item.End kind ∷ [] → Reaches c w (ClosedBelow (suc m))
   end-it m w s h at p is = record {
     events = Of (event.Flush m) ∷ happenings c marked m p.way.coming.steps;
     world = later;
@@ -117,9 +126,13 @@ module _ (c : Setup) (epoch n : ℕ) (fates : ℕ → ShardFate) (kind : Kind) (
     holds = record {
       same = ap (λ (x : World). record x { shards = later.shards; names = later.names; requests = later.requests; replies = later.replies }) h.same;
       count = length_change m (λ _. final) w.shards ∙ h.count;
-      lists_are = subst (lists.All c) reached (keeps-lists c (Of (event.Flush m) ∷ happenings c marked m p.way.coming.steps) w h.lists_are);
-      done = each-update (λ j t. j < suc m → HasCome t (fates j)) final m w.shards (λ j t e differ lt. h.done j t e (below_it j m lt differ)) (λ _. own);
-      still = each-update (λ j t. suc m ≤ j → IsPut c epoch j t (fates j)) final m w.shards (λ j t e _ le. h.still j t e (weaker j m le)) (λ le. absurd (not_above m le));
+      parts = with_part m now h.parts;
+      tallied = tallied-shard c past epoch n placed h.parts w later (Of (event.Flush m) ∷ happenings c marked m steps) m p.way.coming.ledger.names now ran.requests h.tallied reached (subst (λ (i : ℕ). m < i) h.count (below w.shards m s at)) p.part_is refl ids
+          (subst (λ (l : Names). GrowAlike w.names (steps_names steps (working s.core p.way.coming.ledger) w.names) p.way.coming.ledger.names l) (sym ran.ledger_is) (alike-by steps (working s.core p.way.coming.ledger) w.names p.way.coming.ledger.names));
+      done = each-update (λ j t. j < suc m → HasCome epoch j later.requests (with_part m now h.parts j) t (fates j)) final m w.shards
+          (λ j t e differ lt. come-still epoch j m w.requests ran.requests now h.parts t (fates j) differ ids (h.done j t e (below_it j m lt differ))) (λ _. own);
+      still = each-update (λ j t. suc m ≤ j → IsPut c epoch j later.requests (with_part m now h.parts j) t (fates j)) final m w.shards
+          (λ j t e differ le. put-still c epoch j m w.requests ran.requests now h.parts t (fates j) differ ids (h.still j t e (weaker j m le))) (λ le. absurd (not_above m le));
     };
   }
     where
@@ -161,13 +174,20 @@ module _ (c : Setup) (epoch n : ℕ) (fates : ℕ → ShardFate) (kind : Kind) (
 
       can_end : CanEnd (shard_end kind s) steps
       can_end = record {
-        kept = kept_count c s kind (h.lists_are m s at);
+        kept = kept_count c s kind (lists-at c w h.tallied.reached m s at);
         ended = λ e. absurd (both_ways s.core.ended p.way.ready.running e);
         last = short_last (items_of steps) (few p.way.ready.eager);
       }
 
       ran : IsAfter marked m (shard_end kind s) p.way.coming.ledger steps p.way.coming.left (run_freely c (happenings c marked m steps) marked)
       ran = worker-run c marked m (shard_end kind s) p.way.coming.ledger steps p.way.coming.left alive_now (inr can_end) (change-get (shard_end kind s) m w.shards s at) p.way.ready.numbered queue_is p.way.ready.allowed
+
+      -- its names at the end
+      now : Names
+      now = (after (working s.core p.way.coming.ledger) steps).ledger.names
+
+      ids : AllByRecursion (IsIdOf epoch m) ran.requests
+      ids = subst (λ (e : ℕ). AllByRecursion (IsIdOf e m) ran.requests) p.way.epoch_is ran.ids
 
       final : Shard
       final = record (shard_end kind s) { queue = p.way.coming.left; core = (after (working s.core p.way.coming.ledger) steps).core }
@@ -178,14 +198,16 @@ module _ (c : Setup) (epoch n : ℕ) (fates : ℕ → ShardFate) (kind : Kind) (
       reached : run_freely c (Of (event.Flush m) ∷ happenings c marked m steps) w ≡ later
       reached = ap (run_freely c (happenings c marked m steps)) flushed ∙ ran.is ∙ ap (λ ss. record later { shards = ss }) (change-twice (shard_end kind s) final m w.shards)
 
-      own : HasCome final (fates m)
+      own : HasCome epoch m later.requests (with_part m now h.parts m) final (fates m)
       own = record {
         put = sym (append-nil s.put) ∙ ap (λ (xs : List Item). s.put ++ items.samples_in xs) (sym is) ∙ p.way.put;
         core = ap (λ (x : Working). x.core) p.way.worker;
         queue = p.way.left;
+        requests_are = ap (map sent_bytes) (own-requests epoch m w.requests ran.requests ids) ∙ map-append sent_bytes (requests_of epoch m w.requests) ran.requests ∙ ap (λ (bs : List (List ℕ)). map sent_bytes (requests_of epoch m w.requests) ++ bs) ran.sent ∙ p.way.requests_are;
+        part_is = ap (λ (x : Working). x.ledger.names) (sym p.way.worker) ∙ sym (part-own m now h.parts);
       }
 
-  end-one : (m : ℕ) (w : World) (s : Shard) → m < n → ClosedBelow m w → slice_get w.shards m ≡ Some s → (p : IsPut c epoch m s (fates m)) → (ps : List Item) → p.way.coming.puts ≡ ps → Reaches c w (ClosedBelow (suc m))
+  end-one : (m : ℕ) (w : World) (s : Shard) → m < n → (h : ClosedBelow m w) → slice_get w.shards m ≡ Some s → (p : IsPut c epoch m w.requests (h.parts m) s (fates m)) → (ps : List Item) → p.way.coming.puts ≡ ps → Reaches c w (ClosedBelow (suc m))
   end-one m w s lt h at p [] is = absurd (none-some kind (sym (ap end_in is) ∙ p.way.end ∙ ends m lt))
   end-one m w s lt h at p (item.Sample place t word labels ∷ ps) is = absurd (subst IsAtEnd is p.at_end)
   end-one m w s lt h at p (item.Flush ∷ ps) is = absurd (subst IsAtEnd is p.at_end)
@@ -224,7 +246,7 @@ module _ (c : Setup) (epoch n : ℕ) (fates : ℕ → ShardFate) (kind : Kind) (
       itself : (k : ℕ) → k ≤ k
       itself k = omega arith
 
-      put : IsPut c epoch m found.0 (fates m)
+      put : IsPut c epoch m w.requests (h.parts m) found.0 (fates m)
       put = h.still m found.0 found.1 (itself m)
 
   -- all of them
@@ -234,11 +256,11 @@ module _ (c : Setup) (epoch n : ℕ) (fates : ℕ → ShardFate) (kind : Kind) (
       zero_plus : (n : ℕ) → 0 + n ≡ n
       zero_plus n = omega arith
 
-pub below : (ss : List Shard) (k : ℕ) (s : Shard) → slice_get ss k ≡ Some s → k < length ss
-below [] k s e = absurd (none-some s e)
-below (x ∷ xs) zero s e = omega arith
-below (x ∷ xs) (suc k) s e = let lt = below xs k s e in omega arith
+-- what all shards named and sent is known
+pub tallies-at : (epoch n : ℕ) (fates : ℕ → ShardFate) (requests : List Request) (parts : ℕ → Names) (ss : List Shard) → length ss ≡ n → ((k : ℕ) (s : Shard) → slice_get ss k ≡ Some s → k < n → HasCome epoch k requests (parts k) s (fates k))
+    → (k : ℕ) → k < n → ((fates k).worker.ledger.names ≡ parts k) × (map sent_bytes (requests_of epoch k requests) ≡ (fates k).requests)
+tallies-at epoch n fates requests parts ss count come k lt = let found = get_within k ss (subst (λ (m : ℕ). k < m) (sym count) lt) in let h = come k found.0 found.1 lt in (h.part_is, h.requests_are)
 
 -- where each has come to its fate, and all is resolved, they are drained
-pub drained-all : (c : Setup) (n : ℕ) (fates : ℕ → ShardFate) (ss : List Shard) → length ss ≡ n → ((k : ℕ) (s : Shard) → slice_get ss k ≡ Some s → Lists c s) → ((k : ℕ) (s : Shard) → slice_get ss k ≡ Some s → k < n → HasCome s (fates k)) → ((k : ℕ) → k < n → IsResolvedFate (fates k)) → list_all is_drained ss ≡ true
-drained-all c n fates ss count kept come resolved = all-drained ss (λ k s e. let lt = subst (λ (m : ℕ). k < m) count (below ss k s e) in drained c s (fates k) (kept k s e) (come k s e lt) (resolved k lt))
+pub drained-all : (c : Setup) (epoch n : ℕ) (fates : ℕ → ShardFate) (requests : List Request) (parts : ℕ → Names) (ss : List Shard) → length ss ≡ n → ((k : ℕ) (s : Shard) → slice_get ss k ≡ Some s → Lists c s) → ((k : ℕ) (s : Shard) → slice_get ss k ≡ Some s → k < n → HasCome epoch k requests (parts k) s (fates k)) → ((k : ℕ) → k < n → IsResolvedFate (fates k)) → list_all is_drained ss ≡ true
+drained-all c epoch n fates requests parts ss count kept come resolved = all-drained ss (λ k s e. let lt = subst (λ (m : ℕ). k < m) count (below ss k s e) in drained c epoch k requests (parts k) s (fates k) (kept k s e) (come k s e lt) (resolved k lt))

@@ -1,5 +1,5 @@
 -- What a shard of the fleet was put, and did, is what a shard of the machine may be put and do.
-use Rattle.std.proofs.Common.{◌≡◌, ℕ, zero, suc, ◌+◌, ◌<◌, ◌≤◌, true, false, not, ◌||◌, nat_le, List, [], ◌∷◌, map, length, Option, Some, None, slice_get, refl, sym, ap, ◌∙◌, subst, arith, inl}
+use Rattle.std.proofs.Common.{◌≡◌, ℕ, zero, suc, ◌+◌, ◌<◌, ◌≤◌, true, false, not, ◌||◌, nat_le, List, [], ◌∷◌, ◌++◌, map, length, Option, Some, None, slice_get, refl, sym, ap, ◌∙◌, subst, arith, inl}
 use Rattle.std.proofs.lemmas.Bool.{lt-leb, both_ways}
 use Rattle.std.proofs.lemmas.List.{map-append}
 use Rattle.std.specs.FinMap.{empty}
@@ -13,15 +13,16 @@ use Rattle.rw_plain_queue.specs.declared.item.Item.{Item}
 use Rattle.rw_plain_queue.specs.declared.item.Item.TheVariants.{Sample, Flush, End}
 use Rattle.rw_shard_core.specs.Shard.{new_core}
 use Rattle.rw_worker.specs.Setups.{start_of}
-use Rattle.rw_worker.specs.Steps.{Working, Step, Takes, Freezes, Sends, Waits, AreSteps, after, items_of, new_working}
+use Rattle.rw_worker.specs.Steps.{Working, Step, Takes, Freezes, Sends, Waits, AreSteps, after, items_of, exchanges_of, new_working}
 use Rattle.rw_fleet.specs.ShardHistories.{ShardHistory}
 use Rattle.rw_feeder.specs.Logs.{Sent, sent_of}
 use Rattle.rw_shipper.specs.Placement.{put_in, of_shard}
 use Rattle.rw_machine.specs.Shards.{Shard, new_shard}
-use Rattle.rw_machine.specs.Worlds.{Setup, World, new_shards}
+use Rattle.rw_machine.specs.Worlds.{Setup, Request, World, new_shards}
 use Rattle.rw_machine.proofs.Resolves.{length_new}
-use Rattle.rw_simulation.specs.WorkerRuns.{queued}
-use Rattle.rw_simulation.specs.EpochRuns.{StartsByTaking, AreNext, IsOnTheWay, IsUnderWay}
+use Rattle.rw_simulation.specs.WorkerRuns.{queued, sent_bytes, request_in}
+use Rattle.rw_simulation.specs.Tallies.{Past, requests_of}
+use Rattle.rw_simulation.specs.EpochRuns.{StartsByTaking, AreNext, IsOnTheWay, IsOnTheWayWith, IsUnderWay}
 use Rattle.rw_simulation.specs.FleetRuns.{IsShardRun, fate_of, fate_by, fate_at, IsBeginning, IsFleetRun}
 use Rattle.rw_simulation.proofs.MarkRuns.{whole-epoch-run}
 
@@ -48,25 +49,11 @@ starts_fresh c epoch k (Freezes ∷ ss) some h = let never : false ≡ true = h.
 starts_fresh c epoch k (Sends e ∷ ss) some h = let never : false ≡ true = h.0.0 in cc
 starts_fresh c epoch k (Waits ∷ ss) some h = absurd (both_ways (not (nat_le c.batch 0 || false)) h.0 (fresh_takes c.batch some))
 
-run-on-the-way : (c : Setup) (epoch k : ℕ) (l : ShardHistory) (steps : List Step) (rest : List Item) → 1 ≤ c.batch → IsShardRun c epoch k l steps rest → IsOnTheWay c epoch k (new_shard (new_core c.target epoch k c.batch)) (put_in l) (fate_of l steps rest)
-run-on-the-way c epoch k l steps rest some h = record {
-  coming = record { ledger = record { names = empty; room = 0 }; puts = l.put; steps = steps; left = map queued rest };
-  ready = record {
-    numbered = record { number = refl; batch = tt; builder = tt };
-    allowed = allowed;
-    split = ap (map queued) h.split ∙ map-append queued (items_of steps) rest;
-    eager = inl refl;
-    starts = starts_fresh c epoch k steps some allowed;
-    within = subst (λ (m : ℕ). m ≤ c.capacity) (same_length rest) h.within;
-    unended = refl;
-    running = refl;
-  };
-  next = next_of epoch k 0 l.put h.history.named (λ j p e. h.history.numbered j p e ∙ zero_plus j) h.history.ending;
-  sent = refl;
-  put = refl;
-  end = refl;
-  worker = ap (λ (w : Working). after w steps) (sym start_is);
-  left = refl;
+run-on-the-way : (c : Setup) (epoch k : ℕ) (requests : List Request) (l : ShardHistory) (steps : List Step) (rest : List Item) → 1 ≤ c.batch → requests_of epoch k requests ≡ [] → IsShardRun c epoch k l steps rest
+    → IsOnTheWayWith c epoch k requests empty (new_shard (new_core c.target epoch k c.batch)) (put_in l) (fate_of l steps rest)
+run-on-the-way c epoch k requests l steps rest some unsent h = record {
+  way = on-the-way;
+  part_is = refl;
 }
   where
     same_length : (xs : List Item) → length xs ≡ length (map queued xs)
@@ -81,6 +68,29 @@ run-on-the-way c epoch k l steps rest some h = record {
 
     allowed : AreSteps (new_working c.target epoch k c.batch) steps
     allowed = subst (λ (w : Working). AreSteps w steps) start_is h.allowed
+
+    on-the-way : IsOnTheWay c epoch k requests (new_shard (new_core c.target epoch k c.batch)) (put_in l) (fate_of l steps rest)
+    on-the-way = record {
+      coming = record { ledger = record { names = empty; room = 0 }; puts = l.put; steps = steps; left = map queued rest };
+      ready = record {
+        numbered = record { number = refl; batch = tt; builder = tt };
+        allowed = allowed;
+        split = ap (map queued) h.split ∙ map-append queued (items_of steps) rest;
+        eager = inl refl;
+        starts = starts_fresh c epoch k steps some allowed;
+        within = subst (λ (m : ℕ). m ≤ c.capacity) (same_length rest) h.within;
+        unended = refl;
+        running = refl;
+      };
+      next = next_of epoch k 0 l.put h.history.named (λ j p e. h.history.numbered j p e ∙ zero_plus j) h.history.ending;
+      sent = refl;
+      put = refl;
+      end = refl;
+      worker = ap (λ (w : Working). after w steps) (sym start_is);
+      left = refl;
+      epoch_is = refl;
+      requests_are = ap (λ (rs : List Request). map sent_bytes rs ++ map request_in (exchanges_of steps)) unsent;
+    }
 
 get_new : (c : Setup) (epoch k n i : ℕ) (s : Shard) → slice_get (new_shards c epoch k n) i ≡ Some s → (i < n) × (s ≡ new_shard (new_core c.target epoch (k + i) c.batch))
 get_new c epoch k zero i s e = let no : None ≡ Some s → ⊥ = λ h. cc in absurd (no e)
@@ -98,9 +108,9 @@ get_lane k [] lt = absurd (omega arith)
 get_lane zero (x ∷ xs) lt = (x, refl)
 get_lane (suc k) (x ∷ xs) lt = get_lane k xs (omega arith)
 
-under-way : (c : Setup) (pieces : List Piece) (epoch : ℕ) (lanes : List ShardHistory) (steps : ℕ → List Step) (left : ℕ → List Item) (before es : List Entry) (w : World) → 1 ≤ c.batch → IsBeginning c pieces epoch lanes steps left before es w
-    → IsUnderWay c pieces epoch (length lanes) (fate_at lanes steps left) before es w
-under-way c pieces epoch lanes steps left before es w some h = record {
+under-way : (c : Setup) (past : Past) (pieces : List Piece) (epoch : ℕ) (lanes : List ShardHistory) (steps : ℕ → List Step) (left : ℕ → List Item) (before es : List Entry) (w : World) → 1 ≤ c.batch → IsBeginning c past pieces epoch lanes steps left before es w
+    → IsUnderWay c past pieces epoch (length lanes) (fate_at lanes steps left) before es w
+under-way c past pieces epoch lanes steps left before es w some h = record {
   going = h.going;
   pieces_are = h.pieces_are;
   epoch_is = h.epoch_is;
@@ -110,22 +120,24 @@ under-way c pieces epoch lanes steps left before es w some h = record {
   begins = h.begins;
   series = h.series;
   counted = h.counted;
+  parts = λ k. empty;
+  tallied = h.tallied;
   shards = by_shard;
 }
   where
     no_plus : (k : ℕ) → 0 + k ≡ k
     no_plus k = omega arith
 
-    by_shard : (k : ℕ) (s : Shard) → slice_get w.shards k ≡ Some s → IsOnTheWay c epoch k s (of_shard (length lanes) k (gather_from (sent_of c.choice) before es)) (fate_at lanes steps left k)
+    by_shard : (k : ℕ) (s : Shard) → slice_get w.shards k ≡ Some s → IsOnTheWayWith c epoch k w.requests empty s (of_shard (length lanes) k (gather_from (sent_of c.choice) before es)) (fate_at lanes steps left k)
     by_shard k s e =
         let new = get_new c epoch 0 (length lanes) k s (ap (λ ss. slice_get ss k) (sym h.shards) ∙ e) in
         let lane = get_lane k lanes new.0 in
         let own : s ≡ new_shard (new_core c.target epoch k c.batch) = new.1 ∙ ap (λ (m : ℕ). new_shard (new_core c.target epoch m c.batch)) (no_plus k) in
-        subst (λ (t : Shard). IsOnTheWay c epoch k t (of_shard (length lanes) k (gather_from (sent_of c.choice) before es)) (fate_at lanes steps left k)) (sym own)
-        (subst (λ (o : Option ShardHistory). IsOnTheWay c epoch k (new_shard (new_core c.target epoch k c.batch)) (of_shard (length lanes) k (gather_from (sent_of c.choice) before es)) (fate_by o (steps k) (left k))) (sym lane.1)
-        (subst (λ (xs : List Sent). IsOnTheWay c epoch k (new_shard (new_core c.target epoch k c.batch)) xs (fate_of lane.0 (steps k) (left k))) (h.dealt.each k lane.0 lane.1).2
-        (run-on-the-way c epoch k lane.0 (steps k) (left k) some (h.runs k lane.0 lane.1))))
+        subst (λ (t : Shard). IsOnTheWayWith c epoch k w.requests empty t (of_shard (length lanes) k (gather_from (sent_of c.choice) before es)) (fate_at lanes steps left k)) (sym own)
+        (subst (λ (o : Option ShardHistory). IsOnTheWayWith c epoch k w.requests empty (new_shard (new_core c.target epoch k c.batch)) (of_shard (length lanes) k (gather_from (sent_of c.choice) before es)) (fate_by o (steps k) (left k))) (sym lane.1)
+        (subst (λ (xs : List Sent). IsOnTheWayWith c epoch k w.requests empty (new_shard (new_core c.target epoch k c.batch)) xs (fate_of lane.0 (steps k) (left k))) (h.dealt.each k lane.0 lane.1).2
+        (run-on-the-way c epoch k w.requests lane.0 (steps k) (left k) some (h.unsent k) (h.runs k lane.0 lane.1))))
 
-pub fleet-run : (c : Setup) → IsFleetRun c
-fleet-run c pieces epoch lanes steps left before es w room batch shards h =
-    whole-epoch-run c pieces epoch (length lanes) (fate_at lanes steps left) before es w room shards (under-way c pieces epoch lanes steps left before es w batch h)
+pub fleet-run : (c : Setup) (past : Past) → IsFleetRun c past
+fleet-run c past pieces epoch lanes steps left before es w room batch shards h =
+    whole-epoch-run c past pieces epoch (length lanes) (fate_at lanes steps left) before es w room shards (under-way c past pieces epoch lanes steps left before es w batch h)

@@ -1,6 +1,9 @@
 -- A shard that is put a Flush where it was put an End does the same, but that it has not ended.
 use Rattle.std.proofs.Common.{◌≡◌, ℕ, ◌≤◌, ◌^◌, false, List, [], ◌∷◌, ◌++◌, map, length, None, Result, Ok, Err, refl, sym, ap, ◌∙◌, subst}
 use Rattle.std.proofs.lemmas.List.{length-map, map-append}
+use Rattle.std.specs.Ordering.{nat_cmp}
+use Rattle.std.specs.FinMap.{FinMap}
+use Rattle.rw_ledger.specs.declared.ledger.Reason.{Reason}
 use Rattle.rw_retry.specs.Judgements.{judgement_of}
 use Rattle.rw_retry.specs.declared.judgement.Judgement.{Judgement}
 use Rattle.rw_retry.specs.declared.judgement.Judgement.TheVariants.{Done, Again, Refused}
@@ -15,12 +18,14 @@ use Rattle.rw_shard_core.specs.Shard.{Core, settle}
 use Rattle.rw_worker.specs.declared.transport.Reply.{Reply}
 use Rattle.rw_worker.specs.declared.transport.Lost.{Lost}
 use Rattle.rw_worker.specs.Setups.{start_of}
-use Rattle.rw_worker.specs.Steps.{Working, Step, Takes, Freezes, Sends, Waits, MayStep, AreSteps, after, after_step, items_of}
+use Rattle.rw_worker.specs.Steps.{Working, Step, Takes, Freezes, Sends, Waits, MayStep, AreSteps, after, after_step, items_of, exchanges_of}
+use Rattle.rw_worker.specs.Transcript.{Exchange}
 use Rattle.rw_fleet.specs.ShardHistories.{ShardHistory}
 use Rattle.rw_machine.specs.Worlds.{Setup}
+use Rattle.rw_simulation.specs.WorkerRuns.{step_names, steps_names}
 use Rattle.rw_simulation.specs.EpochRuns.{end_in}
 use Rattle.rw_simulation.specs.FleetRuns.{IsShardRun}
-use Rattle.rw_simulation.proofs.WorkerSteps.{sent_core}
+use Rattle.rw_simulation.proofs.WorkerSteps.{sent_core, ledger-all}
 use Rattle.rw_simulation.proofs.WorkerLists.{answered_core, core_after, after-is}
 
 -- an End as a Flush
@@ -125,15 +130,38 @@ pub record GoesAlike (w v : Working) (ss : List Step) : Type 0 where
   pub allowed : AreSteps v (map flushed_step ss)
   pub core : (after v (map flushed_step ss)).core ≡ going (after w ss).core
 
+may-too : (s : Step) (w v : Working) → v.core ≡ going w.core → MayStep s w.core → MayStep (flushed_step s) v.core
+may-too s w v e may = subst (MayStep (flushed_step s)) (sym e) (may-flushed s w.core may)
+
+goes-on : (s : Step) (w v : Working) → v.core ≡ going w.core → MayStep s w.core → (after_step (flushed_step s) v).core ≡ going (after_step s w).core
+goes-on s w v e may = after-is (flushed_step s) v.core v.ledger (may-too s w v e may) ∙ ap (core_after (flushed_step s)) e ∙ core_after-going s w.core ∙ ap going (sym (after-is s w.core w.ledger may))
+
 pub goes-alike : (w v : Working) (ss : List Step) → v.core ≡ going w.core → AreSteps w ss → GoesAlike w v ss
 goes-alike w v [] e h = record { allowed = tt; core = e }
-goes-alike w v (s ∷ ss) e h = let rest = goes-alike (after_step s w) (after_step (flushed_step s) v) ss next h.1 in record { allowed = (may, rest.allowed); core = rest.core }
-  where
-    may : MayStep (flushed_step s) v.core
-    may = subst (MayStep (flushed_step s)) (sym e) (may-flushed s w.core h.0)
+goes-alike w v (s ∷ ss) e h = let rest = goes-alike (after_step s w) (after_step (flushed_step s) v) ss (goes-on s w v e h.0) h.1 in record { allowed = (may-too s w v e h.0, rest.allowed); core = rest.core }
 
-    next : (after_step (flushed_step s) v).core ≡ going (after_step s w).core
-    next = after-is (flushed_step s) v.core v.ledger may ∙ ap (core_after (flushed_step s)) e ∙ core_after-going s w.core ∙ ap going (sym (after-is s w.core w.ledger h.0))
+-- ---- they send and name the same
+pub exchanges_of-flushed : (ss : List Step) → exchanges_of (map flushed_step ss) ≡ exchanges_of ss
+exchanges_of-flushed [] = refl
+exchanges_of-flushed (Takes x ∷ ss) = exchanges_of-flushed ss
+exchanges_of-flushed (Freezes ∷ ss) = exchanges_of-flushed ss
+exchanges_of-flushed (Sends e ∷ ss) = ap (λ (es : List Exchange). e ∷ es) (exchanges_of-flushed ss)
+exchanges_of-flushed (Waits ∷ ss) = exchanges_of-flushed ss
+
+step_names-flushed : (s : Step) (c : Core) (names : FinMap nat_cmp Reason) → step_names (flushed_step s) (going c) names ≡ step_names s c names
+step_names-flushed (Takes x) c names = refl
+step_names-flushed Freezes c names = refl
+step_names-flushed (Sends e) c names = refl
+step_names-flushed Waits c names = refl
+
+steps_names-flushed : (w v : Working) (ss : List Step) (names : FinMap nat_cmp Reason) → v.core ≡ going w.core → AreSteps w ss → steps_names (map flushed_step ss) v names ≡ steps_names ss w names
+steps_names-flushed w v [] names e h = refl
+steps_names-flushed w v (s ∷ ss) names e h =
+    ap (λ (m : FinMap nat_cmp Reason). steps_names (map flushed_step ss) (after_step (flushed_step s) v) m) (ap (λ (c : Core). step_names (flushed_step s) c names) e ∙ step_names-flushed s w.core names)
+    ∙ steps_names-flushed (after_step s w) (after_step (flushed_step s) v) ss (step_names s w.core names) (goes-on s w v e h.0) h.1
+
+pub names-flushed : (w : Working) (ss : List Step) → w.core ≡ going w.core → AreSteps w ss → (after w (map flushed_step ss)).ledger.names ≡ (after w ss).ledger.names
+names-flushed w ss e h = ledger-all w (map flushed_step ss) (goes-alike w w ss e h).allowed ∙ steps_names-flushed w w ss w.ledger.names e h ∙ sym (ledger-all w ss h)
 
 -- ---- a shard of an epoch
 pub run-flushed : (c : Setup) (epoch k : ℕ) (l : ShardHistory) (steps : List Step) (rest : List Item) → IsShardRun c epoch k l steps rest → IsShardRun c epoch k (flushed_lane l) (map flushed_step steps) (map flushed rest)

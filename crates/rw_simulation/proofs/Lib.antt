@@ -9,11 +9,13 @@ pub mod FleetRuns
 pub mod FlushedShards
 pub mod FreeLaws
 pub mod MarkRuns
+pub mod Pasts
 pub mod Positions
 pub mod ReshardRuns
 pub mod RisingOrders
 pub mod StoppedRuns
 pub mod StoppedShards
+pub mod Tallies
 pub mod WorkerLists
 pub mod WorkerRuns
 pub mod WorkerSteps

@@ -1,5 +1,6 @@
 -- The number of shards changes: those at hand are ended once all is resolved, and the next ones begin.
 use Rattle.std.proofs.Common.{◌≡◌, ℕ, suc, ◌<◌, ◌≤◌, ◌&&◌, Bool, true, false, not, cond, nat_le, List, [], ◌∷◌, ◌++◌, length, None, Some, is_some, refl, ap, ◌∙◌, arith}
+use Rattle.std.specs.FinMap.{empty}
 use Rattle.std.proofs.lemmas.Bool.{le-leb}
 use Rattle.rw_types.specs.declared.entry.Entry.{Entry}
 use Rattle.rw_wal_format.specs.Pieces.{Piece}
@@ -10,16 +11,17 @@ use Rattle.rw_machine.specs.Shards.{Shard, shard_end}
 use Rattle.rw_machine.specs.Worlds.{Setup, World, new_shards, is_finished, all_drained}
 use Rattle.rw_machine.specs.Steps.{happens, mark, restart_as, unless_over}
 use Rattle.rw_machine.specs.declared.event.Event.TheVariants as event
-use Rattle.rw_machine.proofs.Lists as lists
-use Rattle.rw_machine.proofs.Steps.{and_both, each_new}
+use Rattle.rw_machine.proofs.Steps.{and_both}
 use Rattle.rw_simulation.specs.Freely.{Of, run_freely}
+use Rattle.rw_simulation.specs.Tallies.{Past, IsTallied, requests_of}
 use Rattle.rw_simulation.specs.EpochRuns.{ShardFate, IsAllPut, Reaches}
 use Rattle.rw_simulation.proofs.Changes.{run-append}
 use Rattle.rw_simulation.proofs.EntryRuns.{over_not}
-use Rattle.rw_simulation.proofs.EndRuns.{IsResolvedFate, ClosedBelow, end-all, drained-all}
+use Rattle.rw_simulation.proofs.Tallies.{Passes, later-requests, lists-at, tallied-still, tallied-next}
+use Rattle.rw_simulation.proofs.EndRuns.{IsResolvedFate, ClosedBelow, end-all, tallies-at, drained-all}
 
--- the machine at the beginning of an epoch of so many shards, with these entries placed
-pub record BeginsEpoch (c : Setup) (pieces : List Piece) (epoch m : ℕ) (placed : List Entry) (w : World) : Type 0 where
+-- the machine at the beginning of an epoch of so many shards, with these entries placed; nothing was sent in it
+pub record BeginsEpoch (c : Setup) (past : Past) (pieces : List Piece) (epoch m : ℕ) (placed : List Entry) (w : World) : Type 0 where
   pub going : (w.killed ≡ false) × (w.closed ≡ None) × (w.draining ≡ None)
   pub pieces_are : w.pieces ≡ pieces
   pub epoch_is : w.epoch ≡ epoch
@@ -27,10 +29,12 @@ pub record BeginsEpoch (c : Setup) (pieces : List Piece) (epoch m : ℕ) (placed
   pub placed_are : w.placed ≡ length placed
   pub series : w.series ≡ series_of c.choice placed
   pub counted : w.filtered ≡ length (filtered c.choice placed)
-  pub lists_are : lists.All c w
+  pub tallied : IsTallied c past epoch m placed (λ k. empty) w
+  pub unsent : (k : ℕ) → requests_of epoch k w.requests ≡ []
 
-module _ (c : Setup) (pieces : List Piece) (epoch n m : ℕ) (fates : ℕ → ShardFate) (placed : List Entry) (some : 1 ≤ c.capacity) (least : 1 ≤ m) (most : m ≤ 1000)
-    (ends : (k : ℕ) → k < n → (fates k).end ≡ Some kind.Reshard) (resolved : (k : ℕ) → k < n → IsResolvedFate (fates k)) (w : World) (put : IsAllPut c pieces epoch n fates placed w) (kept : lists.All c w) where
+module _ (c : Setup) (past next_past : Past) (pieces : List Piece) (epoch n m : ℕ) (fates : ℕ → ShardFate) (placed : List Entry) (some : 1 ≤ c.capacity) (least : 1 ≤ m) (most : m ≤ 1000)
+    (ends : (k : ℕ) → k < n → (fates k).end ≡ Some kind.Reshard) (resolved : (k : ℕ) → k < n → IsResolvedFate (fates k)) (w : World) (put : IsAllPut c past pieces epoch n fates placed w)
+    (passes : Passes c past epoch n next_past (λ k. (fates k).worker.ledger.names) (λ k. (fates k).requests)) where
   alive : w.killed ≡ false
   alive = put.under.going.0
 
@@ -53,16 +57,17 @@ module _ (c : Setup) (pieces : List Piece) (epoch n m : ℕ) (fates : ℕ → Sh
 
   -- ---- each shard is ended
   abbrev Closed : World → Type 0
-  Closed = ClosedBelow c epoch n fates kind.Reshard ends draining alive asks some n
+  Closed = ClosedBelow c past epoch n fates placed kind.Reshard ends draining alive asks some n
 
   none_below : (k : ℕ) → k < 0 → ⊥
   none_below k lt = omega arith
 
   closing : Reaches c draining Closed
-  closing = end-all c epoch n fates kind.Reshard ends draining alive asks some draining (record {
+  closing = end-all c past epoch n fates placed kind.Reshard ends draining alive asks some draining (record {
     same = refl;
     count = put.under.count;
-    lists_are = kept;
+    parts = put.under.parts;
+    tallied = tallied-still c past epoch n placed put.under.parts w draining (Of (event.Reshard m) ∷ []) put.under.tallied asked refl refl;
     done = λ k t e lt. absurd (none_below k lt);
     still = λ k t e le. put.each k t e;
   })
@@ -84,7 +89,7 @@ module _ (c : Setup) (pieces : List Piece) (epoch n m : ℕ) (fates : ℕ → Sh
   unclosed-still = ap (λ (x : World). x.closed) over-is.same ∙ unclosed
 
   may_restart : (not (is_finished over) && all_drained over) ≡ true
-  may_restart = and_both (not (is_finished over)) (all_drained over) (rw unclosed-still refl) (drained-all c n fates over.shards over-is.count over-is.lists_are over-is.done resolved)
+  may_restart = and_both (not (is_finished over)) (all_drained over) (rw unclosed-still refl) (drained-all c epoch n fates over.requests over-is.parts over.shards over-is.count (lists-at c over over-is.tallied.reached) over-is.done resolved)
 
   restarts : happens c over event.Restart ≡ next
   restarts =
@@ -95,7 +100,7 @@ module _ (c : Setup) (pieces : List Piece) (epoch n m : ℕ) (fates : ℕ → Sh
   epoch-is : over.epoch ≡ epoch
   epoch-is = ap (λ (x : World). x.epoch) over-is.same ∙ put.under.epoch_is
 
-  pub reshard-run : Reaches c w (BeginsEpoch c pieces (suc epoch) m placed)
+  pub reshard-run : Reaches c w (BeginsEpoch c next_past pieces (suc epoch) m placed)
   reshard-run = record {
     events = Of (event.Reshard m) ∷ (closing.events ++ Of event.Restart ∷ []);
     world = next;
@@ -111,6 +116,8 @@ module _ (c : Setup) (pieces : List Piece) (epoch n m : ℕ) (fates : ℕ → Sh
       placed_are = ap (λ (x : World). x.placed) over-is.same ∙ put.under.placed;
       series = ap (λ (x : World). x.series) over-is.same ∙ put.under.series;
       counted = ap (λ (x : World). x.filtered) over-is.same ∙ put.under.counted;
-      lists_are = each_new (λ i s. lists.Lists c s) c (suc over.epoch) 0 (λ i. record { queued = refl; held = refl; within = omega arith }) m;
+      tallied = tallied-next c past epoch n next_past placed over-is.parts (λ k. (fates k).worker.ledger.names) (λ k. (fates k).requests) over next (Of event.Restart ∷ []) m over-is.tallied restarts refl refl
+          (tallies-at epoch n fates over.requests over-is.parts over.shards over-is.count over-is.done) passes;
+      unsent = λ k. later-requests past epoch n k over.requests over-is.tallied.owned;
     };
   }

@@ -1,6 +1,8 @@
 -- A shipper that was stopped in order, and left nothing, is a run of the machine.
 use Rattle.std.proofs.Common.{◌≡◌, ℕ, zero, suc, ◌-◌, ◌<◌, ◌≤◌, ◌==◌, Bool, true, false, cond, List, [], ◌∷◌, ◌++◌, map, length, Option, None, Some, is_some, slice_get, refl, sym, ap, ◌∙◌, subst, append-nil, append_assoc, arith, ◌⊎◌, inl, inr}
 use Rattle.std.specs.List.{AllByRecursion, list_all}
+use Rattle.std.specs.Ordering.{nat_cmp}
+use Rattle.std.specs.FinMap.{empty, get, get-empty}
 use Rattle.std.proofs.lemmas.List.{length-drop, length-map, map-append}
 use Rattle.std.proofs.lemmas.Bool.{eq-eqb, eqb-true, and_parts}
 use Rattle.std.proofs.lemmas.Option.{same_Some, none-some}
@@ -12,6 +14,7 @@ use Rattle.rw_wal_format.specs.declared.tail_fault.TailFault.{TailFault}
 use Rattle.rw_wal_tail.specs.Fed.{piece_of}
 use Rattle.rw_wal_tail.specs.declared.piece.Piece as piece
 use Rattle.rw_relabel.specs.declared.choice.Choice.{Choice}
+use Rattle.rw_ledger.specs.declared.ledger.Reason.{Reason}
 use Rattle.rw_series_cache.proofs.KnownLemmas.{series_of-none}
 use Rattle.rw_plain_queue.specs.Items.{samples_in, places_in}
 use Rattle.rw_plain_queue.specs.History.{EndIsLast, IsEnded}
@@ -25,7 +28,7 @@ use Rattle.rw_shard_core.specs.declared.outcome.Outcome.{Outcome}
 use Rattle.rw_shard_core.specs.declared.outcome.Outcome.TheVariants as outcome
 use Rattle.rw_worker.specs.Transcript.{Exchange}
 use Rattle.rw_worker.specs.Setups.{start_of}
-use Rattle.rw_worker.specs.Steps.{Working, Step, Takes, Freezes, Sends, Waits, AreSteps, after, after_step, items_of}
+use Rattle.rw_worker.specs.Steps.{Working, Step, Takes, Freezes, Sends, Waits, AreSteps, after, after_step, items_of, exchanges_of}
 use Rattle.rw_fleet.specs.ShardHistories.{ShardHistory, IsSetUp, AreSetUp, put_into}
 use Rattle.rw_fleet.specs.Work.{IsWorked, AreWorked, AreResolved, AreEndedBy, IsEndedBy, lane_of, finished_of, put_of, taken_of, is_compared, is_resolved, positions_in}
 use Rattle.rw_fleet.specs.declared.joined.StoppedShard.{StoppedShard}
@@ -42,13 +45,14 @@ use Rattle.rw_shipper.proofs.PlacementLemmas.{whole_is, whole_placed}
 use Rattle.rw_shipper.proofs.ShippingLemmas.{all_is, ends_last}
 use Rattle.rw_types.proofs.AllLemmas.{AllByRecursion-left, AllByRecursion-right}
 use Rattle.rw_machine.specs.Shards.{Shard, is_drained, shard_end, shard_flush}
-use Rattle.rw_machine.specs.Worlds.{Setup, World, Ending, Complete, start, log, ended_as, report}
+use Rattle.rw_machine.specs.Worlds.{Setup, Request, World, Ending, Complete, start, log, ended_as, report}
 use Rattle.rw_machine.specs.Steps.{happens, mark, unless_over}
 use Rattle.rw_machine.specs.declared.event.Event.TheVariants as event
 use Rattle.rw_machine.specs.Promises.{CanWork}
-use Rattle.rw_machine.proofs.Lists as lists
 use Rattle.rw_simulation.specs.Freely.{Happening, Of, run_freely}
 use Rattle.rw_simulation.specs.FreeLaws.{world_of}
+use Rattle.rw_simulation.specs.WorkerRuns.{request_in}
+use Rattle.rw_simulation.specs.Tallies.{Past, IsNamedSo, IsTallied}
 use Rattle.rw_simulation.specs.EpochRuns.{ShardFate, end_in, IsAllPut, Reaches}
 use Rattle.rw_simulation.specs.FleetRuns.{IsShardRun, fate_by, fate_at}
 use Rattle.rw_simulation.specs.StoppedShards.{IsShardOf}
@@ -58,11 +62,13 @@ use Rattle.rw_simulation.proofs.Changes.{run-append}
 use Rattle.rw_simulation.proofs.ReshardRuns.{BeginsEpoch, reshard-run}
 use Rattle.rw_simulation.proofs.WorkerLists.{core_after, after-is, ended-after, last_tail}
 use Rattle.rw_simulation.proofs.EntryRuns.{over_not}
-use Rattle.rw_simulation.proofs.FreeLaws.{keeps-lists}
+use Rattle.rw_simulation.proofs.FreeLaws.{keeps-laws}
 use Rattle.rw_simulation.proofs.FleetRuns.{fleet-run, get_lane}
 use Rattle.rw_simulation.proofs.StoppedShards.{compared-is-run, has-taken, same_items}
-use Rattle.rw_simulation.proofs.EpochRuns.{stay, one_at_most}
-use Rattle.rw_simulation.proofs.EndRuns.{HasCome, IsResolvedFate, ClosedBelow, end-all, drained-all, below}
+use Rattle.rw_simulation.proofs.EpochRuns.{stay, one_at_most, below}
+use Rattle.rw_simulation.proofs.EndRuns.{HasCome, IsResolvedFate, ClosedBelow, end-all, tallies-at, drained-all}
+use Rattle.rw_simulation.proofs.Tallies.{Names, Passes, lists-at, tallied-still, tallied-next}
+use Rattle.rw_simulation.proofs.Pasts.{get_map, map_get, past_of, ReportsAt, passes-of, seen-is, names-all, sends-all}
 
 -- ---- an End that was taken
 stays_ended : (st : Step) (c : Core) → c.ended ≡ true → (core_after st c).ended ≡ true
@@ -123,16 +129,6 @@ ended_by_at : (kd : Kind) (puts : List (List Item)) (k : ℕ) (put : List Item) 
 ended_by_at kd [] k put h e = absurd (none-some put e)
 ended_by_at kd (x ∷ xs) zero put h e = let is : x ≡ put = same_Some _ _ e in subst (IsEndedBy kd) is h.0
 ended_by_at kd (x ∷ xs) (suc k) put h e = ended_by_at kd xs k put h.1 e
-
-pub get_map : {X Y : Type 0} (f : X → Y) (xs : List X) (k : ℕ) (x : X) → slice_get xs k ≡ Some x → slice_get (map f xs) k ≡ Some (f x)
-get_map f [] k x e = absurd (none-some x e)
-get_map f (y ∷ ys) zero x e = ap Some (ap f (same_Some _ _ e))
-get_map f (y ∷ ys) (suc k) x e = get_map f ys k x e
-
-pub map_get : {X Y : Type 0} (f : X → Y) (xs : List X) (k : ℕ) (y : Y) → slice_get (map f xs) k ≡ Some y → (x : X) × (slice_get xs k ≡ Some x) × (f x ≡ y)
-map_get f [] k y e = absurd (none-some y e)
-map_get f (x ∷ xs) zero y e = (x, refl, same_Some _ _ e)
-map_get f (x ∷ xs) (suc k) y e = map_get f xs k y e
 
 -- ---- what was put is resolved
 place_count : (xs : List Item) → length (places_in xs) ≡ length (samples_in xs)
@@ -295,13 +291,15 @@ module _ {T : Type 0} (tells : T → Type 0) (seen : T → List Exchange) (is_fo
   find (j ∷ js) all (suc k) l e = let h = find js all.1 k l e in record { j = h.j; at = h.at; lane = h.lane; sound = h.sound; steps = h.steps }
 
   -- the machine has come to its report, with these shards at the end
-  record Final (pieces : List Piece) (all : List Entry) (last : List (StoppedShard T)) (v : World) : Type 0 where
+  record Final (done : List (StoppedShard T)) (pieces : List Piece) (all : List Entry) (last : List (StoppedShard T)) (v : World) : Type 0 where
     pieces_are : v.pieces ≡ pieces
     placed_are : v.placed ≡ length all
     counted : v.filtered ≡ length (filtered c.choice all)
     shards : length v.shards ≡ length last
     each : (k : ℕ) (m : Shard) (j : StoppedShard T) → slice_get v.shards k ≡ Some m → slice_get last k ≡ Some j → IsAlike j.finished m
     reported : report v ≡ Some (ended_as (fault pieces) (length all))
+    epoch : ℕ
+    tallied : IsTallied c (past_of tells seen (done ++ last)) epoch 0 all (λ k. empty) v
 
   -- ---- one epoch
   module _ (epoch : ℕ) (kd : Kind) (js : List (StoppedShard T)) (sound : AllByRecursion Sound js) (some_lanes : 1 ≤ length (map lane_of js)) (by : AreEndedBy kd (map put_into (map lane_of js))) (before es : List Entry) (dealt : IsDealt epoch (map lane_of js) (gather_from (sent_of c.choice) before es)) where
@@ -359,8 +357,8 @@ module _ {T : Type 0} (tells : T → Type 0) (seen : T → List Exchange) (is_fo
         f : Found js sound k l.0
         f = find js sound k l.0 l.1
 
-    put-all : (pieces : List Piece) (rest : List Entry) (w : World) → BeginsEpoch c pieces epoch n before w → entries pieces ≡ before ++ (es ++ rest) → Reaches c w (IsAllPut c pieces epoch n fates (before ++ es))
-    put-all pieces rest w b begins = fleet-run c pieces epoch (map lane_of js) (λ k. steps_in js sound k) (λ k. []) before es w work.capacity work.batch some_lanes (record {
+    put-all : (past : Past) (pieces : List Piece) (rest : List Entry) (w : World) → BeginsEpoch c past pieces epoch n before w → entries pieces ≡ before ++ (es ++ rest) → Reaches c w (IsAllPut c past pieces epoch n fates (before ++ es))
+    put-all past pieces rest w b begins = fleet-run c past pieces epoch (map lane_of js) (λ k. steps_in js sound k) (λ k. []) before es w work.capacity work.batch some_lanes (record {
       going = b.going;
       pieces_are = b.pieces_are;
       epoch_is = b.epoch_is;
@@ -370,12 +368,42 @@ module _ {T : Type 0} (tells : T → Type 0) (seen : T → List Exchange) (is_fo
       begins = begins;
       series = b.series;
       counted = b.counted;
+      tallied = b.tallied;
+      unsent = b.unsent;
       dealt = dealt;
       runs = lane-at;
     })
 
-    alike : (k : ℕ) (m : Shard) (j : StoppedShard T) → k < n → HasCome m (fates k) → slice_get js k ≡ Some j → IsAlike j.finished m
-    alike k m j lt come at = record {
+    -- each shard's fate is what it reports
+    reports-at : (k : ℕ) (j : StoppedShard T) → slice_get js k ≡ Some j → ReportsAt tells seen epoch k (fates k) j
+    reports-at k j at = record {
+      epoch_is = (dealt.each k (lane_of j) here).0;
+      shard_is = (dealt.each k (lane_of j) here).1;
+      part_is = ap (λ (o : Option ShardHistory). (fate_by o (steps k) []).worker.ledger.names) here
+          ∙ ap (λ (ss : List Step). (after (start_of j.worker.value) ss).ledger.names) (sym g.steps)
+          ∙ ap (λ (x : StoppedShard T). (after (start_of x.worker.value) g.sound.worked.report.steps).ledger.names) (sym same)
+          ∙ sym g.sound.worked.report.names
+          ∙ ap (λ (x : StoppedShard T). x.part.names) same;
+      sent_is = λ told. ap (λ (o : Option ShardHistory). (fate_by o (steps k) []).requests) here
+          ∙ ap (λ (ss : List Step). map request_in (exchanges_of ss)) (sym g.steps)
+          ∙ ap (map request_in) (sym (seen-is tells seen is_for g.j g.sound.worked (subst (λ (x : StoppedShard T). tells x.finished.transport) (sym same) told)))
+          ∙ ap (λ (x : StoppedShard T). map request_in (seen x.finished.transport)) same;
+    }
+      where
+        here : slice_get (map lane_of js) k ≡ Some (lane_of j)
+        here = get_map lane_of js k j at
+
+        g : Found js sound k (lane_of j)
+        g = find js sound k (lane_of j) here
+
+        same : g.j ≡ j
+        same = same_Some _ _ (sym g.at ∙ at)
+
+    passes : (done : List (StoppedShard T)) → Passes c (past_of tells seen done) epoch n (past_of tells seen (done ++ js)) (λ k. (fates k).worker.ledger.names) (λ k. (fates k).requests)
+    passes done = passes-of tells seen c epoch n done js fates (sym (length-map js lane_of)) reports-at
+
+    alike : (k : ℕ) (requests : List Request) (part : Names) (m : Shard) (j : StoppedShard T) → k < n → HasCome epoch k requests part m (fates k) → slice_get js k ≡ Some j → IsAlike j.finished m
+    alike k requests part m j lt come at = record {
       put = come.put ∙ ap (λ (o : Option ShardHistory). (fate_by o (steps k) []).put) l.1 ∙ ap (λ (x : ShardHistory). samples_in x.put) (sym g.lane) ∙ ap (λ (y : StoppedShard T). samples_in (put_of y.finished.ends)) same;
       taken = ap (λ (y : Core). y.taken) come.core
           ∙ ap (λ (o : Option ShardHistory). (fate_by o (steps k) []).worker.core.taken) l.1
@@ -401,24 +429,24 @@ module _ {T : Type 0} (tells : T → Type 0) (seen : T → List Exchange) (is_fo
         same = same_Some _ _ (sym g.at ∙ at)
 
   -- ---- the last epoch
-  module _ (epoch : ℕ) (js : List (StoppedShard T)) (sound : AllByRecursion Sound js) (some_lanes : 1 ≤ length (map lane_of js)) (by : AreEndedBy kind.Orderly (map put_into (map lane_of js))) (before es : List Entry) (dealt : IsDealt epoch (map lane_of js) (gather_from (sent_of c.choice) before es)) (pieces : List Piece) (w : World) (b : BeginsEpoch c pieces epoch (length (map lane_of js)) before w) (all : entries pieces ≡ before ++ es) where
+  module _ (epoch : ℕ) (js : List (StoppedShard T)) (sound : AllByRecursion Sound js) (some_lanes : 1 ≤ length (map lane_of js)) (by : AreEndedBy kind.Orderly (map put_into (map lane_of js))) (before es : List Entry) (dealt : IsDealt epoch (map lane_of js) (gather_from (sent_of c.choice) before es)) (done : List (StoppedShard T)) (pieces : List Piece) (w : World) (b : BeginsEpoch c (past_of tells seen done) pieces epoch (length (map lane_of js)) before w) (all : entries pieces ≡ before ++ es) where
+    abbrev past : Past
+    past = past_of tells seen done
+
     abbrev m : ℕ
     m = length (map lane_of js)
 
     abbrev ends_so : ℕ → ShardFate
     ends_so = fates epoch kind.Orderly js sound some_lanes by before es dealt
 
-    reach : Reaches c w (IsAllPut c pieces epoch m ends_so (before ++ es))
-    reach = put-all epoch kind.Orderly js sound some_lanes by before es dealt pieces [] w b (all ∙ ap (λ (xs : List Entry). before ++ xs) (sym (append-nil es)))
+    reach : Reaches c w (IsAllPut c past pieces epoch m ends_so (before ++ es))
+    reach = put-all epoch kind.Orderly js sound some_lanes by before es dealt past pieces [] w b (all ∙ ap (λ (xs : List Entry). before ++ xs) (sym (append-nil es)))
 
     abbrev put : World
     put = reach.world
 
-    put-is : IsAllPut c pieces epoch m ends_so (before ++ es) put
+    put-is : IsAllPut c past pieces epoch m ends_so (before ++ es) put
     put-is = reach.holds
-
-    lists-put : lists.All c put
-    lists-put = subst (lists.All c) reach.is (keeps-lists c reach.events w b.lists_are)
 
     abbrev closed : World
     closed = record put { closed = Some (length (log put)) }
@@ -436,13 +464,14 @@ module _ {T : Type 0} (tells : T → Type 0) (seen : T → List Exchange) (is_fo
     fate-end-so = fate-end epoch kind.Orderly js sound some_lanes by before es dealt
 
     abbrev Closed : World → Type 0
-    Closed = ClosedBelow c epoch m ends_so kind.Orderly fate-end-so closed put-is.under.going.0 asks work.capacity m
+    Closed = ClosedBelow c past epoch m ends_so (before ++ es) kind.Orderly fate-end-so closed put-is.under.going.0 asks work.capacity m
 
     closing : Reaches c closed Closed
-    closing = end-all c epoch m ends_so kind.Orderly fate-end-so closed put-is.under.going.0 asks work.capacity closed (record {
+    closing = end-all c past epoch m ends_so (before ++ es) kind.Orderly fate-end-so closed put-is.under.going.0 asks work.capacity closed (record {
       same = refl;
       count = put-is.under.count;
-      lists_are = lists-put;
+      parts = put-is.under.parts;
+      tallied = tallied-still c past epoch m (before ++ es) put-is.under.parts put closed (Of event.Close ∷ []) put-is.under.tallied closes refl refl;
       done = λ k t e lt. absurd (none_below k lt);
       still = λ k t e le. put-is.each k t e;
     })
@@ -454,9 +483,9 @@ module _ {T : Type 0} (tells : T → Type 0) (seen : T → List Exchange) (is_fo
     over-is = closing.holds
 
     all-drained-now : list_all is_drained over.shards ≡ true
-    all-drained-now = drained-all c m ends_so over.shards over-is.count over-is.lists_are over-is.done (fate-resolved epoch kind.Orderly js sound some_lanes by before es dealt)
+    all-drained-now = drained-all c epoch m ends_so over.requests over-is.parts over.shards over-is.count (lists-at c over over-is.tallied.reached) over-is.done (fate-resolved epoch kind.Orderly js sound some_lanes by before es dealt)
 
-    last-run : Reaches c w (Final pieces (before ++ es) js)
+    last-run : Reaches c w (Final done pieces (before ++ es) js)
     last-run = record {
       events = reach.events ++ (Of event.Close ∷ closing.events);
       world = over;
@@ -466,33 +495,42 @@ module _ {T : Type 0} (tells : T → Type 0) (seen : T → List Exchange) (is_fo
         placed_are = ap (λ (x : World). x.placed) over-is.same ∙ put-is.under.placed;
         counted = ap (λ (x : World). x.filtered) over-is.same ∙ put-is.under.counted;
         shards = over-is.count ∙ length-map js lane_of;
-        each = λ k s j e at. let lt = subst (λ (i : ℕ). k < i) over-is.count (below over.shards k s e) in alike epoch kind.Orderly js sound some_lanes by before es dealt k s j lt (over-is.done k s e lt) at;
+        each = λ k s j e at. let lt = subst (λ (i : ℕ). k < i) over-is.count (below over.shards k s e) in alike epoch kind.Orderly js sound some_lanes by before es dealt k over.requests (over-is.parts k) s j lt (over-is.done k s e lt) at;
         reported = ap report over-is.same ∙ rw (put-is.under.going.0, all-placed, all-drained-now) refl
             ∙ ap Some (ap (λ ps. ended_as (fault ps) put.placed) put-is.under.pieces_are ∙ ap (λ (i : ℕ). ended_as (fault pieces) i) put-is.under.placed);
+        epoch = suc epoch;
+        tallied = tallied-next c past epoch m (past_of tells seen (done ++ js)) (before ++ es) over-is.parts (λ k. (ends_so k).worker.ledger.names) (λ k. (ends_so k).requests) over over [] 0 over-is.tallied refl refl refl
+            (tallies-at epoch m ends_so over.requests over-is.parts over.shards over-is.count over-is.done) (passes epoch kind.Orderly js sound some_lanes by before es dealt done);
       };
     }
 
   -- ---- the epochs before the last one
-  pub record AtLast (pieces : List Piece) (last : List ShardHistory) (before es : List Entry) (w : World) : Type 0 where
+  pub record AtLast (done : List (StoppedShard T)) (pieces : List Piece) (last : List ShardHistory) (before es : List Entry) (w : World) : Type 0 where
     pub epoch : ℕ
     pub now : List Entry
     pub later : List Entry
     pub are : es ≡ now ++ later
     pub dealt : IsDealt epoch last (gather_from (sent_of c.choice) (before ++ now) later)
-    pub reach : Reaches c w (BeginsEpoch c pieces epoch (length last) (before ++ now))
+    pub reach : Reaches c w (BeginsEpoch c (past_of tells seen done) pieces epoch (length last) (before ++ now))
 
-  pub turned-run : (turned : List (List ShardHistory)) (last : List ShardHistory) (epoch : ℕ) (js : List (StoppedShard T)) (before es rest : List Entry) (pieces : List Piece) (w : World) → AllByRecursion Sound js → map lane_of js ≡ joined turned
-      → Places epoch (turned ++ last ∷ []) (gather_from (sent_of c.choice) before es) → AreBefore turned last → BeginsEpoch c pieces epoch (first_number turned last) before w → entries pieces ≡ before ++ (es ++ rest) → AtLast pieces last before es w
-  turned-run [] last epoch js before es rest pieces w sound e p turned b all = record {
+  none_joined : (js : List (StoppedShard T)) → map lane_of js ≡ [] → js ≡ []
+  none_joined [] e = refl
+  none_joined (j ∷ js) e = absurd (cc)
+
+  pub turned-run : (turned : List (List ShardHistory)) (last : List ShardHistory) (epoch : ℕ) (done js : List (StoppedShard T)) (before es rest : List Entry) (pieces : List Piece) (w : World) → AllByRecursion Sound js → map lane_of js ≡ joined turned
+      → Places epoch (turned ++ last ∷ []) (gather_from (sent_of c.choice) before es) → AreBefore turned last → BeginsEpoch c (past_of tells seen done) pieces epoch (first_number turned last) before w → entries pieces ≡ before ++ (es ++ rest) → AtLast (done ++ js) pieces last before es w
+  turned-run [] last epoch done js before es rest pieces w sound e p turned b all = record {
     epoch = epoch;
     now = [];
     later = es;
     are = refl;
     dealt = subst (λ (bs : List Entry). IsDealt epoch last (gather_from (sent_of c.choice) bs es)) (sym (append-nil before)) (subst (IsDealt epoch last) (sym (p.2 ∙ ap (λ (xs : List Sent). p.0 ++ xs) p.4 ∙ append-nil p.0)) p.3);
-    reach = stay c w (BeginsEpoch c pieces epoch (length last) (before ++ [])) (subst (λ (bs : List Entry). BeginsEpoch c pieces epoch (length last) bs w) (sym (append-nil before)) b);
+    reach = stay c w (BeginsEpoch c (past_of tells seen (done ++ js)) pieces epoch (length last) (before ++ []))
+        (subst (λ (bs : List Entry). BeginsEpoch c (past_of tells seen (done ++ js)) pieces epoch (length last) bs w) (sym (append-nil before))
+        (subst (λ (ks : List (StoppedShard T)). BeginsEpoch c (past_of tells seen ks) pieces epoch (length last) before w) (sym (ap (λ (ks : List (StoppedShard T)). done ++ ks) (none_joined js e) ∙ append-nil done)) b));
   }
-  turned-run (lanes ∷ turned) last epoch js before es rest pieces w sound e p turns b all =
-      with-later (turned-run turned last (suc epoch) sp.later (before ++ pt.now) pt.later rest pieces r2.world (AllByRecursion-right Sound sp.first sp.later both) sp.later_is (subst (Places (suc epoch) (turned ++ last ∷ [])) (sym pt.rest_is) p.4) turns.3 r2.holds
+  turned-run (lanes ∷ turned) last epoch done js before es rest pieces w sound e p turns b all =
+      with-later (turned-run turned last (suc epoch) (done ++ sp.first) sp.later (before ++ pt.now) pt.later rest pieces r2.world (AllByRecursion-right Sound sp.first sp.later both) sp.later_is (subst (Places (suc epoch) (turned ++ last ∷ [])) (sym pt.rest_is) p.4) turns.3 r2.holds
       (begins ∙ sym (append_assoc before pt.now (pt.later ++ rest))))
     where
       sp : Split lane_of js lanes (joined turned)
@@ -522,15 +560,18 @@ module _ {T : Type 0} (tells : T → Type 0) (seen : T → List Exchange) (is_fo
       begins : entries pieces ≡ before ++ (pt.now ++ (pt.later ++ rest))
       begins = all ∙ ap (λ (xs : List Entry). before ++ (xs ++ rest)) pt.are ∙ ap (λ (xs : List Entry). before ++ xs) (append_assoc pt.now pt.later rest)
 
-      r1 : Reaches c w (IsAllPut c pieces epoch (length (map lane_of sp.first)) (fates epoch kind.Reshard sp.first now some_now by before pt.now dealt) (before ++ pt.now))
-      r1 = put-all epoch kind.Reshard sp.first now some_now by before pt.now dealt pieces (pt.later ++ rest) w (subst (λ (ls : List ShardHistory). BeginsEpoch c pieces epoch (length ls) before w) same b) begins
+      r1 : Reaches c w (IsAllPut c (past_of tells seen done) pieces epoch (length (map lane_of sp.first)) (fates epoch kind.Reshard sp.first now some_now by before pt.now dealt) (before ++ pt.now))
+      r1 = put-all epoch kind.Reshard sp.first now some_now by before pt.now dealt (past_of tells seen done) pieces (pt.later ++ rest) w (subst (λ (ls : List ShardHistory). BeginsEpoch c (past_of tells seen done) pieces epoch (length ls) before w) same b) begins
 
-      r2 : Reaches c r1.world (BeginsEpoch c pieces (suc epoch) (first_number turned last) (before ++ pt.now))
-      r2 = reshard-run c pieces epoch (length (map lane_of sp.first)) (first_number turned last) (fates epoch kind.Reshard sp.first now some_now by before pt.now dealt) (before ++ pt.now) work.capacity turns.2.0 turns.2.1
+      r2 : Reaches c r1.world (BeginsEpoch c (past_of tells seen (done ++ sp.first)) pieces (suc epoch) (first_number turned last) (before ++ pt.now))
+      r2 = reshard-run c (past_of tells seen done) (past_of tells seen (done ++ sp.first)) pieces epoch (length (map lane_of sp.first)) (first_number turned last) (fates epoch kind.Reshard sp.first now some_now by before pt.now dealt) (before ++ pt.now) work.capacity turns.2.0 turns.2.1
           (fate-end epoch kind.Reshard sp.first now some_now by before pt.now dealt) (fate-resolved epoch kind.Reshard sp.first now some_now by before pt.now dealt) r1.world r1.holds
-          (subst (lists.All c) r1.is (keeps-lists c r1.events w b.lists_are))
+          (passes epoch kind.Reshard sp.first now some_now by before pt.now dealt done)
 
-      with-later : AtLast pieces last (before ++ pt.now) pt.later r2.world → AtLast pieces last before es w
+      all_done : (done ++ sp.first) ++ sp.later ≡ done ++ js
+      all_done = append_assoc done sp.first sp.later ∙ ap (λ (ks : List (StoppedShard T)). done ++ ks) (sym sp.are)
+
+      with-later : AtLast ((done ++ sp.first) ++ sp.later) pieces last (before ++ pt.now) pt.later r2.world → AtLast (done ++ js) pieces last before es w
       with-later a = record {
         epoch = a.epoch;
         now = pt.now ++ a.now;
@@ -541,7 +582,8 @@ module _ {T : Type 0} (tells : T → Type 0) (seen : T → List Exchange) (is_fo
           events = r1.events ++ (r2.events ++ a.reach.events);
           world = a.reach.world;
           is = run-append c r1.events (r2.events ++ a.reach.events) w ∙ ap (run_freely c (r2.events ++ a.reach.events)) r1.is ∙ run-append c r2.events a.reach.events r1.world ∙ ap (run_freely c a.reach.events) r2.is ∙ a.reach.is;
-          holds = subst (λ (bs : List Entry). BeginsEpoch c pieces a.epoch (length last) bs a.reach.world) (append_assoc before pt.now a.now) a.reach.holds;
+          holds = subst (λ (bs : List Entry). BeginsEpoch c (past_of tells seen (done ++ js)) pieces a.epoch (length last) bs a.reach.world) (append_assoc before pt.now a.now)
+              (subst (λ (ks : List (StoppedShard T)). BeginsEpoch c (past_of tells seen ks) pieces a.epoch (length last) ((before ++ pt.now) ++ a.now) a.reach.world) all_done a.reach.holds);
         };
       }
 
@@ -553,7 +595,24 @@ module _ {T : Type 0} (tells : T → Type 0) (seen : T → List Exchange) (is_fo
   pub fed-all : run_freely c (feeds fed) (start c) ≡ begun
   fed-all = feed-all c fed (start c) refl refl ∙ ap (λ ps. record (start c) { pieces = ps }) (sym fed_are)
 
-  pub begins : BeginsEpoch c s.log.pieces 0 c.shards [] begun
+  no_name : {X : Type 0} (p : ℕ) (reason : Reason) → get begun.names p ≡ Some reason → X
+  no_name p reason h = absurd (none-some reason (sym (get-empty nat_cmp p) ∙ h))
+
+  begins_tallied : IsTallied c (past_of tells seen []) 0 c.shards [] (λ k. empty) begun
+  begins_tallied = record {
+    reached = (feeds fed, fed-all);
+    named = λ p reason h. no_name p reason h;
+    names = begins_named;
+    sent = λ e k bytes h. absurd (none-some h.0 h.1.at);
+    owned = tt;
+  }
+    where
+      begins_named : (p : ℕ) (reason : Reason) → IsNamedSo c (past_of tells seen []) c.shards [] (λ k. empty) p reason → get begun.names p ≡ Some reason
+      begins_named p reason (inl own) = own
+      begins_named p reason (inr (inl (i, j, e, h))) = absurd (none-some j e)
+      begins_named p reason (inr (inr (k, lt, e))) = e
+
+  pub begins : BeginsEpoch c (past_of tells seen []) s.log.pieces 0 c.shards [] begun
   begins = record {
     going = (refl, refl, refl);
     pieces_are = refl;
@@ -562,10 +621,11 @@ module _ {T : Type 0} (tells : T → Type 0) (seen : T → List Exchange) (is_fo
     placed_are = refl;
     series = sym (series_of-none c.choice);
     counted = refl;
-    lists_are = subst (lists.All c) fed-all (keeps-lists c (feeds fed) (start c) (lists.all_start c));
+    tallied = begins_tallied;
+    unsent = λ k. refl;
   }
 
-  finish : (epochs : List (List ShardHistory)) → map lane_of h.joined ≡ joined epochs → Places 0 epochs (sent c.choice s.log.placed) → HasNumbers c epochs → EndInTurn epochs → AreResolved h.joined → (IsAbandoned r.outcome → ⊥) → (found : Option TailFault) → HasRead s.log.pieces s.log.placed found → ending_of r.outcome ≡ ended_as found (length s.log.placed) → IsRun c s r
+  finish : (epochs : List (List ShardHistory)) → map lane_of h.joined ≡ joined epochs → Places 0 epochs (sent c.choice s.log.placed) → HasNumbers c epochs → EndInTurn epochs → AreResolved h.joined → (IsAbandoned r.outcome → ⊥) → (found : Option TailFault) → HasRead s.log.pieces s.log.placed found → ending_of r.outcome ≡ ended_as found (length s.log.placed) → IsRun tells seen c s r
   finish [] e p numbers turn resolved whole found read out = absurd numbers
   finish (lanes ∷ later) e p numbers turn resolved whole found read out = (
     events,
@@ -578,8 +638,11 @@ module _ {T : Type 0} (tells : T → Type 0) (seen : T → List Exchange) (is_fo
       workers = h.workers ∙ ap (map finished_of) sp.are ∙ map-append finished_of sp.first sp.later;
       shards = ap (λ (x : World). length x.shards) leads ∙ last.shards ∙ sym (length-map sp.later finished_of);
       each = λ k m f e at. let g = map_get finished_of sp.later k f at in subst (λ (y : Finished T). IsAlike y m) g.2 (last.each k m g.0 (ap (λ (x : World). slice_get x.shards k) (sym leads) ∙ e) g.1);
+      names = names-all tells seen is_for c s r h choice last.epoch (world_of c events) tallied;
+      requests = sends-all tells seen is_for c s r h choice last.epoch (world_of c events) tallied;
       outcome_is = tells-so r.outcome (report (world_of c events)) whole (ap report leads ∙ last.reported ∙ ap Some (ap (λ (o : Option TailFault). ended_as o (length s.log.placed)) read.fault_is ∙ sym out));
     },
+    keeps-laws c events,
   )
     where
       d : Divided lanes later
@@ -591,19 +654,19 @@ module _ {T : Type 0} (tells : T → Type 0) (seen : T → List Exchange) (is_fo
       sound : AllByRecursion (Sound tells seen is_for c s.fleet.config set work) (sp.first ++ sp.later)
       sound = subst (AllByRecursion (Sound tells seen is_for c s.fleet.config set work)) sp.are (sound-all tells seen is_for c s.fleet.config set work h.joined (known-all tells seen is_for c s.fleet.config set work h.joined h.worked h.setup) resolved)
 
-      at-last : AtLast tells seen is_for c s.fleet.config set work s.log.pieces d.last [] s.log.placed begun
-      at-last = turned-run tells seen is_for c s.fleet.config set work d.turned d.last 0 sp.first [] s.log.placed [] s.log.pieces begun
+      at-last : AtLast tells seen is_for c s.fleet.config set work sp.first s.log.pieces d.last [] s.log.placed begun
+      at-last = turned-run tells seen is_for c s.fleet.config set work d.turned d.last 0 [] sp.first [] s.log.placed [] s.log.pieces begun
           (AllByRecursion-left (Sound tells seen is_for c s.fleet.config set work) sp.first sp.later sound) sp.first_is (subst (λ (es : List (List ShardHistory)). Places 0 es (sent c.choice s.log.placed)) d.are p) d.before
-          (subst (λ (i : ℕ). BeginsEpoch c s.log.pieces 0 i [] begun) (sym (d.first ∙ numbers.0)) begins) (sym read.all ∙ sym (append-nil s.log.placed))
+          (subst (λ (i : ℕ). BeginsEpoch c (past_of tells seen []) s.log.pieces 0 i [] begun) (sym (d.first ∙ numbers.0)) begins) (sym read.all ∙ sym (append-nil s.log.placed))
 
       same : d.last ≡ map lane_of sp.later
       same = sym sp.later_is
 
-      final : Reaches c at-last.reach.world (Final tells seen is_for c s.fleet.config set work s.log.pieces (at-last.now ++ at-last.later) sp.later)
+      final : Reaches c at-last.reach.world (Final tells seen is_for c s.fleet.config set work sp.first s.log.pieces (at-last.now ++ at-last.later) sp.later)
       final = last-run tells seen is_for c s.fleet.config set work at-last.epoch sp.later (AllByRecursion-right (Sound tells seen is_for c s.fleet.config set work) sp.first sp.later sound)
           (subst (λ (ls : List ShardHistory). 1 ≤ length ls) same d.some) (subst (λ (ls : List ShardHistory). AreEndedBy kind.Orderly (map put_into ls)) same d.by) at-last.now at-last.later
-          (subst (λ (ls : List ShardHistory). IsDealt at-last.epoch ls (gather_from (sent_of c.choice) at-last.now at-last.later)) same at-last.dealt) s.log.pieces at-last.reach.world
-          (subst (λ (ls : List ShardHistory). BeginsEpoch c s.log.pieces at-last.epoch (length ls) at-last.now at-last.reach.world) same at-last.reach.holds) (sym read.all ∙ at-last.are)
+          (subst (λ (ls : List ShardHistory). IsDealt at-last.epoch ls (gather_from (sent_of c.choice) at-last.now at-last.later)) same at-last.dealt) sp.first s.log.pieces at-last.reach.world
+          (subst (λ (ls : List ShardHistory). BeginsEpoch c (past_of tells seen sp.first) s.log.pieces at-last.epoch (length ls) at-last.now at-last.reach.world) same at-last.reach.holds) (sym read.all ∙ at-last.are)
 
       events : List Happening
       events = feeds fed ++ (at-last.reach.events ++ final.events)
@@ -611,8 +674,12 @@ module _ {T : Type 0} (tells : T → Type 0) (seen : T → List Exchange) (is_fo
       leads : world_of c events ≡ final.world
       leads = run-append c (feeds fed) (at-last.reach.events ++ final.events) (start c) ∙ ap (run_freely c (at-last.reach.events ++ final.events)) fed-all ∙ run-append c at-last.reach.events final.events begun ∙ ap (run_freely c final.events) at-last.reach.is ∙ final.is
 
-      last : Final tells seen is_for c s.fleet.config set work s.log.pieces s.log.placed sp.later final.world
-      last = subst (λ (es : List Entry). Final tells seen is_for c s.fleet.config set work s.log.pieces es sp.later final.world) (sym at-last.are) final.holds
+      last : Final tells seen is_for c s.fleet.config set work sp.first s.log.pieces s.log.placed sp.later final.world
+      last = subst (λ (es : List Entry). Final tells seen is_for c s.fleet.config set work sp.first s.log.pieces es sp.later final.world) (sym at-last.are) final.holds
+
+      tallied : IsTallied c (past_of tells seen h.joined) last.epoch 0 s.log.placed (λ k. empty) (world_of c events)
+      tallied = subst (λ (js : List (StoppedShard T)). IsTallied c (past_of tells seen js) last.epoch 0 s.log.placed (λ k. empty) (world_of c events)) (sym sp.are)
+          (subst (λ (v : World). IsTallied c (past_of tells seen (sp.first ++ sp.later)) last.epoch 0 s.log.placed (λ k. empty) v) (sym leads) last.tallied)
 
 pub stops-as-run : {T : Type 0} (tells : T → Type 0) (seen : T → List Exchange) (is_for : ℕ → ℕ → T → Type 0) (s : Shipping T) (r : Report T) → StopsAsRun tells seen is_for s r
 stops-as-run {T} tells seen is_for s r c fed h epochs machine work fed_are e p numbers turn left = by_outcome r.outcome refl h.ends left
@@ -620,7 +687,7 @@ stops-as-run {T} tells seen is_for s r c fed h epochs machine work fed_are e p n
     placed : Places 0 epochs (sent c.choice s.log.placed)
     placed = subst (λ (ch : Choice). Places 0 epochs (sent ch s.log.placed)) (sym machine.1) p
 
-    by_outcome : (o : Outcome) → r.outcome ≡ o → Ends s h.joined o → (IsAbandoned o → ⊥) → IsRun c s r
+    by_outcome : (o : Outcome) → r.outcome ≡ o → Ends s h.joined o → (IsAbandoned o → ⊥) → IsRun tells seen c s r
     by_outcome (outcome.Complete end) is ended whole = finish tells seen is_for c s r fed h machine.0 machine.1 work fed_are epochs e placed numbers turn ended.2 left None ended.1 (ap ending_of is ∙ ap Complete ended.0)
     by_outcome (outcome.Damaged f) is ended whole = finish tells seen is_for c s r fed h machine.0 machine.1 work fed_are epochs e placed numbers turn ended.1 left (Some f) ended.0 (ap ending_of is)
     by_outcome (outcome.Abandoned count samples) is ended whole = absurd (whole tt)

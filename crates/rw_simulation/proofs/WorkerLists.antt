@@ -12,15 +12,15 @@ use Rattle.rw_plain_queue.specs.declared.item.Item.TheVariants.{Sample, Flush, E
 use Rattle.rw_shard_core.specs.Shard.{Core, take_item, send, is_empty, settle, lose, again, placed, reply, batch_id}
 use Rattle.rw_worker.specs.declared.transport.Reply.{Reply}
 use Rattle.rw_worker.specs.declared.transport.Lost.{Lost}
-use Rattle.rw_worker.specs.Steps.{working, Step, Takes, Freezes, Sends, Waits, MayStep, after_step, answered, items_of}
+use Rattle.rw_worker.specs.Steps.{Working, working, Step, Takes, Freezes, Sends, Waits, MayStep, AreSteps, after, after_step, answered, items_of}
 use Rattle.rw_machine.specs.Shards.{Shard, Queued, is_drained, samples_in}
 use Rattle.rw_machine.proofs.Others.{no_batch}
 use Rattle.rw_simulation.specs.WorkerRuns.{queued, AreOf, IsShardNumbered, CanEnd}
 use Rattle.rw_simulation.proofs.WorkerSteps.{sent-is, sent_core, sent_awaits, sent_answers, send_parts}
 
-of-append : (i : ℕ) (xs ys : List Placed) → AreOf i xs → AreOf i ys → AreOf i (xs ++ ys)
-of-append i [] ys h k = k
-of-append i (x ∷ xs) ys h k = (h.0, of-append i xs ys h.1 k)
+of-append : (epoch i : ℕ) (xs ys : List Placed) → AreOf epoch i xs → AreOf epoch i ys → AreOf epoch i (xs ++ ys)
+of-append epoch i [] ys h k = k
+of-append epoch i (x ∷ xs) ys h k = (h.0, h.1, of-append epoch i xs ys h.2 k)
 
 -- the core after an answer
 abbrev pub answered_core : Result Reply Lost → Core → Core
@@ -50,7 +50,7 @@ numbered_settle i Refused c h = record { number = h.number; batch = tt; builder 
 numbered_settle i Again c h = record { number = h.number; batch = h.batch; builder = h.builder }
 
 pub numbered-after : (i : ℕ) (st : Step) (c : Core) → MayStep st c → IsShardNumbered i c → IsShardNumbered i (core_after st c)
-numbered-after i (Takes (Sample place t word labels)) c may h = record { number = h.number; batch = h.batch; builder = of-append i c.builder (placed place t word labels.value ∷ []) h.builder (may.1.1 ∙ h.number, tt) }
+numbered-after i (Takes (Sample place t word labels)) c may h = record { number = h.number; batch = h.batch; builder = of-append c.epoch i c.builder (placed place t word labels.value ∷ []) h.builder (may.1.0, may.1.1 ∙ h.number, tt) }
 numbered-after i (Takes Flush) c may h = record { number = h.number; batch = h.batch; builder = h.builder }
 numbered-after i (Takes (End kind)) c may h = record { number = h.number; batch = h.batch; builder = h.builder }
 numbered-after i Freezes c may h = record { number = h.number; batch = h.builder; builder = tt }
@@ -60,6 +60,31 @@ numbered-after i (Sends e) c may h = by_answer e.answer
     by_answer : (a : Result Reply Lost) → IsShardNumbered i (answered_core a c)
     by_answer (Ok r) = numbered_settle i (judgement_of r.status) c h
     by_answer (Err lost) = record { number = h.number; batch = h.batch; builder = h.builder }
+
+epoch_settle : (j : Judgement) (c : Core) → (settle j (sent_core c)).epoch ≡ c.epoch
+epoch_settle Done c = refl
+epoch_settle Refused c = refl
+epoch_settle Again c = refl
+
+-- a shard stays in its epoch
+epoch-after : (st : Step) (c : Core) → (core_after st c).epoch ≡ c.epoch
+epoch-after (Takes (Sample place t word labels)) c = refl
+epoch-after (Takes Flush) c = refl
+epoch-after (Takes (End kind)) c = refl
+epoch-after Freezes c = refl
+epoch-after Waits c = refl
+epoch-after (Sends e) c = by_answer e.answer
+  where
+    by_answer : (a : Result Reply Lost) → (answered_core a c).epoch ≡ c.epoch
+    by_answer (Ok r) = epoch_settle (judgement_of r.status) c
+    by_answer (Err lost) = refl
+
+pub epoch-step : (st : Step) (w : Working) → MayStep st w.core → (after_step st w).core.epoch ≡ w.core.epoch
+epoch-step st w may = ap (λ (k : Core). k.epoch) (after-is st w.core w.ledger may) ∙ epoch-after st w.core
+
+pub epoch-all : (w : Working) (ss : List Step) → AreSteps w ss → (after w ss).core.epoch ≡ w.core.epoch
+epoch-all w [] h = refl
+epoch-all w (s ∷ ss) h = epoch-all (after_step s w) ss h.1 ∙ epoch-step s w h.0
 
 -- how many samples a shard holds, by its core and its queue
 abbrev pub count : Core → List Queued → ℕ

@@ -13,7 +13,7 @@ use Rattle.rw_shard_core.specs.Shard.{Core, can_take, take_item, freeze, can_sen
 use Rattle.rw_worker.specs.declared.transport.Reply.{Reply}
 use Rattle.rw_worker.specs.declared.transport.Lost.{Lost}
 use Rattle.rw_worker.specs.Transcript.{exchange_of}
-use Rattle.rw_worker.specs.Steps.{Takes, Freezes, Sends, MayStep}
+use Rattle.rw_worker.specs.Steps.{Working, working, Step, Takes, Freezes, Sends, Waits, MayStep, AreSteps, after, after_step, answered}
 use Rattle.rw_machine.specs.Shards.{Shard, Queued, shard_take, shard_freeze, shard_send, shard_lost, take_front, with_core}
 use Rattle.rw_machine.specs.Worlds.{Setup, Request, World, is_over}
 use Rattle.rw_machine.specs.Worlds as worlds
@@ -21,7 +21,7 @@ use Rattle.rw_machine.specs.Steps.{change, happens, unless_over, names_after, re
 use Rattle.rw_machine.specs.declared.event.Event.TheVariants as event
 use Rattle.rw_machine.proofs.Live.{same_id_own}
 use Rattle.rw_simulation.specs.Freely.{Answered, run_freely, happens_freely}
-use Rattle.rw_simulation.specs.WorkerRuns.{queued, step_happenings, answer_happenings, IsAfter, IsShardNumbered, AreOf}
+use Rattle.rw_simulation.specs.WorkerRuns.{queued, step_happenings, answer_happenings, IsAfter, IsIdOf, IsShardNumbered, AreOf, answer_names, step_names, steps_names}
 use Rattle.rw_simulation.proofs.Changes.{change-is, change-get, change-twice, get-last, Goes, not-over}
 use Rattle.rw_shard_core.proofs.NamingLemmas.{settle_names-room}
 
@@ -50,6 +50,7 @@ take-step c w i s l x rest e goes q may = record {
       ∙ no_more w i (record s { queue = rest; core = take_item x s.core });
   ledger_is = refl;
   sent = refl;
+  ids = tt;
 }
 
 pub freeze-step : (c : Setup) (w : World) (i : ℕ) (s : Shard) (l : Named) (rest : List Queued) → slice_get w.shards i ≡ Some s → Goes w s → s.queue ≡ rest → MayStep Freezes s.core
@@ -62,6 +63,7 @@ freeze-step c w i s l rest e goes q may = record {
       ∙ no_more w i (record s { queue = rest; core = freeze s.core });
   ledger_is = rw may.1 refl;
   sent = refl;
+  ids = tt;
 }
 
 -- an attempt of the open batch
@@ -90,9 +92,24 @@ sent_awaits c can = let p = send_parts c can in rw (p.alive, p.some) refl
 pub sent_answers : (c : Core) → can_send c ≡ true → is_answer (batch_id c.batch) (sent_core c) ≡ true
 sent_answers c can = rw (sent_awaits c can) (same_id_own (batch_id c.batch))
 
-batch_shard : (i : ℕ) (xs : List Placed) → is_empty xs ≡ false → AreOf i xs → (batch_id xs).shard ≡ i
-batch_shard i [] some h = absurd (cc)
-batch_shard i (x ∷ xs) some h = h.0
+-- the names of a worker's part, after a step that may be made
+pub ledger-step : (st : Step) (w : Working) → MayStep st w.core → (after_step st w).ledger.names ≡ step_names st w.core w.ledger.names
+ledger-step (Takes x) w may = refl
+ledger-step Freezes w may = rw may.1 refl
+ledger-step Waits w may = refl
+ledger-step (Sends e) w may = by_answer e.answer
+  where
+    by_answer : (a : Result Reply Lost) → (answered a (working (send w.core) w.ledger)).ledger.names ≡ answer_names a w.core.batch w.ledger.names
+    by_answer (Ok r) = ap (λ (k : Core). (reply_names (batch_id k.batch) r.status k w.ledger).names) (sent-is w.core may.0) ∙ rw (sent_answers w.core may.0) (settle_names-room (judgement_of r.status) r.status w.core.batch w.ledger)
+    by_answer (Err lost) = refl
+
+pub ledger-all : (w : Working) (ss : List Step) → AreSteps w ss → (after w ss).ledger.names ≡ steps_names ss w w.ledger.names
+ledger-all w [] h = refl
+ledger-all w (s ∷ ss) h = ledger-all (after_step s w) ss h.1 ∙ ap (steps_names ss (after_step s w)) (ledger-step s w h.0)
+
+batch_ids : (epoch i : ℕ) (xs : List Placed) → is_empty xs ≡ false → AreOf epoch i xs → ((batch_id xs).epoch ≡ epoch) × ((batch_id xs).shard ≡ i)
+batch_ids epoch i [] some h = absurd (cc)
+batch_ids epoch i (x ∷ xs) some h = (h.0, h.1)
 
 module _ (c : Setup) (w : World) (i : ℕ) (s : Shard) (e : slice_get w.shards i ≡ Some s) (goes : Goes w s) (numbered : IsShardNumbered i s.core) (can : can_send s.core ≡ true) where
   abbrev request : Request
@@ -108,6 +125,9 @@ module _ (c : Setup) (w : World) (i : ℕ) (s : Shard) (e : slice_get w.shards i
       ∙ ap (send_batch w i) e
       ∙ rw can refl
       ∙ ap (λ ss. record w { requests = w.requests ++ request ∷ []; shards = ss }) (change-is shard_send i w.shards s e ∙ ap (λ (k : Core). change i (λ _. record s { core = k }) w.shards) (sent-is s.core can))
+
+  own_ids : IsIdOf s.core.epoch i request
+  own_ids = batch_ids s.core.epoch i s.core.batch (send_parts s.core can).some numbered.batch
 
   out_get : slice_get out.shards i ≡ Some (sent_shard s)
   out_get = change-get (sent_shard s) i w.shards s e
@@ -147,7 +167,7 @@ module _ (c : Setup) (w : World) (i : ℕ) (s : Shard) (e : slice_get w.shards i
       (change-is (with_core (settle (judgement_of status))) i out.shards (sent_shard s) out_get ∙ change-twice (sent_shard s) (settled_shard status) i w.shards)
     where
       at_own : (batch_id s.core.batch).shard ≡ i
-      at_own = batch_shard i s.core.batch (send_parts s.core can).some numbered.batch
+      at_own = own_ids.1
 
   pub send-step : (l : Named) (rest : List Queued) (bytes : List ℕ) (a : Result Reply Lost) → s.queue ≡ rest → MayStep (Sends (exchange_of bytes a)) s.core
       → IsAfter w i s l (Sends (exchange_of bytes a) ∷ []) rest (run_freely c (step_happenings w i (Sends (exchange_of bytes a))) w)
@@ -158,8 +178,9 @@ module _ (c : Setup) (w : World) (i : ℕ) (s : Shard) (e : slice_get w.shards i
         ∙ ap (λ v. happens c v (event.Reply (length w.replies))) (back_is r.status)
         ∙ reply_is r.status
         ∙ ap (λ (t : Shard). moved w i t (names_after r.status s.core.batch w.names) (w.requests ++ request ∷ []) (w.replies ++ answer r.status ∷ [])) (ap (λ (xs : List Queued). record s { queue = xs; core = settle (judgement_of r.status) (sent_core s.core) }) q ∙ ap (λ (k : Core). record s { queue = rest; core = k }) core_is);
-    ledger_is = ap (λ (k : Core). (reply_names (batch_id k.batch) r.status k l).names) (sent-is s.core can) ∙ rw (sent_answers s.core can) (settle_names-room (judgement_of r.status) r.status s.core.batch l);
+    ledger_is = ledger-step (Sends (exchange_of bytes (Ok r))) (working s.core l) may;
     sent = ap (λ (x : List ℕ). x ∷ []) (sym may.1);
+    ids = (own_ids, tt);
   }
     where
       core_is : settle (judgement_of r.status) (sent_core s.core) ≡ reply (batch_id (send s.core).batch) r.status (send s.core)
@@ -173,4 +194,5 @@ module _ (c : Setup) (w : World) (i : ℕ) (s : Shard) (e : slice_get w.shards i
         ∙ ap (λ rs. moved w i (record s { queue = rest; core = lose (send s.core) }) w.names (w.requests ++ request ∷ []) rs) (sym (append-nil w.replies));
     ledger_is = refl;
     sent = ap (λ (x : List ℕ). x ∷ []) (sym may.1);
+    ids = (own_ids, tt);
   }

@@ -1,16 +1,21 @@
 -- A shipper that was stopped is a run of the machine of events, whether it left nothing or abandoned what was left.
 use Rattle.std.specs.Prelude.{◌≡◌, ℕ, ◌<◌, List, [], ◌∷◌, ◌++◌, length, map, Option, Some, slice_get, IsPermutation, ⊤}
+use Rattle.std.specs.List.{AllByRecursion}
+use Rattle.std.specs.Ordering.{nat_cmp}
+use Rattle.std.specs.FinMap.{FinMap, get}
 use Rattle.rw_types.specs.Rising.{Rises}
 use Rattle.rw_wal_tail.specs.Fed.{piece_of}
 use Rattle.rw_wal_tail.specs.declared.piece.Piece.{Piece}
 use Rattle.rw_shard_core.specs.declared.config.ConfigFields.{ConfigFields}
 use Rattle.rw_shard_core.specs.declared.outcome.Outcome.{Outcome}
 use Rattle.rw_shard_core.specs.declared.outcome.Outcome.TheVariants as outcome
+use Rattle.rw_ledger.specs.declared.ledger.Reason.{Reason}
+use Rattle.rw_ledger.specs.Names.{Named}
 use Rattle.rw_plain_queue.specs.Items.{samples_in}
 use Rattle.rw_plain_queue.specs.declared.item.Kind.TheVariants.{Orderly, Reshard}
 use Rattle.rw_worker.specs.Transcript.{Exchange}
 use Rattle.rw_fleet.specs.ShardHistories.{ShardHistory, put_into}
-use Rattle.rw_fleet.specs.Work.{AreEndedBy, AreResolved, lane_of, put_of, taken_of}
+use Rattle.rw_fleet.specs.Work.{AreEndedBy, AreResolved, lane_of, put_of, queue_of, taken_of}
 use Rattle.rw_fleet.specs.Fleets.{Shards, AreAll, EndBy}
 use Rattle.rw_fleet.specs.declared.joined.Finished.{Finished}
 use Rattle.rw_feeder.specs.Logs.{sent}
@@ -19,10 +24,12 @@ use Rattle.rw_shipper.specs.Reports.{IsAbandoned}
 use Rattle.rw_shipper.specs.Shipping.{Shipping, PlacesAll, HasStopped}
 use Rattle.rw_shipper.specs.declared.report.Report.{Report}
 use Rattle.rw_machine.specs.Shards.{Shard}
-use Rattle.rw_machine.specs.Worlds.{Setup, World, Ending, Complete, Abandoned, Damaged, report}
+use Rattle.rw_machine.specs.Worlds.{Setup, Request, World, Ending, Complete, Abandoned, Damaged, report}
 use Rattle.rw_machine.specs.Promises.{CanWork}
 use Rattle.rw_simulation.specs.Freely.{Happening}
-use Rattle.rw_simulation.specs.FreeLaws.{world_of}
+use Rattle.rw_simulation.specs.FreeLaws.{KeepsLaws, world_of}
+use Rattle.rw_simulation.specs.WorkerRuns.{sent_bytes, request_in}
+use Rattle.rw_simulation.specs.Tallies.{requests_of}
 
 -- the machine's target, queues and batches are those of the workers
 pub record IsSetAs (c : Setup) (config : ConfigFields) : Type 0 where
@@ -61,14 +68,31 @@ pub record IsRisingOrderOf (xs ys : List ℕ) : Type 0 where
   pub same : IsPermutation xs ys
   pub rises : Rises (λ x y. x < y) ys
 
+-- a part of the report names the position, with this reason
+abbrev pub IsNamedIn : List Named → ℕ → Reason → Type 0
+IsNamedIn parts p reason = (k : ℕ) × (part : Named) × (slice_get parts k ≡ Some part) × (get part.names p ≡ Some reason)
+
+-- what is named is what the parts name, all together
+abbrev pub NamesAll : FinMap nat_cmp Reason → List Named → Type 0
+NamesAll names parts = (p : ℕ) (reason : Reason) → (get names p ≡ Some reason → IsNamedIn parts p reason) × (IsNamedIn parts p reason → get names p ≡ Some reason)
+
+-- it is a request of one of these workers' shards
+abbrev pub IsOfOne : {T : Type 0} → List (Finished T) → Request → Type 0
+IsOfOne {T} fs q = (k : ℕ) × (f : Finished T) × (slice_get fs k ≡ Some f) × (q.id.epoch ≡ (queue_of f.ends).epoch) × (q.id.shard ≡ (queue_of f.ends).shard)
+
+-- of each worker that tells its exchanges the requests are those of its shard, byte by byte and in order; and there are no others
+pub record SendsAll {T : Type 0} (tells : T → Type 0) (seen : T → List Exchange) (requests : List Request) (fs : List (Finished T)) : Type 0 where
+  pub each : (k : ℕ) (f : Finished T) → slice_get fs k ≡ Some f → tells f.transport → map sent_bytes (requests_of (queue_of f.ends).epoch (queue_of f.ends).shard requests) ≡ map request_in (seen f.transport)
+  pub owned : AllByRecursion (IsOfOne fs) requests
+
 -- the machine's report is the outcome; the samples that are left it tells in rising order, where the shipper has them shard by shard
 abbrev pub Tells : Outcome → Option Ending → Type 0
 Tells (outcome.Complete end) found = found ≡ Some (Complete end)
 Tells (outcome.Abandoned placed samples) found = (left : List ℕ) × (found ≡ Some (Abandoned placed left)) × IsRisingOrderOf samples.items left
 Tells (outcome.Damaged f) found = found ≡ Some (Damaged f)
 
--- The machine comes to what the shipper reports: its shards are those of the last epoch.
-pub record ComesTo {T : Type 0} (c : Setup) (s : Shipping T) (r : Report T) (w : World) : Type 0 where
+-- The machine comes to what the shipper reports: its shards are those of the last epoch, its names and requests those of all.
+pub record ComesTo {T : Type 0} (tells : T → Type 0) (seen : T → List Exchange) (c : Setup) (s : Shipping T) (r : Report T) (w : World) : Type 0 where
   pub log : w.pieces ≡ s.log.pieces
   pub placed : w.placed ≡ length s.log.placed
   pub filtered : w.filtered ≡ r.filtered
@@ -77,17 +101,19 @@ pub record ComesTo {T : Type 0} (c : Setup) (s : Shipping T) (r : Report T) (w :
   pub workers : r.workers.items ≡ earlier ++ last
   pub shards : length w.shards ≡ length last
   pub each : (k : ℕ) (m : Shard) (f : Finished T) → slice_get w.shards k ≡ Some m → slice_get last k ≡ Some f → IsAlike f m
+  pub names : NamesAll w.names r.parts.items
+  pub requests : SendsAll tells seen w.requests r.workers.items
   pub outcome_is : Tells r.outcome (report w)
 
--- some free schedule of the machine leads there
-abbrev pub IsRun : {T : Type 0} → Setup → Shipping T → Report T → Type 0
-IsRun c s r = (hs : List Happening) × ComesTo c s r (world_of c hs)
+-- some free schedule of the machine leads there, and what the machine's laws say holds of it
+abbrev pub IsRun : {T : Type 0} → (T → Type 0) → (T → List Exchange) → Setup → Shipping T → Report T → Type 0
+IsRun tells seen c s r = (hs : List Happening) × ComesTo tells seen c s r (world_of c hs) × KeepsLaws c (world_of c hs)
 
 -- So it is of every shipper that left nothing, over whichever epochs its samples were placed, where these had such numbers of shards and ended in turn;
 abbrev pub StopsAsRun : {T : Type 0} → (T → Type 0) → (T → List Exchange) → (ℕ → ℕ → T → Type 0) → Shipping T → Report T → Type 0
 StopsAsRun tells seen is_for s r =
     (c : Setup) (fed : List Piece) (h : HasStopped tells seen is_for s r) (epochs : List (List ShardHistory)) → IsMachineOf c s → CanWork c → s.log.pieces ≡ map piece_of fed
-    → map lane_of h.joined ≡ joined epochs → Places 0 epochs (sent s.log.choice s.log.placed) → HasNumbers c epochs → EndInTurn epochs → (IsAbandoned r.outcome → ⊥) → IsRun c s r
+    → map lane_of h.joined ≡ joined epochs → Places 0 epochs (sent s.log.choice s.log.placed) → HasNumbers c epochs → EndInTurn epochs → (IsAbandoned r.outcome → ⊥) → IsRun tells seen c s r
 
 -- how many shards the first epoch had
 abbrev pub first_number : List (List ShardHistory) → List ShardHistory → ℕ
@@ -98,10 +124,10 @@ first_number (lanes ∷ later) current = length lanes
 abbrev pub StopsInOrder : {T : Type 0} → (T → Type 0) → (T → List Exchange) → (ℕ → ℕ → T → Type 0) → Shipping T → Report T → Type 0
 StopsInOrder tells seen is_for s r =
     (c : Setup) (fed : List Piece) (h : HasStopped tells seen is_for s r) (p : PlacesAll s.log s.fleet) → IsMachineOf c s → CanWork c → s.log.pieces ≡ map piece_of fed → IsShardCount (length s.fleet.current) → first_number p.epochs s.fleet.current ≡ c.shards
-    → EndBy Orderly s.fleet r.workers.items → (IsAbandoned r.outcome → ⊥) → IsRun c s r
+    → EndBy Orderly s.fleet r.workers.items → (IsAbandoned r.outcome → ⊥) → IsRun tells seen c s r
 
 -- So it is of every shipper that abandoned what was left, however it was stopped. `before` is the fleet as it stood before its last shards were ended: that of the shipper, or where a reshard failed that before it. The shards of the epochs before had resolved all.
 abbrev pub StopsAbandoned : {T : Type 0} → (T → Type 0) → (T → List Exchange) → (ℕ → ℕ → T → Type 0) → Shipping T → Report T → Type 0
 StopsAbandoned {T} tells seen is_for s r =
     (c : Setup) (fed : List Piece) (h : HasStopped tells seen is_for s r) (before : Shards T) (p : PlacesAll s.log before) → IsMachineOf c s → CanWork c → s.log.pieces ≡ map piece_of fed
-    → AreAll before h.joined → AreResolved before.ended → IsShardCount (length before.current) → first_number p.epochs before.current ≡ c.shards → IsAbandoned r.outcome → IsRun c s r
+    → AreAll before h.joined → AreResolved before.ended → IsShardCount (length before.current) → first_number p.epochs before.current ≡ c.shards → IsAbandoned r.outcome → IsRun tells seen c s r

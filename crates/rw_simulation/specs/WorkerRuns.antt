@@ -1,5 +1,6 @@
 -- What the steps of a worker are to the machine of events.
 use Rattle.std.specs.Prelude.{◌≡◌, ◌⊎◌, ℕ, ◌+◌, true, false, List, [], ◌∷◌, ◌++◌, length, map, Some, None, Result, Ok, Err, slice_get}
+use Rattle.std.specs.List.{AllByRecursion}
 use Rattle.std.specs.Ordering.{nat_cmp}
 use Rattle.std.specs.FinMap.{FinMap}
 use Rattle.rw_ledger.specs.declared.ledger.Reason.{Reason}
@@ -58,15 +59,15 @@ abbrev pub steps_names : List Step → Working → FinMap nat_cmp Reason → Fin
 steps_names [] w names = names
 steps_names (s ∷ ss) w names = steps_names ss (after_step s w) (step_names s w.core names)
 
--- the samples of the open batch and of the builder are of this shard
-abbrev pub AreOf : ℕ → List Placed → Type 0
-AreOf i [] = Unit {0}
-AreOf i (x ∷ xs) = (x.place.shard ≡ i) × AreOf i xs
+-- the samples of the open batch and of the builder are of this shard of its epoch
+abbrev pub AreOf : ℕ → ℕ → List Placed → Type 0
+AreOf epoch i [] = Unit {0}
+AreOf epoch i (x ∷ xs) = (x.place.epoch ≡ epoch) × (x.place.shard ≡ i) × AreOf epoch i xs
 
 pub record IsShardNumbered (i : ℕ) (c : Core) : Type 0 where
   pub number : c.shard ≡ i
-  pub batch : AreOf i c.batch
-  pub builder : AreOf i c.builder
+  pub batch : AreOf c.epoch i c.batch
+  pub builder : AreOf c.epoch i c.builder
 
 abbrev pub sent_bytes : Request → List ℕ
 sent_bytes r = r.bytes
@@ -74,8 +75,12 @@ sent_bytes r = r.bytes
 abbrev pub request_in : Exchange → List ℕ
 request_in e = e.request
 
+-- a request of this shard of this epoch
+abbrev pub IsIdOf : ℕ → ℕ → Request → Type 0
+IsIdOf epoch i r = (r.id.epoch ≡ epoch) × (r.id.shard ≡ i)
+
 -- The machine's shard i is as the worker's after its steps, what it did not take still waits, and its names are those that the worker's part of the ledger got.
--- The requests are those of its exchanges, byte by byte. Nothing else has changed.
+-- The requests are those of its exchanges, byte by byte, and have its ids. Nothing else has changed.
 pub record IsAfter (w : World) (i : ℕ) (s : Shard) (ledger : Named) (steps : List Step) (rest : List Queued) (v : World) : Type 0 where
   pub requests : List Request
   pub replies : List worlds.Reply
@@ -87,6 +92,7 @@ pub record IsAfter (w : World) (i : ℕ) (s : Shard) (ledger : Named) (steps : L
   }
   pub ledger_is : (after (working s.core ledger) steps).ledger.names ≡ steps_names steps (working s.core ledger) ledger.names
   pub sent : map sent_bytes requests ≡ map request_in (exchanges_of steps)
+  pub ids : AllByRecursion (IsIdOf s.core.epoch i) requests
 
 -- The shard's lists are whole, and nothing waits behind an End: so it is not drained before the last step.
 pub record CanEnd (s : Shard) (steps : List Step) : Type 0 where

@@ -8,6 +8,7 @@ ghost use Rattle.rw_machine.specs.Worlds.{Setup, World};
 ghost use Rattle.rw_simulation.specs.Freely.{Happening};
 ghost use Rattle.rw_simulation.specs.FreeLaws.{KeepsLaws, world_of};
 ghost use Rattle.rw_simulation.specs.WorkerRuns.{IsWorkerRun};
+ghost use Rattle.rw_simulation.specs.Tallies.{Earlier, past_by};
 ghost use Rattle.rw_simulation.specs.FleetRuns.{IsFleetRun};
 ghost use Rattle.rw_simulation.specs.StoppedShards.{StopsAsShard};
 ghost use Rattle.rw_simulation.specs.StoppedRuns.{StopsAbandoned, StopsAsRun, StopsInOrder};
@@ -25,9 +26,10 @@ pub fn a_worker_is_a_run()
     ensures { (c : Setup) (w : World) (i : ℕ) → IsWorkerRun c w i }
 {}
 
-/// What the shards of an epoch were put, and did, is a run of the machine, from their beginning to where each has been put all but its End.
+/// What the shards of an epoch were put, and did, is a run of the machine, from their beginning to where each has been put all but its End, whatever the
+/// epochs before it have named and sent.
 pub fn an_epoch_is_a_run()
-    ensures { (c : Setup) → IsFleetRun c }
+    ensures { (c : Setup) (earlier : Earlier) → IsFleetRun c (past_by earlier) }
 {}
 
 /// A shard that has stopped is a shard of such an epoch, whether its queue was cut or not.
@@ -35,7 +37,8 @@ pub fn a_stopped_shard_is_a_run<T: Transport>()
     ensures { (j : StoppedShard T) → StopsAsShard T.tells T.seen T.is_for j }
 {}
 
-/// A shipper that was stopped is a run of the machine, which reports the same. `orderly` is of one that was stopped in order with nothing left: it takes
+/// A shipper that was stopped is a run of the machine, which reports the same, names what the parts of its report name together, and sent what its workers
+/// exchanged. `orderly` is of one that was stopped in order with nothing left: it takes
 /// from the shipper's own clauses how its samples were placed and its epochs ended; that there are 1 to 1000 shards, and that the machine can work, it
 /// asks for. `epochs` is of any epochs over which the samples may have been placed. `abandoned` is of one that left what was not resolved, however it
 /// was stopped: the machine is killed, and tells the samples that are left in rising order. It asks that the shards of the epochs before had resolved
