@@ -437,25 +437,25 @@ fn workers_send_at_once(rt: HostRuntime) -> Result<(), Fail> {
     Ok(())
 }
 
-/// Whether the sample that was fed is resolved in time.
+/// Whether the two samples that were fed are resolved in time.
 fn is_resolved(shipper: &Shipper<Peers>) -> bool {
     for _ in 0..TURNS {
         thread::yield_now();
-        if shipper.load() == ONE_OF_ONE {
+        if shipper.load() == TWO_OF_TWO {
             return true;
         }
     }
     false
 }
 
-/// Whether a sample is resolved in time with no call behind the one that fed it.
+/// Whether a sample of each of two shards is resolved in time with no call behind the one that fed them.
 fn resolves_in_time<R: Threads + Wait + Copy + Send + 'static>(
     rt: &R,
     alloc: Global,
 ) -> Result<bool, AllocError> {
-    let log = segment(alloc, &[UP], &[(1, 10, ONE)])?;
+    let log = segment(alloc, &FOUR, &[(1, 10, ONE), (2, 20, TWO)])?;
     let peers = peers_of(alloc, 204, u64::MAX, None)?;
-    let Some(config) = config_of(alloc, 1, 1) else {
+    let Some(config) = config_of(alloc, 2, 1) else {
         return Ok(false);
     };
     let mut shipper = Shipper::start(rt, alloc, config, peers)?;
