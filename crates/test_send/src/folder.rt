@@ -53,7 +53,8 @@ static NAMES: [&str; 10] = [
     "00000000",
 ];
 
-fn write_name(rt: &HostRuntime, dir: &str, name: &str) -> Result<(), Fail> {
+/// Writes a file that holds its name and a space.
+pub(crate) fn write_name(rt: &HostRuntime, dir: &str, name: &str) -> Result<(), Fail> {
     let path = Path::new(dir).join(rt.alloc(), name)?;
     let text = format!(in rt.alloc(); "{name} ")?;
     fs::write(rt, path, text)?;

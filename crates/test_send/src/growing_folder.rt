@@ -1,6 +1,6 @@
 //! A folder that is followed while files come and grow.
 
-use crate::folder::new_folder;
+use crate::folder::{new_folder, write_name};
 use crate::kept::{Kept, follow_into};
 use Change::{Goes, Grows, Nothing};
 use rw_follow::{Broken, Sign, Timed, Wish};
@@ -116,7 +116,7 @@ fn followed<W: Wait>(
     text_of(alloc, &kept, end)
 }
 
-/// Other names are passed over, and what was there before is read first.
+/// Other names are passed over, and what was there before is read first, in order.
 static COMES: [Change; 9] = [
     Nothing,
     Grows("checkpoint.00000007", b"x"),
@@ -132,8 +132,11 @@ static COMES: [Change; 9] = [
 #[test]
 fn files_come_and_grow(rt: HostRuntime) -> Result<(), Fail> {
     let dir = new_folder(&rt, "rwship-files-come-and-grow")?;
+    for name in ["00000007", "00000006"] {
+        write_name(&rt, dir.as_str(), name)?;
+    }
     let text = followed(&rt, &rt, dir, &COMES)?;
-    assert_eq!(rt; text.as_str(), "abcdefg|h|.");
+    assert_eq!(rt; text.as_str(), "00000006 |00000007 |abcdefg|h|.");
     Ok(())
 }
 

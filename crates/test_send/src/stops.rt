@@ -2,8 +2,10 @@
 
 use rw_stop::{Sign, Wish, watch_file, watch_input};
 use std::alloc::Global;
+use std::fs::Files;
 use std::test::Fail;
-use std::{fs, io};
+use std::time::{Clock, Duration};
+use std::{fs, io, thread};
 
 /// What is wished behind an input.
 fn wish_behind(alloc: Global, text: &[u8]) -> Wish {
@@ -50,11 +52,23 @@ fn nothing_is_wished_at_first(rt: HostRuntime) -> Result<(), Fail> {
     Ok(())
 }
 
+/// Makes a file, which a watch has looked for then, or else asks for an end at once.
+fn make_later<R: Clock + Files>(rt: &R, path: &str, sign: &Sign) {
+    thread::sleep(rt, Duration::from_millis(300));
+    if fs::write(rt, path, b"").is_err() {
+        sign.hard();
+    }
+}
+
+/// The file comes behind the first look.
 #[test]
 fn a_file_sets_a_sign(rt: HostRuntime) -> io::Result<()> {
     let sign = Sign::new();
-    fs::write(&rt, "stop", b"")?;
-    watch_file(&rt, "stop", &sign);
+    thread::join(
+        &rt,
+        || watch_file(&rt, "stop", &sign),
+        || make_later(&rt, "stop", &sign),
+    );
     fs::remove_file(&rt, "stop")?;
     assert!(rt; sign.wish() == Wish::End);
     Ok(())
