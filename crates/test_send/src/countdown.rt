@@ -1,6 +1,8 @@
 //! Watches that say to stop after so many looks.
 
 use rw_follow::{Sign, Watch, Wish};
+use rw_metrics::SendCounters;
+use std::alloc::Global;
 
 /// Says this wish once it was asked so often. What was fed is flushed at once, or never, and so is the number of shards asked for.
 #[derive(Drop)]
@@ -42,8 +44,23 @@ impl Watch for Countdown {
     }
 }
 
-impl Sign for Countdown {
+/// Asks for an end behind so many looks: at once if the counters tell then that one sample was placed and none waits, and in order otherwise.
+#[derive(Drop)]
+pub(crate) struct Onlooker<'a> {
+    pub(crate) alloc: Global,
+    pub(crate) counters: &'a SendCounters,
+    pub(crate) looks: u32,
+}
+
+impl Sign for Onlooker<'_> {
     fn wish(&mut self) -> Wish {
-        self.next()
+        if self.looks > 0 {
+            self.looks -= 1;
+            return Wish::Work;
+        }
+        match self.counters.numbers(self.alloc) {
+            Ok(numbers) if numbers.placed == 1 && numbers.waiting == 0 => Wish::Hard,
+            _ => Wish::End,
+        }
     }
 }

@@ -11,6 +11,8 @@ mod connections;
 #[cfg(test)]
 mod countdown;
 #[cfg(test)]
+mod counted;
+#[cfg(test)]
 mod folder;
 #[cfg(test)]
 mod growing;
@@ -36,3 +38,5 @@ mod service;
 mod shipped;
 #[cfg(test)]
 mod stops;
+#[cfg(test)]
+mod timers;

@@ -19,11 +19,21 @@ pub(crate) const BEHIND: &[u8] =
 pub(crate) const NAMES: &[u8] =
     b"series 1 {__name__=\"http.rate\",\"s\xc3\xa4ge\"=\"1\"}\nseries 2 {\"9x\"=\"1\"}\nsample 1 10 1\nsample 2 10 2\n";
 
-/// The segment of log text.
+/// Samples of one series, so many, from 0 ms on.
+pub(crate) fn samples(alloc: Global, count: u32) -> Result<Vec<u8>, AllocError> {
+    let mut text = Vec::from_slice(alloc, b"series 1 {__name__=\"up\",job=\"api\"}\n")?;
+    for t in 0..count {
+        let line = format!(in alloc; "sample 1 {t} 1\n")?;
+        text.extend_from_slice(line.as_bytes())?;
+    }
+    Ok(text)
+}
+
+/// The segment of log text, of at most 4 pages.
 pub(crate) fn segment(alloc: Global, text: &[u8]) -> Result<Vec<u8>, AllocError> {
     let mut reader = text;
-    let mut writer = Room::new(alloc, 32_768)?;
-    match run_log(alloc, &mut reader, &mut writer, false, 1) {
+    let mut writer = Room::new(alloc, 131_072)?;
+    match run_log(alloc, &mut reader, &mut writer, false, 4) {
         Ok(()) => Ok(writer.into_bytes()),
         Err(_) => Err(AllocError),
     }

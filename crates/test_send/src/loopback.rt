@@ -1,5 +1,6 @@
 //! A sender and a receiver in one process, over the loopback interface.
 
+use crate::counted::holds_as_printed;
 use crate::logs::{BEHIND, FALLS, NAMES, UP, segment};
 use rw_metrics::{ReceiveCounters, SendCounters};
 use rw_receive::{Service, run_receive};
@@ -80,7 +81,7 @@ fn connect_to<N: Net<Stream = TcpStream> + Drop>(
     Ok(TcpConnect::new(alloc, net, addresses, Bounded::new(10_000), counters))
 }
 
-/// Whether a receiver takes the connections of a sender, or one where there are none, and ends well.
+/// Whether a receiver takes the connections of a sender, or one where there are none, ends well and has counted what it holds.
 fn receives<R: Threads + Wait + Clock + Sync>(
     rt: &R,
     alloc: Global,
@@ -99,10 +100,11 @@ fn receives<R: Threads + Wait + Clock + Sync>(
         idle_ms: Bounded::new(60_000),
         counters: &counters,
     };
-    match read_settings(alloc, row.0) {
+    let has_ended = match read_settings(alloc, row.0) {
         Ok(settings) => run_receive(rt, alloc, &settings, service, listener, held).is_ok(),
         Err(_) => false,
-    }
+    };
+    has_ended && holds_as_printed(alloc, &counters, row.4) == Ok(true)
 }
 
 /// Whether a sender ships a log and ends well.

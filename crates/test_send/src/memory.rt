@@ -1,9 +1,10 @@
 //! Logs shipped over memory.
 
-use crate::logs::{BEHIND, FALLS, Torn, UP, segment};
+use crate::counted::tells_as_printed;
+use crate::logs::{BEHIND, FALLS, Torn, UP, samples, segment};
 use crate::receivers::Receivers;
 use crate::rows::none_is_wrong;
-use Part::{Changed, Cut, Fails, Whole};
+use Part::{Changed, Cut, Fails, Many, Whole};
 use http::StatusCode;
 use rw_fault::ToolFault;
 use rw_metrics::SendCounters;
@@ -21,6 +22,8 @@ use std::time::{Clock, Duration};
 #[derive(Clone, Copy)]
 enum Part<'a> {
     Whole(&'a [u8]),
+    /// It has one series and so many samples.
+    Many(u32),
     /// Its last byte is changed.
     Changed(&'a [u8]),
     /// It ends behind 34 bytes, inside a record.
@@ -29,29 +32,40 @@ enum Part<'a> {
     Fails(&'a [u8]),
 }
 
-/// How receivers answer: by which status, and after how many milliseconds. For the shards of the epochs from this one on there is no memory.
+/// How receivers answer: by which status, after how many milliseconds, and how many requests before they refuse. For the shards of the epochs from this one on there is no memory.
 #[derive(Clone, Copy)]
 struct Answers {
     status: u16,
     takes: u64,
+    requests: u64,
     epochs: u64,
 }
 
 const TAKEN: Answers = Answers {
     status: 204,
     takes: 0,
+    requests: u64::MAX,
+    epochs: 1,
+};
+
+const TAKEN_ONCE: Answers = Answers {
+    status: 204,
+    takes: 0,
+    requests: 1,
     epochs: 1,
 };
 
 const REFUSED: Answers = Answers {
     status: 400,
     takes: 0,
+    requests: u64::MAX,
     epochs: 1,
 };
 
 const BUSY: Answers = Answers {
     status: 503,
     takes: 0,
+    requests: u64::MAX,
     epochs: 1,
 };
 
@@ -68,6 +82,7 @@ type Row<'a> = (
 fn bytes_of(alloc: Global, part: Part<'_>) -> Result<Vec<u8>, AllocError> {
     match part {
         Whole(text) | Fails(text) => segment(alloc, text),
+        Many(count) => segment(alloc, &samples(alloc, count)?),
         Changed(text) => {
             let mut bytes = segment(alloc, text)?;
             if let Some(last) = bytes.last_mut() {
@@ -103,6 +118,7 @@ fn receivers_of<R: Copy>(clock: &R, answers: Answers) -> Result<Receivers<R>, Al
             clock: *clock,
             status,
             takes: Duration::from_millis(answers.takes),
+            requests: answers.requests,
             epochs: answers.epochs,
         }),
         Err(_) => Err(AllocError),
@@ -114,14 +130,14 @@ fn shipped<R: Threads + Wait + Clock + Copy + Send + 'static>(
     rt: &R,
     alloc: Global,
     row: &Row<'_>,
+    counters: &SendCounters,
     printed: &mut Room,
 ) -> Result<Result<(), ToolFault>, AllocError> {
     let mut readers = Vec::new(alloc);
     put_readers(alloc, &mut readers, row.1)?;
-    let counters = SendCounters::new(alloc)?;
     let line = Counted {
         connect: receivers_of(rt, row.2)?,
-        counters: &counters,
+        counters,
         max_batch_bytes: None,
     };
     match read_settings(alloc, row.0) {
@@ -130,15 +146,17 @@ fn shipped<R: Threads + Wait + Clock + Copy + Send + 'static>(
     }
 }
 
-/// Whether a run does as a row says.
+/// Whether a run does as a row says, and is counted so.
 fn does<R: Threads + Wait + Clock + Copy + Send + 'static>(
     rt: &R,
     alloc: Global,
     row: &Row<'_>,
 ) -> Result<bool, AllocError> {
     let mut printed = Room::new(alloc, row.3)?;
-    let answer = shipped(rt, alloc, row, &mut printed)?;
-    Ok(answer == row.4 && printed.as_slice() == row.5)
+    let counters = SendCounters::new(alloc)?;
+    let answer = shipped(rt, alloc, row, &counters, &mut printed)?;
+    let is_counted = tells_as_printed(alloc, &counters, row.5)?;
+    Ok(answer == row.4 && printed.as_slice() == row.5 && is_counted)
 }
 
 fn wrong_row<R: Threads + Wait + Clock + Copy + Send + 'static>(
@@ -154,7 +172,7 @@ fn wrong_row<R: Threads + Wait + Clock + Copy + Send + 'static>(
     Ok(None)
 }
 
-static ONE_SEGMENT: [Row<'static>; 9] = [
+static ONE_SEGMENT: [Row<'static>; 11] = [
     (
         b"",
         &[Whole(UP)],
@@ -229,6 +247,26 @@ static ONE_SEGMENT: [Row<'static>; 9] = [
         Ok(()),
         b"dropped 3 notrising\nfiltered 0\nreport complete 4\n",
     ),
+    // a batch of 2,000 samples, whose labels in each of them would take more than 64 KiB, makes one request
+    (
+        b"",
+        &[Many(2_000)],
+        TAKEN_ONCE,
+        4096,
+        Ok(()),
+        b"filtered 0\nreport complete 2001\n",
+    ),
+    // samples go each way
+    (
+        b"[send]\nshards = 2\n[[rule]]\naction = \"drop\"\nsource_labels = [\"__name__\"]\nregex = \"c\"\n",
+        &[Whole(
+            b"series 1 {__name__=\"a\"}\nseries 2 {__name__=\"b\"}\nseries 3 {__name__=\"c\"}\nseries 4 {__name__=\"9\"}\nsample 1 10 1\nsample 2 10 1\nsample 3 10 1\nsample 4 10 1\nsample 5 10 1\nsample 2 10 2\nsample 3 20 1\nsample 2 20 1\n",
+        )],
+        REFUSED,
+        4096,
+        Ok(()),
+        b"dropped 4 status 400\ndropped 5 status 400\ndropped 7 labels 3\ndropped 8 noseries\ndropped 9 notrising\ndropped 11 status 400\nfiltered 2\nreport complete 12\n",
+    ),
 ];
 
 #[test]
@@ -293,6 +331,7 @@ fn logs_of_several_segments(rt: HostRuntime) -> Result<(), Fail> {
 const NO_RECEIVER: Answers = Answers {
     status: 204,
     takes: 0,
+    requests: u64::MAX,
     epochs: 0,
 };
 
@@ -315,7 +354,7 @@ fn nothing_is_printed(rt: HostRuntime) -> Result<(), Fail> {
     Ok(())
 }
 
-static FAILING: [Row<'static>; 2] = [
+static FAILING: [Row<'static>; 3] = [
     (
         b"",
         &[Fails(b"")],
@@ -332,9 +371,19 @@ static FAILING: [Row<'static>; 2] = [
         Err(ToolFault::Device),
         b"filtered 0\nabandoned 1\nreport abandoned 2\n",
     ),
+    (
+        b"[send]\nshards = 2\ncapacity = 1\nbatch = 1\n",
+        &[Fails(
+            b"series 1 {__name__=\"a\"}\nseries 2 {__name__=\"b\"}\nsample 1 10 1\nsample 2 10 1\nsample 1 20 1\nsample 2 20 1\n",
+        )],
+        BUSY,
+        4096,
+        Err(ToolFault::Device),
+        b"filtered 0\nabandoned 2\nabandoned 3\nabandoned 4\nabandoned 5\nreport abandoned 6\n",
+    ),
 ];
 
-/// The receivers are always busy, so that a sample that was read is not resolved when the work is stopped.
+/// The receivers are always busy, so that a sample that was read is not resolved when the work is stopped. Of two shards with full queues each hears of the stop.
 #[test]
 fn a_reader_that_fails(rt: HostRuntime) -> Result<(), Fail> {
     none_is_wrong(&rt, wrong_row(&rt, rt.alloc(), &FAILING)?);
@@ -354,12 +403,14 @@ const FIXED: &[u8] = b"[send]\ncapacity = 1\nbatch = 1\nmax_shards = 1\n";
 const SLOW: Answers = Answers {
     status: 204,
     takes: 300,
+    requests: u64::MAX,
     epochs: 1,
 };
 
 const SLOW_FOR_TWO: Answers = Answers {
     status: 204,
     takes: 300,
+    requests: u64::MAX,
     epochs: 2,
 };
 

@@ -7,12 +7,13 @@ use std::alloc::AllocError;
 use std::thread;
 use std::time::{Clock, Duration};
 
-/// Answers each request by one status, after some time.
+/// Answers each request by one status, after some time. Behind so many requests it refuses each.
 #[derive(Drop)]
 pub(crate) struct Always<R> {
     clock: R,
     status: StatusCode,
     takes: Duration,
+    left: u64,
 }
 
 impl<R: Clock> Transport for Always<R> {
@@ -26,9 +27,13 @@ impl<R: Clock> Transport for Always<R> {
 
     fn exchange(&mut self, _request: &[u8]) -> Result<Reply, Lost> {
         thread::sleep(&self.clock, self.takes);
-        Ok(Reply {
-            status: self.status,
-        })
+        let status = if self.left == 0 {
+            StatusCode::BAD_REQUEST
+        } else {
+            self.status
+        };
+        self.left = self.left.saturating_sub(1);
+        Ok(Reply { status })
     }
 }
 
@@ -46,12 +51,13 @@ impl Pause for Quick {
     fn pause(&mut self, _ms: u64) {}
 }
 
-/// Each worker's receiver answers by this status, after so long. For the epochs after the first few there is no memory.
+/// Each worker's receiver answers so many requests by this status, after so long, and refuses each later one. For the epochs after the first few there is no memory.
 #[derive(Drop)]
 pub(crate) struct Receivers<R> {
     pub(crate) clock: R,
     pub(crate) status: StatusCode,
     pub(crate) takes: Duration,
+    pub(crate) requests: u64,
     pub(crate) epochs: u64,
 }
 
@@ -68,6 +74,7 @@ impl<R: Clock + Copy + Send + 'static> Connect for Receivers<R> {
             clock: self.clock,
             status: self.status,
             takes: self.takes,
+            left: self.requests,
         };
         Ok((always, Quick))
     }

@@ -1,6 +1,7 @@
 //! A receiver that is stopped by a sign, and its clients, in threads of one process.
 
 use crate::clients::{Clients, Door, read_by};
+use crate::counted::holds_as_printed;
 use rw_metrics::ReceiveCounters;
 use rw_receive::{Service, run_receive, run_receive_until};
 use rw_settings::{Settings, read_settings};
@@ -39,7 +40,7 @@ fn are_replies(read: &[u8], count: usize) -> bool {
     left.is_empty()
 }
 
-/// Whether a service and its clients do as a row says.
+/// Whether a service and its clients do as a row says, and is counted so.
 fn does_with<R: Net<Stream = TcpStream, Listener = TcpListener> + Threads + Wait + Clock + Sync>(
     rt: &R,
     alloc: Global,
@@ -73,7 +74,8 @@ fn does_with<R: Net<Stream = TcpStream, Listener = TcpListener> + Threads + Wait
             run_receive_until(rt, alloc, settings, service, &sign, listener, printed)
         },
     );
-    Ok(ended.is_ok() && are_replies(&read?, row.replies))
+    let is_counted = holds_as_printed(alloc, &counters, row.printed)?;
+    Ok(ended.is_ok() && are_replies(&read?, row.replies) && is_counted)
 }
 
 /// The place of the first row that goes otherwise.

@@ -3,7 +3,8 @@
 ghost use Rattle.std.specs.Prelude.{IfOk};
 ghost use Rattle.rw_send.specs.Following.{IsUnread};
 
-use crate::countdown::Countdown;
+use crate::countdown::{Countdown, Onlooker};
+use crate::counted::tells_as_printed;
 use crate::logs::{UP, segment};
 use crate::receivers::Receivers;
 use crate::rows::none_is_wrong;
@@ -103,12 +104,13 @@ fn settings_of(alloc: Global) -> Result<Settings, AllocError> {
     }
 }
 
-/// Receivers that answer by this status at once.
+/// Receivers that answer one request by this status at once. They refuse each later one.
 fn receivers_of<R: Copy>(clock: &R, status: StatusCode) -> Receivers<R> {
     Receivers {
         clock: *clock,
         status,
         takes: Duration::ZERO,
+        requests: 1,
         epochs: u64::MAX,
     }
 }
@@ -148,7 +150,8 @@ fn does<R: Threads + Wait + Clock + Copy + Send + 'static>(
         &mut watch,
         &mut printed,
     );
-    Ok(answer == row.3 && printed.as_slice() == row.4)
+    let is_counted = tells_as_printed(alloc, &counters, row.4)?;
+    Ok(answer == row.3 && printed.as_slice() == row.4 && is_counted)
 }
 
 fn wrong_row<R: Threads + Wait + Clock + Copy + Send + 'static>(
@@ -164,7 +167,7 @@ fn wrong_row<R: Threads + Wait + Clock + Copy + Send + 'static>(
     Ok(None)
 }
 
-static SHIPPED: [Row<'static>; 9] = [
+static SHIPPED: [Row<'static>; 10] = [
     (
         &[],
         2,
@@ -178,6 +181,14 @@ static SHIPPED: [Row<'static>; 9] = [
         Wish::End,
         Ok(()),
         b"filtered 0\nreport complete 2\n",
+    ),
+    // two pieces make one request
+    (
+        &[More(UP), Quiet, More(LATER)],
+        5,
+        Wish::End,
+        Ok(()),
+        b"filtered 0\nreport complete 3\n",
     ),
     // the sign has come before the log was looked at
     (
@@ -243,7 +254,7 @@ fn logs_are_shipped(rt: HostRuntime) -> Result<(), Fail> {
     Ok(())
 }
 
-/// Follows a log of one sample for some looks by the clock, and is stopped at once.
+/// Follows a log of one sample for some looks by the clock, and is stopped at once if the counters tell then that nothing waits.
 fn flushed<R: Threads + Wait + Clock + Copy + Send + 'static>(
     rt: &R,
     alloc: Global,
@@ -251,17 +262,15 @@ fn flushed<R: Threads + Wait + Clock + Copy + Send + 'static>(
 ) -> Result<Result<(), FollowFault>, AllocError> {
     let settings = settings_of(alloc)?;
     let mut log = log_of(alloc, &[More(UP)])?;
-    let sign = Countdown {
+    let counters = SendCounters::new(alloc)?;
+    let sign = Onlooker {
+        alloc,
+        counters: &counters,
         looks: 200,
-        wish: Wish::Hard,
-        flushes: false,
-        reshards: false,
-        said: Wish::Work,
     };
     let poll = Duration::from_millis(5);
     let patience = Duration::from_millis(20);
     let mut watch = Timed::new(*rt, sign, poll, patience, patience);
-    let counters = SendCounters::new(alloc)?;
     let line = Counted {
         connect: receivers_of(rt, StatusCode::BAD_REQUEST),
         counters: &counters,
