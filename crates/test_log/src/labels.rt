@@ -203,8 +203,37 @@ fn judges_long(alloc: Global) -> bool {
     }
 }
 
+/// Faults by their numbers, and how they are told.
+static TOLD: [(LabelFault, &str); 7] = [
+    (LabelFault::NotUtf8, "label fault 1: "),
+    (LabelFault::EmptyName, "label fault 2: "),
+    (LabelFault::BadName, "label fault 3: "),
+    (LabelFault::EmptyValue, "label fault 4: "),
+    (LabelFault::NotSorted, "label fault 5: "),
+    (LabelFault::TooMany, "label fault 6: more than 64 "),
+    (
+        LabelFault::TooLong,
+        "label fault 7: names and values have more than 16384 ",
+    ),
+];
+
+/// The first fault that is told otherwise.
+fn wrong_text(alloc: Global) -> Option<usize> {
+    for (i, (fault, begins)) in TOLD.iter().enumerate() {
+        let is_so = match format!(in alloc; "{fault}") {
+            Ok(text) => text.as_str().starts_with(*begins),
+            Err(_) => false,
+        };
+        if !is_so {
+            return Some(i);
+        }
+    }
+    None
+}
+
 #[test]
 fn limits(rt: HostRuntime) {
+    none_is_wrong(&rt, wrong_text(rt.alloc()));
     holds(&rt, judges_many(rt.alloc()));
     holds(&rt, judges_long(rt.alloc()));
 }
