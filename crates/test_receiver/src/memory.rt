@@ -13,7 +13,7 @@ fn counts(head: &Head) -> (u64, usize) {
 }
 
 /// The status of a body, asked for again where memory was refused and the head holds as much as before.
-fn status_at_last(head: &mut Head, body: &[u8], before: (u64, usize)) -> u16 {
+pub(crate) fn status_at_last(head: &mut Head, body: &[u8], before: (u64, usize)) -> u16 {
     let status = head.answer(body);
     if status == 503 && counts(head) == before {
         head.answer(body)
