@@ -5,7 +5,6 @@ use Rattle.std.proofs.Math.Seq.{take-append_seam}
 use Rattle.std.specs.List.{AllByRecursion}
 use Rattle.std.proofs.lemmas.Bool.{lt-ltb, ne_eqb, eq-eqb}
 use Rattle.std.proofs.lemmas.List.{map-append}
-use Rattle.std.proofs.lemmas.Option.{none-some}
 use Rattle.rw_types.specs.declared.entry.Entry.{Entry}
 use Rattle.rw_types.specs.declared.entry.Entry.TheVariants.{Def, Sample}
 use Rattle.rw_wal_format.specs.Pieces.{Piece, entries}
@@ -24,7 +23,7 @@ use Rattle.rw_machine.specs.Shards.{Shard, has_room, shard_put}
 use Rattle.rw_machine.specs.Worlds.{Setup, Request, World, log}
 use Rattle.rw_machine.specs.Steps.{change, flush_shard, happens, unless_over}
 use Rattle.rw_machine.specs.declared.event.Event.TheVariants as event
-use Rattle.rw_machine.proofs.Places.{length_change}
+use Rattle.rw_machine.proofs.Places.{length_change, get_some, get_below}
 use Rattle.rw_simulation.specs.Freely.{Of, run_freely}
 use Rattle.rw_simulation.specs.WorkerRuns.{IsIdOf, sent_bytes, request_in}
 use Rattle.rw_simulation.specs.Tallies.{Past, IsTallied, requests_of}
@@ -54,11 +53,6 @@ each-update Q t zero (x ∷ xs) others own zero s e = let same : t ≡ s = cc in
 each-update Q t zero (x ∷ xs) others own (suc j) s e = others (suc j) s e (λ h. cc)
 each-update Q t (suc k) (x ∷ xs) others own zero s e = others zero s e (λ h. cc)
 each-update Q t (suc k) (x ∷ xs) others own (suc j) s e = each-update (λ j. Q (suc j)) t k xs (λ j s at differ. others (suc j) s at (λ h. differ (omega arith))) own j s e
-
-pub get_within : (k : ℕ) (ss : List Shard) → k < length ss → (s : Shard) × (slice_get ss k ≡ Some s)
-get_within k [] lt = absurd (omega arith)
-get_within zero (x ∷ xs) lt = (x, refl)
-get_within (suc k) (x ∷ xs) lt = get_within k xs (omega arith)
 
 get_seam : (xs : List Entry) (e : Entry) (ys : List Entry) → slice_get (xs ++ e ∷ ys) (length xs) ≡ Some e
 get_seam [] e ys = refl
@@ -137,11 +131,6 @@ moved-shards c epoch k requests more now parts t ss todo fates ids others way pa
   where
     with_others : (j : ℕ) (s : Shard) → (j ≡ k → ⊥) → IsOnTheWayWith c epoch j requests (parts j) s (todo j) (fates j) → IsOnTheWayWith c epoch j (requests ++ more) (with_part k now parts j) s (todo j) (fates j)
     with_others j s differ h = record { way = way_still c epoch j k requests more s (todo j) (fates j) differ ids h.way; part_is = h.part_is ∙ sym (part-other k now parts j differ) }
-
-pub below : (ss : List Shard) (k : ℕ) (s : Shard) → slice_get ss k ≡ Some s → k < length ss
-below [] k s e = absurd (none-some s e)
-below (x ∷ xs) zero s e = omega arith
-below (x ∷ xs) (suc k) s e = let lt = below xs k s e in omega arith
 
 abbrev IsSample : Item → Type 0
 IsSample (item.Sample place t word labels) = Unit {0}
@@ -231,7 +220,7 @@ module _ (c : Setup) (past : Past) (pieces : List Piece) (epoch n : ℕ) (fates 
         series = under.series;
         counted = under.counted;
         parts = with_part k g.coming.ledger.names under.parts;
-        tallied = tallied-shard c past epoch n before under.parts w later (Of (event.Flush k) ∷ g.events) k way.coming.ledger.names g.coming.ledger.names g.more under.tallied runs (subst (λ (m : ℕ). k < m) under.count (below w.shards k s at)) part refl ids g.grow;
+        tallied = tallied-shard c past epoch n before under.parts w later (Of (event.Flush k) ∷ g.events) k way.coming.ledger.names g.coming.ledger.names g.more under.tallied runs (subst (λ (m : ℕ). k < m) under.count (get_below w.shards k s at)) part refl ids g.grow;
         shards = moved-shards c epoch k w.requests g.more g.coming.ledger.names under.parts g.shard w.shards (λ j. Todo before es j) fates ids (λ j t e _. under.shards j t e) way_later refl;
       }
 
@@ -333,7 +322,7 @@ module _ (c : Setup) (past : Past) (pieces : List Piece) (epoch n : ℕ) (fates 
           series = refl;
           counted = counted_more before e v.filtered under.counted;
           parts = with_part k g.coming.ledger.names under.parts;
-          tallied = tallied-shard c past epoch n (before ++ e ∷ []) under.parts placed_world later g.events k st.way.coming.ledger.names g.coming.ledger.names g.more placed_tallied works (subst (λ (m : ℕ). k < m) under.count (below v.shards k st.s st.at)) st.part_is refl ids g.grow;
+          tallied = tallied-shard c past epoch n (before ++ e ∷ []) under.parts placed_world later g.events k st.way.coming.ledger.names g.coming.ledger.names g.more placed_tallied works (subst (λ (m : ℕ). k < m) under.count (get_below v.shards k st.s st.at)) st.part_is refl ids g.grow;
           shards = moved-shards c epoch k v.requests g.more g.coming.ledger.names under.parts g.shard v.shards (λ j. of_shard n j rest_of) fates ids
               (λ j u at differ. subst (λ (xs : List Sent). IsOnTheWayWith c epoch j v.requests (under.parts j) u xs (fates j)) (other_todo j differ) (under.shards j u at)) way_later refl;
         };
@@ -417,7 +406,7 @@ module _ (c : Setup) (past : Past) (pieces : List Piece) (epoch n : ℕ) (fates 
           k = shard_of n x.series
 
           found : (s : Shard) × (slice_get w.shards k ≡ Some s)
-          found = get_within k w.shards (subst (λ (m : ℕ). k < m) (sym under.count) (mod-lt x.series shards))
+          found = get_some w.shards k (subst (λ (m : ℕ). k < m) (sym under.count) (mod-lt x.series shards))
 
           own_todo : Todo before (e ∷ es) k ≡ x ∷ of_shard n k (gather_from (sent_of c.choice) (before ++ e ∷ []) es)
           own_todo = ap (λ (xs : List Sent). of_shard n k (xs ++ gather_from (sent_of c.choice) (before ++ e ∷ []) es)) one ∙ keep_if (k == k) x (of_shard n k (gather_from (sent_of c.choice) (before ++ e ∷ []) es)) (eq-eqb k k refl)

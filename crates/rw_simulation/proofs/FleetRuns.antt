@@ -19,6 +19,7 @@ use Rattle.rw_feeder.specs.Logs.{Sent, sent_of}
 use Rattle.rw_shipper.specs.Placement.{put_in, of_shard}
 use Rattle.rw_machine.specs.Shards.{Shard, new_shard}
 use Rattle.rw_machine.specs.Worlds.{Setup, Request, World, new_shards}
+use Rattle.rw_machine.proofs.Places.{get_some}
 use Rattle.rw_machine.proofs.Resolves.{length_new}
 use Rattle.rw_simulation.specs.WorkerRuns.{queued, sent_bytes, request_in}
 use Rattle.rw_simulation.specs.Tallies.{Past, requests_of}
@@ -103,11 +104,6 @@ get_new c epoch k (suc n) (suc i) s e = let h = get_new c epoch (suc k) n i s e 
     shift : (k i : ℕ) → suc k + i ≡ k + suc i
     shift k i = omega arith
 
-pub get_lane : (k : ℕ) (ls : List ShardHistory) → k < length ls → (l : ShardHistory) × (slice_get ls k ≡ Some l)
-get_lane k [] lt = absurd (omega arith)
-get_lane zero (x ∷ xs) lt = (x, refl)
-get_lane (suc k) (x ∷ xs) lt = get_lane k xs (omega arith)
-
 under-way : (c : Setup) (past : Past) (pieces : List Piece) (epoch : ℕ) (lanes : List ShardHistory) (steps : ℕ → List Step) (left : ℕ → List Item) (before es : List Entry) (w : World) → 1 ≤ c.batch → IsBeginning c past pieces epoch lanes steps left before es w
     → IsUnderWay c past pieces epoch (length lanes) (fate_at lanes steps left) before es w
 under-way c past pieces epoch lanes steps left before es w some h = record {
@@ -131,7 +127,7 @@ under-way c past pieces epoch lanes steps left before es w some h = record {
     by_shard : (k : ℕ) (s : Shard) → slice_get w.shards k ≡ Some s → IsOnTheWayWith c epoch k w.requests empty s (of_shard (length lanes) k (gather_from (sent_of c.choice) before es)) (fate_at lanes steps left k)
     by_shard k s e =
         let new = get_new c epoch 0 (length lanes) k s (ap (λ ss. slice_get ss k) (sym h.shards) ∙ e) in
-        let lane = get_lane k lanes new.0 in
+        let lane = get_some lanes k new.0 in
         let own : s ≡ new_shard (new_core c.target epoch k c.batch) = new.1 ∙ ap (λ (m : ℕ). new_shard (new_core c.target epoch m c.batch)) (no_plus k) in
         subst (λ (t : Shard). IsOnTheWayWith c epoch k w.requests empty t (of_shard (length lanes) k (gather_from (sent_of c.choice) before es)) (fate_at lanes steps left k)) (sym own)
         (subst (λ (o : Option ShardHistory). IsOnTheWayWith c epoch k w.requests empty (new_shard (new_core c.target epoch k c.batch)) (of_shard (length lanes) k (gather_from (sent_of c.choice) before es)) (fate_by o (steps k) (left k))) (sym lane.1)

@@ -14,7 +14,7 @@ use Rattle.rw_machine.specs.Shards.{Shard}
 use Rattle.rw_machine.specs.Worlds.{Setup, Request, World}
 use Rattle.rw_machine.specs.Steps.{change}
 use Rattle.rw_machine.specs.declared.event.Event.TheVariants as event
-use Rattle.rw_machine.proofs.Places.{length_change}
+use Rattle.rw_machine.proofs.Places.{length_change, get_some, get_below}
 use Rattle.rw_simulation.specs.Freely.{Of, run_freely}
 use Rattle.rw_simulation.specs.WorkerRuns.{IsIdOf}
 use Rattle.rw_simulation.specs.Tallies.{Past}
@@ -23,7 +23,7 @@ use Rattle.rw_simulation.proofs.Changes.{change-get, change-twice}
 use Rattle.rw_simulation.proofs.WorkerSteps.{moved}
 use Rattle.rw_simulation.proofs.Eager.{GoesThrough, with_item, put-one, has-room}
 use Rattle.rw_simulation.proofs.Tallies.{Names, with_part, part-own, part-other, tallied-shard}
-use Rattle.rw_simulation.proofs.EpochRuns.{stay, go-on, each-update, flush-run, way-after, way_still, moved-shards, below, get_within, epoch-run}
+use Rattle.rw_simulation.proofs.EpochRuns.{stay, go-on, each-update, flush-run, way-after, way_still, moved-shards, epoch-run}
 
 -- another shard sent more
 pub put-still : (c : Setup) (epoch j k : ℕ) (requests more : List Request) (now : Names) (parts : ℕ → Names) (s : Shard) (f : ShardFate) → (j ≡ k → ⊥) → AllByRecursion (IsIdOf epoch k) more → IsPut c epoch j requests (parts j) s f → IsPut c epoch j (requests ++ more) (with_part k now parts j) s f
@@ -106,7 +106,7 @@ module _ (c : Setup) (past : Past) (pieces : List Piece) (epoch n : ℕ) (fates 
           series = h.under.series;
           counted = h.under.counted;
           parts = with_part m g.coming.ledger.names h.under.parts;
-          tallied = tallied-shard c past epoch n placed h.under.parts w later (Of (event.Flush m) ∷ g.events) m way.coming.ledger.names g.coming.ledger.names g.more h.under.tallied runs (subst (λ (i : ℕ). m < i) h.under.count (below w.shards m s at)) part refl ids g.grow;
+          tallied = tallied-shard c past epoch n placed h.under.parts w later (Of (event.Flush m) ∷ g.events) m way.coming.ledger.names g.coming.ledger.names g.more h.under.tallied runs (subst (λ (i : ℕ). m < i) h.under.count (get_below w.shards m s at)) part refl ids g.grow;
           shards = moved-shards c epoch m w.requests g.more g.coming.ledger.names h.under.parts g.shard w.shards (λ j. []) fates ids (λ j t e _. h.under.shards j t e) way_later refl;
         };
         first = each-update (λ j t. j < m → IsPut c epoch j later.requests (with_part m g.coming.ledger.names h.under.parts j) t (fates j)) g.shard m w.shards
@@ -129,11 +129,11 @@ module _ (c : Setup) (past : Past) (pieces : List Piece) (epoch n : ℕ) (fates 
       within m more e = omega arith
 
       found : (s : Shard) × (slice_get w.shards m ≡ Some s)
-      found = get_within m w.shards (subst (λ (k : ℕ). m < k) (sym h.under.count) (within m more sum))
+      found = get_some w.shards m (subst (λ (k : ℕ). m < k) (sym h.under.count) (within m more sum))
 
   put-all : (w : World) → IsUnderWay c past pieces epoch n fates placed [] w → Reaches c w (IsAllPut c past pieces epoch n fates placed)
   put-all w under = go-on c w (PutBelow n) (IsAllPut c past pieces epoch n fates placed) (put-from n 0 w (zero_plus n) (record { under = under; first = λ k s e lt. absurd (none_below k lt) }))
-      (λ v h. stay c v (IsAllPut c past pieces epoch n fates placed) (record { under = h.under; each = λ k s e. h.first k s e (subst (λ (m : ℕ). k < m) h.under.count (below v.shards k s e)) }))
+      (λ v h. stay c v (IsAllPut c past pieces epoch n fates placed) (record { under = h.under; each = λ k s e. h.first k s e (subst (λ (m : ℕ). k < m) h.under.count (get_below v.shards k s e)) }))
     where
       zero_plus : (n : ℕ) → 0 + n ≡ n
       zero_plus n = omega arith

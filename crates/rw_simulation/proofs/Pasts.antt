@@ -16,6 +16,7 @@ use Rattle.rw_shipper.specs.Reports.{part_of}
 use Rattle.rw_shipper.specs.Shipping.{Shipping, HasStopped}
 use Rattle.rw_shipper.specs.declared.report.Report.{Report}
 use Rattle.rw_machine.specs.Worlds.{Setup, Request, World}
+use Rattle.rw_machine.proofs.Places.{get_some, get_below}
 use Rattle.rw_simulation.specs.WorkerRuns.{sent_bytes, request_in}
 use Rattle.rw_simulation.specs.Tallies.{Past, requests_of, IsNamedSo, IsOwned, IsTallied}
 use Rattle.rw_simulation.specs.EpochRuns.{ShardFate}
@@ -36,16 +37,6 @@ get-either : {X : Type 0} (xs ys : List X) (i : ℕ) (z : X) → slice_get (xs +
 get-either [] ys i z e = inr (i, e)
 get-either (x ∷ xs) ys zero z e = inl e
 get-either (x ∷ xs) ys (suc i) z e = get-either xs ys i z e
-
-get-below : {X : Type 0} (xs : List X) (i : ℕ) (x : X) → slice_get xs i ≡ Some x → i < length xs
-get-below [] i x e = absurd (none-some x e)
-get-below (y ∷ ys) zero x e = omega arith
-get-below (y ∷ ys) (suc i) x e = let lt = get-below ys i x e in omega arith
-
-get-some : {X : Type 0} (xs : List X) (i : ℕ) → i < length xs → (x : X) × (slice_get xs i ≡ Some x)
-get-some [] i lt = absurd (omega arith)
-get-some (x ∷ xs) zero lt = (x, refl)
-get-some (x ∷ xs) (suc i) lt = get-some xs i (omega arith)
 
 pub get_map : {X Y : Type 0} (f : X → Y) (xs : List X) (k : ℕ) (x : X) → slice_get xs k ≡ Some x → slice_get (map f xs) k ≡ Some (f x)
 get_map f [] k x e = absurd (none-some x e)
@@ -86,10 +77,10 @@ module _ {T : Type 0} (tells : T → Type 0) (seen : T → List Exchange) where
   passes-of c epoch n done js fates count reports = record { named = named_so; names = names_so; sends = sends_so; had = had_so; has = has_so }
     where
       found : (k : ℕ) → k < n → (j : StoppedShard T) × (slice_get js k ≡ Some j)
-      found k lt = get-some js k (subst (λ (m : ℕ). k < m) (sym count) lt)
+      found k lt = get_some js k (subst (λ (m : ℕ). k < m) (sym count) lt)
 
       within : (k : ℕ) (j : StoppedShard T) → slice_get js k ≡ Some j → k < n
-      within k j e = subst (λ (m : ℕ). k < m) count (get-below js k j e)
+      within k j e = subst (λ (m : ℕ). k < m) count (get_below js k j e)
 
       named_so : (p : ℕ) (reason : Reason) → (past_of done).named p reason ⊎ ((k : ℕ) × (k < n) × (get (fates k).worker.ledger.names p ≡ Some reason)) → (past_of (done ++ js)).named p reason
       named_so p reason (inl (i, j, e, h)) = (i, j, get-first done js i j e, h)

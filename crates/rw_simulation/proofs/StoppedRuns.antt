@@ -49,6 +49,7 @@ use Rattle.rw_machine.specs.Worlds.{Setup, Request, World, Ending, Complete, sta
 use Rattle.rw_machine.specs.Steps.{happens, mark, unless_over}
 use Rattle.rw_machine.specs.declared.event.Event.TheVariants as event
 use Rattle.rw_machine.specs.Promises.{CanWork}
+use Rattle.rw_machine.proofs.Places.{get_some, get_below}
 use Rattle.rw_simulation.specs.Freely.{Happening, Of, run_freely}
 use Rattle.rw_simulation.specs.FreeLaws.{world_of}
 use Rattle.rw_simulation.specs.WorkerRuns.{request_in}
@@ -63,9 +64,9 @@ use Rattle.rw_simulation.proofs.ReshardRuns.{BeginsEpoch, reshard-run}
 use Rattle.rw_simulation.proofs.WorkerLists.{core_after, after-is, ended-after, last_tail}
 use Rattle.rw_simulation.proofs.EntryRuns.{over_not}
 use Rattle.rw_simulation.proofs.FreeLaws.{keeps-laws}
-use Rattle.rw_simulation.proofs.FleetRuns.{fleet-run, get_lane}
+use Rattle.rw_simulation.proofs.FleetRuns.{fleet-run}
 use Rattle.rw_simulation.proofs.StoppedShards.{compared-is-run, has-taken, same_items}
-use Rattle.rw_simulation.proofs.EpochRuns.{stay, one_at_most, below}
+use Rattle.rw_simulation.proofs.EpochRuns.{stay, one_at_most}
 use Rattle.rw_simulation.proofs.EndRuns.{HasCome, IsResolvedFate, ClosedBelow, end-all, tallies-at, drained-all}
 use Rattle.rw_simulation.proofs.Tallies.{Names, Passes, lists-at, tallied-still, tallied-next}
 use Rattle.rw_simulation.proofs.Pasts.{get_map, map_get, past_of, ReportsAt, passes-of, seen-is, names-all, sends-all}
@@ -339,7 +340,7 @@ module _ {T : Type 0} (tells : T → Type 0) (seen : T → List Exchange) (is_fo
         f = find js sound k l e
 
     fate-end : (k : ℕ) → k < n → (fates k).end ≡ Some kd
-    fate-end k lt = let l = get_lane k (map lane_of js) lt in subst (λ (o : Option ShardHistory). (fate_by o (steps k) []).end ≡ Some kd) (sym l.1) (lane-end k l.0 l.1)
+    fate-end k lt = let l = get_some (map lane_of js) k lt in subst (λ (o : Option ShardHistory). (fate_by o (steps k) []).end ≡ Some kd) (sym l.1) (lane-end k l.0 l.1)
 
     fate-resolved : (k : ℕ) → k < n → IsResolvedFate (fates k)
     fate-resolved k lt = subst (λ (o : Option ShardHistory). IsResolvedFate (fate_by o (steps k) [])) (sym l.1) (
@@ -349,7 +350,7 @@ module _ {T : Type 0} (tells : T → Type 0) (seen : T → List Exchange) (is_fo
     )
       where
         l : (l : ShardHistory) × (slice_get (map lane_of js) k ≡ Some l)
-        l = get_lane k (map lane_of js) lt
+        l = get_some (map lane_of js) k lt
 
         own : IsShardRun c epoch k l.0 (steps k) []
         own = lane-at k l.0 l.1
@@ -420,7 +421,7 @@ module _ {T : Type 0} (tells : T → Type 0) (seen : T → List Exchange) (is_fo
     }
       where
         l : (l : ShardHistory) × (slice_get (map lane_of js) k ≡ Some l)
-        l = get_lane k (map lane_of js) lt
+        l = get_some (map lane_of js) k lt
 
         g : Found js sound k l.0
         g = find js sound k l.0 l.1
@@ -495,7 +496,7 @@ module _ {T : Type 0} (tells : T → Type 0) (seen : T → List Exchange) (is_fo
         placed_are = ap (λ (x : World). x.placed) over-is.same ∙ put-is.under.placed;
         counted = ap (λ (x : World). x.filtered) over-is.same ∙ put-is.under.counted;
         shards = over-is.count ∙ length-map js lane_of;
-        each = λ k s j e at. let lt = subst (λ (i : ℕ). k < i) over-is.count (below over.shards k s e) in alike epoch kind.Orderly js sound some_lanes by before es dealt k over.requests (over-is.parts k) s j lt (over-is.done k s e lt) at;
+        each = λ k s j e at. let lt = subst (λ (i : ℕ). k < i) over-is.count (get_below over.shards k s e) in alike epoch kind.Orderly js sound some_lanes by before es dealt k over.requests (over-is.parts k) s j lt (over-is.done k s e lt) at;
         reported = ap report over-is.same ∙ rw (put-is.under.going.0, all-placed, all-drained-now) refl
             ∙ ap Some (ap (λ ps. ended_as (fault ps) put.placed) put-is.under.pieces_are ∙ ap (λ (i : ℕ). ended_as (fault pieces) i) put-is.under.placed);
         epoch = suc epoch;

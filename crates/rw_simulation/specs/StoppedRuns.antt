@@ -126,7 +126,7 @@ StopsInOrder tells seen is_for s r =
     (c : Setup) (fed : List Piece) (h : HasStopped tells seen is_for s r) (p : PlacesAll s.log s.fleet) → IsMachineOf c s → CanWork c → s.log.pieces ≡ map piece_of fed → IsShardCount (length s.fleet.current) → first_number p.epochs s.fleet.current ≡ c.shards
     → EndBy Orderly s.fleet r.workers.items → (IsAbandoned r.outcome → ⊥) → IsRun tells seen c s r
 
--- So it is of every shipper that abandoned what was left, however it was stopped. `before` is the fleet as it stood before its last shards were ended: that of the shipper, or where a reshard failed that before it. The shards of the epochs before had resolved all.
+-- So it is of every shipper that abandoned what was left, however it was stopped. `before` is the fleet as it stood before its last shards were ended: that of the shipper, with the shards that a failed reshard had begun; or where that had begun none, the fleet before it. The shards of the epochs before had resolved all.
 abbrev pub StopsAbandoned : {T : Type 0} → (T → Type 0) → (T → List Exchange) → (ℕ → ℕ → T → Type 0) → Shipping T → Report T → Type 0
 StopsAbandoned {T} tells seen is_for s r =
     (c : Setup) (fed : List Piece) (h : HasStopped tells seen is_for s r) (before : Shards T) (p : PlacesAll s.log before) → IsMachineOf c s → CanWork c → s.log.pieces ≡ map piece_of fed
