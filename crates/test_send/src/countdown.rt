@@ -52,15 +52,26 @@ pub(crate) struct Onlooker<'a> {
     pub(crate) looks: u32,
 }
 
+impl Onlooker<'_> {
+    /// Whether the counters tell that one sample was placed and none waits.
+    fn has_settled(&self) -> bool {
+        match self.counters.numbers(self.alloc) {
+            Ok(numbers) => numbers.placed == 1 && numbers.waiting == 0,
+            Err(_) => false,
+        }
+    }
+}
+
 impl Sign for Onlooker<'_> {
     fn wish(&mut self) -> Wish {
         if self.looks > 0 {
             self.looks -= 1;
             return Wish::Work;
         }
-        match self.counters.numbers(self.alloc) {
-            Ok(numbers) if numbers.placed == 1 && numbers.waiting == 0 => Wish::Hard,
-            _ => Wish::End,
+        if self.has_settled() {
+            Wish::Hard
+        } else {
+            Wish::End
         }
     }
 }

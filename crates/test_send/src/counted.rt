@@ -1,7 +1,7 @@
 //! Counters, compared with what is printed.
 
-use rw_metrics::{ReceiveCounters, SendCounters};
-use std::alloc::{AllocError, Global};
+use rw_metrics::{ReceiveCounters, ReceiveNumbers, SendCounters, SendNumbers};
+use std::alloc::Global;
 
 /// How often a word stands in a text.
 fn times(text: &[u8], word: &[u8]) -> u64 {
@@ -15,38 +15,47 @@ fn times(text: &[u8], word: &[u8]) -> u64 {
 }
 
 /// Whether a report says that so many were filtered, or nothing.
-fn says_filtered(alloc: Global, report: &[u8], filtered: u64) -> Result<bool, AllocError> {
-    let line = format!(in alloc; "filtered {filtered}\n")?;
-    Ok(report.is_empty() || times(report, line.as_bytes()) == 1)
+fn says_filtered(alloc: Global, report: &[u8], filtered: u64) -> bool {
+    match format!(in alloc; "filtered {filtered}\n") {
+        Ok(line) => report.is_empty() || times(report, line.as_bytes()) == 1,
+        Err(_) => false,
+    }
+}
+
+/// Whether a report names so many samples as dropped, by each reason, and so many that are not resolved.
+fn names_as_many(report: &[u8], numbers: &SendNumbers) -> bool {
+    let drops = &numbers.drops;
+    let waiting = times(report, b"\nabandoned ");
+    drops.all == times(report, b"dropped ")
+        && drops.no_series == times(report, b" noseries\n")
+        && drops.bad_labels == times(report, b" labels ")
+        && drops.not_rising == times(report, b" notrising\n")
+        && numbers.waiting == waiting
+        && numbers.placed == numbers.resolved.saturating_add(waiting)
 }
 
 /// Whether counters of a sender that has stopped tell what its report says.
-pub(crate) fn tells_as_printed(
-    alloc: Global,
-    counters: &SendCounters,
-    report: &[u8],
-) -> Result<bool, AllocError> {
-    let numbers = counters.numbers(alloc)?;
-    let waiting = times(report, b"\nabandoned ");
-    let drops = &numbers.drops;
-    Ok(
-        says_filtered(alloc, report, numbers.filtered)?
-            && counters.dropped() == times(report, b"dropped ")
-            && drops.no_series == times(report, b" noseries\n")
-            && drops.bad_labels == times(report, b" labels ")
-            && drops.not_rising == times(report, b" notrising\n")
-            && numbers.waiting == waiting
-            && numbers.placed == numbers.resolved.saturating_add(waiting),
-    )
+pub(crate) fn tells_as_printed(alloc: Global, counters: &SendCounters, report: &[u8]) -> bool {
+    match counters.numbers(alloc) {
+        Ok(numbers) => {
+            says_filtered(alloc, report, numbers.filtered)
+                && names_as_many(report, &numbers)
+                && counters.dropped() == numbers.drops.all
+        }
+        Err(_) => false,
+    }
 }
 
-/// Whether counters of a receiver that has ended tell of so many samples as it printed, and of no open connection. No label has a space.
-pub(crate) fn holds_as_printed(
-    alloc: Global,
-    counters: &ReceiveCounters,
-    printed: &[u8],
-) -> Result<bool, AllocError> {
-    let numbers = counters.numbers(alloc)?;
+/// Whether so many samples stand in what a receiver printed, and no connection is open. No label has a space.
+fn has_printed(printed: &[u8], numbers: &ReceiveNumbers) -> bool {
     let held = times(printed, b" ").saturating_sub(times(printed, b"\n"));
-    Ok(numbers.connections == 0 && numbers.samples == held)
+    numbers.connections == 0 && numbers.samples == held
+}
+
+/// Whether counters of a receiver that has ended tell of so many samples as it printed, and of no open connection.
+pub(crate) fn holds_as_printed(alloc: Global, counters: &ReceiveCounters, printed: &[u8]) -> bool {
+    match counters.numbers(alloc) {
+        Ok(numbers) => has_printed(printed, &numbers),
+        Err(_) => false,
+    }
 }

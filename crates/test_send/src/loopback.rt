@@ -104,7 +104,7 @@ fn receives<R: Threads + Wait + Clock + Sync>(
         Ok(settings) => run_receive(rt, alloc, &settings, service, listener, held).is_ok(),
         Err(_) => false,
     };
-    has_ended && holds_as_printed(alloc, &counters, row.4) == Ok(true)
+    has_ended && holds_as_printed(alloc, &counters, row.4)
 }
 
 /// Whether a sender ships a log and ends well.

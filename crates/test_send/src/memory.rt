@@ -155,7 +155,7 @@ fn does<R: Threads + Wait + Clock + Copy + Send + 'static>(
     let mut printed = Room::new(alloc, row.3)?;
     let counters = SendCounters::new(alloc)?;
     let answer = shipped(rt, alloc, row, &counters, &mut printed)?;
-    let is_counted = tells_as_printed(alloc, &counters, row.5)?;
+    let is_counted = tells_as_printed(alloc, &counters, row.5);
     Ok(answer == row.4 && printed.as_slice() == row.5 && is_counted)
 }
 

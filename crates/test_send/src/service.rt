@@ -74,7 +74,7 @@ fn does_with<R: Net<Stream = TcpStream, Listener = TcpListener> + Threads + Wait
             run_receive_until(rt, alloc, settings, service, &sign, listener, printed)
         },
     );
-    let is_counted = holds_as_printed(alloc, &counters, row.printed)?;
+    let is_counted = holds_as_printed(alloc, &counters, row.printed);
     Ok(ended.is_ok() && are_replies(&read?, row.replies) && is_counted)
 }
 

@@ -150,7 +150,7 @@ fn does<R: Threads + Wait + Clock + Copy + Send + 'static>(
         &mut watch,
         &mut printed,
     );
-    let is_counted = tells_as_printed(alloc, &counters, row.4)?;
+    let is_counted = tells_as_printed(alloc, &counters, row.4);
     Ok(answer == row.3 && printed.as_slice() == row.4 && is_counted)
 }
 
