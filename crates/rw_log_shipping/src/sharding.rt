@@ -1,6 +1,6 @@
 //! How many shards a sender works with.
 
-ghost use Rattle.std.specs.Prelude.{◌≡◌, ◌≢◌, ◌≤◌, ◌-◌, ◌⊎◌, true, false, None, IfOk, OnOk, OnErr, length};
+ghost use Rattle.std.specs.Prelude.{◌≡◌, ◌≤◌, ◌-◌, ◌⊎◌, true, false, None, IfOk, OnOk, OnErr, length};
 ghost use Rattle.rw_reshard.specs.Wanted.{wanted};
 ghost use Rattle.rw_shipper.specs.Shipping.{HasCompared};
 ghost use Rattle.rw_fleet.specs.Loads.{IsLoad};
@@ -54,6 +54,8 @@ impl Sharding {
             ≡ wanted self.shards load.placed load.resolved load.backlog self.fewest self.most }
         ensures fewest { result.fewest ≡ self.fewest }
         ensures most { result.most ≡ self.most }
+        ensures placed { result.placed ≡ self.placed }
+        ensures resolved { result.resolved ≡ self.resolved }
     {
         let shards = want(
             self.shards,
@@ -128,6 +130,8 @@ pub fn resharded<R: Threads + Wait + Clock + Copy + Send + 'static, C: Connect +
         (IsSet is_more sharding.fewest sharding.most shipper.old shipper.new) }
     ensures shards { IfOk result (λ s. s.shards ≡ length shipper.new.fleet.current) }
     ensures range { IfOk result (λ s. (s.fewest ≡ sharding.fewest) × (s.most ≡ sharding.most)) }
+    ensures start { IfOk result
+        (λ s. (s.placed ≡ sharding.placed) × (s.resolved ≡ sharding.resolved)) }
     ensures log { shipper.new.log ≡ shipper.old.log }
     ensures compared { (shipper.new.fleet ≡ shipper.old.fleet)
         ⊎ HasCompared shipper.old.fleet shipper.new.fleet }
@@ -156,11 +160,13 @@ pub fn retuned<R: Threads + Wait + Clock + Copy + Send + 'static, C: Connect + D
     is_due: bool,
 ) -> Result<Sharding, Halt>
     requires { length shipper.old.fleet.current ≡ sharding.shards }
-    ensures set { is_due ≡ true → IfOk result (λ s. (load : Load) × IsLoad shipper.old.fleet load
-        × (s.shards
+    // The next question is of what comes after the load that decided.
+    ensures asked { is_due ≡ true → IfOk result (λ s. (load : Load)
+        × IsLoad shipper.old.fleet load × (s.shards
         ≡ wanted_since sharding.fewest sharding.most sharding.shards sharding.placed
-        sharding.resolved load)) }
+        sharding.resolved load) × (s.placed ≡ load.placed) × (s.resolved ≡ load.resolved)) }
     ensures stays { is_due ≡ false → shipper.new ≡ shipper.old }
+    ensures kept { is_due ≡ false → result ≡ Ok sharding }
     ensures shards { IfOk result (λ s. length shipper.new.fleet.current ≡ s.shards) }
     ensures range { IfOk result (λ s. (s.fewest ≡ sharding.fewest) × (s.most ≡ sharding.most)) }
     ensures log { shipper.new.log ≡ shipper.old.log }
