@@ -36,6 +36,10 @@ fn read_piece<S: Source>(alloc: Global, segment: &mut S) -> Result<Vec<u8>, Halt
     ensures end { IfOk result (λ v. vec_len v ≡ 0 → IsAtEnd (S.remaining segment.new)) }
     ensures sure { S.is_sure segment.old ≡ true
         → (S.is_sure segment.new ≡ true) × (result ≡ Err Unreadable → ⊥) }
+    ensures sound { OnOk result (S.has_failed segment.new ≡ false) }
+    ensures failed { result ≡ Err Unreadable → S.has_failed segment.new ≡ true }
+    ensures memory { result ≡ Err Halt.Failed
+        → S.has_failed segment.new ≡ S.has_failed segment.old }
     ensures err { IfErr result (λ h. (h ≡ Halt.Failed) ⊎ (h ≡ Unreadable)) }
 {
     let mut piece = zeros(alloc)?;
@@ -67,6 +71,9 @@ fn ship_piece<R: Wait, S: Source, C: Connect + Drop>(
     ensures halted { IfErr result (IsHalted shipper.new) }
     ensures sure { S.is_sure segment.old ≡ true
         → (S.is_sure segment.new ≡ true) × (result ≡ Err Unreadable → ⊥) }
+    ensures failed { result ≡ Err Unreadable → S.has_failed segment.new ≡ true }
+    ensures memory { result ≡ Err Halt.Failed → S.has_failed segment.old ≡ false
+        → S.has_failed segment.new ≡ false }
 {
     let piece = read_piece(means.alloc, segment)?;
     if piece.is_empty() {
