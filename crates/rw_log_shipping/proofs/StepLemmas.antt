@@ -10,13 +10,15 @@ use Rattle.rw_log_shipping.proofs.PartLemmas.{part_of}
 use Rattle.rw_log_shipping.proofs.SegmentLemmas.{feeding_none}
 
 pub stays : {T : Type 0} (s : Shipping T) → StaysOpen s s
-stays s = record { choice = refl; fleet = refl; shards = refl }
+stays s = record { choice = refl; fleet = refl; shards = refl; limit = refl; marks = λ _. refl }
 
 pub stays_on : {T : Type 0} (old now new : Shipping T) → StaysOpen old now → StaysOpen now new → StaysOpen old new
 stays_on {T} old now new h more = record {
   choice = more.choice ∙ h.choice;
   fleet = more.fleet ∙ ap (λ (f : Shards T). record f { current = new.fleet.current }) h.fleet;
   shards = more.shards ∙ h.shards;
+  limit = more.limit ∙ h.limit;
+  marks = λ none. more.marks (h.limit ∙ none) ∙ h.marks none;
 }
 
 pub stays_kept : {T : Type 0} (old new : Shipping T) → StaysOpen old new → IsKept old new
@@ -62,15 +64,15 @@ begun_part first left old new (inr b) = inr (new, b, part_of left left new new (
 
 pub halts_at_begin : {T : Type 0} (first : Bool) (left : Option (List ℕ)) (old new : Shipping T) → (new.log.pieces ≡ old.log.pieces) ⊎ OpensSegment first old.log.pieces new.log.pieces → StaysOpen old new
     → HasHalted first left old new
-halts_at_begin first left old new h stays = record { fed = new; part = begun_part first left old.log.pieces new.log.pieces h; stays = stays; log = refl; fleet = inl refl }
+halts_at_begin first left old new h stays = record { fed = new; part = begun_part first left old.log.pieces new.log.pieces h; stays = stays; log = refl; limit = refl; fleet = inl refl }
 
 pub halts_within : {T : Type 0} (first : Bool) (left : Option (List ℕ)) (begun : List Piece) (old new : Shipping T) → OpensSegment first old.log.pieces begun → IsFedPart left begun new.log.pieces → StaysOpen old new
     → HasHalted first left old new
-halts_within first left begun old new begins part stays = record { fed = new; part = inr (begun, begins, part); stays = stays; log = refl; fleet = inl refl }
+halts_within first left begun old new begins part stays = record { fed = new; part = inr (begun, begins, part); stays = stays; log = refl; limit = refl; fleet = inl refl }
 
 fed_part : (left : Option (List ℕ)) (old new : List Piece) → IsFed left old new → IsFedPart left old new
 fed_part left old new f = record { text = f.text; rest = []; more = f.more; pieces = f.pieces; is_more = f.is_more; part = subst (IsAllOf left) (sym (append-nil f.text)) f.all }
 
 pub halts_behind : {T : Type 0} (first : Bool) (left : Option (List ℕ)) (begun : List Piece) (old fed new : Shipping T) → OpensSegment first old.log.pieces begun → IsFed left begun fed.log.pieces → StaysOpen old fed
-    → new.log ≡ fed.log → (new.fleet ≡ fed.fleet) ⊎ HasCompared fed.fleet new.fleet → HasHalted first left old new
-halts_behind first left begun old fed new begins is_fed stays log fleet = record { fed = fed; part = inr (begun, begins, fed_part left begun fed.log.pieces is_fed); stays = stays; log = log; fleet = fleet }
+    → new.log ≡ fed.log → new.limit ≡ fed.limit → (new.fleet ≡ fed.fleet) ⊎ HasCompared fed.fleet new.fleet → HasHalted first left old new
+halts_behind first left begun old fed new begins is_fed stays log limit fleet = record { fed = fed; part = inr (begun, begins, fed_part left begun fed.log.pieces is_fed); stays = stays; log = log; limit = limit; fleet = fleet }

@@ -1,8 +1,8 @@
 -- How the segments of a log are shipped one after another, and how many shards there are for each.
-use Rattle.std.specs.Prelude.{◌≡◌, ◌⊎◌, ℕ, ◌+◌, ◌-◌, Bool, true, false, List, [], ◌∷◌, Option, length}
+use Rattle.std.specs.Prelude.{◌≡◌, ◌⊎◌, ℕ, ◌+◌, ◌-◌, Bool, true, false, List, [], ◌∷◌, Option, None, length, map}
 use Rattle.rw_wal_format.specs.Pieces.{Piece, entries}
 use Rattle.rw_fleet.specs.Fleets.{Shards}
-use Rattle.rw_fleet.specs.ShardHistories.{AreFresh}
+use Rattle.rw_fleet.specs.ShardHistories.{AreFresh, marks_of}
 use Rattle.rw_fleet.specs.Loads.{IsLoad}
 use Rattle.rw_fleet.specs.Work.{AreResolved}
 use Rattle.rw_fleet.specs.declared.load.Load.{Load}
@@ -11,11 +11,13 @@ use Rattle.rw_shard_core.specs.declared.config.ConfigFields.{ConfigFields}
 use Rattle.rw_shipper.specs.Shipping.{Shipping, HasCompared, PlacesAll}
 use Rattle.rw_log_shipping.specs.Segments.{OpensSegment, IsFed, IsFedPart}
 
--- more may have been put to the same shards
+-- more may have been put to the same shards, and without a limit in bytes no mark
 pub record StaysOpen {T : Type 0} (old new : Shipping T) : Type 0 where
   pub choice : new.log.choice ≡ old.log.choice
   pub fleet : new.fleet ≡ record old.fleet { current = new.fleet.current }
   pub shards : length new.fleet.current ≡ length old.fleet.current
+  pub limit : new.limit ≡ old.limit
+  pub marks : old.limit ≡ None → map marks_of new.fleet.current ≡ map marks_of old.fleet.current
 
 -- which series are sent and the configuration stay
 abbrev pub IsKept : {T : Type 0} → Shipping T → Shipping T → Type 0
@@ -43,6 +45,7 @@ pub record IsSet {T : Type 0} (more : Bool) (fewest most : ℕ) (old new : Shipp
   pub shards : more ≡ true → length new.fleet.current ≡ wanted_under fewest most (length old.fleet.current) load
   pub last : more ≡ false → new ≡ old
   pub log : new.log ≡ old.log
+  pub limit : new.limit ≡ old.limit
   pub stays : length new.fleet.current ≡ length old.fleet.current → new ≡ old
   pub epoch : (new ≡ old) ⊎ IsNextEpoch old.fleet new.fleet
 
@@ -75,6 +78,7 @@ pub record HasHalted {T : Type 0} (first : Bool) (left : Option (List ℕ)) (old
   pub part : (fed.log.pieces ≡ old.log.pieces) ⊎ ((begun : List Piece) × OpensSegment first old.log.pieces begun × IsFedPart left begun fed.log.pieces)
   pub stays : StaysOpen old fed
   pub log : new.log ≡ fed.log
+  pub limit : new.limit ≡ fed.limit
   pub fleet : (new.fleet ≡ fed.fleet) ⊎ HasCompared fed.fleet new.fleet
 
 -- so the segments of these readers, in order, as far as the reading came

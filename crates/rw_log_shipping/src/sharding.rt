@@ -133,6 +133,7 @@ pub fn resharded<R: Threads + Wait + Clock + Copy + Send + 'static, C: Connect +
     ensures start { IfOk result
         (λ s. (s.placed ≡ sharding.placed) × (s.resolved ≡ sharding.resolved)) }
     ensures log { shipper.new.log ≡ shipper.old.log }
+    ensures limit { shipper.new.limit ≡ shipper.old.limit }
     ensures compared { (shipper.new.fleet ≡ shipper.old.fleet)
         ⊎ HasCompared shipper.old.fleet shipper.new.fleet }
     ensures config { shipper.new.fleet.config ≡ shipper.old.fleet.config }
@@ -170,6 +171,7 @@ pub fn retuned<R: Threads + Wait + Clock + Copy + Send + 'static, C: Connect + D
     ensures shards { IfOk result (λ s. length shipper.new.fleet.current ≡ s.shards) }
     ensures range { IfOk result (λ s. (s.fewest ≡ sharding.fewest) × (s.most ≡ sharding.most)) }
     ensures log { shipper.new.log ≡ shipper.old.log }
+    ensures limit { shipper.new.limit ≡ shipper.old.limit }
     ensures config { shipper.new.fleet.config ≡ shipper.old.fleet.config }
     ensures compared { (shipper.new.fleet ≡ shipper.old.fleet)
         ⊎ HasCompared shipper.old.fleet shipper.new.fleet }

@@ -151,6 +151,7 @@ pub fn ship_all<
     requires sound { shipper.old.fault ≡ None }
     requires shards { length shipper.old.fleet.current ≡ sharding.shards }
     ensures kept { IsKept shipper.old shipper.new }
+    ensures limit { shipper.new.limit ≡ shipper.old.limit }
     ensures short { AreShort shipper.new.log.pieces }
     ensures live { OnOk result (shipper.new.fault ≡ None) }
     ensures whole { OnOk result (IsLogOf (map S.remaining segments.items) shipper.new.log.pieces) }

@@ -24,6 +24,7 @@ loop-segment-preserved g c =
     record {
       kept = (ap (λ (l : Sorting). l.choice) c.in_ok-sharding.ensures.log ∙ kept.0 ∙ was.0, c.in_ok-sharding.ensures.config ∙ kept.1 ∙ was.1);
       short = subst AreShort (sym (ap (λ (l : Sorting). l.pieces) c.in_ok-sharding.ensures.log)) (c.in_ok-ship_segment.ensures.short (c.in_ok-begin_segment.ensures.short c.loop-segment.invariant.short));
+      limit = c.in_ok-sharding.ensures.limit ∙ stays.limit ∙ c.loop-segment.invariant.limit;
       shards = sym c.in_ok-sharding.ensures.shards;
       range = (c.in_ok-sharding.ensures.range.0 ∙ c.loop-segment.invariant.range.0, c.in_ok-sharding.ensures.range.1 ∙ c.loop-segment.invariant.range.1);
       steps = λ last later. c.loop-segment.invariant.steps last (ships_first _ _ _ _ _ _ _ _ _ last steps one later);
@@ -65,4 +66,4 @@ returns-in_err-ship_segment-clause-part g c = c.loop-segment.invariant.part _ (p
 pub returns-in_err-sharding-clause-part : goal.returns-in_err-sharding-clause-part
 returns-in_err-sharding-clause-part g c = c.loop-segment.invariant.part _ (part_halts _ _ _ _ _ _ _ _ _ c.in-Some.ensures.steps.0
     (halts_behind _ _ _ _ _ _ c.in_ok-begin_segment.ensures.begun c.in_ok-ship_segment.ensures.whole (stays_on _ _ _ c.in_ok-begin_segment.ensures.stays c.in_ok-ship_segment.ensures.stays)
-    c.in_err-sharding.ensures.log c.in_err-sharding.ensures.compared))
+    c.in_err-sharding.ensures.log c.in_err-sharding.ensures.limit c.in_err-sharding.ensures.compared))

@@ -10,6 +10,7 @@ abbrev pub invariant-loop-segment : goal.invariant-loop-segment
 invariant-loop-segment g l = record {
   kept : IsKept l.fn.shipper l.shipper;
   short : AreShort l.shipper.log.pieces;
+  limit : l.shipper.limit ≡ l.fn.shipper.limit;
   shards : length l.shipper.fleet.current ≡ l.sharding.shards;
   range : (l.sharding.fewest ≡ l.fn.sharding.fewest) × (l.sharding.most ≡ l.fn.sharding.most);
   steps : (last : Shipping g.row.C-T.Denot) → AreShipped l.fn.sharding.fewest l.fn.sharding.most l.is_first (map g.S.Source.remaining (into_iter_items l.segment-iterator)) l.shipper last
