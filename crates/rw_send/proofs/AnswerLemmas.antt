@@ -1,5 +1,5 @@
 -- How a run answers.
-use Rattle.std.proofs.Common.{◌≡◌, List, Option, None, Some, Result, Ok, Err, IsOk, IfErr, OnOk, refl, sym, subst}
+use Rattle.std.proofs.Common.{◌≡◌, List, Option, None, Some, Result, Ok, Err, IsOk, IfErr, IfOk, OnOk, refl, sym, subst}
 use Rattle.rw_fleet.specs.declared.joined.StoppedShard.{StoppedShard}
 use Rattle.rw_shard_core.specs.declared.outcome.Outcome.{Outcome}
 use Rattle.rw_shard_core.specs.declared.outcome.Outcome.TheVariants as outcome
@@ -62,3 +62,7 @@ answers_too o (Err fault.SegmentFull) f g h = h
 pub at_ok : {T E P : Type 0} (r : Result T E) → OnOk r P → IsOk r → P
 at_ok (Ok x) h ok = h
 at_ok (Err e) h ok = let no : ⊥ = cc in absurd no
+
+pub IfOk-always : {T E : Type 0} (r : Result T E) (P : T → Type 0) → ((x : T) → P x) → IfOk r P
+IfOk-always (Ok x) P h = h x
+IfOk-always (Err e) P h = tt

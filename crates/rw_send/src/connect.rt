@@ -77,7 +77,10 @@ impl<N: Net<Stream = TcpStream> + Clock + Copy + Send + 'static> Connect for Tcp
         &mut self,
         _epoch: u64,
         _shard: u32,
-    ) -> Result<(TcpTransport<N>, Sleep<N>), AllocError> {
+    ) -> Result<(TcpTransport<N>, Sleep<N>), AllocError>
+        ensures receiver { IfOk result (λ r. r.0 ≡ self.old) }
+        ensures stays { self.new ≡ self.old }
+    {
         Ok((self.to_receiver()?, Sleep::new(self.net)))
     }
 }
