@@ -86,10 +86,11 @@ abbrev pub AreShippedPart : {T : Type 0} → (fewest most : ℕ) → Bool → Li
 AreShippedPart fewest most first [] old new = new ≡ old
 AreShippedPart {T} fewest most first (left ∷ lefts) old new = HasHalted first left old new ⊎ ((next : Shipping T) × IsShipped fewest most first left (is_some_more lefts) old next × AreShippedPart fewest most false lefts next new)
 
--- a shipper with as many shards as are configured, which was fed nothing
-pub record HasStarted {T : Type 0} (c : ConfigFields) (s : Shipping T) : Type 0 where
+-- a shipper with as many shards as are configured and this limit in bytes, which was fed nothing
+pub record HasStarted {T : Type 0} (c : ConfigFields) (limit : Option ℕ) (s : Shipping T) : Type 0 where
   pub pieces : s.log.pieces ≡ []
   pub ended : s.fleet.ended ≡ []
   pub epoch : s.fleet.epoch ≡ 0
   pub shards : length s.fleet.current ≡ c.shards
   pub fresh : AreFresh 0 s.fleet.current
+  pub limit_is : s.limit ≡ limit

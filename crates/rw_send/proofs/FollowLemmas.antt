@@ -188,23 +188,23 @@ halts_so s now ended shipped e c = subst (λ (r : Result (Unit {0}) Halt). IfErr
 
 -- ---- a report is printed
 
-pub printed : {T : Type 0} {tells : T → Type 0} {seen : T → List Exchange} {is_for : ℕ → ℕ → T → Type 0} {c : ConfigFields} {now : Option Moment} {said : Wish} {r : Report T} {answer : Result (Unit {0}) FollowFault}
-    (before after : Option (List ℕ)) → IsFollowed tells seen is_for c now said r answer → (text : List ℕ) × IsTextOf r text × Appends before after text → IsFollowPrinted tells seen is_for c now said before after answer
+pub printed : {T : Type 0} {tells : T → Type 0} {seen : T → List Exchange} {is_for : ℕ → ℕ → T → Type 0} {c : ConfigFields} {limit : Option ℕ} {now : Option Moment} {said : Wish} {r : Report T} {answer : Result (Unit {0}) FollowFault}
+    (before after : Option (List ℕ)) → IsFollowed tells seen is_for c limit now said r answer → (text : List ℕ) × IsTextOf r text × Appends before after text → IsFollowPrinted tells seen is_for c limit now said before after answer
 printed {r = r} before after s p = record { report = r; followed = s; text = p.0; text_of = p.1; written = p.2 }
 
-pub printed_part : {T : Type 0} {tells : T → Type 0} {seen : T → List Exchange} {is_for : ℕ → ℕ → T → Type 0} {c : ConfigFields} {now : Option Moment} {said : Wish} {r : Report T} {answer : Result (Unit {0}) FollowFault}
-    {before after : Option (List ℕ)} → IsFollowed tells seen is_for c now said r answer → WritesPart r before after → IsFollowPrintedPart tells seen is_for c now said before after
+pub printed_part : {T : Type 0} {tells : T → Type 0} {seen : T → List Exchange} {is_for : ℕ → ℕ → T → Type 0} {c : ConfigFields} {limit : Option ℕ} {now : Option Moment} {said : Wish} {r : Report T} {answer : Result (Unit {0}) FollowFault}
+    {before after : Option (List ℕ)} → IsFollowed tells seen is_for c limit now said r answer → WritesPart r before after → IsFollowPrintedPart tells seen is_for c limit now said before after
 printed_part {r = r} {answer = answer} s p = record { answer = answer; report = r; followed = s; part = p }
 
-pub printed_whole : {T : Type 0} {tells : T → Type 0} {seen : T → List Exchange} {is_for : ℕ → ℕ → T → Type 0} {c : ConfigFields} {now : Option Moment} {said : Wish} {before after : Option (List ℕ)}
-    (answer : Result (Unit {0}) FollowFault) → IsFollowPrinted tells seen is_for c now said before after answer → OnOk answer (IsFollowPrinted tells seen is_for c now said before after (Ok tt))
+pub printed_whole : {T : Type 0} {tells : T → Type 0} {seen : T → List Exchange} {is_for : ℕ → ℕ → T → Type 0} {c : ConfigFields} {limit : Option ℕ} {now : Option Moment} {said : Wish} {before after : Option (List ℕ)}
+    (answer : Result (Unit {0}) FollowFault) → IsFollowPrinted tells seen is_for c limit now said before after answer → OnOk answer (IsFollowPrinted tells seen is_for c limit now said before after (Ok tt))
 printed_whole (Ok u) h = h
 printed_whole (Err e) h = tt
 
-pub printed_so : {T : Type 0} {tells : T → Type 0} {seen : T → List Exchange} {is_for : ℕ → ℕ → T → Type 0} {c : ConfigFields} {now : Option Moment} {said : Wish} {before after : Option (List ℕ)}
-    {answer : Result (Unit {0}) FollowFault} (other : Result (Unit {0}) FollowFault) → answer ≡ other → IsFollowPrinted tells seen is_for c now said before after answer → IsFollowPrinted tells seen is_for c now said before after other
-printed_so {tells = tells} {seen = seen} {is_for = is_for} {c = c} {now = now} {said = said} {before = before} {after = after} other e h =
-    subst (λ (a : Result (Unit {0}) FollowFault). IsFollowPrinted tells seen is_for c now said before after a) e h
+pub printed_so : {T : Type 0} {tells : T → Type 0} {seen : T → List Exchange} {is_for : ℕ → ℕ → T → Type 0} {c : ConfigFields} {limit : Option ℕ} {now : Option Moment} {said : Wish} {before after : Option (List ℕ)}
+    {answer : Result (Unit {0}) FollowFault} (other : Result (Unit {0}) FollowFault) → answer ≡ other → IsFollowPrinted tells seen is_for c limit now said before after answer → IsFollowPrinted tells seen is_for c limit now said before after other
+printed_so {tells = tells} {seen = seen} {is_for = is_for} {c = c} {limit = limit} {now = now} {said = said} {before = before} {after = after} other e h =
+    subst (λ (a : Result (Unit {0}) FollowFault). IsFollowPrinted tells seen is_for c limit now said before after a) e h
 
 tool_of : FollowFault → ToolFault
 tool_of (fault.Tool f) = f

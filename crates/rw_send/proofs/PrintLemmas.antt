@@ -9,23 +9,23 @@ use Rattle.rw_fault.specs.declared.tool_fault.ToolFault.{ToolFault}
 use Rattle.rw_send.specs.ReportText.{IsTextOf, WritesPart}
 use Rattle.rw_send.specs.Sending.{IsSent, IsPrinted, IsPrintedPart}
 
-pub printed : {T : Type 0} {tells : T → Type 0} {seen : T → List Exchange} {is_for : ℕ → ℕ → T → Type 0} {c : ConfigFields} {lefts : List (Option (List ℕ))} {sures : List Bool} {r : Report T} {answer : Result (Unit {0}) ToolFault}
-    (before after : Option (List ℕ)) → IsSent tells seen is_for c lefts sures r answer → (text : List ℕ) × IsTextOf r text × Appends before after text → IsPrinted tells seen is_for c lefts sures before after answer
+pub printed : {T : Type 0} {tells : T → Type 0} {seen : T → List Exchange} {is_for : ℕ → ℕ → T → Type 0} {c : ConfigFields} {limit : Option ℕ} {lefts : List (Option (List ℕ))} {sures : List Bool} {r : Report T} {answer : Result (Unit {0}) ToolFault}
+    (before after : Option (List ℕ)) → IsSent tells seen is_for c limit lefts sures r answer → (text : List ℕ) × IsTextOf r text × Appends before after text → IsPrinted tells seen is_for c limit lefts sures before after answer
 printed {r = r} before after s p = record { report = r; sent = s; text = p.0; text_of = p.1; written = p.2 }
 
-pub printed_part : {T : Type 0} {tells : T → Type 0} {seen : T → List Exchange} {is_for : ℕ → ℕ → T → Type 0} {c : ConfigFields} {lefts : List (Option (List ℕ))} {sures : List Bool} {r : Report T} {answer : Result (Unit {0}) ToolFault}
-    {before after : Option (List ℕ)} → IsSent tells seen is_for c lefts sures r answer → WritesPart r before after → IsPrintedPart tells seen is_for c lefts sures before after
+pub printed_part : {T : Type 0} {tells : T → Type 0} {seen : T → List Exchange} {is_for : ℕ → ℕ → T → Type 0} {c : ConfigFields} {limit : Option ℕ} {lefts : List (Option (List ℕ))} {sures : List Bool} {r : Report T} {answer : Result (Unit {0}) ToolFault}
+    {before after : Option (List ℕ)} → IsSent tells seen is_for c limit lefts sures r answer → WritesPart r before after → IsPrintedPart tells seen is_for c limit lefts sures before after
 printed_part {r = r} {answer = answer} s p = record { answer = answer; report = r; sent = s; part = p }
 
-pub printed_whole : {T : Type 0} {tells : T → Type 0} {seen : T → List Exchange} {is_for : ℕ → ℕ → T → Type 0} {c : ConfigFields} {lefts : List (Option (List ℕ))} {sures : List Bool} {before after : Option (List ℕ)}
-    (answer : Result (Unit {0}) ToolFault) → IsPrinted tells seen is_for c lefts sures before after answer → OnOk answer (IsPrinted tells seen is_for c lefts sures before after (Ok tt))
+pub printed_whole : {T : Type 0} {tells : T → Type 0} {seen : T → List Exchange} {is_for : ℕ → ℕ → T → Type 0} {c : ConfigFields} {limit : Option ℕ} {lefts : List (Option (List ℕ))} {sures : List Bool} {before after : Option (List ℕ)}
+    (answer : Result (Unit {0}) ToolFault) → IsPrinted tells seen is_for c limit lefts sures before after answer → OnOk answer (IsPrinted tells seen is_for c limit lefts sures before after (Ok tt))
 printed_whole (Ok u) h = h
 printed_whole (Err e) h = tt
 
-pub printed_so : {T : Type 0} {tells : T → Type 0} {seen : T → List Exchange} {is_for : ℕ → ℕ → T → Type 0} {c : ConfigFields} {lefts : List (Option (List ℕ))} {sures : List Bool} {before after : Option (List ℕ)}
-    {answer : Result (Unit {0}) ToolFault} (other : Result (Unit {0}) ToolFault) → answer ≡ other → IsPrinted tells seen is_for c lefts sures before after answer → IsPrinted tells seen is_for c lefts sures before after other
-printed_so {tells = tells} {seen = seen} {is_for = is_for} {c = c} {lefts = lefts} {sures = sures} {before = before} {after = after} other e h =
-    subst (λ (a : Result (Unit {0}) ToolFault). IsPrinted tells seen is_for c lefts sures before after a) e h
+pub printed_so : {T : Type 0} {tells : T → Type 0} {seen : T → List Exchange} {is_for : ℕ → ℕ → T → Type 0} {c : ConfigFields} {limit : Option ℕ} {lefts : List (Option (List ℕ))} {sures : List Bool} {before after : Option (List ℕ)}
+    {answer : Result (Unit {0}) ToolFault} (other : Result (Unit {0}) ToolFault) → answer ≡ other → IsPrinted tells seen is_for c limit lefts sures before after answer → IsPrinted tells seen is_for c limit lefts sures before after other
+printed_so {tells = tells} {seen = seen} {is_for = is_for} {c = c} {limit = limit} {lefts = lefts} {sures = sures} {before = before} {after = after} other e h =
+    subst (λ (a : Result (Unit {0}) ToolFault). IsPrinted tells seen is_for c limit lefts sures before after a) e h
 
 abbrev pub failed : ToolFault → Result (Unit {0}) ToolFault
 failed fault = Err fault

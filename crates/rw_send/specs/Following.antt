@@ -86,24 +86,24 @@ FollowAnswers now said fed o (Err fault.Stopped) = IsAbandoned o × (said ≡ wi
 
 -- A beginning of the segments' texts was shipped in order, in short pieces, with word of a next segment between two, and nothing else; with this report and
 -- this answer.
-pub record IsFollowed {T : Type 0} (tells : T → Type 0) (seen : T → List Exchange) (is_for : ℕ → ℕ → T → Type 0) (c : ConfigFields) (now : Option Moment) (said : Wish) (r : Report T) (answer : Result (Unit {0}) FollowFault) : Type 0 where
+pub record IsFollowed {T : Type 0} (tells : T → Type 0) (seen : T → List Exchange) (is_for : ℕ → ℕ → T → Type 0) (c : ConfigFields) (limit : Option ℕ) (now : Option Moment) (said : Wish) (r : Report T) (answer : Result (Unit {0}) FollowFault) : Type 0 where
   pub pieces : List Piece
   pub begins : Known now (λ m. IsBeginning (meal_of pieces) (growth.texts m))
   pub short : AreShort pieces
-  pub report : IsReportOf tells seen is_for c pieces r
+  pub report : IsReportOf tells seen is_for c limit pieces r
   pub answers : FollowAnswers now said (meal_of pieces) r.outcome answer
 
 -- and the text of the report was written
-pub record IsFollowPrinted {T : Type 0} (tells : T → Type 0) (seen : T → List Exchange) (is_for : ℕ → ℕ → T → Type 0) (c : ConfigFields) (now : Option Moment) (said : Wish) (before after : Option (List ℕ)) (answer : Result (Unit {0}) FollowFault) : Type 0 where
+pub record IsFollowPrinted {T : Type 0} (tells : T → Type 0) (seen : T → List Exchange) (is_for : ℕ → ℕ → T → Type 0) (c : ConfigFields) (limit : Option ℕ) (now : Option Moment) (said : Wish) (before after : Option (List ℕ)) (answer : Result (Unit {0}) FollowFault) : Type 0 where
   pub report : Report T
-  pub followed : IsFollowed tells seen is_for c now said report answer
+  pub followed : IsFollowed tells seen is_for c limit now said report answer
   pub text : List ℕ
   pub text_of : IsTextOf report text
   pub written : Appends before after text
 
 -- a beginning of it was written
-pub record IsFollowPrintedPart {T : Type 0} (tells : T → Type 0) (seen : T → List Exchange) (is_for : ℕ → ℕ → T → Type 0) (c : ConfigFields) (now : Option Moment) (said : Wish) (before after : Option (List ℕ)) : Type 0 where
+pub record IsFollowPrintedPart {T : Type 0} (tells : T → Type 0) (seen : T → List Exchange) (is_for : ℕ → ℕ → T → Type 0) (c : ConfigFields) (limit : Option ℕ) (now : Option Moment) (said : Wish) (before after : Option (List ℕ)) : Type 0 where
   pub answer : Result (Unit {0}) FollowFault
   pub report : Report T
-  pub followed : IsFollowed tells seen is_for c now said report answer
+  pub followed : IsFollowed tells seen is_for c limit now said report answer
   pub part : WritesPart report before after

@@ -18,11 +18,12 @@ use Rattle.rw_send.specs.ReportText.{IsTextOf, WritesPart}
 use Rattle.rw_log_shipping.specs.Segments.{AreShort, AreSure, IsBeginningOf, IsLogOf}
 use Rattle.rw_log_shipping.specs.Steps.{AreShipped, AreShippedPart, HasStarted}
 
--- a shipper that was configured so was fed these pieces, and this is the report of its stop
-pub record IsReportOf {T : Type 0} (tells : T → Type 0) (seen : T → List Exchange) (is_for : ℕ → ℕ → T → Type 0) (c : ConfigFields) (pieces : List Piece) (r : Report T) : Type 0 where
+-- a shipper that was configured so, with this limit in bytes while it has not failed, was fed these pieces, and this is the report of its stop
+pub record IsReportOf {T : Type 0} (tells : T → Type 0) (seen : T → List Exchange) (is_for : ℕ → ℕ → T → Type 0) (c : ConfigFields) (limit : Option ℕ) (pieces : List Piece) (r : Report T) : Type 0 where
   pub shipping : Shipping T
   pub choice : shipping.log.choice ≡ choice_of c
   pub config : shipping.fleet.config ≡ record c { rules = [] }
+  pub limit_is : shipping.fault ≡ None → shipping.limit ≡ limit
   pub pieces_are : shipping.log.pieces ≡ pieces
   pub stopped : HasStopped tells seen is_for shipping r
 
@@ -49,29 +50,29 @@ Answers whole unsure o (Err fault.SegmentFull) = ⊥
 
 -- A beginning of the segments that readers had left, which are sure or not, was shipped in short pieces, and after each segment the number of shards was
 -- set; with this report and this answer.
-pub record IsSent {T : Type 0} (tells : T → Type 0) (seen : T → List Exchange) (is_for : ℕ → ℕ → T → Type 0) (c : ConfigFields) (lefts : List (Option (List ℕ))) (sures : List Bool) (r : Report T) (answer : Result (Unit {0}) ToolFault) : Type 0 where
+pub record IsSent {T : Type 0} (tells : T → Type 0) (seen : T → List Exchange) (is_for : ℕ → ℕ → T → Type 0) (c : ConfigFields) (limit : Option ℕ) (lefts : List (Option (List ℕ))) (sures : List Bool) (r : Report T) (answer : Result (Unit {0}) ToolFault) : Type 0 where
   pub pieces : List Piece
   pub begins : IsBeginningOf lefts pieces
   pub short : AreShort pieces
-  pub report : IsReportOf tells seen is_for c pieces r
+  pub report : IsReportOf tells seen is_for c limit pieces r
   pub started : Shipping T
-  pub start : HasStarted c started
+  pub start : HasStarted c limit started
   pub part : AreShippedPart c.min_shards c.max_shards true lefts started report.shipping
   pub answers : Answers (IsLogOf lefts pieces × AreShipped c.min_shards c.max_shards true lefts started report.shipping) (AreSure sures → ⊥) r.outcome answer
 
 -- and the text of the report was written
-pub record IsPrinted {T : Type 0} (tells : T → Type 0) (seen : T → List Exchange) (is_for : ℕ → ℕ → T → Type 0) (c : ConfigFields) (lefts : List (Option (List ℕ))) (sures : List Bool) (before after : Option (List ℕ)) (answer : Result (Unit {0}) ToolFault) : Type 0 where
+pub record IsPrinted {T : Type 0} (tells : T → Type 0) (seen : T → List Exchange) (is_for : ℕ → ℕ → T → Type 0) (c : ConfigFields) (limit : Option ℕ) (lefts : List (Option (List ℕ))) (sures : List Bool) (before after : Option (List ℕ)) (answer : Result (Unit {0}) ToolFault) : Type 0 where
   pub report : Report T
-  pub sent : IsSent tells seen is_for c lefts sures report answer
+  pub sent : IsSent tells seen is_for c limit lefts sures report answer
   pub text : List ℕ
   pub text_of : IsTextOf report text
   pub written : Appends before after text
 
 -- a beginning of it was written
-pub record IsPrintedPart {T : Type 0} (tells : T → Type 0) (seen : T → List Exchange) (is_for : ℕ → ℕ → T → Type 0) (c : ConfigFields) (lefts : List (Option (List ℕ))) (sures : List Bool) (before after : Option (List ℕ)) : Type 0 where
+pub record IsPrintedPart {T : Type 0} (tells : T → Type 0) (seen : T → List Exchange) (is_for : ℕ → ℕ → T → Type 0) (c : ConfigFields) (limit : Option ℕ) (lefts : List (Option (List ℕ))) (sures : List Bool) (before after : Option (List ℕ)) : Type 0 where
   pub answer : Result (Unit {0}) ToolFault
   pub report : Report T
-  pub sent : IsSent tells seen is_for c lefts sures report answer
+  pub sent : IsSent tells seen is_for c limit lefts sures report answer
   pub part : WritesPart report before after
 
 -- for this fault the work is stopped at once; a damaged log is shipped as far as it goes

@@ -59,6 +59,7 @@ fn feed_bytes<R: Wait, C: Connect + Drop>(
     requires live { shipper.old.fault ≡ None }
     requires short { length piece.items ≤ 65_536 }
     ensures kept { IsKept shipper.old shipper.new }
+    ensures limit { shipper.new.limit ≡ shipper.old.limit }
     ensures shards { length shipper.new.fleet.current ≡ length shipper.old.fleet.current }
     ensures short { AreShort shipper.old.log.pieces → AreShort shipper.new.log.pieces }
     ensures live { OnOk result (shipper.new.fault ≡ None) }
@@ -83,6 +84,7 @@ fn feed_next<R: Threads + Wait + Clock + Copy + Send + 'static, C: Connect + Dro
     requires live { shipper.old.fault ≡ None }
     requires shards { length shipper.old.fleet.current ≡ sharding.shards }
     ensures kept { IsKept shipper.old shipper.new }
+    ensures limit { shipper.new.limit ≡ shipper.old.limit }
     ensures shards { IfOk result (λ s. length shipper.new.fleet.current ≡ s.shards) }
     ensures short { AreShort shipper.old.log.pieces → AreShort shipper.new.log.pieces }
     ensures live { OnOk result (shipper.new.fault ≡ None) }
@@ -102,6 +104,7 @@ fn feed_next<R: Threads + Wait + Clock + Copy + Send + 'static, C: Connect + Dro
 fn flush<R: Wait, C: Connect + Drop>(rt: &R, shipper: &mut Shipper<C>) -> Result<(), Halt>
     requires live { shipper.old.fault ≡ None }
     ensures kept { IsKept shipper.old shipper.new }
+    ensures limit { shipper.new.fault ≡ None → shipper.new.limit ≡ shipper.old.limit }
     ensures shards { OnOk result
         (length shipper.new.fleet.current ≡ length shipper.old.fleet.current) }
     ensures log { shipper.new.log ≡ shipper.old.log }
@@ -126,6 +129,7 @@ fn obey<R: Threads + Wait + Clock + Copy + Send + 'static, C: Connect + Drop>(
     requires within { IsWithin turn (length buf.now) }
     requires short { length buf.now ≤ 65_536 }
     ensures kept { IsKept shipper.old shipper.new }
+    ensures limit { shipper.new.fault ≡ None → shipper.new.limit ≡ shipper.old.limit }
     ensures shards { IfOk result (λ s. length shipper.new.fleet.current ≡ s.shards) }
     ensures short { AreShort shipper.old.log.pieces → AreShort shipper.new.log.pieces }
     ensures live { OnOk result (shipper.new.fault ≡ None) }
@@ -167,6 +171,7 @@ fn step<R: Threads + Wait + Clock + Copy + Send + 'static, C: Connect + Drop>(
     requires within { IsWithin turn (length buf.now) }
     requires short { length buf.now ≤ 65_536 }
     ensures kept { IsKept shipper.old shipper.new }
+    ensures limit { shipper.new.fault ≡ None → shipper.new.limit ≡ shipper.old.limit }
     ensures shards { IfOk result (λ s. length shipper.new.fleet.current ≡ s.shards) }
     ensures short { AreShort shipper.old.log.pieces → AreShort shipper.new.log.pieces }
     ensures live { OnOk result (shipper.new.fault ≡ None) }
@@ -213,6 +218,7 @@ pub(crate) fn ship_live<
     requires buffer { 0 < length buf.old }
     requires short { length buf.old ≤ 65_536 }
     ensures kept { IsKept shipper.old shipper.new }
+    ensures limit { shipper.new.fault ≡ None → shipper.new.limit ≡ shipper.old.limit }
     ensures short { AreShort shipper.new.log.pieces }
     ensures live { OnOk result (shipper.new.fault ≡ None) }
     ensures begins { Known (S.now segments.new)

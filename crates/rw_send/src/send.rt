@@ -90,8 +90,8 @@ fn ship<R: Threads + Wait + Clock + Copy + Send + 'static, S: Source + Drop, C: 
     line: Counted<'_, C>,
 ) -> Result<Sent<C::T>, AllocError>
     ensures { IfOk result
-        (λ s. IsSent C.T.tells C.T.seen C.T.is_for config (map S.remaining segments.items)
-        (map S.is_sure segments.items) s.report s.answer) }
+        (λ s. IsSent C.T.tells C.T.seen C.T.is_for config line.entry.max_batch_bytes
+        (map S.remaining segments.items) (map S.is_sure segments.items) s.report s.answer) }
 {
     let sharding = Sharding::of(&config);
     let Counted {
@@ -131,25 +131,27 @@ pub fn run_send<
     writer: &mut W,
 ) -> Result<(), ToolFault>
     ensures complete { OnOk result
-        (IsPrinted C.T.tells C.T.seen C.T.is_for settings.config (map S.remaining segments.items)
-        (map S.is_sure segments.items) (W.contents writer.old) (W.contents writer.new) (Ok tt)) }
+        (IsPrinted C.T.tells C.T.seen C.T.is_for settings.config line.entry.max_batch_bytes
+        (map S.remaining segments.items) (map S.is_sure segments.items) (W.contents writer.old)
+        (W.contents writer.new) (Ok tt)) }
     ensures sound { OnOk result
         (W.has_failed writer.old ≡ false → W.has_failed writer.new ≡ false) }
     ensures damaged { (f : TailFault) → result ≡ Err (Log f)
-        → IsPrinted C.T.tells C.T.seen C.T.is_for settings.config (map S.remaining segments.items)
-        (map S.is_sure segments.items) (W.contents writer.old) (W.contents writer.new)
-        (Err (Log f)) }
+        → IsPrinted C.T.tells C.T.seen C.T.is_for settings.config line.entry.max_batch_bytes
+        (map S.remaining segments.items) (map S.is_sure segments.items) (W.contents writer.old)
+        (W.contents writer.new) (Err (Log f)) }
     ensures memory { result ≡ Err OutOfMemory → (writer.new ≡ writer.old)
-        ⊎ IsPrinted C.T.tells C.T.seen C.T.is_for settings.config (map S.remaining segments.items)
-        (map S.is_sure segments.items) (W.contents writer.old) (W.contents writer.new)
-        (Err OutOfMemory) }
+        ⊎ IsPrinted C.T.tells C.T.seen C.T.is_for settings.config line.entry.max_batch_bytes
+        (map S.remaining segments.items) (map S.is_sure segments.items) (W.contents writer.old)
+        (W.contents writer.new) (Err OutOfMemory) }
 
     // A segment cannot be read, or the writer holds a beginning of the report.
     ensures device { result ≡ Err Device
-        → IsPrinted C.T.tells C.T.seen C.T.is_for settings.config (map S.remaining segments.items)
-        (map S.is_sure segments.items) (W.contents writer.old) (W.contents writer.new) (Err Device)
+        → IsPrinted C.T.tells C.T.seen C.T.is_for settings.config line.entry.max_batch_bytes
+        (map S.remaining segments.items) (map S.is_sure segments.items) (W.contents writer.old)
+        (W.contents writer.new) (Err Device)
         ⊎ ((W.has_failed writer.new ≡ true)
-        × IsPrintedPart C.T.tells C.T.seen C.T.is_for settings.config
+        × IsPrintedPart C.T.tells C.T.seen C.T.is_for settings.config line.entry.max_batch_bytes
         (map S.remaining segments.items) (map S.is_sure segments.items) (W.contents writer.old)
         (W.contents writer.new)) }
     ensures no_line { (n : ℕ) → result ≡ Err (Line n) → ⊥ }

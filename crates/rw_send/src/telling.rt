@@ -5,7 +5,7 @@ use rw_metrics::SendCounters;
 use rw_shipper::Report;
 
 /// What connects to a receiver, what counts the work, and how many bytes the body of a batch may
-/// take. Nothing is claimed of the counters, nor of the limit.
+/// take. Nothing is claimed of the counters.
 #[derive(Drop)]
 pub struct Counted<'a, C> {
     pub connect: C,

@@ -19,6 +19,7 @@ returns g c =
         shipping = c.ship_live-ended.new.shipper;
         choice = live.kept.0 ∙ ap (λ (l : Sorting). l.choice) c.in_ok-shipper.ensures.log;
         config = live.kept.1 ∙ c.in_ok-shipper.ensures.config;
+        limit_is = λ sound. live.limit sound ∙ c.in_ok-shipper.ensures.limit;
         pieces_are = refl;
         stopped = stopped.stopped;
       };

@@ -8,6 +8,7 @@ returns-in_err-sharding g c =
     let is_err = c.from_residual-in_err-sharding.ensures.1 in
     record {
       kept = (c.step.ensures.kept.0 ∙ c.loop.invariant.kept.0, c.step.ensures.kept.1 ∙ c.loop.invariant.kept.1);
+      limit = λ sound. c.step.ensures.limit sound ∙ c.loop.invariant.limit;
       short = c.step.ensures.short c.loop.invariant.short;
       live = cut_live _ _ _ is_err;
       begins = begins_turn _ _ c.in_ok-turn.turn c.turn.new.buf _ _ c.in_ok-turn.ensures.given c.loop.invariant.given c.in_err-sharding.ensures.part;

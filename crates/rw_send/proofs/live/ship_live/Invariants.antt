@@ -8,6 +8,7 @@ use Rattle.rw_send.proofs.live.ship_live.Given as goal
 abbrev pub invariant-loop : goal.invariant-loop
 invariant-loop g l = record {
   kept : IsKept l.fn.shipper l.shipper;
+  limit : l.shipper.limit ≡ l.fn.shipper.limit;
   short : AreShort l.shipper.log.pieces;
   live : l.shipper.fault ≡ None;
   shards : length l.shipper.fleet.current ≡ l.sharding.shards;

@@ -14,6 +14,7 @@ returns g c = record {
     shipping = c.ship_all-shipped.new.shipper;
     choice = c.ship_all-shipped.ensures.kept.0 ∙ ap (λ (l : Sorting). l.choice) c.in_ok-shipper.ensures.log;
     config = c.ship_all-shipped.ensures.kept.1 ∙ c.in_ok-shipper.ensures.config;
+    limit_is = λ _. c.ship_all-shipped.ensures.limit ∙ c.in_ok-shipper.ensures.limit;
     pieces_are = refl;
     stopped = c.stopped-sent.ensures.stopped;
   };
@@ -24,6 +25,7 @@ returns g c = record {
     epoch = c.in_ok-shipper.ensures.opened.0;
     shards = c.in_ok-shipper.ensures.opened.2;
     fresh = c.in_ok-shipper.ensures.opened.3;
+    limit_is = c.in_ok-shipper.ensures.limit;
   };
   part = between (λ fewest most. AreShippedPart fewest most true (map g.S.Source.remaining c.args.segments.items) c.in_ok-shipper.shipper c.ship_all-shipped.new.shipper) c.of-sharding.ensures.fewest c.of-sharding.ensures.most c.ship_all-shipped.ensures.part;
   answers = answers_too _ _ (λ ok. (at_ok c.ship_all-shipped.result c.ship_all-shipped.ensures.whole ok, between (λ fewest most. AreShipped fewest most true (map g.S.Source.remaining c.args.segments.items) c.in_ok-shipper.shipper c.ship_all-shipped.new.shipper) c.of-sharding.ensures.fewest c.of-sharding.ensures.most (at_ok c.ship_all-shipped.result c.ship_all-shipped.ensures.steps ok))) (λ unread. λ sure. c.ship_all-shipped.ensures.sure sure unread) c.stopped-sent.ensures.answers;
