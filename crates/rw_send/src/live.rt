@@ -1,10 +1,12 @@
 //! A log is fed to a shipper as it grows.
 
-ghost use Rattle.std.specs.Prelude.{◌≡◌, ◌<◌, ◌≤◌, ◌⊎◌, [], length, None, Ok, IfErr, IfOk, OnOk, OnErr};
+ghost use Rattle.std.specs.Prelude.{◌≡◌, ◌<◌, ◌≤◌, ◌⊎◌, [], length, true, false, None, Ok, IfErr, IfOk, OnOk, OnErr};
 ghost use Rattle.rw_follow.specs.Growth as growth;
 ghost use Rattle.rw_follow.specs.Growth.{HadAll, IsBeginning, Known, with_next, with_piece};
 ghost use Rattle.rw_follow.specs.Turns.{IsWithin, given_by, wish_of};
 ghost use Rattle.rw_follow.specs.declared.follower.Stop.TheVariants as Stop;
+ghost use Rattle.rw_fleet.specs.Loads.{IsLoad};
+ghost use Rattle.rw_fleet.specs.declared.load.Load.{Load};
 ghost use Rattle.rw_send.specs.Following.{IsCut, IsUnread, meal_of};
 ghost use Rattle.rw_log_shipping.specs.Segments.{AreShort};
 ghost use Rattle.rw_log_shipping.specs.Halting.{IsHalted};
@@ -86,6 +88,8 @@ fn feed_next<R: Threads + Wait + Clock + Copy + Send + 'static, C: Connect + Dro
     ensures kept { IsKept shipper.old shipper.new }
     ensures limit { shipper.new.limit ≡ shipper.old.limit }
     ensures shards { IfOk result (λ s. length shipper.new.fleet.current ≡ s.shards) }
+    ensures start { IfOk result
+        (λ s. (s.placed ≡ sharding.placed) × (s.resolved ≡ sharding.resolved)) }
     ensures short { AreShort shipper.old.log.pieces → AreShort shipper.new.log.pieces }
     ensures live { OnOk result (shipper.new.fault ≡ None) }
     ensures fed { OnOk result
@@ -131,6 +135,8 @@ fn obey<R: Threads + Wait + Clock + Copy + Send + 'static, C: Connect + Drop>(
     ensures kept { IsKept shipper.old shipper.new }
     ensures limit { shipper.new.fault ≡ None → shipper.new.limit ≡ shipper.old.limit }
     ensures shards { IfOk result (λ s. length shipper.new.fleet.current ≡ s.shards) }
+    ensures start { IfOk result
+        (λ s. (s.placed ≡ sharding.placed) × (s.resolved ≡ sharding.resolved)) }
     ensures short { AreShort shipper.old.log.pieces → AreShort shipper.new.log.pieces }
     ensures live { OnOk result (shipper.new.fault ≡ None) }
     ensures fed { OnOk result (meal_of shipper.new.log.pieces
@@ -172,6 +178,11 @@ fn step<R: Threads + Wait + Clock + Copy + Send + 'static, C: Connect + Drop>(
     requires short { length buf.now ≤ 65_536 }
     ensures kept { IsKept shipper.old shipper.new }
     ensures limit { shipper.new.fault ≡ None → shipper.new.limit ≡ shipper.old.limit }
+    ensures asked { is_reshard_due ≡ true → IfOk result (λ s. (load : Load)
+        × IsLoad shipper.old.fleet load × (s.placed ≡ load.placed)
+        × (s.resolved ≡ load.resolved)) }
+    ensures start { is_reshard_due ≡ false → IfOk result
+        (λ s. (s.placed ≡ sharding.placed) × (s.resolved ≡ sharding.resolved)) }
     ensures shards { IfOk result (λ s. length shipper.new.fleet.current ≡ s.shards) }
     ensures short { AreShort shipper.old.log.pieces → AreShort shipper.new.log.pieces }
     ensures live { OnOk result (shipper.new.fault ≡ None) }
