@@ -1,5 +1,5 @@
 -- What a run of the command `send --follow` does.
-use Rattle.std.specs.Prelude.{◌≡◌, ℕ, List, [], ◌∷◌, Option, Result, Ok, Err, ⊤}
+use Rattle.std.specs.Prelude.{◌≡◌, ℕ, List, [], ◌∷◌, map, Option, None, Result, Ok, Err, ⊤}
 use Rattle.std.specs.Io.KnownBytes.{Appends}
 use Rattle.rw_wal_format.specs.Pieces.{Piece, bytes, next_segment}
 use Rattle.rw_follow.specs.Growth as growth
@@ -7,10 +7,13 @@ use Rattle.rw_follow.specs.Growth.{HadAll, HasGap, IsBeginning, Known, Meal, Mom
 use Rattle.rw_follow.specs.declared.follower.Broken.TheVariants as broken
 use Rattle.rw_follow.specs.declared.follower.Stop.{Stop}
 use Rattle.rw_follow.specs.declared.follower.Stop.TheVariants as stop
+use Rattle.rw_follow.specs.declared.follower.Turn.{Turn}
+use Rattle.rw_follow.specs.declared.follower.Turn.TheVariants as turn
 use Rattle.rw_follow.specs.declared.watch.Wish.{Wish}
 use Rattle.rw_follow.specs.declared.watch.Wish.TheVariants as wish
 use Rattle.rw_shard_core.specs.declared.config.ConfigFields.{ConfigFields}
 use Rattle.rw_shard_core.specs.declared.outcome.Outcome.{Outcome}
+use Rattle.rw_fleet.specs.ShardHistories.{marked, marks_of}
 use Rattle.rw_worker.specs.Transcript.{Exchange}
 use Rattle.rw_shipper.specs.Reports.{IsAbandoned}
 use Rattle.rw_shipper.specs.Shipping.{Shipping}
@@ -44,6 +47,14 @@ no_meal = record { whole = []; begun = [] }
 
 abbrev pub meal_of : List Piece → Meal
 meal_of pieces = meal_after no_meal pieces
+
+-- some bytes put no mark where there is no limit, a flush puts one to each shard, and where nothing is to be done all stays
+abbrev pub MarksBy : {T : Type 0} → Turn → Shipping T → Shipping T → Type 0
+MarksBy (turn.Piece n) old new = old.limit ≡ None → map marks_of new.fleet.current ≡ map marks_of old.fleet.current
+MarksBy turn.Over old new = ⊤
+MarksBy turn.Flush old new = new.fleet.current ≡ map marked old.fleet.current
+MarksBy turn.Nothing old new = new ≡ old
+MarksBy (turn.Stopped s) old new = new ≡ old
 
 -- Where the shipper takes no more, the log has the fault for which it does not. A segment is missing that the log says is.
 abbrev pub IsCut : {T : Type 0} → Shipping T → Option Moment → Cut → Type 0

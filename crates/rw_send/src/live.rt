@@ -1,13 +1,14 @@
 //! A log is fed to a shipper as it grows.
 
-ghost use Rattle.std.specs.Prelude.{◌≡◌, ◌<◌, ◌≤◌, ◌⊎◌, [], length, true, false, None, Ok, IfErr, IfOk, OnOk, OnErr};
+ghost use Rattle.std.specs.Prelude.{◌≡◌, ◌<◌, ◌≤◌, ◌⊎◌, [], length, map, true, false, None, Ok, IfErr, IfOk, OnOk, OnErr};
 ghost use Rattle.rw_follow.specs.Growth as growth;
 ghost use Rattle.rw_follow.specs.Growth.{HadAll, IsBeginning, Known, with_next, with_piece};
 ghost use Rattle.rw_follow.specs.Turns.{IsWithin, given_by, wish_of};
 ghost use Rattle.rw_follow.specs.declared.follower.Stop.TheVariants as Stop;
+ghost use Rattle.rw_fleet.specs.ShardHistories.{marked, marks_of};
 ghost use Rattle.rw_fleet.specs.Loads.{IsLoad};
 ghost use Rattle.rw_fleet.specs.declared.load.Load.{Load};
-ghost use Rattle.rw_send.specs.Following.{IsCut, IsUnread, meal_of};
+ghost use Rattle.rw_send.specs.Following.{IsCut, IsUnread, MarksBy, meal_of};
 ghost use Rattle.rw_log_shipping.specs.Segments.{AreShort};
 ghost use Rattle.rw_log_shipping.specs.Halting.{IsHalted};
 ghost use Rattle.rw_log_shipping.specs.Steps.{IsKept};
@@ -62,6 +63,8 @@ fn feed_bytes<R: Wait, C: Connect + Drop>(
     requires short { length piece.items ≤ 65_536 }
     ensures kept { IsKept shipper.old shipper.new }
     ensures limit { shipper.new.limit ≡ shipper.old.limit }
+    ensures marks { shipper.old.limit ≡ None
+        → map marks_of shipper.new.fleet.current ≡ map marks_of shipper.old.fleet.current }
     ensures shards { length shipper.new.fleet.current ≡ length shipper.old.fleet.current }
     ensures short { AreShort shipper.old.log.pieces → AreShort shipper.new.log.pieces }
     ensures live { OnOk result (shipper.new.fault ≡ None) }
@@ -109,6 +112,8 @@ fn flush<R: Wait, C: Connect + Drop>(rt: &R, shipper: &mut Shipper<C>) -> Result
     requires live { shipper.old.fault ≡ None }
     ensures kept { IsKept shipper.old shipper.new }
     ensures limit { shipper.new.fault ≡ None → shipper.new.limit ≡ shipper.old.limit }
+    ensures marked { OnOk result
+        (shipper.new.fleet.current ≡ map marked shipper.old.fleet.current) }
     ensures shards { OnOk result
         (length shipper.new.fleet.current ≡ length shipper.old.fleet.current) }
     ensures log { shipper.new.log ≡ shipper.old.log }
@@ -134,6 +139,7 @@ fn obey<R: Threads + Wait + Clock + Copy + Send + 'static, C: Connect + Drop>(
     requires short { length buf.now ≤ 65_536 }
     ensures kept { IsKept shipper.old shipper.new }
     ensures limit { shipper.new.fault ≡ None → shipper.new.limit ≡ shipper.old.limit }
+    ensures marks { OnOk result (MarksBy turn shipper.old shipper.new) }
     ensures shards { IfOk result (λ s. length shipper.new.fleet.current ≡ s.shards) }
     ensures start { IfOk result
         (λ s. (s.placed ≡ sharding.placed) × (s.resolved ≡ sharding.resolved)) }
