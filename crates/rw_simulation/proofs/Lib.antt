@@ -1,4 +1,5 @@
 pub mod AbandonedRuns
+pub mod Accounts
 pub mod Changes
 pub mod Eager
 pub mod EndRuns

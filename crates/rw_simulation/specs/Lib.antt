@@ -6,3 +6,4 @@ pub mod EpochRuns
 pub mod FleetRuns
 pub mod StoppedShards
 pub mod StoppedRuns
+pub mod Accounts

@@ -12,6 +12,7 @@ ghost use Rattle.rw_simulation.specs.Tallies.{Earlier, past_by};
 ghost use Rattle.rw_simulation.specs.FleetRuns.{IsFleetRun};
 ghost use Rattle.rw_simulation.specs.StoppedShards.{StopsAsShard};
 ghost use Rattle.rw_simulation.specs.StoppedRuns.{StopsAbandoned, StopsAsRun, StopsInOrder};
+ghost use Rattle.rw_simulation.specs.Accounts.{RunAccounts};
 
 use rw_worker::Transport;
 
@@ -38,13 +39,13 @@ pub fn a_stopped_shard_is_a_run<T: Transport>()
 {}
 
 /// A shipper that was stopped is a run of the machine, which reports the same, names what the parts of its report name together, and sent what its workers
-/// exchanged. `orderly` is of one that was stopped in order with nothing left: it takes
-/// from the shipper's own clauses how its samples were placed and its epochs ended; that there are 1 to 1000 shards, and that the machine can work, it
-/// asks for. `epochs` is of any epochs over which the samples may have been placed. `abandoned` is of one that left what was not resolved, however it
+/// exchanged. `orderly` is of one that was stopped in order with nothing left: it takes from the shipper's own clauses how its samples were placed and
+/// its epochs ended; that there are 1 to 1000 shards, and that the machine can work, it asks for. `epochs` is of any epochs over which the samples may have been placed. `abandoned` is of one that left what was not resolved, however it
 /// was stopped: the machine is killed, and tells the samples that are left in rising order. It asks that the shards of the epochs before had resolved
-/// all.
+/// all. `accounts` is what follows for the report: over all its parts each placed sample is in one class.
 pub fn a_stopped_shipper_is_a_run<T: Transport>()
     ensures orderly { (s : Shipping T) (r : Report T) → StopsInOrder T.tells T.seen T.is_for s r }
     ensures epochs { (s : Shipping T) (r : Report T) → StopsAsRun T.tells T.seen T.is_for s r }
     ensures abandoned { (s : Shipping T) (r : Report T) → StopsAbandoned T.tells T.seen T.is_for s r }
+    ensures accounts { (s : Shipping T) (r : Report T) → RunAccounts T.tells T.seen T.is_for s r }
 {}
