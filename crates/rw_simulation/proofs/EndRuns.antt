@@ -3,7 +3,7 @@ use Rattle.std.proofs.Common.{◌≡◌, ℕ, zero, suc, ◌+◌, ◌<◌, ◌�
 use Rattle.std.specs.List.{AllByRecursion, list_all}
 use Rattle.std.proofs.lemmas.Bool.{lt-ltb, eq-eqb, both_ways}
 use Rattle.std.proofs.lemmas.List.{map-append}
-use Rattle.std.proofs.lemmas.Option.{same_Some, none-some}
+use Rattle.std.proofs.lemmas.Option.{same_Some, none-some, slice_get_within}
 use Rattle.rw_types.specs.declared.entry.Entry.{Entry}
 use Rattle.rw_plain_queue.specs.Items.{Placed}
 use Rattle.rw_plain_queue.specs.Items as items
@@ -19,7 +19,7 @@ use Rattle.rw_machine.specs.Steps.{change, flush_shard, happens, mark, unless_ov
 use Rattle.rw_machine.specs.declared.event.Event.TheVariants as event
 use Rattle.rw_machine.proofs.Lists.{Lists}
 use Rattle.rw_machine.proofs.Others.{samples_append}
-use Rattle.rw_machine.proofs.Places.{length_change, get_some, get_below}
+use Rattle.rw_machine.proofs.Places.{length_change, get_some}
 use Rattle.rw_machine.proofs.Steps.{and_both}
 use Rattle.rw_simulation.specs.Freely.{Of, run_freely}
 use Rattle.rw_simulation.specs.WorkerRuns.{queued, happenings, steps_names, IsAfter, IsIdOf, CanEnd, sent_bytes}
@@ -127,7 +127,7 @@ module _ (c : Setup) (past : Past) (epoch n : ℕ) (fates : ℕ → ShardFate) (
       same = ap (λ (x : World). record x { shards = later.shards; names = later.names; requests = later.requests; replies = later.replies }) h.same;
       count = length_change m (λ _. final) w.shards ∙ h.count;
       parts = with_part m now h.parts;
-      tallied = tallied-shard c past epoch n placed h.parts w later (Of (event.Flush m) ∷ happenings c marked m steps) m p.way.coming.ledger.names now ran.requests h.tallied reached (subst (λ (i : ℕ). m < i) h.count (get_below w.shards m s at)) p.part_is refl ids
+      tallied = tallied-shard c past epoch n placed h.parts w later (Of (event.Flush m) ∷ happenings c marked m steps) m p.way.coming.ledger.names now ran.requests h.tallied reached (subst (λ (i : ℕ). m < i) h.count (slice_get_within w.shards m s at)) p.part_is refl ids
           (subst (λ (l : Names). GrowAlike w.names (steps_names steps (working s.core p.way.coming.ledger) w.names) p.way.coming.ledger.names l) (sym ran.ledger_is) (alike-by steps (working s.core p.way.coming.ledger) w.names p.way.coming.ledger.names));
       done = each-update (λ j t. j < suc m → HasCome epoch j later.requests (with_part m now h.parts j) t (fates j)) final m w.shards
           (λ j t e differ lt. come-still epoch j m w.requests ran.requests now h.parts t (fates j) differ ids (h.done j t e (below_it j m lt differ))) (λ _. own);
@@ -263,4 +263,4 @@ tallies-at epoch n fates requests parts ss count come k lt = let found = get_som
 
 -- where each has come to its fate, and all is resolved, they are drained
 pub drained-all : (c : Setup) (epoch n : ℕ) (fates : ℕ → ShardFate) (requests : List Request) (parts : ℕ → Names) (ss : List Shard) → length ss ≡ n → ((k : ℕ) (s : Shard) → slice_get ss k ≡ Some s → Lists c s) → ((k : ℕ) (s : Shard) → slice_get ss k ≡ Some s → k < n → HasCome epoch k requests (parts k) s (fates k)) → ((k : ℕ) → k < n → IsResolvedFate (fates k)) → list_all is_drained ss ≡ true
-drained-all c epoch n fates requests parts ss count kept come resolved = all-drained ss (λ k s e. let lt = subst (λ (m : ℕ). k < m) count (get_below ss k s e) in drained c epoch k requests (parts k) s (fates k) (kept k s e) (come k s e lt) (resolved k lt))
+drained-all c epoch n fates requests parts ss count kept come resolved = all-drained ss (λ k s e. let lt = subst (λ (m : ℕ). k < m) count (slice_get_within ss k s e) in drained c epoch k requests (parts k) s (fates k) (kept k s e) (come k s e lt) (resolved k lt))

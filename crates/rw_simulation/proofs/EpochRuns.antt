@@ -1,5 +1,6 @@
 -- The entries of an epoch are placed, and its workers work.
 use Rattle.std.proofs.Common.{◌≡◌, ℕ, zero, suc, ◌+◌, ◌<◌, ◌≤◌, ◌==◌, Bool, true, false, cond, List, [], ◌∷◌, ◌++◌, map, length, take, Some, None, slice_get, refl, sym, ap, ◌∙◌, subst, append-nil, append_assoc, length-append, arith, ◌⊎◌, inl, inr}
+use Rattle.std.proofs.lemmas.Option.{slice_get_within}
 use Rattle.std.proofs.Math.Nat.{mod-lt}
 use Rattle.std.proofs.Math.Seq.{take-append_seam}
 use Rattle.std.specs.List.{AllByRecursion}
@@ -23,7 +24,7 @@ use Rattle.rw_machine.specs.Shards.{Shard, has_room, shard_put}
 use Rattle.rw_machine.specs.Worlds.{Setup, Request, World, log}
 use Rattle.rw_machine.specs.Steps.{change, flush_shard, happens, unless_over}
 use Rattle.rw_machine.specs.declared.event.Event.TheVariants as event
-use Rattle.rw_machine.proofs.Places.{length_change, get_some, get_below}
+use Rattle.rw_machine.proofs.Places.{length_change, get_some}
 use Rattle.rw_simulation.specs.Freely.{Of, run_freely}
 use Rattle.rw_simulation.specs.WorkerRuns.{IsIdOf, sent_bytes, request_in}
 use Rattle.rw_simulation.specs.Tallies.{Past, IsTallied, requests_of}
@@ -220,7 +221,7 @@ module _ (c : Setup) (past : Past) (pieces : List Piece) (epoch n : ℕ) (fates 
         series = under.series;
         counted = under.counted;
         parts = with_part k g.coming.ledger.names under.parts;
-        tallied = tallied-shard c past epoch n before under.parts w later (Of (event.Flush k) ∷ g.events) k way.coming.ledger.names g.coming.ledger.names g.more under.tallied runs (subst (λ (m : ℕ). k < m) under.count (get_below w.shards k s at)) part refl ids g.grow;
+        tallied = tallied-shard c past epoch n before under.parts w later (Of (event.Flush k) ∷ g.events) k way.coming.ledger.names g.coming.ledger.names g.more under.tallied runs (subst (λ (m : ℕ). k < m) under.count (slice_get_within w.shards k s at)) part refl ids g.grow;
         shards = moved-shards c epoch k w.requests g.more g.coming.ledger.names under.parts g.shard w.shards (λ j. Todo before es j) fates ids (λ j t e _. under.shards j t e) way_later refl;
       }
 
@@ -322,7 +323,7 @@ module _ (c : Setup) (past : Past) (pieces : List Piece) (epoch n : ℕ) (fates 
           series = refl;
           counted = counted_more before e v.filtered under.counted;
           parts = with_part k g.coming.ledger.names under.parts;
-          tallied = tallied-shard c past epoch n (before ++ e ∷ []) under.parts placed_world later g.events k st.way.coming.ledger.names g.coming.ledger.names g.more placed_tallied works (subst (λ (m : ℕ). k < m) under.count (get_below v.shards k st.s st.at)) st.part_is refl ids g.grow;
+          tallied = tallied-shard c past epoch n (before ++ e ∷ []) under.parts placed_world later g.events k st.way.coming.ledger.names g.coming.ledger.names g.more placed_tallied works (subst (λ (m : ℕ). k < m) under.count (slice_get_within v.shards k st.s st.at)) st.part_is refl ids g.grow;
           shards = moved-shards c epoch k v.requests g.more g.coming.ledger.names under.parts g.shard v.shards (λ j. of_shard n j rest_of) fates ids
               (λ j u at differ. subst (λ (xs : List Sent). IsOnTheWayWith c epoch j v.requests (under.parts j) u xs (fates j)) (other_todo j differ) (under.shards j u at)) way_later refl;
         };

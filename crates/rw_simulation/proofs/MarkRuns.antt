@@ -2,7 +2,7 @@
 use Rattle.std.proofs.Common.{◌≡◌, ℕ, zero, suc, ◌+◌, ◌<◌, ◌≤◌, List, [], ◌∷◌, ◌++◌, map, length, Some, slice_get, refl, sym, ap, ◌∙◌, subst, arith, ◌⊎◌, inl, inr, ◌==◌, true, false}
 use Rattle.std.specs.List.{AllByRecursion}
 use Rattle.std.proofs.lemmas.Bool.Decides.{eqb_tells}
-use Rattle.std.proofs.lemmas.Option.{same_Some}
+use Rattle.std.proofs.lemmas.Option.{same_Some, slice_get_within}
 use Rattle.rw_types.specs.declared.entry.Entry.{Entry}
 use Rattle.rw_wal_format.specs.Pieces.{Piece}
 use Rattle.rw_plain_queue.specs.Items.{samples_in}
@@ -14,7 +14,7 @@ use Rattle.rw_machine.specs.Shards.{Shard}
 use Rattle.rw_machine.specs.Worlds.{Setup, Request, World}
 use Rattle.rw_machine.specs.Steps.{change}
 use Rattle.rw_machine.specs.declared.event.Event.TheVariants as event
-use Rattle.rw_machine.proofs.Places.{length_change, get_some, get_below}
+use Rattle.rw_machine.proofs.Places.{length_change, get_some}
 use Rattle.rw_simulation.specs.Freely.{Of, run_freely}
 use Rattle.rw_simulation.specs.WorkerRuns.{IsIdOf}
 use Rattle.rw_simulation.specs.Tallies.{Past}
@@ -106,7 +106,7 @@ module _ (c : Setup) (past : Past) (pieces : List Piece) (epoch n : ℕ) (fates 
           series = h.under.series;
           counted = h.under.counted;
           parts = with_part m g.coming.ledger.names h.under.parts;
-          tallied = tallied-shard c past epoch n placed h.under.parts w later (Of (event.Flush m) ∷ g.events) m way.coming.ledger.names g.coming.ledger.names g.more h.under.tallied runs (subst (λ (i : ℕ). m < i) h.under.count (get_below w.shards m s at)) part refl ids g.grow;
+          tallied = tallied-shard c past epoch n placed h.under.parts w later (Of (event.Flush m) ∷ g.events) m way.coming.ledger.names g.coming.ledger.names g.more h.under.tallied runs (subst (λ (i : ℕ). m < i) h.under.count (slice_get_within w.shards m s at)) part refl ids g.grow;
           shards = moved-shards c epoch m w.requests g.more g.coming.ledger.names h.under.parts g.shard w.shards (λ j. []) fates ids (λ j t e _. h.under.shards j t e) way_later refl;
         };
         first = each-update (λ j t. j < m → IsPut c epoch j later.requests (with_part m g.coming.ledger.names h.under.parts j) t (fates j)) g.shard m w.shards
@@ -133,7 +133,7 @@ module _ (c : Setup) (past : Past) (pieces : List Piece) (epoch n : ℕ) (fates 
 
   put-all : (w : World) → IsUnderWay c past pieces epoch n fates placed [] w → Reaches c w (IsAllPut c past pieces epoch n fates placed)
   put-all w under = go-on c w (PutBelow n) (IsAllPut c past pieces epoch n fates placed) (put-from n 0 w (zero_plus n) (record { under = under; first = λ k s e lt. absurd (none_below k lt) }))
-      (λ v h. stay c v (IsAllPut c past pieces epoch n fates placed) (record { under = h.under; each = λ k s e. h.first k s e (subst (λ (m : ℕ). k < m) h.under.count (get_below v.shards k s e)) }))
+      (λ v h. stay c v (IsAllPut c past pieces epoch n fates placed) (record { under = h.under; each = λ k s e. h.first k s e (subst (λ (m : ℕ). k < m) h.under.count (slice_get_within v.shards k s e)) }))
     where
       zero_plus : (n : ℕ) → 0 + n ≡ n
       zero_plus n = omega arith

@@ -1,7 +1,8 @@
 -- What is known of the epochs that are over, by the shards that were joined.
+use Rattle.std.specs.Prelude.{option_map}
 use Rattle.std.proofs.Common.{◌≡◌, ◌⊎◌, inl, inr, ℕ, zero, suc, ◌<◌, List, [], ◌∷◌, ◌++◌, length, map, Some, slice_get, refl, sym, ap, ◌∙◌, subst, arith}
 use Rattle.std.specs.FinMap.{empty, get}
-use Rattle.std.proofs.lemmas.Option.{same_Some, none-some}
+use Rattle.std.proofs.lemmas.Option.{same_Some, none-some, slice_get-map, slice_get_within}
 use Rattle.rw_types.proofs.AllLemmas.{AllByRecursion-weaker}
 use Rattle.rw_relabel.specs.declared.choice.Choice.{Choice}
 use Rattle.rw_ledger.specs.declared.ledger.Reason.{Reason}
@@ -16,7 +17,7 @@ use Rattle.rw_shipper.specs.Reports.{part_of}
 use Rattle.rw_shipper.specs.Shipping.{Shipping, HasStopped}
 use Rattle.rw_shipper.specs.declared.report.Report.{Report}
 use Rattle.rw_machine.specs.Worlds.{Setup, Request, World}
-use Rattle.rw_machine.proofs.Places.{get_some, get_below}
+use Rattle.rw_machine.proofs.Places.{get_some}
 use Rattle.rw_simulation.specs.WorkerRuns.{sent_bytes, request_in}
 use Rattle.rw_simulation.specs.Tallies.{Past, requests_of, IsNamedSo, IsOwned, IsTallied}
 use Rattle.rw_simulation.specs.EpochRuns.{ShardFate}
@@ -39,9 +40,7 @@ get-either (x ∷ xs) ys zero z e = inl e
 get-either (x ∷ xs) ys (suc i) z e = get-either xs ys i z e
 
 pub get_map : {X Y : Type 0} (f : X → Y) (xs : List X) (k : ℕ) (x : X) → slice_get xs k ≡ Some x → slice_get (map f xs) k ≡ Some (f x)
-get_map f [] k x e = absurd (none-some x e)
-get_map f (y ∷ ys) zero x e = ap Some (ap f (same_Some _ _ e))
-get_map f (y ∷ ys) (suc k) x e = get_map f ys k x e
+get_map f xs k x e = slice_get-map f xs k ∙ ap (option_map f) e
 
 pub map_get : {X Y : Type 0} (f : X → Y) (xs : List X) (k : ℕ) (y : Y) → slice_get (map f xs) k ≡ Some y → (x : X) × (slice_get xs k ≡ Some x) × (f x ≡ y)
 map_get f [] k y e = absurd (none-some y e)
@@ -80,7 +79,7 @@ module _ {T : Type 0} (tells : T → Type 0) (seen : T → List Exchange) where
       found k lt = get_some js k (subst (λ (m : ℕ). k < m) (sym count) lt)
 
       within : (k : ℕ) (j : StoppedShard T) → slice_get js k ≡ Some j → k < n
-      within k j e = subst (λ (m : ℕ). k < m) count (get_below js k j e)
+      within k j e = subst (λ (m : ℕ). k < m) count (slice_get_within js k j e)
 
       named_so : (p : ℕ) (reason : Reason) → (past_of done).named p reason ⊎ ((k : ℕ) × (k < n) × (get (fates k).worker.ledger.names p ≡ Some reason)) → (past_of (done ++ js)).named p reason
       named_so p reason (inl (i, j, e, h)) = (i, j, get-first done js i j e, h)

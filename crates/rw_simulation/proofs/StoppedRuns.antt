@@ -5,7 +5,7 @@ use Rattle.std.specs.Ordering.{nat_cmp}
 use Rattle.std.specs.FinMap.{empty, get, get-empty}
 use Rattle.std.proofs.lemmas.List.{length-drop, length-map, map-append}
 use Rattle.std.proofs.lemmas.Bool.{eq-eqb, eqb-true, and_parts}
-use Rattle.std.proofs.lemmas.Option.{same_Some, none-some}
+use Rattle.std.proofs.lemmas.Option.{same_Some, none-some, slice_get_within}
 use Rattle.rw_types.specs.declared.entry.Entry.{Entry}
 use Rattle.rw_types.specs.declared.place.Place.{Place}
 use Rattle.rw_types.specs.Gathering.{gather_from}
@@ -49,7 +49,7 @@ use Rattle.rw_machine.specs.Worlds.{Setup, Request, World, Ending, Complete, sta
 use Rattle.rw_machine.specs.Steps.{happens, mark, unless_over}
 use Rattle.rw_machine.specs.declared.event.Event.TheVariants as event
 use Rattle.rw_machine.specs.Promises.{CanWork}
-use Rattle.rw_machine.proofs.Places.{get_some, get_below}
+use Rattle.rw_machine.proofs.Places.{get_some}
 use Rattle.rw_simulation.specs.Freely.{Happening, Of, run_freely}
 use Rattle.rw_simulation.specs.FreeLaws.{world_of}
 use Rattle.rw_simulation.specs.WorkerRuns.{request_in}
@@ -496,7 +496,7 @@ module _ {T : Type 0} (tells : T → Type 0) (seen : T → List Exchange) (is_fo
         placed_are = ap (λ (x : World). x.placed) over-is.same ∙ put-is.under.placed;
         counted = ap (λ (x : World). x.filtered) over-is.same ∙ put-is.under.counted;
         shards = over-is.count ∙ length-map js lane_of;
-        each = λ k s j e at. let lt = subst (λ (i : ℕ). k < i) over-is.count (get_below over.shards k s e) in alike epoch kind.Orderly js sound some_lanes by before es dealt k over.requests (over-is.parts k) s j lt (over-is.done k s e lt) at;
+        each = λ k s j e at. let lt = subst (λ (i : ℕ). k < i) over-is.count (slice_get_within over.shards k s e) in alike epoch kind.Orderly js sound some_lanes by before es dealt k over.requests (over-is.parts k) s j lt (over-is.done k s e lt) at;
         reported = ap report over-is.same ∙ rw (put-is.under.going.0, all-placed, all-drained-now) refl
             ∙ ap Some (ap (λ ps. ended_as (fault ps) put.placed) put-is.under.pieces_are ∙ ap (λ (i : ℕ). ended_as (fault pieces) i) put-is.under.placed);
         epoch = suc epoch;
