@@ -70,13 +70,12 @@ impl<C: Connect + Drop> Model for ShardSet<C> {
 }
 
 impl<C: Connect + Drop> ShardSet<C> {
-    /// A fleet before epoch 0 is opened: it has no shard.
-    pub fn new(alloc: Global, config: Config, connect: C) -> Result<ShardSet<C>, AllocError>
-        ensures { IfOk result
-            (λ f. f ≡ record { config = config; epoch = 0; current = []; ended = [] }) }
+    /// A fleet before epoch 0 is opened: it has no shard. The workers of all epochs look at `stop`: where another thread sets it they leave what is not
+    /// sent and let go of their queues, so that nobody waits for room in them.
+    pub fn new(alloc: Global, config: Config, connect: C, stop: StopFlag) -> ShardSet<C>
+        ensures { result ≡ record { config = config; epoch = 0; current = []; ended = [] } }
     {
-        let stop = StopFlag::new(alloc)?;
-        Ok(ShardSet {
+        ShardSet {
             alloc,
             config,
             connect,
@@ -85,7 +84,7 @@ impl<C: Connect + Drop> ShardSet<C> {
             running: Vec::new(alloc),
             ending: Vec::new(alloc),
             joined: Vec::new(alloc),
-        })
+        }
     }
 
     /// How many shards are at work.

@@ -14,6 +14,7 @@ use Rattle.rw_follow.specs.declared.follower.Stop.TheVariants as stop
 use Rattle.rw_follow.specs.declared.follower.Turn.{Turn}
 use Rattle.rw_follow.specs.declared.follower.Turn.TheVariants as turn
 use Rattle.rw_follow.specs.declared.watch.Wish.{Wish}
+use Rattle.rw_follow.specs.declared.watch.Wish.TheVariants as wish
 use Rattle.rw_shard_core.specs.declared.config.ConfigFields.{ConfigFields}
 use Rattle.rw_shard_core.specs.declared.outcome.Outcome.{Outcome}
 use Rattle.rw_worker.specs.Transcript.{Exchange}
@@ -29,7 +30,7 @@ use Rattle.rw_log_shipping.specs.declared.halt.Halt.{Halt}
 use Rattle.rw_log_shipping.specs.declared.halt.Halt.TheVariants as halt
 use Rattle.rw_send.specs.declared.live.Cut.{Cut}
 use Rattle.rw_send.specs.declared.live.Cut.TheVariants as cut
-use Rattle.rw_send.specs.Following.{FollowAnswers, HasRead, IsCut, IsFollowPrinted, IsFollowPrintedPart, IsFollowed, IsUnread, answer_by, meal_after, meal_of, no_meal, shipped_by, told}
+use Rattle.rw_send.specs.Following.{FollowAnswers, HasRead, IsCut, IsFollowPrinted, IsFollowPrintedPart, IsFollowed, IsUnread, answer_by, cut_short, meal_after, meal_of, no_meal, shipped_by, told}
 use Rattle.rw_send.specs.ReportText.{IsTextOf, WritesPart}
 use Rattle.rw_log_shipping.specs.Halting.{IsHalted}
 use Rattle.rw_send.specs.Sending.{Answers, hard_fault}
@@ -179,6 +180,30 @@ follow_so s now said fed o ended shipped answer so e f whole signed c a hard =
     let answers = subst (λ (r : Result (Unit {0}) Halt). Answers (IsOk r) (r ≡ Err halt.Unreadable) o answer) e a in
     let is_hard = subst (λ (r : Result (Unit {0}) Halt). (t : ToolFault) → hard_fault r ≡ Some t → IsAbandoned o) e hard in
     subst (λ (r : Result (Unit {0}) FollowFault). FollowAnswers now said fed o r) (sym f) (follow_answers s now said fed o ended answer whole signed c answers is_hard)
+
+-- what was left is told so whatever the sign says
+err_answers : (W V : Type 0) (o : Outcome) (f : ToolFault) → Answers W ⊤ o (Err f) → Answers V ⊤ o (Err f)
+err_answers W V o (tool.Log f) h = h
+err_answers W V o tool.OutOfMemory h = h
+err_answers W V o tool.Device h = h
+err_answers W V o (tool.Line n) h = h
+err_answers W V o tool.SegmentFull h = h
+
+said_answers : (now : Option Moment) (old new : Wish) (fed : Meal) (o : Outcome) (answer : Result (Unit {0}) FollowFault) → ((answer ≡ cut_short → ⊥) → new ≡ old)
+    → FollowAnswers now old fed o answer → FollowAnswers now new fed o answer
+said_answers now old new fed o (Ok u) same h = let e = same (λ bad. cc) in subst (λ (w : Wish). FollowAnswers now w fed o (Ok u)) (sym e) h
+said_answers now old new fed o (Err (fault.Tool f)) same h = err_answers _ _ o f h
+said_answers now old new fed o (Err (fault.Missing n)) same h = h
+said_answers now old new fed o (Err fault.Stopped) same h = let e = same (λ bad. cc) in subst (λ (w : Wish). FollowAnswers now w fed o (Err fault.Stopped)) (sym e) h
+
+-- and where the sign is looked at once more
+pub signed_answers : (now : Option Moment) (old new : Wish) (fed : Meal) (o : Outcome) (answer result : Result (Unit {0}) FollowFault)
+    → (result ≡ answer) ⊎ ((answer ≡ cut_short) × (result ≡ Err fault.Stopped) × (new ≡ wish.Hard)) → ((answer ≡ cut_short → ⊥) → new ≡ old)
+    → FollowAnswers now old fed o answer → FollowAnswers now new fed o result
+signed_answers now old new fed o answer result (inl e) same h = subst (λ (r : Result (Unit {0}) FollowFault). FollowAnswers now new fed o r) (sym e) (said_answers now old new fed o answer same h)
+signed_answers now old new fed o answer result (inr (e, stopped, hard)) same h =
+    let left = subst (λ (r : Result (Unit {0}) FollowFault). FollowAnswers now old fed o r) e h in
+    subst (λ (r : Result (Unit {0}) FollowFault). FollowAnswers now new fed o r) (sym stopped) (left, hard)
 
 -- where a following ends early, the shipper has halted so
 

@@ -19,6 +19,7 @@ use Rattle.rw_shipper.specs.Reports.{IsAbandoned}
 use Rattle.rw_shipper.specs.Shipping.{Shipping}
 use Rattle.rw_shipper.specs.declared.report.Report.{Report}
 use Rattle.rw_fault.specs.declared.tool_fault.ToolFault.{ToolFault}
+use Rattle.rw_fault.specs.declared.tool_fault.ToolFault.TheVariants as tool
 use Rattle.rw_types.specs.declared.transfer.ReadFault.TheVariants as read
 use Rattle.rw_send.specs.declared.follow_fault.FollowFault.{FollowFault}
 use Rattle.rw_send.specs.declared.follow_fault.FollowFault.TheVariants as fault
@@ -82,6 +83,10 @@ answer_by (Ok stop.Hard) answer = Err fault.Stopped
 answer_by (Err (cut.Broken (broken.Missing n))) answer = Err (fault.Missing n)
 answer_by (Err (cut.Broken (broken.Unreadable f))) answer = told answer
 answer_by (Err (cut.Halted h)) answer = told answer
+
+-- the answer where work was left that nobody asked to leave
+abbrev pub cut_short : Result (Unit {0}) FollowFault
+cut_short = Err (fault.Tool tool.OutOfMemory)
 
 -- it was told to end, and all that stood was fed
 abbrev pub HasRead : Option Moment → Wish → Meal → Type 0

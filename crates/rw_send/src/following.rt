@@ -3,8 +3,9 @@
 ghost use Rattle.std.specs.Prelude.{◌≡◌, ◌⊎◌, ℕ, Ok, Err, true, false, IfOk, OnOk};
 ghost use Rattle.rw_wal_format.specs.declared.tail_fault.TailFault.{TailFault};
 ghost use Rattle.rw_follow.specs.Growth.{Known};
+ghost use Rattle.rw_follow.specs.declared.watch.Wish.TheVariants as Wish;
 ghost use Rattle.rw_fault.specs.declared.tool_fault.ToolFault.TheVariants.{OutOfMemory, Log, Line, SegmentFull, Device};
-ghost use Rattle.rw_send.specs.Following.{IsFollowPrinted, IsFollowPrintedPart, IsFollowed, IsUnread, answer_by, shipped_by, told};
+ghost use Rattle.rw_send.specs.Following.{IsFollowPrinted, IsFollowPrintedPart, IsFollowed, IsUnread, answer_by, cut_short, shipped_by, told};
 ghost use Rattle.rw_send.specs.declared.follow_fault.FollowFault.TheVariants.{Tool, Missing, Stopped};
 
 use crate::follow_fault::FollowFault;
@@ -13,7 +14,7 @@ use crate::printing::print_report;
 use crate::send::{Sent, stopped};
 use crate::telling::{Counted, tell_report};
 use rw_fault::ToolFault;
-use rw_follow::{Broken, Segments, Stop, Watch};
+use rw_follow::{Broken, Segments, Stop, Watch, Wish};
 use rw_log_shipping::{Halt, Means, Sharding, tell, zeros};
 use rw_settings::Settings;
 use rw_shard_core::Config;
@@ -68,6 +69,24 @@ fn answer_by(ended: Result<Stop, Cut>, answer: Result<(), ToolFault>) -> Result<
     }
 }
 
+/// The answer of a following that has ended. Where its work was cut short it may be a sign to end at once that has cut it: the sign is looked at once more.
+fn answer_signed<W: Watch>(
+    watch: &mut W,
+    answer: Result<(), FollowFault>,
+) -> Result<(), FollowFault>
+    ensures answer { (result ≡ answer) ⊎ ((answer ≡ cut_short) × (result ≡ Err Stopped)
+        × (W.said watch.new ≡ Wish.Hard)) }
+    ensures watch { (answer ≡ cut_short → ⊥) → W.said watch.new ≡ W.said watch.old }
+{
+    let Err(FollowFault::Tool(ToolFault::OutOfMemory)) = answer else {
+        return answer;
+    };
+    if watch.wish() == Wish::Hard {
+        return Err(FollowFault::Stopped);
+    }
+    answer
+}
+
 /// Follows a log, and stops.
 fn ship_on<
     R: Threads + Wait + Clock + Copy + Send + 'static,
@@ -93,17 +112,16 @@ fn ship_on<
         connect,
         counters,
         max_batch_bytes,
+        stop,
     } = line;
-    let mut shipper = Shipper::start_within(rt, alloc, config, connect, max_batch_bytes)?;
+    let mut shipper = Shipper::start_within(rt, alloc, config, connect, max_batch_bytes, stop)?;
     let means = Means { alloc, counters };
     let ended = ship_live(rt, means, &mut shipper, sharding, segments, watch, &mut buf);
     tell(counters, &shipper);
     let Sent { report, answer } = stopped(rt, shipper, shipped_by(ended));
     tell_report(counters, &report);
-    Ok(Followed {
-        report,
-        answer: answer_by(ended, answer),
-    })
+    let answer = answer_signed(watch, answer_by(ended, answer));
+    Ok(Followed { report, answer })
 }
 
 /// Ships a log while it grows, until the watch says that it is to end, then stops and prints the report as the command `send` does. Of what was read the
@@ -111,7 +129,8 @@ fn ship_on<
 ///
 /// A segment is over once the next one is there and, read again after that was seen, it gives no more bytes. Between two of them the number of shards
 /// is changed to what is wanted under the load. Told to end, it reads what stands, and waits until the receiver has answered for all of it; told to end at
-/// once, it leaves what is not done. The counters are told after each turn, and once the work has stopped. Where a segment is missing between two, or cannot be read, the work is stopped at once too.
+/// once, it leaves what is not done. While it waits for room in a queue, or for the receiver, it sees that only where the stop flag of `line` is set too,
+/// behind the sign. The counters are told after each turn, and once the work has stopped. Where a segment is missing between two, or cannot be read, the work is stopped at once too.
 pub fn run_follow<
     R: Threads + Wait + Clock + Copy + Send + 'static,
     S: Segments,

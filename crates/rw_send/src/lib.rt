@@ -18,5 +18,6 @@ pub use folder::Folder;
 pub use follow_fault::FollowFault;
 pub use following::run_follow;
 pub use opened::{Open, Opened};
+pub use rw_worker::StopFlag;
 pub use send::run_send;
 pub use telling::Counted;

@@ -98,8 +98,9 @@ fn ship<R: Threads + Wait + Clock + Copy + Send + 'static, S: Source + Drop, C: 
         connect,
         counters,
         max_batch_bytes,
+        stop,
     } = line;
-    let mut shipper = Shipper::start_within(rt, alloc, config, connect, max_batch_bytes)?;
+    let mut shipper = Shipper::start_within(rt, alloc, config, connect, max_batch_bytes, stop)?;
     let means = Means { alloc, counters };
     let shipped = ship_all(rt, means, &mut shipper, sharding, segments);
     tell(counters, &shipper);

@@ -3,15 +3,18 @@
 use rw_ledger::{Ledger, Reason};
 use rw_metrics::SendCounters;
 use rw_shipper::Report;
+use rw_worker::StopFlag;
 
-/// What connects to a receiver, what counts the work, and how many bytes the body of a batch may
-/// take. Nothing is claimed of the counters.
+/// What connects to a receiver, what counts the work, how many bytes the body of a batch may take, and what tells the workers to end at once. Nothing
+/// is claimed of the counters.
 #[derive(Drop)]
 pub struct Counted<'a, C> {
     pub connect: C,
     pub counters: &'a SendCounters,
     /// None for no limit.
     pub max_batch_bytes: Option<u64>,
+    /// Where another thread sets it the workers leave what is not sent, and nothing waits for them any more.
+    pub stop: StopFlag,
 }
 
 /// Tells what a worker has dropped that has stopped: the samples of the batches that were refused.

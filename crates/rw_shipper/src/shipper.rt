@@ -26,6 +26,7 @@ use rw_relabel::{Choice, Rules};
 use rw_shard_channel::Kind;
 use rw_shard_core::{Config, ConfigFields, Outcome};
 use rw_wal_tail::{Piece, TailFault};
+use rw_worker::StopFlag;
 use std::alloc::{AllocError, Global};
 use std::error::Error;
 use std::fmt;
@@ -188,19 +189,24 @@ impl<C: Connect + Drop> Shipper<C> {
         ensures fault { IfOk result (λ s. s.fault ≡ None) }
         ensures limit { IfOk result (λ s. s.limit ≡ None) }
     {
-        Shipper::start_within(rt, alloc, config, connect, None)
+        let stop = StopFlag::new(alloc)?;
+        Shipper::start_within(rt, alloc, config, connect, None, stop)
     }
 
     /// Opens epoch 0 as `start` does, for batches that may have a limit in bytes: no body takes more, but
     /// that of a single sample that does. A sample counts as many bytes as a message of it alone takes,
     /// so that batches of several samples of a series end below the limit. Where memory or a thread is
     /// refused the workers that were started are stopped and joined.
+    ///
+    /// `stop` is looked at by all workers. Where another thread sets it they leave what is not sent, so that a call that waits for room, or for them,
+    /// comes back: the next calls answer `Gone`, and a stop then is a hard one.
     pub fn start_within<R: Threads + Wait + Copy + Send + 'static>(
         rt: &R,
         alloc: Global,
         config: Config,
         connect: C,
         limit: Option<u64>,
+        stop: StopFlag,
     ) -> Result<Shipper<C>, AllocError>
         ensures log { IfOk result (λ s. s.log
             ≡ record { choice = choice_of config; pieces = []; placed = []; hand = [] }) }
@@ -214,7 +220,7 @@ impl<C: Connect + Drop> Shipper<C> {
         let (config, choice) = split_choice(alloc, config);
         let cuts = Cuts::within(alloc, limit)?;
         let mut lists = Lists::new(alloc)?;
-        let mut fleet = ShardSet::new(alloc, config, connect)?;
+        let mut fleet = ShardSet::new(alloc, config, connect, stop);
         if open_listed(rt, &mut fleet, &mut lists, shards).is_err() {
             let _ = fleet.finish(rt, Kind::Hard);
             return Err(AllocError);

@@ -5,7 +5,7 @@ ghost use Rattle.std.specs.Prelude.{◌≡◌, ◌↔◌, ◌∷◌, [], IsTrue}
 use crate::sign::{Sign, Wish};
 use std::alloc::Global;
 use std::fs::{self, Files};
-use std::io::{BufRead, ErrorKind};
+use std::io::{BufRead, ErrorKind, Read};
 use std::thread;
 use std::time::{Clock, Duration};
 
@@ -15,7 +15,7 @@ const LONGEST: usize = 64;
 /// How many milliseconds pass between two looks.
 const LOOK_MS: u64 = 200;
 
-/// Reads `input` to its end, and then asks for an end in order. Each line `hard` before the end asks for an end at once. An input that cannot be
+/// Reads `input` to its end, and then asks for an end in order, or to the first line `hard`, and asks for an end at once. An input that cannot be
 /// read counts as ended, and so it does where there is no memory for a line. At most 64 bytes of the input are kept.
 pub fn watch_input<B: BufRead>(alloc: Global, input: &mut B, sign: &Sign) {
     let mut line = Vec::new(alloc);
@@ -35,24 +35,37 @@ pub fn watch_input<B: BufRead>(alloc: Global, input: &mut B, sign: &Sign) {
         }
         if is_hard(&line) {
             sign.hard();
+            return;
         }
         line.clear();
     }
     sign.end();
 }
 
-/// Looks five times a second for the file at `path`, and asks for an end in order once it is there. Returns sooner where the sign was set by another.
+/// Looks five times a second for the file at `path`. It asks for an end in order once the file is there, and for an end at once when its first line
+/// is `hard`. Returns then, or where another has asked for an end at once.
 pub fn watch_file<R: Clock + Files>(rt: &R, path: &str, sign: &Sign) {
     for _ in 0..u64::MAX {
         if matches!(fs::exists(rt, path), Ok(true)) {
-            break;
+            sign.end();
+            if begins_hard(rt, path) {
+                sign.hard();
+            }
         }
-        if sign.wish() != Wish::Work {
+        if sign.wish() == Wish::Hard {
             return;
         }
         thread::sleep(rt, Duration::from_millis(LOOK_MS));
     }
-    sign.end();
+}
+
+/// Whether the first line of a file is `hard`. One that cannot be read has no such line.
+fn begins_hard<R: Files>(rt: &R, path: &str) -> bool {
+    let Ok(mut file) = fs::open(rt, path) else {
+        return false;
+    };
+    let mut line = [0u8; 5];
+    file.read_exact(&mut line).is_ok() && line == *b"hard\n"
 }
 
 /// The next byte; `None` at the end of the input, and where it cannot be read.

@@ -27,7 +27,7 @@ fn serve_until<R: Threads + Wait + Clock + Sync>(
     stop_file: Option<&str>,
     counters: &ReceiveCounters,
 ) -> Result<(), ToolFault> {
-    let sign = sign_of(rt, threads, stop_file)?;
+    let sign = sign_of(rt, threads, stop_file, None)?;
     let mut output = Std::new(rt.stdout());
     let service = Service {
         most: Bounded::new(1_000),

@@ -8,7 +8,9 @@ use crate::sign::{Told, sign_of};
 use rw_fault::ToolFault;
 use rw_follow::Timed;
 use rw_metrics::{Counters, SendCounters};
-use rw_send::{Counted, Folder, FollowFault, TcpConnect, run_follow, run_send, segment_files};
+use rw_send::{
+    Counted, Folder, FollowFault, StopFlag, TcpConnect, run_follow, run_send, segment_files,
+};
 use rw_settings::Settings;
 use rw_tcp::look_up;
 use rw_types::Std;
@@ -48,18 +50,20 @@ fn ship<R: Threads + Wait + Clock + Copy + Send + 'static>(
         connect,
         counters,
         max_batch_bytes: sending.max_batch_bytes,
+        stop: StopFlag::new(rt.alloc())?,
     };
     let mut output = Std::new(rt.stdout());
     run_send(threads, rt.alloc(), settings, segments, line, &mut output)
 }
 
-/// What tells a follower to stop, and lets time pass.
+/// What tells a follower to stop, and its workers where that is at once, and lets time pass.
 fn watch_of<R: Threads>(
     rt: &HostRuntime,
     threads: &R,
     following: &Following<'_>,
+    workers: StopFlag,
 ) -> Result<Timed<HostRuntime, Told>, AllocError> {
-    let told = Told::new(sign_of(rt, threads, following.stop_file)?);
+    let told = Told::new(sign_of(rt, threads, following.stop_file, Some(workers))?);
     let poll = Duration::from_millis(following.poll_ms.get());
     let patience = Duration::from_millis(following.flush_ms.get());
     let reshard = Duration::from_millis(following.reshard_ms.get());
@@ -79,11 +83,13 @@ fn follow<R: Threads + Wait + Clock + Copy + Send + 'static>(
     let connect = connect_to(rt, &settings, addresses, counters)?;
     let dir = String::from_str(rt.alloc(), sending.dir)?;
     let mut segments = Folder::new(*rt, dir, Arc::try_clone(counters)?);
-    let mut watch = watch_of(rt, threads, following)?;
+    let stop = StopFlag::new(rt.alloc())?;
+    let mut watch = watch_of(rt, threads, following, stop.share()?)?;
     let line = Counted {
         connect,
         counters,
         max_batch_bytes: sending.max_batch_bytes,
+        stop,
     };
     let mut output = Std::new(rt.stdout());
     run_follow(

@@ -1,15 +1,27 @@
 //! What tells the program to stop.
 
+use rw_send::StopFlag;
 use rw_stop::{Sign, Wish, watch_file, watch_input};
 use std::alloc::{AllocError, Global};
 use std::sync::Arc;
 use std::thread::{self, Threads};
 
-/// A sign that is set once the file is there, or, where there is none, once standard input ends. What looks for it is left to itself.
+/// Tells workers of an end at once, which they do not see in the sign.
+fn pass_on(sign: &Sign, workers: &Option<StopFlag>) {
+    if let Some(flag) = workers {
+        if sign.wish() == Wish::Hard {
+            flag.set();
+        }
+    }
+}
+
+/// A sign that is set as the file says, or, where there is none, as standard input does. Where it asks for an end at once the flag of the workers is set
+/// behind it. What looks for it is left to itself.
 pub fn sign_of<R: Threads>(
     rt: &HostRuntime,
     threads: &R,
     stop_file: Option<&str>,
+    workers: Option<StopFlag>,
 ) -> Result<Arc<Sign, Global>, AllocError> {
     let alloc = rt.alloc();
     let sign = Arc::new(alloc, Sign::new())?;
@@ -18,10 +30,14 @@ pub fn sign_of<R: Threads>(
     let watcher = match stop_file {
         Some(path) => {
             let path = String::from_str(alloc, path)?;
-            thread::spawn(threads, move || watch_file(&host, &path, &theirs))?
+            thread::spawn(threads, move || {
+                watch_file(&host, &path, &theirs);
+                pass_on(&theirs, &workers);
+            })?
         }
         None => thread::spawn(threads, move || {
-            watch_input(host.alloc(), &mut host.reader(), &theirs)
+            watch_input(host.alloc(), &mut host.reader(), &theirs);
+            pass_on(&theirs, &workers);
         })?,
     };
     drop(watcher);

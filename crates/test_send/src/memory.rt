@@ -8,7 +8,7 @@ use Part::{Changed, Cut, Fails, Many, Whole};
 use http::StatusCode;
 use rw_fault::ToolFault;
 use rw_metrics::SendCounters;
-use rw_send::{Counted, run_send};
+use rw_send::{Counted, StopFlag, run_send};
 use rw_settings::read_settings;
 use rw_types::Room;
 use rw_wal_format::TailFault;
@@ -139,6 +139,7 @@ fn shipped<R: Threads + Wait + Clock + Copy + Send + 'static>(
         connect: receivers_of(rt, row.2)?,
         counters,
         max_batch_bytes: None,
+        stop: StopFlag::new(alloc)?,
     };
     match read_settings(alloc, row.0) {
         Ok(settings) => Ok(run_send(rt, alloc, settings, readers, line, printed)),

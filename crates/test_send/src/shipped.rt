@@ -11,9 +11,9 @@ use crate::rows::none_is_wrong;
 use Part::{Cut, Gap, More, Next, Padded, Quiet, Rest};
 use http::StatusCode;
 use rw_fault::ToolFault;
-use rw_follow::{Event, Listed, Timed, Wish};
+use rw_follow::{Event, Listed, Sign, Timed, Watch, Wish};
 use rw_metrics::SendCounters;
-use rw_send::{Counted, FollowFault, run_follow};
+use rw_send::{Counted, FollowFault, StopFlag, run_follow};
 use rw_settings::{Settings, read_settings};
 use rw_types::Room;
 use rw_wal_format::TailFault;
@@ -21,7 +21,7 @@ use std::alloc::{AllocError, Global};
 use std::collections::VecDeque;
 use std::sync::Wait;
 use std::test::Fail;
-use std::thread::Threads;
+use std::thread::{self, Threads};
 use std::time::{Clock, Duration};
 
 /// What happens to a log, whose bytes are written as log text.
@@ -97,11 +97,25 @@ fn log_of(alloc: Global, parts: &[Part<'_>]) -> Result<Listed, AllocError>
     Ok(Listed::new(alloc, events))
 }
 
-fn settings_of(alloc: Global) -> Result<Settings, AllocError> {
-    match read_settings(alloc, b"") {
+fn settings_of(alloc: Global, text: &[u8]) -> Result<Settings, AllocError> {
+    match read_settings(alloc, text) {
         Ok(settings) => Ok(settings),
         Err(_) => Err(AllocError),
     }
+}
+
+/// Follows a log in memory.
+fn follow<R: Threads + Wait + Clock + Copy + Send + 'static, W: Watch>(
+    rt: &R,
+    alloc: Global,
+    settings: Settings,
+    parts: &[Part<'_>],
+    line: Counted<'_, Receivers<R>>,
+    watch: &mut W,
+    printed: &mut Room,
+) -> Result<Result<(), FollowFault>, AllocError> {
+    let mut log = log_of(alloc, parts)?;
+    Ok(run_follow(rt, alloc, settings, &mut log, line, watch, printed))
 }
 
 /// Receivers that answer one request by this status at once. They refuse each later one.
@@ -125,8 +139,7 @@ fn does<R: Threads + Wait + Clock + Copy + Send + 'static>(
     row: &Row<'_>,
     reshards: bool,
 ) -> Result<bool, AllocError> {
-    let settings = settings_of(alloc)?;
-    let mut log = log_of(alloc, row.0)?;
+    let settings = settings_of(alloc, b"")?;
     let mut printed = Room::new(alloc, 4096)?;
     let mut watch = Countdown {
         looks: row.1,
@@ -140,16 +153,9 @@ fn does<R: Threads + Wait + Clock + Copy + Send + 'static>(
         connect: receivers_of(rt, StatusCode::NO_CONTENT),
         counters: &counters,
         max_batch_bytes: None,
+        stop: StopFlag::new(alloc)?,
     };
-    let answer = run_follow(
-        rt,
-        alloc,
-        settings,
-        &mut log,
-        line,
-        &mut watch,
-        &mut printed,
-    );
+    let answer = follow(rt, alloc, settings, row.0, line, &mut watch, &mut printed)?;
     let is_counted = tells_as_printed(alloc, &counters, row.4);
     Ok(answer == row.3 && printed.as_slice() == row.4 && is_counted)
 }
@@ -260,8 +266,7 @@ fn flushed<R: Threads + Wait + Clock + Copy + Send + 'static>(
     alloc: Global,
     printed: &mut Room,
 ) -> Result<Result<(), FollowFault>, AllocError> {
-    let settings = settings_of(alloc)?;
-    let mut log = log_of(alloc, &[More(UP)])?;
+    let settings = settings_of(alloc, b"")?;
     let counters = SendCounters::new(alloc)?;
     let sign = Onlooker {
         alloc,
@@ -275,8 +280,9 @@ fn flushed<R: Threads + Wait + Clock + Copy + Send + 'static>(
         connect: receivers_of(rt, StatusCode::BAD_REQUEST),
         counters: &counters,
         max_batch_bytes: None,
+        stop: StopFlag::new(alloc)?,
     };
-    Ok(run_follow(rt, alloc, settings, &mut log, line, &mut watch, printed))
+    follow(rt, alloc, settings, &[More(UP)], line, &mut watch, printed)
 }
 
 /// The sample of a quiet log is sent though no batch is full.
@@ -287,5 +293,101 @@ fn a_quiet_log_is_flushed(rt: HostRuntime) -> Result<(), Fail> {
     let is_so = printed.as_slice()
         == b"dropped 1 status 400\nfiltered 0\nreport abandoned 2\n".as_slice();
     assert!(rt; is_so && answer == Err(FollowFault::Stopped));
+    Ok(())
+}
+
+/// The sign of the program, as a follower sees it.
+#[derive(Drop)]
+struct Seen<'a> {
+    sign: &'a rw_stop::Sign,
+}
+
+impl Sign for Seen<'_> {
+    fn wish(&mut self) -> Wish {
+        match self.sign.wish() {
+            rw_stop::Wish::Work => Wish::Work,
+            rw_stop::Wish::End => Wish::End,
+            rw_stop::Wish::Hard => Wish::Hard,
+        }
+    }
+}
+
+/// Asks for an end in order, and later for one at once, which workers are told behind the sign.
+fn stop_twice<R: Clock>(rt: &R, sign: &rw_stop::Sign, workers: &StopFlag) {
+    thread::sleep(rt, Duration::from_millis(200));
+    sign.end();
+    thread::sleep(rt, Duration::from_millis(200));
+    sign.hard();
+    workers.set();
+}
+
+/// Follows a log while its receiver is always busy, and is stopped twice.
+fn stopped_twice<R: Threads + Wait + Clock + Copy + Send + Sync + 'static>(
+    rt: &R,
+    alloc: Global,
+    text: &[u8],
+    printed: &mut Room,
+) -> Result<Result<(), FollowFault>, AllocError> {
+    let settings = settings_of(alloc, b"[send]\ncapacity = 1\nbatch = 1\n")?;
+    let counters = SendCounters::new(alloc)?;
+    let stop = StopFlag::new(alloc)?;
+    let workers = stop.share()?;
+    let sign = rw_stop::Sign::new();
+    let moment = Duration::from_millis(5);
+    let mut watch = Timed::new(*rt, Seen { sign: &sign }, moment, moment, moment);
+    let line = Counted {
+        connect: Receivers {
+            clock: *rt,
+            status: StatusCode::SERVICE_UNAVAILABLE,
+            takes: moment,
+            requests: u64::MAX,
+            epochs: u64::MAX,
+        },
+        counters: &counters,
+        max_batch_bytes: None,
+        stop,
+    };
+    let (answer, ()) = thread::join(
+        rt,
+        || follow(
+            rt,
+            alloc,
+            settings,
+            &[More(text)],
+            line,
+            &mut watch,
+            printed,
+        ),
+        || stop_twice(rt, &sign, &workers),
+    );
+    answer
+}
+
+/// Samples of one series: more than a queue and a batch of one have room for.
+const FOUR: &[u8] =
+    b"series 1 {__name__=\"up\"}\nsample 1 10 1\nsample 1 20 1\nsample 1 30 1\nsample 1 40 1\n";
+
+/// Whether a log is stopped at once though its receiver is away.
+fn is_stopped<R: Threads + Wait + Clock + Copy + Send + Sync + 'static>(
+    rt: &R,
+    alloc: Global,
+    text: &[u8],
+) -> Result<bool, AllocError> {
+    let mut printed = Room::new(alloc, 4096)?;
+    let answer = stopped_twice(rt, alloc, text, &mut printed)?;
+    let is_printed = printed
+        .as_slice()
+        .starts_with(b"filtered 0\nabandoned 1\n".as_slice());
+    Ok(is_printed && answer == Err(FollowFault::Stopped))
+}
+
+/// A stop at once is seen while the end in order waits for the receiver, and while a full queue is waited for.
+#[test]
+fn a_receiver_that_is_away_hides_no_stop(rt: HostRuntime) -> Result<(), Fail> {
+    assert!(rt;
+        is_stopped(&rt, rt.alloc(), UP)?,
+        "a sample waits for its answer"
+    );
+    assert!(rt; is_stopped(&rt, rt.alloc(), FOUR)?, "a queue is full");
     Ok(())
 }

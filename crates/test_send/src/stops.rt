@@ -52,24 +52,34 @@ fn nothing_is_wished_at_first(rt: HostRuntime) -> Result<(), Fail> {
     Ok(())
 }
 
-/// Makes a file, which a watch has looked for then, or else asks for an end at once.
-fn make_later<R: Clock + Files>(rt: &R, path: &str, sign: &Sign) {
-    thread::sleep(rt, Duration::from_millis(300));
-    if fs::write(rt, path, b"").is_err() {
-        sign.hard();
-    }
+/// Writes this to a file, which a watch looks at, and gives what is wished a while later.
+fn wish_after<R: Clock + Files>(rt: &R, path: &str, text: &[u8], sign: &Sign) -> Option<Wish> {
+    fs::write(rt, path, text).ok()?;
+    thread::sleep(rt, Duration::from_millis(1_000));
+    Some(sign.wish())
 }
 
-/// The file comes behind the first look.
+/// Makes a file, which a watch has looked for then, and writes to it. Gives what was wished behind an empty file, behind another line, and behind the line
+/// `hard`; and asks for an end at once, so that the watch ends.
+fn write_later<R: Clock + Files>(rt: &R, path: &str, sign: &Sign) -> [Option<Wish>; 3] {
+    thread::sleep(rt, Duration::from_millis(300));
+    let empty = wish_after(rt, path, b"", sign);
+    let other = wish_after(rt, path, b"hardly\n", sign);
+    let hard = wish_after(rt, path, b"hard\nnow\n", sign);
+    sign.hard();
+    [empty, other, hard]
+}
+
+/// The file comes behind the first look, and is looked at again.
 #[test]
 fn a_file_sets_a_sign(rt: HostRuntime) -> io::Result<()> {
     let sign = Sign::new();
-    thread::join(
+    let ((), wishes) = thread::join(
         &rt,
         || watch_file(&rt, "stop", &sign),
-        || make_later(&rt, "stop", &sign),
+        || write_later(&rt, "stop", &sign),
     );
     fs::remove_file(&rt, "stop")?;
-    assert!(rt; sign.wish() == Wish::End);
+    assert!(rt; wishes == [Some(Wish::End), Some(Wish::End), Some(Wish::Hard)]);
     Ok(())
 }

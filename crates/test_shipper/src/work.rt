@@ -6,7 +6,7 @@ use rw_shard_core::{Config, ConfigFields};
 use rw_shipper::{Connect, Ends, FeedFault, Finished, Load, Outcome, Report, Shipper};
 use rw_types::Bounded;
 use rw_wal_tail::{Piece, TailFault};
-use rw_worker::Transport;
+use rw_worker::{StopFlag, Transport};
 use std::alloc::{AllocError, Global};
 use std::sync::Wait;
 use std::thread::Threads;
@@ -327,7 +327,8 @@ fn ship<R: Threads + Wait + Copy + Send + 'static, C: Connect + Drop>(
 ) -> Result<(Work, Vec<C::T>), AllocError> {
     let mut faults = Vec::with_capacity(alloc, steps.len())?;
     let mut loads = Vec::with_capacity(alloc, steps.len())?;
-    let mut shipper = Shipper::start_within(rt, alloc, config, connect, task.limit)?;
+    let stop = StopFlag::new(alloc)?;
+    let mut shipper = Shipper::start_within(rt, alloc, config, connect, task.limit, stop)?;
     take_steps(rt, &mut shipper, steps, &mut faults, &mut loads);
     work_of(alloc, faults, loads, report_of(rt, shipper, task.stop))
 }

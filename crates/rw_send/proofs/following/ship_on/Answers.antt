@@ -1,6 +1,6 @@
 use Rattle.std.proofs.Common.{refl, ap, ◌∙◌}
 use Rattle.rw_feeder.specs.Feeders.{Sorting}
-use Rattle.rw_send.proofs.FollowLemmas.{follow_so, halts_so}
+use Rattle.rw_send.proofs.FollowLemmas.{follow_so, halts_so, signed_answers}
 use Rattle.rw_send.proofs.following.ship_on.Goals as goal
 
 pub stopped-report-requires-clause-halted : goal.stopped-report-requires-clause-halted
@@ -23,5 +23,6 @@ returns g c =
         pieces_are = refl;
         stopped = stopped.stopped;
       };
-      answers = follow_so c.ship_live-ended.new.shipper _ _ _ _ c.ship_live-ended.result c.shipped_by.result _ _ c.shipped_by.ensures c.answer_by.ensures live.whole live.signed live.cut stopped.answers stopped.hard;
+      answers = signed_answers _ _ _ _ _ c.answer_by.result c.answer_signed-answer.result c.answer_signed-answer.ensures.answer c.answer_signed-answer.ensures.watch
+          (follow_so c.ship_live-ended.new.shipper _ _ _ _ c.ship_live-ended.result c.shipped_by.result _ _ c.shipped_by.ensures c.answer_by.ensures live.whole live.signed live.cut stopped.answers stopped.hard);
     }

@@ -9,21 +9,21 @@ use Rattle.rw_shipper.proofs.ShippingLemmas.{places_begun, read_begun, on_ok}
 use Rattle.rw_shipper.proofs.shipper.Shipper.start_within.Goals as goal
 
 pub open_listed-requires-clause-resolved : goal.open_listed-requires-clause-resolved
-open_listed-requires-clause-resolved g c κs within = resolved_none c.in_ok-fleet.fleet.ended (ap (λ (s : Shards _). s.ended) c.in_ok-fleet.ensures)
+open_listed-requires-clause-resolved g c κs within = resolved_none c.new-fleet.result.ended (ap (λ (s : Shards _). s.ended) c.new-fleet.ensures)
 
 pub open_listed-requires-clause-room : goal.open_listed-requires-clause-room
 open_listed-requires-clause-room g c κs within =
-    let fleet = c.in_ok-fleet.ensures in
-    room_begun c.in_ok-fleet.fleet c.in_ok-lists.lists (ap (λ (s : Shards _). s.ended) fleet) (ap (λ (s : Shards _). s.current) fleet) c.in_ok-lists.ensures
+    let fleet = c.new-fleet.ensures in
+    room_begun c.new-fleet.result c.in_ok-lists.lists (ap (λ (s : Shards _). s.ended) fleet) (ap (λ (s : Shards _). s.current) fleet) c.in_ok-lists.ensures
 
 pub invariant_of-result : goal.invariant_of-result
 invariant_of-result g c =
-    let fleet = c.in_ok-fleet.ensures in
+    let fleet = c.new-fleet.ensures in
     let feeder = c.new-3.ensures in
     let all = on_ok c.open_listed.result _ (sym c.is_err.ensures.value ∙ c.if-is_err.false) c.open_listed.ensures.all in
     let low = c.get-shards.ensures.low in
     let high = c.get-shards.ensures.high in (
-      places_begun c.new-3.result c.in_ok-fleet.fleet c.open_listed.new.fleet (ap (λ (s : Sorting). s.placed) feeder) (ap (λ (s : Shards _). s.epoch) fleet) (ap (λ (s : Shards _). s.ended) fleet) (ap (λ (s : Shards _). s.current) fleet) c.open_listed.ensures.rest c.open_listed.ensures.fresh,
+      places_begun c.new-3.result c.new-fleet.result c.open_listed.new.fleet (ap (λ (s : Sorting). s.placed) feeder) (ap (λ (s : Shards _). s.epoch) fleet) (ap (λ (s : Shards _). s.ended) fleet) (ap (λ (s : Shards _). s.current) fleet) c.open_listed.ensures.rest c.open_listed.ensures.fresh,
       (ap (λ (s : Sorting). s.hand) feeder, (omega arith, omega arith)),
       read_begun c.new-3.result _ feeder,
       counted_fresh c.in_ok-cuts.cuts.limit c.in_ok-cuts.cuts.rooms c.open_listed.new.fleet.epoch _ c.open_listed.new.fleet.current c.in_ok-cuts.ensures.full all (omega arith) c.open_listed.ensures.fresh,
@@ -32,7 +32,7 @@ invariant_of-result g c =
 
 pub returns-clause-opened : goal.returns-clause-opened
 returns-clause-opened g c =
-    let fleet = c.in_ok-fleet.ensures in
+    let fleet = c.new-fleet.ensures in
     let rest = c.open_listed.ensures.rest in
     let epoch = ap (λ (s : Shards _). s.epoch) rest ∙ ap (λ (s : Shards _). s.epoch) fleet in
     let all = on_ok c.open_listed.result _ (sym c.is_err.ensures.value ∙ c.if-is_err.false) c.open_listed.ensures.all in
