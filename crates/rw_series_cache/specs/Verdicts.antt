@@ -1,5 +1,5 @@
 -- The verdicts of references, in a table and in a map beside it.
-use Rattle.std.specs.Prelude.{ℕ, ◌<◌, ◌≤◌, length, nat_eq, slice_get, Option, None, Some}
+use Rattle.std.specs.Prelude.{ℕ, ◌+◌, ◌*◌, ◌<◌, ◌≤◌, length, nat_eq, slice_get, Option, None, Some}
 use Rattle.std.specs.HashMap.{get, spare}
 use Rattle.rw_series_cache.specs.declared.verdict.Verdict.{Verdict}
 use Rattle.rw_series_cache.specs.declared.verdicts.Verdicts.{Verdicts}
@@ -17,3 +17,7 @@ verdict_in verdicts reference = first_of (slice_get verdicts.table.items referen
 -- the table has a place for a reference, or the map has room for one more
 abbrev pub HasRoom : Verdicts → ℕ → Type 0
 HasRoom verdicts reference = length verdicts.table.items ≤ reference → 0 < spare verdicts.beside
+
+-- The verdicts are those of so many definitions at most, and so is the table: four places for each, and 1,024 beyond that.
+abbrev pub IsWithin : Verdicts → ℕ → Type 0
+IsWithin verdicts count = (verdicts.definitions ≤ count) × (length verdicts.table.items ≤ 4 * count + 1024)

@@ -34,7 +34,7 @@ impl Model for Cache {
     ghost use Rattle.std.specs.Coded.{codes};
     ghost use Rattle.std.specs.FinMap as map;
     ghost use Rattle.rw_series_cache.specs.Cached.{Taken, IsCache};
-    ghost use Rattle.rw_series_cache.specs.Verdicts.{verdict_in};
+    ghost use Rattle.rw_series_cache.specs.Verdicts.{verdict_in, IsWithin};
 
     ghost Value = { Taken };
 
@@ -47,7 +47,7 @@ impl Model for Cache {
     } };
 
     ghost invariant = { λ c. IsCache c.sets.choice c.taken (verdict_in c.verdicts) c.sets.series
-        × (length c.sets.series ≤ c.latest.places) };
+        × (length c.sets.series ≤ c.latest.places) × IsWithin c.verdicts (length c.taken) };
 }
 
 impl Cache {

@@ -1,7 +1,7 @@
 //! The verdicts of references.
 
-ghost use Rattle.std.specs.Prelude.{◌≡◌, ℕ, None, OnOk, Some, nat_eq, if◌then◌else◌};
-ghost use Rattle.rw_series_cache.specs.Verdicts.{verdict_in, HasRoom};
+ghost use Rattle.std.specs.Prelude.{◌≡◌, ℕ, ◌+◌, ◌*◌, ◌≤◌, None, OnOk, Some, nat_eq, if◌then◌else◌};
+ghost use Rattle.rw_series_cache.specs.Verdicts.{verdict_in, HasRoom, IsWithin};
 
 use crate::verdict::Verdict;
 use std::alloc::{AllocError, Global};
@@ -24,7 +24,8 @@ pub(crate) struct Verdicts {
 impl Verdicts {
     /// No verdicts yet. This takes no memory.
     pub(crate) fn new(alloc: Global) -> Verdicts
-        ensures { (r : ℕ) → verdict_in result r ≡ None }
+        ensures empty { (r : ℕ) → verdict_in result r ≡ None }
+        ensures within { IsWithin result 0 }
     {
         Verdicts {
             table: Vec::new(alloc),
@@ -48,6 +49,9 @@ impl Verdicts {
     pub(crate) fn make_room(&mut self, reference: u64) -> Result<(), AllocError>
         ensures ok { OnOk result (HasRoom self.new reference) }
         ensures same { (r : ℕ) → verdict_in self.new r ≡ verdict_in self.old r }
+
+        // However large the reference is, the table reaches no further than the definitions so far allow.
+        ensures within { (count : ℕ) → IsWithin self.old count → IsWithin self.new count }
     {
         let place = reference as usize;
         if place < self.table.len() {
@@ -63,8 +67,9 @@ impl Verdicts {
     /// Puts the verdict of a reference. This takes no memory.
     pub(crate) fn put(&mut self, reference: u64, verdict: Verdict)
         requires { HasRoom self.old reference }
-        ensures { (r : ℕ) → verdict_in self.new r
+        ensures found { (r : ℕ) → verdict_in self.new r
             ≡ (if nat_eq reference r then Some verdict else verdict_in self.old r) }
+        ensures within { (count : ℕ) → IsWithin self.old count → IsWithin self.new (count + 1) }
     {
         self.definitions = self.definitions.saturating_add(1);
         let place = reference as usize;
@@ -77,7 +82,9 @@ impl Verdicts {
     }
 
     /// How many places the table may have by now.
-    fn most_places(&self) -> usize {
+    fn most_places(&self) -> usize
+        ensures { result ≤ 4 * self.now.definitions + 1024 }
+    {
         self.definitions
             .saturating_mul(PLACES_FOR_EACH)
             .saturating_add(PLACES_BEYOND)
