@@ -363,3 +363,11 @@ samples-longer bytes before whole e =
     let r = two_take series_step series_with (adds read_label) (adds read_sample) series_two t.fields before.labels before.samples whole t.folded in
     let two = nested_take read_sample SpellsSample sample-takes (contents 2 t.fields) before.samples r.q-end r.twos-fold in
     (two.items, ap (λ (s : TimeSeries). s.samples) r.is ∙ two.is)
+
+-- and so do its labels
+pub labels-longer : (bytes : List ℕ) (before whole : TimeSeries) → series_on before bytes ≡ Ok whole → (more : List Label) × (whole.labels ≡ before.labels ++ more)
+labels-longer bytes before whole e =
+    let t = read-takes kinds.TimeSeries series_step before bytes whole e in
+    let r = two_take series_step series_with (adds read_label) (adds read_sample) series_two t.fields before.labels before.samples whole t.folded in
+    let one = nested_take read_label SpellsLabel label-takes (contents 1 t.fields) before.labels r.p-end r.ones-fold in
+    (one.items, ap (λ (s : TimeSeries). s.labels) r.is ∙ one.is)

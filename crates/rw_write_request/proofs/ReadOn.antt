@@ -1,5 +1,5 @@
 -- A message part by part, and a series behind its head.
-use Rattle.std.proofs.Common.{◌≡◌, ◌≢◌, ℕ, ◌<◌, true, false, eqb, List, [], ◌∷◌, ◌++◌, length, Result, Ok, Err, refl, sym, ap, ◌∙◌, append_assoc, append-nil, inl, inr, eq-eqb, arith}
+use Rattle.std.proofs.Common.{◌≡◌, ◌≢◌, ℕ, ◌<◌, ◌≤◌, true, false, eqb, List, [], ◌∷◌, ◌++◌, length, Result, Ok, Err, refl, sym, ap, ◌∙◌, append_assoc, append-nil, length-append, inl, inr, eq-eqb, arith}
 use Rattle.std.specs.Prelude.{IfOk}
 use Rattle.std.proofs.lemmas.Bool.{ne_eqb}
 use Rattle.std.specs.List.{AllByRecursion}
@@ -9,15 +9,15 @@ use Rattle.rw_write_request.specs.declared.fault.WireFault.{WireFault}
 use Rattle.rw_write_request.specs.declared.fault.WireFault.TheVariants.{WrongWire}
 use Rattle.rw_write_request.specs.declared.kind.Kind.{Kind}
 use Rattle.rw_write_request.specs.declared.kind.Kind.TheVariants as kinds
-use Rattle.rw_write_request.specs.Message.{TimeSeries, WriteRequest}
+use Rattle.rw_write_request.specs.Message.{Sample, TimeSeries, WriteRequest}
 use Rattle.rw_write_request.specs.Fields.{Content, Bytes, Field, AreFields, HasKnownWire, contents}
 use Rattle.rw_write_request.specs.Spells.{EachSpells, SpellsLabel, AreFieldsOf}
-use Rattle.rw_write_request.specs.Read.{field_at, nested, read_fields, read_series, request_step, series_step}
+use Rattle.rw_write_request.specs.Read.{field_at, nested, read_fields, read_label, read_series, request_step, series_step}
 use Rattle.rw_write_request.specs.Parts.{read_on, with_series, series_on, IsHeadOf}
 use Rattle.rw_write_request.proofs.Results.{bind_ok, bind-is, chosen}
 use Rattle.rw_write_request.proofs.Loop.{field-shorter, more}
 use Rattle.rw_write_request.proofs.Grammar.{field-again, fold_fields, read-takes}
-use Rattle.rw_write_request.proofs.Meanings.{ok_is, series-takes}
+use Rattle.rw_write_request.proofs.Meanings.{ok_is, series-takes, samples-longer, labels-longer}
 
 -- ---- a message
 passed : (m : WriteRequest) (f : Field) → f.number ≢ 1 → request_step m f ≡ Ok m
@@ -112,3 +112,25 @@ goes_further s f bytes after whole lt at is = bind_ok (series_step s f) (λ next
 -- and has no fault
 pub not_both : (r : Result TimeSeries WireFault) (whole : TimeSeries) (e : WireFault) → r ≡ Ok whole → r ≡ Err e → ⊥
 not_both r whole e is bad = cc
+
+-- a label that is read is one more label of the series
+labelled : (s : TimeSeries) (f : Field) → f.number ≡ 1 → series_step s f ≡ (nested read_label f.content >>= λ l. Ok (record { labels = s.labels ++ l ∷ []; samples = s.samples }))
+unfolding series_step
+labelled s f e = let yes : eqb f.number 1 ≡ true = eq-eqb f.number 1 e in rw yes refl
+
+pub one_label_more : (s : TimeSeries) (f : Field) (bytes after : List ℕ) (whole : TimeSeries) → 0 < length bytes → field_at kinds.TimeSeries bytes ≡ Ok (f, after) → f.number ≡ 1 → series_on s bytes ≡ Ok whole → length s.labels < length whole.labels
+one_label_more s f bytes after whole lt at one is =
+    let n = goes_further s f bytes after whole lt at is in
+    let h = bind_ok (nested read_label f.content) (λ l. Ok (record { labels = s.labels ++ l ∷ []; samples = s.samples })) n.0 (sym (labelled s f one) ∙ n.1) in
+    let step = ap (λ (x : TimeSeries). length x.labels) (ok_is (record { labels = s.labels ++ h.0 ∷ []; samples = s.samples }) n.0 h.2) in
+    let longer = labels-longer after n.0 whole n.2 in
+    let first = length-append s.labels (h.0 ∷ []) in
+    let then_more = ap (λ (ls : Labels). length ls) longer.1 ∙ length-append n.0.labels longer.0 in
+    omega (arith, step, first, then_more)
+
+-- no more samples were read than the series has
+pub no_more_samples : (s : TimeSeries) (bytes : List ℕ) (whole : TimeSeries) → series_on s bytes ≡ Ok whole → length s.samples ≤ length whole.samples
+no_more_samples s bytes whole is =
+    let longer = samples-longer bytes s whole is in
+    let e = ap (λ (xs : List Sample). length xs) longer.1 ∙ length-append s.samples longer.0 in
+    omega (arith, e)

@@ -1,6 +1,6 @@
 //! Messages, read part by part: their series one after the other, and the samples of a series whose labels are known by its first bytes.
 
-ghost use Rattle.std.specs.Prelude.{◌≡◌, ◌≢◌, ℕ, ◌<◌, ◌++◌, List, None, Ok, Err, length, IfOk, IfErr, IfSome, OnOk};
+ghost use Rattle.std.specs.Prelude.{◌≡◌, ◌≢◌, ℕ, ◌<◌, ◌≤◌, ◌+◌, ◌++◌, List, None, Ok, Err, false, length, IfOk, IfErr, IfSome, OnOk};
 ghost use Rattle.rw_types.specs.Labels.{Labels};
 ghost use Rattle.rw_write_request.specs.Message.{Sample, TimeSeries, WriteRequest};
 ghost use Rattle.rw_write_request.specs.Read.{GivesOrMemory, read_series, series_step};
@@ -70,10 +70,11 @@ pub fn head_of(bytes: &[u8]) -> &[u8]
 #[tactic(auto, unfolding(crate::specs::Read::series_step))]
 fn add_sample(samples: &mut Vec<(Word, i64)>, part: Part<'_>) -> Result<(), WireFault>
     requires { part.number ≢ 1 }
-    ensures { (labels : Labels)
+    ensures step { (labels : Labels)
         → GivesOrMemory (λ _. record { labels = labels; samples = samples.new.items }) result
         (series_step (record { labels = labels; samples = samples.old.items })
         (field_view part.entry)) }
+    ensures one { length samples.new.items ≤ length samples.old.items + 1 }
 {
     if part.number == 2 {
         let sample = nested_sample(part.held)?;
@@ -83,10 +84,15 @@ fn add_sample(samples: &mut Vec<(Word, i64)>, part: Part<'_>) -> Result<(), Wire
 }
 
 /// Overwrites `samples` with those of a series, from the bytes behind a head of it. It is not done, and the answer is false, where a label stands
-/// there or there are more than 4,096 samples.
+/// there or a field follows 4,096 samples.
 pub fn read_samples(samples: &mut Vec<(Word, i64)>, bytes: &[u8]) -> Result<bool, WireFault>
-    ensures { (head : List ℕ) (labels : Labels) → IsHeadOf head labels
+    ensures given { (head : List ℕ) (labels : Labels) → IsHeadOf head labels
         → SamplesGive result labels samples.new.items (read_series (head ++ bytes.now)) }
+    // Where no label stands there, fewer than 4,096 samples are not too many.
+    ensures enough { (head : List ℕ) (whole : TimeSeries) → IsHeadOf head whole.labels
+        → read_series (head ++ bytes.now) ≡ Ok whole → length whole.samples < 4096
+        → result ≢ Ok false }
+    ensures few { length samples.new.items ≤ 4096 }
 {
     samples.clear();
     let mut rest = bytes;
@@ -151,6 +157,7 @@ fn add_next(samples: &mut Vec<(Word, i64)>, part: Part<'_>) -> Result<(), WireFa
         (field_view part.entry) ≡ Ok next → next.samples ≡ before ++ samples.new.items) }
     ensures fault { IfErr result (λ e. e ≢ OutOfMemory
         → (series : TimeSeries) → series_step series (field_view part.entry) ≡ Err e) }
+    ensures one { length samples.new.items ≤ length samples.old.items + 1 }
 {
     if part.number == 2 {
         let sample = nested_sample(part.held)?;
@@ -174,6 +181,7 @@ pub fn next_samples<'a>(
     ensures fault { IfErr result (λ e. e ≢ OutOfMemory
         → (before whole : TimeSeries) → series_on before bytes.now ≢ Ok whole) }
     ensures shorter { IfOk result (λ rest. length rest.now < length bytes.now) }
+    ensures few { length samples.new.items ≤ 4096 }
 {
     samples.clear();
     let mut rest = bytes;

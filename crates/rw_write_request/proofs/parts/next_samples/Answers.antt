@@ -18,6 +18,7 @@ loop-init c = record {
     ap (λ (ss : List Sample). series_on (record { labels = before.labels; samples = ss }) c.args.bytes.now)
         (ap (λ (xs : List Sample). before.samples ++ xs) c.clear.ensures.items ∙ append-nil before.samples) ∙ is,
   );
+  few = omega (arith, ap (λ (xs : List Sample). length xs) c.clear.ensures.items);
 }
 
 pub returns-in_err-part-clause-fault : goal.returns-in_err-part-clause-fault
@@ -53,4 +54,5 @@ loop-preserved c =
           let next = goes_further so_far (field_view c.in_ok-part.part) c.loop.rest.now c.in_ok-part.after.now whole more c.in_ok-part.ensures l.1 in
           let added = c.in_ok-add_next.ensures.found l.0 before.samples next.0 next.1 in
           (next.0.labels, ap (λ (ss : List Sample). series_on (record { labels = next.0.labels; samples = ss }) c.in_ok-part.after.now) (sym added) ∙ next.2);
+      few = omega (arith, c.in_ok-add_next.ensures.one, c.loop.invariant.few);
     }

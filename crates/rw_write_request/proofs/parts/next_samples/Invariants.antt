@@ -8,4 +8,5 @@ abbrev pub invariant-loop : goal.invariant-loop
 invariant-loop l = record {
   shorter : length l.rest + l.counter ≤ length l.bytes;
   found : (before whole : TimeSeries) → series_on before l.bytes ≡ Ok whole → (labels : Labels) × (series_on (record { labels = labels; samples = before.samples ++ l.samples.items }) l.rest ≡ Ok whole);
+  few : length l.samples.items ≤ l.counter;
 }

@@ -124,7 +124,7 @@ returns-clause-staged c = λ limits none.
     let list : (get_or lists n no_lists).staged ≡ list_of s l = sym (staged_at index lists l n at) ∙ ap (λ s. list_of s l) before in
     let all : c.in_ok-read_samples.field-0 ≡ true = search rules in
     let read : read_series c.args.bytes.now ≡ Ok series =
-    ap read_series k.parts ∙ all_read c.in_ok-read_samples.field-0 l c.read_samples.new.samples.items (read_series _) all (c.in_ok-read_samples.ensures k.head l k.is)
+    ap read_series k.parts ∙ all_read c.in_ok-read_samples.field-0 l c.read_samples.new.samples.items (read_series _) all (c.in_ok-read_samples.ensures.given k.head l k.is)
     ∙ ap (λ (xs : List Sample). Ok (record { labels = l; samples = xs })) (sym c.deref.ensures.value) in
     let good = none_refused limits c.self.inside.places.tree lists c.self.invariant.0.places c.self.invariant.0.filled (subst (HoldsNoneRefused limits) (ap (λ s. s.staged) (sym c.self.view_is)) none) l n k.stands in
     let given = taken_by c.stage_at-outcome.result limits s _ series series refl good
