@@ -1,5 +1,5 @@
 -- Bodies, series by series.
-use Rattle.std.proofs.Common.{◌≡◌, ◌≢◌, ℕ, ◌<◌, List, [], ◌∷◌, ◌++◌, length, map, Bool, true, false, cond, Option, Some, None, Result, Ok, Err, ◌-◌, refl, sym, ◌∙◌, ap, subst, arith}
+use Rattle.std.proofs.Common.{◌≡◌, ◌≢◌, ℕ, ◌<◌, ◌≤◌, List, [], ◌∷◌, ◌++◌, length, map, Bool, true, false, cond, Option, Some, None, Result, Ok, Err, ◌-◌, refl, sym, ◌∙◌, ap, subst, arith}
 use Rattle.std.specs.Prelude.{is_some, nat_lt, ◌||◌, IfOk, String}
 use Rattle.std.specs.Global.{Global}
 use Rattle.std.proofs.lemmas.Bool.{lt-ltb}
@@ -16,7 +16,7 @@ use Rattle.rw_head.specs.Store.{Store, list_of, total}
 use Rattle.rw_head.specs.Order.{Point, points, accept}
 use Rattle.rw_head.specs.Verdicts.{LabelLimits, is_over, refusal, accepted, taken_unless, taken, taken_next, taken_all, judged}
 use Rattle.rw_head.specs.Head.{State, status_of, judged_body}
-use Rattle.rw_head.specs.Bodies.{verdict_of, Takes, Refuses, SeriesGives, KnownGives, known_of, RefusesAll}
+use Rattle.rw_head.specs.Bodies.{verdict_of, HasFewLabels, Takes, Refuses, SeriesGives, KnownGives, known_of, RefusesAll}
 use Rattle.rw_head.specs.Lists.{StoreGives}
 use Rattle.rw_head.proofs.VerdictLemmas.{taken_all-err}
 
@@ -90,6 +90,10 @@ too_many : (limits : LabelLimits) (store : Store) (s : TimeSeries) (a b : Bool) 
     → Refuses limits store (Ok s)
 too_many limits store s true b e = (BadLabels, ap (λ o. taken_unless o store s) (sym e), refl)
 too_many limits store s false b e = (OverLimit, ap (λ o. taken_unless o store s) (sym e), refl)
+
+pub few_labels : (limits : LabelLimits) (n : ℕ) (r : Result TimeSeries WireFault) → IfOk r (λ s. n ≡ length s.labels) → n ≤ limits.max_labels → HasFewLabels limits r
+few_labels limits n (Ok s) e le = omega (arith, e, le)
+few_labels limits n (Err e) is le = tt
 
 pub over : (limits : LabelLimits) (store : Store) (n : ℕ) (r : Result TimeSeries WireFault) → IfOk r (λ s. n ≡ length s.labels) → limits.max_labels < n → Refuses limits store r
 over limits store n (Ok s) e lt =

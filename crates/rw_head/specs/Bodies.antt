@@ -1,5 +1,5 @@
 -- What becomes of a body that is read and judged series by series.
-use Rattle.std.specs.Prelude.{◌≡◌, ◌≢◌, ℕ, ◌<◌, Bool, true, false, List, ◌++◌, length, Some, Result, Ok, Err}
+use Rattle.std.specs.Prelude.{◌≡◌, ◌≢◌, ℕ, ◌<◌, ◌≤◌, IfOk, Bool, true, false, List, ◌++◌, length, Some, Result, Ok, Err}
 use Rattle.std.specs.BTreeMap.{BTreeMap, get}
 use Rattle.rw_types.specs.Labels.{Labels}
 use Rattle.rw_types.specs.LabelOrder.{labels_cmp}
@@ -35,6 +35,10 @@ pub record IsKnown (index : BTreeMap Labels ℕ) (series : List ℕ) (place : �
   pub stands : get labels_cmp index labels ≡ Some place
   pub is : IsHeadOf head labels
   pub parts : series ≡ head ++ rest
+
+-- a series has no more labels than these limits allow, if it is one
+abbrev pub HasFewLabels : LabelLimits → Result TimeSeries WireFault → Type 0
+HasFewLabels limits series = IfOk series (λ s. length s.labels ≤ limits.max_labels)
 
 -- the series is taken, which leaves this store
 abbrev pub Takes : LabelLimits → Store → Result TimeSeries WireFault → Store → Type 0

@@ -1,10 +1,10 @@
 //! Bodies of requests, read and judged series by series.
 
-ghost use Rattle.std.specs.Prelude.{◌≡◌, Ok, OnOk, IfErr};
+ghost use Rattle.std.specs.Prelude.{◌≡◌, ◌≤◌, length, Ok, OnOk, IfErr};
 ghost use Rattle.rw_write_request.specs.Message.{WriteRequest};
 ghost use Rattle.rw_write_request.specs.Read.{read, read_series};
 ghost use Rattle.rw_head.specs.declared.verdict.Verdict.TheVariants.{NoMemory};
-ghost use Rattle.rw_head.specs.Bodies.{SeriesGives, BodyGives};
+ghost use Rattle.rw_head.specs.Bodies.{SeriesGives, BodyGives, HasFewLabels};
 ghost use Rattle.rw_head.specs.Growth.{HoldsNoneRefused};
 
 use crate::label_bounds::LabelBounds;
@@ -26,7 +26,9 @@ fn stage_whole(
     bounds: &LabelBounds,
     bytes: &[u8],
 ) -> Result<(), Verdict>
-    requires { HoldsNoneRefused bounds.now table.old.staged }
+    requires within { HoldsNoneRefused bounds.now table.old.staged }
+    requires few { HasFewLabels bounds.now (read_series bytes.now) }
+    requires short { length bytes.now ≤ 65536 }
     ensures kept { table.new.kept ≡ table.old.kept }
     ensures staged { SeriesGives result bounds.now table.old.staged
         (read_series bytes.now) table.new.staged }
@@ -43,7 +45,8 @@ fn stage_in_parts(
     bounds: &LabelBounds,
     bytes: &[u8],
 ) -> Result<(), Verdict>
-    requires { HoldsNoneRefused bounds.now table.old.staged }
+    requires within { HoldsNoneRefused bounds.now table.old.staged }
+    requires few { HasFewLabels bounds.now (read_series bytes.now) }
     ensures kept { table.new.kept ≡ table.old.kept }
     ensures staged { SeriesGives result bounds.now table.old.staged
         (read_series bytes.now) table.new.staged }
@@ -70,7 +73,8 @@ fn stage_read(
     bounds: &LabelBounds,
     bytes: &[u8],
 ) -> Result<(), Verdict>
-    requires { HoldsNoneRefused bounds.now table.old.staged }
+    requires within { HoldsNoneRefused bounds.now table.old.staged }
+    requires few { HasFewLabels bounds.now (read_series bytes.now) }
     ensures kept { table.new.kept ≡ table.old.kept }
     ensures staged { SeriesGives result bounds.now table.old.staged
         (read_series bytes.now) table.new.staged }

@@ -22,14 +22,14 @@ pub(crate) struct Place {
 }
 
 impl Model for Place {
-    ghost use Rattle.std.specs.Prelude.{ℕ, List};
+    ghost use Rattle.std.specs.Prelude.{ℕ, List, ◌≤◌, length};
     ghost use Rattle.rw_head.specs.Bodies.{HasHead};
 
     ghost Value = { List (List ℕ × List ℕ) };
 
     ghost view = { λ p. p.name };
 
-    ghost invariant = { λ p. HasHead p.head.items p.name };
+    ghost invariant = { λ p. HasHead p.head.items p.name × (length p.head.items ≤ 1024) };
 }
 
 /// The word of eight bytes, which are known by it.

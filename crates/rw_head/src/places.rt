@@ -29,6 +29,7 @@ pub(crate) struct Places {
     after: Vec<usize>,
     last: usize,
     ghost named: { AreNamed tree names.items },
+    ghost hinted: { length after.items ≡ length names.items },
 }
 
 /// Puts an item behind the others, where there is room for it.
@@ -204,9 +205,10 @@ impl Places {
             → get labels_cmp self.new.tree l ≡ below len (get labels_cmp self.old.tree l) }
         ensures names { length self.new.names.items ≡ min len (length self.old.names.items) }
     {
-        self.after.truncate(len);
         while self.names.len() > len {
             if let Some(place) = self.names.pop() {
+                let left = self.names.len();
+                self.after.truncate(left);
                 self.tree.remove(place.name());
             }
         }

@@ -16,7 +16,7 @@ loop-rest-init c =
     let given = ap (λ (ss : List Sample). taken limits first (record { labels = names; samples = ss })) (sym c.new.ensures.items) ∙ c.in_ok-stage.ensures.staged in
     record {
       kept = c.in_ok-stage.ensures.kept;
-      within = taken_within limits (record { labels = names; samples = [] }) first c.stage.new.self.staged c.requires given;
+      within = taken_within limits (record { labels = names; samples = [] }) first c.stage.new.self.staged c.requires.within given;
       staged = labels_taken limits first c.stage.new.self.staged c.args.bytes.now names found.0 found.1 given;
     }
 

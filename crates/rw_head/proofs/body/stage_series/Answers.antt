@@ -1,10 +1,11 @@
-use Rattle.std.proofs.Common.{◌≡◌, true, false, sym, ap, subst, rules}
+use Rattle.std.proofs.Common.{◌≡◌, true, false, sym, ap, subst, rules, arith}
 use Rattle.std.proofs.lemmas.Result.{err_from_is_err_and}
 use Rattle.rw_write_request.specs.Read.{read_series}
 use Rattle.rw_head.specs.Bodies.{Takes, Refuses}
 use Rattle.rw_head.specs.Growth.{HoldsNoneRefused}
 use Rattle.rw_head.specs.Store.{Store}
-use Rattle.rw_head.proofs.BodyLemmas.{known_true, known_false}
+use Rattle.rw_head.specs.Verdicts.{LabelLimits}
+use Rattle.rw_head.proofs.BodyLemmas.{known_true, known_false, few_labels}
 use Rattle.rw_head.proofs.body.stage_series.Goals as goal
 
 pub returns-then-branch-clause-staged : goal.returns-then-branch-clause-staged
@@ -13,12 +14,15 @@ returns-then-branch-clause-staged c =
     known_true c.in_ok-stage_known.field-0 c.args.bounds.now c.args.table.now.staged c.stage_known.new.self.staged (read_series c.args.bytes.now) yes
     (c.in_ok-stage_known.ensures.staged c.args.bounds.now c.requires)
 
-pub stage_read-requires : goal.stage_read-requires
-stage_read-requires c =
+pub stage_read-requires-clause-within : goal.stage_read-requires-clause-within
+stage_read-requires-clause-within c =
     let no : c.in_ok-stage_known.field-0 ≡ false = search rules in
     let same = known_false c.in_ok-stage_known.field-0 c.args.bounds.now c.args.table.now.staged c.stage_known.new.self.staged (read_series c.args.bytes.now) no
     (c.in_ok-stage_known.ensures.staged c.args.bounds.now c.requires) in
     subst (HoldsNoneRefused c.args.bounds.now) (sym same) c.requires
+
+pub stage_read-requires-clause-few : goal.stage_read-requires-clause-few
+stage_read-requires-clause-few c = few_labels c.args.bounds.now c.label_count.result (read_series c.args.bytes.now) c.label_count.ensures (omega (arith, ap (λ (b : LabelLimits). b.max_labels) c.bounds.view_is))
 
 pub returns-in_err-stage_read-clause-staged : goal.returns-in_err-stage_read-clause-staged
 returns-in_err-stage_read-clause-staged c =

@@ -5,9 +5,10 @@ use Rattle.std.proofs.lemmas.List.{length_push}
 use Rattle.rw_head.proofs.NameLemmas.{AreNamed-pop, below-pop, below_all}
 use Rattle.rw_head.proofs.places.Places.truncate.Goals as goal
 
-pub invariant_of-self-in-Some : goal.invariant_of-self-in-Some
-invariant_of-self-in-Some c = record {
+pub invariant_of-self : goal.invariant_of-self
+invariant_of-self c = record {
   named = AreNamed-pop c.loop-self.self.tree c.remove.new.self c.loop-self.self.names.items c.pop.new.self.items c.in-Some.place c.in-Some.ensures.items c.loop-self.self.named (subst (λ l. Updates labels_cmp c.loop-self.self.tree c.remove.new.self l None) c.name.ensures c.remove.ensures.updates);
+  hinted = omega (arith, c.truncate.ensures.len, c.len-left.ensures, c.loop-self.self.hinted, ap length c.in-Some.ensures.items, length_push c.pop.new.self.items c.in-Some.place);
 }
 
 pub loop-self-preserved-in-Some : goal.loop-self-preserved-in-Some
