@@ -46,7 +46,7 @@ use Rattle.rw_simulation.specs.Freely.{Happening, Of, run_freely}
 use Rattle.rw_simulation.specs.FreeLaws.{world_of}
 use Rattle.rw_simulation.specs.WorkerRuns.{queued, sent_bytes, request_in}
 use Rattle.rw_simulation.specs.Tallies.{Past, IsTallied, requests_of}
-use Rattle.rw_simulation.specs.EpochRuns.{StartsByTaking, ShardFate, end_in, IsAtEnd, IsPut, IsAllPut, Reaches}
+use Rattle.rw_simulation.specs.EpochRuns.{StartsByTaking, ShardFate, end_in, IsAtEnd, IsPut, AreUnsent, IsAllPut, Reaches}
 use Rattle.rw_simulation.specs.FleetRuns.{IsShardRun, fate_of, fate_by, fate_at}
 use Rattle.rw_simulation.specs.StoppedShards.{IsShardOf}
 use Rattle.rw_simulation.specs.StoppedRuns.{IsSetAs, IsAlike, IsRisingOrderOf, Tells, IsRun, first_number, StopsAbandoned}
@@ -75,7 +75,7 @@ none-taken (Freezes ∷ ss) left starts e = absurd starts
 none-taken (Sends x ∷ ss) left starts e = absurd starts
 none-taken (Waits ∷ ss) left starts e = absurd starts
 
-come-with : (c : Setup) (epoch k : ℕ) (requests : List Request) (part : Names) (s : Shard) (f : ShardFate) (p : IsPut c epoch k requests part s f) → f.end ≡ None → (ps : List Item) → p.way.coming.puts ≡ ps → HasCome epoch k requests part s f
+pub come-with : (c : Setup) (epoch k : ℕ) (requests : List Request) (part : Names) (s : Shard) (f : ShardFate) (p : IsPut c epoch k requests part s f) → f.end ≡ None → (ps : List Item) → p.way.coming.puts ≡ ps → HasCome epoch k requests part s f
 come-with c epoch k requests part s f p open_still (item.Sample place t word labels ∷ ps) is = absurd (subst IsAtEnd is p.at_end)
 come-with c epoch k requests part s f p open_still (item.Flush ∷ ps) is = absurd (subst IsAtEnd is p.at_end)
 come-with c epoch k requests part s f p open_still (item.End kind ∷ ps) is = absurd (none-some kind (sym open_still ∙ sym p.way.end ∙ ap end_in is))
@@ -97,7 +97,7 @@ come-with c epoch k requests part s f p open_still [] is = record {
     none : p.way.coming.steps ≡ []
     none = by_eager p.way.ready.eager
 
-come : (c : Setup) (epoch k : ℕ) (requests : List Request) (part : Names) (s : Shard) (f : ShardFate) → IsPut c epoch k requests part s f → f.end ≡ None → HasCome epoch k requests part s f
+pub come : (c : Setup) (epoch k : ℕ) (requests : List Request) (part : Names) (s : Shard) (f : ShardFate) → IsPut c epoch k requests part s f → f.end ≡ None → HasCome epoch k requests part s f
 come c epoch k requests part s f p open_still = come-with c epoch k requests part s f p open_still p.way.coming.puts refl
 
 -- ---- what is left of a shard
@@ -153,7 +153,7 @@ module _ {T : Type 0} where
   abandoned_in-none (j ∷ js) r = ap (λ (ps : List ℕ). ps ++ abandoned_in js) (none_long j.abandoned.items (eqb-true (length j.abandoned.items) 0 (and_parts (is_compared j.finished.ends) (length j.abandoned.items == 0) (r 0 j refl)).1)) ∙ abandoned_in-none js (λ k i e. r (suc k) i e)
 
 module _ {T : Type 0} (tells : T → Type 0) (seen : T → List Exchange) (is_for : ℕ → ℕ → T → Type 0) (c : Setup) (config : ConfigFields) (set : IsSetAs c config) (work : CanWork c) where
-  abbrev KnownOf : StoppedShard T → Type 0
+  abbrev pub KnownOf : StoppedShard T → Type 0
   KnownOf = Known tells seen is_for c config set work
 
   -- the machine is killed, with these shards at the end
@@ -170,59 +170,55 @@ module _ {T : Type 0} (tells : T → Type 0) (seen : T → List Exchange) (is_fo
     tallied : IsTallied c (past_of tells seen (done ++ last)) epoch 0 all (λ k. empty) v
 
   -- what the workers did, with a Flush for an End
-  abbrev soft_lane : StoppedShard T → ShardHistory
+  abbrev pub soft_lane : StoppedShard T → ShardHistory
   soft_lane j = flushed_lane (lane_of j)
 
-  abbrev steps_in : (js : List (StoppedShard T)) → AllByRecursion KnownOf js → ℕ → List Step
+  abbrev pub steps_in : (js : List (StoppedShard T)) → AllByRecursion KnownOf js → ℕ → List Step
   steps_in [] h k = []
   steps_in (j ∷ js) h zero = map flushed_step h.0.worked.report.steps
   steps_in (j ∷ js) h (suc k) = steps_in js h.1 k
 
-  abbrev rest_in : (js : List (StoppedShard T)) → AllByRecursion KnownOf js → ℕ → List Item
+  abbrev pub rest_in : (js : List (StoppedShard T)) → AllByRecursion KnownOf js → ℕ → List Item
   rest_in [] h k = []
   rest_in (j ∷ js) h zero = map flushed h.0.worked.begins.0
   rest_in (j ∷ js) h (suc k) = rest_in js h.1 k
 
-  record FoundAt (js : List (StoppedShard T)) (all : AllByRecursion KnownOf js) (k : ℕ) (j : StoppedShard T) : Type 0 where
-    it : StoppedShard T
-    same : it ≡ j
-    known : KnownOf it
-    steps : map flushed_step known.worked.report.steps ≡ steps_in js all k
-    rest : map flushed known.worked.begins.0 ≡ rest_in js all k
+  pub record FoundAt (js : List (StoppedShard T)) (all : AllByRecursion KnownOf js) (k : ℕ) (j : StoppedShard T) : Type 0 where
+    pub it : StoppedShard T
+    pub same : it ≡ j
+    pub known : KnownOf it
+    pub steps : map flushed_step known.worked.report.steps ≡ steps_in js all k
+    pub rest : map flushed known.worked.begins.0 ≡ rest_in js all k
 
-  find-at : (js : List (StoppedShard T)) (all : AllByRecursion KnownOf js) (k : ℕ) (j : StoppedShard T) → slice_get js k ≡ Some j → FoundAt js all k j
+  pub find-at : (js : List (StoppedShard T)) (all : AllByRecursion KnownOf js) (k : ℕ) (j : StoppedShard T) → slice_get js k ≡ Some j → FoundAt js all k j
   find-at [] all k j e = absurd (none-some j e)
   find-at (x ∷ xs) all zero j e = record { it = x; same = same_Some _ _ e; known = all.0; steps = refl; rest = refl }
   find-at (x ∷ xs) all (suc k) j e = let h = find-at xs all.1 k j e in record { it = h.it; same = h.same; known = h.known; steps = h.steps; rest = h.rest }
 
   -- ---- the last epoch
-  module _ (epoch : ℕ) (js : List (StoppedShard T)) (known : AllByRecursion KnownOf js) (some : 1 ≤ length js) (before es rest : List Entry) (dealt : IsDealt epoch (map lane_of js) (gather_from (sent_of c.choice) before es))
-      (done : List (StoppedShard T)) (pieces : List Piece) (w : World) (b : BeginsEpoch c (past_of tells seen done) pieces epoch (length js) before w) (begins-so : entries pieces ≡ before ++ (es ++ rest)) where
-    abbrev past : Past
-    past = past_of tells seen done
-
-    abbrev lanes : List ShardHistory
+  module _ (epoch : ℕ) (js : List (StoppedShard T)) (known : AllByRecursion KnownOf js) (some : 1 ≤ length js) (before es : List Entry) (dealt : IsDealt epoch (map lane_of js) (gather_from (sent_of c.choice) before es)) where
+    abbrev pub lanes : List ShardHistory
     lanes = map soft_lane js
 
-    abbrev steps : ℕ → List Step
+    abbrev pub steps : ℕ → List Step
     steps k = steps_in js known k
 
-    abbrev left_at : ℕ → List Item
+    abbrev pub left_at : ℕ → List Item
     left_at k = rest_in js known k
 
-    abbrev goals : ℕ → ShardFate
+    abbrev pub goals : ℕ → ShardFate
     goals = fate_at lanes (λ k. steps_in js known k) (λ k. rest_in js known k)
 
-    abbrev samples : List Sent
+    abbrev pub samples : List Sent
     samples = gather_from (sent_of c.choice) before es
 
-    abbrev n : ℕ
+    abbrev pub n : ℕ
     n = length lanes
 
-    n-is : n ≡ length js
+    pub n-is : n ≡ length js
     n-is = length-map js soft_lane
 
-    own : (k : ℕ) (j : StoppedShard T) → KnownOf j → slice_get js k ≡ Some j → IsShardOf c epoch k j
+    pub own : (k : ℕ) (j : StoppedShard T) → KnownOf j → slice_get js k ≡ Some j → IsShardOf c epoch k j
     own k j h at = record {
       target = h.up.0 ∙ sym set.target;
       batch = h.up.1 ∙ sym set.batch;
@@ -231,7 +227,7 @@ module _ {T : Type 0} (tells : T → Type 0) (seen : T → List Exchange) (is_fo
       shard_is = (dealt.each k (lane_of j) (get_map lane_of js k j at)).1;
     }
 
-    run-at : (k : ℕ) (j : StoppedShard T) → slice_get js k ≡ Some j → IsShardRun c epoch k (soft_lane j) (steps k) (left_at k)
+    pub run-at : (k : ℕ) (j : StoppedShard T) → slice_get js k ≡ Some j → IsShardRun c epoch k (soft_lane j) (steps k) (left_at k)
     run-at k j at = subst (λ (x : StoppedShard T). IsShardRun c epoch k (soft_lane x) (steps k) (left_at k)) f.same
         (subst (λ (xs : List Item). IsShardRun c epoch k (soft_lane f.it) (steps k) xs) f.rest
         (subst (λ (ss : List Step). IsShardRun c epoch k (soft_lane f.it) ss (map flushed f.known.worked.begins.0)) f.steps
@@ -241,69 +237,37 @@ module _ {T : Type 0} (tells : T → Type 0) (seen : T → List Exchange) (is_fo
         f : FoundAt js known k j
         f = find-at js known k j at
 
-    runs : (k : ℕ) (l : ShardHistory) → slice_get lanes k ≡ Some l → IsShardRun c epoch k l (steps k) (left_at k)
+    pub runs : (k : ℕ) (l : ShardHistory) → slice_get lanes k ≡ Some l → IsShardRun c epoch k l (steps k) (left_at k)
     runs k l e = let g = map_get soft_lane js k l e in subst (λ (x : ShardHistory). IsShardRun c epoch k x (steps k) (left_at k)) g.2 (run-at k g.0 g.1)
 
-    same-count : length (map lane_of js) ≡ n
+    pub same-count : length (map lane_of js) ≡ n
     same-count = length-map js lane_of ∙ sym n-is
 
-    put-same : (j : StoppedShard T) → put_in (soft_lane j) ≡ put_in (lane_of j)
+    pub put-same : (j : StoppedShard T) → put_in (soft_lane j) ≡ put_in (lane_of j)
     put-same j = ap (map as_sent) (samples_in-flushed (put_of j.finished.ends))
 
-    dealt-at : (k : ℕ) (j : StoppedShard T) → slice_get js k ≡ Some j → ((soft_lane j).setup.queue.epoch ≡ epoch) × ((soft_lane j).setup.queue.shard ≡ k) × (put_in (soft_lane j) ≡ of_shard n k samples)
+    pub dealt-at : (k : ℕ) (j : StoppedShard T) → slice_get js k ≡ Some j → ((soft_lane j).setup.queue.epoch ≡ epoch) × ((soft_lane j).setup.queue.shard ≡ k) × (put_in (soft_lane j) ≡ of_shard n k samples)
     dealt-at k j at = let d = dealt.each k (lane_of j) (get_map lane_of js k j at) in (d.0, d.1, put-same j ∙ d.2 ∙ ap (λ (m : ℕ). of_shard m k samples) same-count)
 
-    some_lanes : 1 ≤ n
+    pub some_lanes : 1 ≤ n
     some_lanes = subst (λ (m : ℕ). 1 ≤ m) (sym n-is) some
 
-    no_lane : (m : ℕ) → 1 ≤ m → m ≡ 0 → ⊥
+    pub no_lane : (m : ℕ) → 1 ≤ m → m ≡ 0 → ⊥
     no_lane m le e = omega arith
 
-    dealt-so : IsDealt epoch lanes samples
+    pub dealt-so : IsDealt epoch lanes samples
     dealt-so = record {
       each = λ k l e. let g = map_get soft_lane js k l e in subst (λ (x : ShardHistory). (x.setup.queue.epoch ≡ epoch) × (x.setup.queue.shard ≡ k) × (put_in x ≡ of_shard n k samples)) g.2 (dealt-at k g.0 g.1);
       none = λ none. absurd (no_lane n some_lanes (ap length none));
     }
 
-    reach : Reaches c w (IsAllPut c past pieces epoch n goals (before ++ es))
-    reach = fleet-run c past pieces epoch lanes (λ k. steps_in js known k) (λ k. rest_in js known k) before es w work.capacity work.batch some_lanes (record {
-      going = b.going;
-      pieces_are = b.pieces_are;
-      epoch_is = b.epoch_is;
-      shards = b.shards ∙ ap (λ (m : ℕ). new_shards c epoch 0 m) (sym n-is);
-      placed = b.placed_are;
-      rest = rest;
-      begins = begins-so;
-      series = b.series;
-      counted = b.counted;
-      tallied = subst (λ (m : ℕ). IsTallied c past epoch m before (λ k. empty) w) (sym n-is) b.tallied;
-      unsent = b.unsent;
-      dealt = dealt-so;
-      runs = runs;
-    })
-
-    abbrev put : World
-    put = reach.world
-
-    put-is : IsAllPut c past pieces epoch n goals (before ++ es) put
-    put-is = reach.holds
-
-    lists-put : lists.All c put
-    lists-put = lists-at c put put-is.under.tallied.reached
-
     -- ---- each shard has come to what its worker reports
-    goal-open : (k : ℕ) (o : Option ShardHistory) → slice_get lanes k ≡ o → (fate_by o (steps k) (left_at k)).end ≡ None
+    pub goal-open : (k : ℕ) (o : Option ShardHistory) → slice_get lanes k ≡ o → (fate_by o (steps k) (left_at k)).end ≡ None
     goal-open k None e = refl
     goal-open k (Some l) e = let g = map_get soft_lane js k l e in subst (λ (x : ShardHistory). end_in x.put ≡ None) g.2 (end_in-flushed (put_of g.0.finished.ends))
 
-    come-goal : (k : ℕ) (m : Shard) → slice_get put.shards k ≡ Some m → HasCome epoch k put.requests (put-is.under.parts k) m (goals k)
-    come-goal k m e = come c epoch k put.requests (put-is.under.parts k) m (goals k) (put-is.each k m e) (goal-open k (slice_get lanes k) refl)
-
-    come-at : (k : ℕ) (m : Shard) (j : StoppedShard T) → slice_get put.shards k ≡ Some m → slice_get js k ≡ Some j → HasCome epoch k put.requests (put-is.under.parts k) m (fate_of (soft_lane j) (steps k) (left_at k))
-    come-at k m j e at = subst (λ (o : Option ShardHistory). HasCome epoch k put.requests (put-is.under.parts k) m (fate_by o (steps k) (left_at k))) (get_map soft_lane js k j at) (come-goal k m e)
-
     -- each shard's goal is what it reports
-    reports-at : (k : ℕ) (j : StoppedShard T) → slice_get js k ≡ Some j → ReportsAt tells seen epoch k (goals k) j
+    pub reports-at : (k : ℕ) (j : StoppedShard T) → slice_get js k ≡ Some j → ReportsAt tells seen epoch k (goals k) j
     reports-at k j at = record {
       epoch_is = (dealt.each k (lane_of j) (get_map lane_of js k j at)).0;
       shard_is = (dealt.each k (lane_of j) (get_map lane_of js k j at)).1;
@@ -322,93 +286,130 @@ module _ {T : Type 0} (tells : T → Type 0) (seen : T → List Exchange) (is_fo
         f : FoundAt js known k j
         f = find-at js known k j at
 
-    resolved-is : (k : ℕ) (j : StoppedShard T) → slice_get js k ≡ Some j → length (after (start_of j.worker.value) (steps k)).core.resolved ≡ j.finished.resolved
-    resolved-is k j at = subst (λ (x : StoppedShard T). length (after (start_of x.worker.value) (steps k)).core.resolved ≡ x.finished.resolved) f.same
-        (subst (λ (ss : List Step). length (after (start_of f.it.worker.value) ss).core.resolved ≡ f.it.finished.resolved) f.steps
-        (ap (λ (x : Core). length x.resolved) (goes-alike (start_of f.it.worker.value) (start_of f.it.worker.value) f.known.worked.report.steps refl f.known.worked.report.made.allowed).core ∙ sym f.known.worked.report.counted))
-      where
-        f : FoundAt js known k j
-        f = find-at js known k j at
+    module _ (rest : List Entry) (done : List (StoppedShard T)) (pieces : List Piece) (w : World) (b : BeginsEpoch c (past_of tells seen done) pieces epoch (length js) before w) (begins-so : entries pieces ≡ before ++ (es ++ rest)) where
+      abbrev past : Past
+      past = past_of tells seen done
 
-    taken-is : (k : ℕ) (j : StoppedShard T) → slice_get js k ≡ Some j → (after (start_of j.worker.value) (steps k)).core.taken ≡ samples_in (taken_of j.finished.ends)
-    taken-is k j at = subst (λ (x : StoppedShard T). (after (start_of x.worker.value) (steps k)).core.taken ≡ samples_in (taken_of x.finished.ends)) f.same
-        (subst (λ (ss : List Step). (after (start_of f.it.worker.value) ss).core.taken ≡ samples_in (taken_of f.it.finished.ends)) f.steps
-        (ap (λ (x : Core). x.taken) (goes-alike (start_of f.it.worker.value) (start_of f.it.worker.value) f.known.worked.report.steps refl f.known.worked.report.made.allowed).core ∙ has-taken tells seen is_for f.it f.known.worked))
-      where
-        f : FoundAt js known k j
-        f = find-at js known k j at
+      reach : Reaches (AreUnsent goals) c w (IsAllPut c past pieces epoch n goals (before ++ es))
+      reach = fleet-run c past pieces epoch lanes (λ k. steps_in js known k) (λ k. rest_in js known k) before es w work.capacity work.batch some_lanes (record {
+        going = b.going;
+        pieces_are = b.pieces_are;
+        epoch_is = b.epoch_is;
+        shards = b.shards ∙ ap (λ (m : ℕ). new_shards c epoch 0 m) (sym n-is);
+        placed = b.placed_are;
+        rest = rest;
+        begins = begins-so;
+        series = b.series;
+        counted = b.counted;
+        tallied = subst (λ (m : ℕ). IsTallied c past epoch m before (λ k. empty) w) (sym n-is) b.tallied;
+        unsent = b.unsent;
+        dealt = dealt-so;
+        runs = runs;
+      })
 
-    alike-at : (k : ℕ) (m : Shard) (j : StoppedShard T) → slice_get put.shards k ≡ Some m → slice_get js k ≡ Some j → IsAlike j.finished m
-    alike-at k m j e at = let h = come-at k m j e at in record {
-      put = h.put ∙ samples_in-flushed (put_of j.finished.ends);
-      taken = ap (λ (x : Core). x.taken) h.core ∙ taken-is k j at;
-      resolved = ap (λ (x : Core). length x.resolved) h.core ∙ resolved-is k j at;
-    }
+      abbrev put : World
+      put = reach.world
 
-    abandoned-is : (k : ℕ) (j : StoppedShard T) → slice_get js k ≡ Some j → j.abandoned.items ≡ drop j.finished.resolved (positions_in (put_of j.finished.ends))
-    abandoned-is k j at = let f = find-at js known k j at in subst (λ (x : StoppedShard T). x.abandoned.items ≡ drop x.finished.resolved (positions_in (put_of x.finished.ends))) f.same f.known.worked.abandoned
+      put-is : IsAllPut c past pieces epoch n goals (before ++ es) put
+      put-is = reach.holds
 
-    left-at : (k : ℕ) (m : Shard) (j : StoppedShard T) → slice_get put.shards k ≡ Some m → slice_get js k ≡ Some j → positions (pending m) ≡ j.abandoned.items
-    left-at k m j e at = let a = alike-at k m j e at in
-        positions-pending c m (lists-put k m e)
-        ∙ ap (λ (r : ℕ). drop r (positions m.put)) a.resolved
-        ∙ ap (λ (xs : List Placed). drop j.finished.resolved (positions xs)) a.put
-        ∙ ap (λ (ps : List Place). drop j.finished.resolved (map (λ (p : Place). p.pos) ps)) (sym (places_in-is (put_of j.finished.ends)))
-        ∙ sym (abandoned-is k j at)
+      lists-put : lists.All c put
+      lists-put = lists-at c put put-is.under.tallied.reached
 
-    -- ---- what they left differs, and is below what was placed
-    part-at : (k : ℕ) (j : StoppedShard T) → slice_get js k ≡ Some j → ArePartOf n (0 + k) samples (length (before ++ es)) j.abandoned.items
-    part-at k j at = subst (λ (ps : List ℕ). ArePartOf n (0 + k) samples (length (before ++ es)) ps) (sym (abandoned-is k j at))
-        (part-dropped n (0 + k) samples (length (before ++ es)) j.finished.resolved (positions_in (put_of j.finished.ends))
-        (subst (λ (ps : List ℕ). ArePartOf n (0 + k) samples (length (before ++ es)) ps) (sym positions_are) (part-of n (0 + k) c.choice before es)))
-      where
-        zero_plus : (i : ℕ) → i ≡ 0 + i
-        zero_plus i = omega arith
+      come-goal : (k : ℕ) (m : Shard) → slice_get put.shards k ≡ Some m → HasCome epoch k put.requests (put-is.under.parts k) m (goals k)
+      come-goal k m e = come c epoch k put.requests (put-is.under.parts k) m (goals k) (put-is.each k m e) (goal-open k (slice_get lanes k) refl)
 
-        positions_are : positions_in (put_of j.finished.ends) ≡ map position_of (of_shard n (0 + k) samples)
-        positions_are = positions_in-is (put_of j.finished.ends) ∙ ap (map position_of) ((dealt.each k (lane_of j) (get_map lane_of js k j at)).2 ∙ ap (λ (m : ℕ). of_shard m k samples) same-count ∙ ap (λ (i : ℕ). of_shard n i samples) (zero_plus k))
+      come-at : (k : ℕ) (m : Shard) (j : StoppedShard T) → slice_get put.shards k ≡ Some m → slice_get js k ≡ Some j → HasCome epoch k put.requests (put-is.under.parts k) m (fate_of (soft_lane j) (steps k) (left_at k))
+      come-at k m j e at = subst (λ (o : Option ShardHistory). HasCome epoch k put.requests (put-is.under.parts k) m (fate_by o (steps k) (left_at k))) (get_map soft_lane js k j at) (come-goal k m e)
 
-    apart : AreApart n samples (length (before ++ es)) 0 (abandoned_in js)
-    apart = all-apart n samples (length (before ++ es)) 0 js part-at
+      resolved-is : (k : ℕ) (j : StoppedShard T) → slice_get js k ≡ Some j → length (after (start_of j.worker.value) (steps k)).core.resolved ≡ j.finished.resolved
+      resolved-is k j at = subst (λ (x : StoppedShard T). length (after (start_of x.worker.value) (steps k)).core.resolved ≡ x.finished.resolved) f.same
+          (subst (λ (ss : List Step). length (after (start_of f.it.worker.value) ss).core.resolved ≡ f.it.finished.resolved) f.steps
+          (ap (λ (x : Core). length x.resolved) (goes-alike (start_of f.it.worker.value) (start_of f.it.worker.value) f.known.worked.report.steps refl f.known.worked.report.made.allowed).core ∙ sym f.known.worked.report.counted))
+        where
+          f : FoundAt js known k j
+          f = find-at js known k j at
 
-    -- ---- and the machine is killed
-    abbrev killed : World
-    killed = record put { killed = true }
+      taken-is : (k : ℕ) (j : StoppedShard T) → slice_get js k ≡ Some j → (after (start_of j.worker.value) (steps k)).core.taken ≡ samples_in (taken_of j.finished.ends)
+      taken-is k j at = subst (λ (x : StoppedShard T). (after (start_of x.worker.value) (steps k)).core.taken ≡ samples_in (taken_of x.finished.ends)) f.same
+          (subst (λ (ss : List Step). (after (start_of f.it.worker.value) ss).core.taken ≡ samples_in (taken_of f.it.finished.ends)) f.steps
+          (ap (λ (x : Core). x.taken) (goes-alike (start_of f.it.worker.value) (start_of f.it.worker.value) f.known.worked.report.steps refl f.known.worked.report.made.allowed).core ∙ has-taken tells seen is_for f.it f.known.worked))
+        where
+          f : FoundAt js known k j
+          f = find-at js known k j at
 
-    kills : happens c put event.Kill ≡ killed
-    kills = ap (unless_over c put event.Kill) (over_not put put-is.under.going.0 put-is.under.going.1)
+      alike-at : (k : ℕ) (m : Shard) (j : StoppedShard T) → slice_get put.shards k ≡ Some m → slice_get js k ≡ Some j → IsAlike j.finished m
+      alike-at k m j e at = let h = come-at k m j e at in record {
+        put = h.put ∙ samples_in-flushed (put_of j.finished.ends);
+        taken = ap (λ (x : Core). x.taken) h.core ∙ taken-is k j at;
+        resolved = ap (λ (x : Core). length x.resolved) h.core ∙ resolved-is k j at;
+      }
 
-    shards-are : length put.shards ≡ length js
-    shards-are = put-is.under.count ∙ n-is
+      abandoned-is : (k : ℕ) (j : StoppedShard T) → slice_get js k ≡ Some j → j.abandoned.items ≡ drop j.finished.resolved (positions_in (put_of j.finished.ends))
+      abandoned-is k j at = let f = find-at js known k j at in subst (λ (x : StoppedShard T). x.abandoned.items ≡ drop x.finished.resolved (positions_in (put_of x.finished.ends))) f.same f.known.worked.abandoned
 
-    tells-left : (p : ℕ) → is_pending killed p ≡ is_in (abandoned_in js) p
-    tells-left p = list_any-pending p put.shards js shards-are left-at
+      left-at : (k : ℕ) (m : Shard) (j : StoppedShard T) → slice_get put.shards k ≡ Some m → slice_get js k ≡ Some j → positions (pending m) ≡ j.abandoned.items
+      left-at k m j e at = let a = alike-at k m j e at in
+          positions-pending c m (lists-put k m e)
+          ∙ ap (λ (r : ℕ). drop r (positions m.put)) a.resolved
+          ∙ ap (λ (xs : List Placed). drop j.finished.resolved (positions xs)) a.put
+          ∙ ap (λ (ps : List Place). drop j.finished.resolved (map (λ (p : Place). p.pos) ps)) (sym (places_in-is (put_of j.finished.ends)))
+          ∙ sym (abandoned-is k j at)
 
-    abbrev left : List ℕ
-    left = filter (is_pending killed) (up_to (length (before ++ es)))
+      -- ---- what they left differs, and is below what was placed
+      part-at : (k : ℕ) (j : StoppedShard T) → slice_get js k ≡ Some j → ArePartOf n (0 + k) samples (length (before ++ es)) j.abandoned.items
+      part-at k j at = subst (λ (ps : List ℕ). ArePartOf n (0 + k) samples (length (before ++ es)) ps) (sym (abandoned-is k j at))
+          (part-dropped n (0 + k) samples (length (before ++ es)) j.finished.resolved (positions_in (put_of j.finished.ends))
+          (subst (λ (ps : List ℕ). ArePartOf n (0 + k) samples (length (before ++ es)) ps) (sym positions_are) (part-of n (0 + k) c.choice before es)))
+        where
+          zero_plus : (i : ℕ) → i ≡ 0 + i
+          zero_plus i = omega arith
 
-    abandoned-run : Reaches c w (Killed done pieces (before ++ es) js)
-    abandoned-run = record {
-      events = reach.events ++ Of event.Kill ∷ [];
-      world = killed;
-      is = run-append c reach.events (Of event.Kill ∷ []) w ∙ ap (run_freely c (Of event.Kill ∷ [])) reach.is ∙ kills;
-      holds = record {
-        pieces_are = put-is.under.pieces_are;
-        placed_are = put-is.under.placed;
-        counted = put-is.under.counted;
-        shards = shards-are;
-        each = alike-at;
-        left = left;
-        reported = ap (λ (i : ℕ). Some (Abandoned i (filter (is_pending killed) (up_to i)))) put-is.under.placed;
-        order = record {
-          same = passing-permutes (length (before ++ es)) (abandoned_in js) (is_pending killed) tells-left apart.differ apart.below;
-          rises = passing-rises (length (before ++ es)) (is_pending killed);
+          positions_are : positions_in (put_of j.finished.ends) ≡ map position_of (of_shard n (0 + k) samples)
+          positions_are = positions_in-is (put_of j.finished.ends) ∙ ap (map position_of) ((dealt.each k (lane_of j) (get_map lane_of js k j at)).2 ∙ ap (λ (m : ℕ). of_shard m k samples) same-count ∙ ap (λ (i : ℕ). of_shard n i samples) (zero_plus k))
+
+      apart : AreApart n samples (length (before ++ es)) 0 (abandoned_in js)
+      apart = all-apart n samples (length (before ++ es)) 0 js part-at
+
+      -- ---- and the machine is killed
+      abbrev killed : World
+      killed = record put { killed = true }
+
+      kills : happens c put event.Kill ≡ killed
+      kills = ap (unless_over c put event.Kill) (over_not put put-is.under.going.0 put-is.under.going.1)
+
+      shards-are : length put.shards ≡ length js
+      shards-are = put-is.under.count ∙ n-is
+
+      tells-left : (p : ℕ) → is_pending killed p ≡ is_in (abandoned_in js) p
+      tells-left p = list_any-pending p put.shards js shards-are left-at
+
+      abbrev left : List ℕ
+      left = filter (is_pending killed) (up_to (length (before ++ es)))
+
+      abandoned-run : Reaches ⊥ c w (Killed done pieces (before ++ es) js)
+      abandoned-run = record {
+        events = reach.events ++ Of event.Kill ∷ [];
+        world = killed;
+        own = λ no. absurd no;
+        is = run-append c reach.events (Of event.Kill ∷ []) w ∙ ap (run_freely c (Of event.Kill ∷ [])) reach.is ∙ kills;
+        holds = record {
+          pieces_are = put-is.under.pieces_are;
+          placed_are = put-is.under.placed;
+          counted = put-is.under.counted;
+          shards = shards-are;
+          each = alike-at;
+          left = left;
+          reported = ap (λ (i : ℕ). Some (Abandoned i (filter (is_pending killed) (up_to i)))) put-is.under.placed;
+          order = record {
+            same = passing-permutes (length (before ++ es)) (abandoned_in js) (is_pending killed) tells-left apart.differ apart.below;
+            rises = passing-rises (length (before ++ es)) (is_pending killed);
+          };
+          epoch = suc epoch;
+          tallied = tallied-next c past epoch n (past_of tells seen (done ++ js)) (before ++ es) put-is.under.parts (λ k. (goals k).worker.ledger.names) (λ k. (goals k).requests) put killed (Of event.Kill ∷ []) 0 put-is.under.tallied kills refl refl
+              (tallies-at epoch n goals put.requests put-is.under.parts put.shards put-is.under.count come-goal) (passes-of tells seen c epoch n done js goals (sym n-is) reports-at);
         };
-        epoch = suc epoch;
-        tallied = tallied-next c past epoch n (past_of tells seen (done ++ js)) (before ++ es) put-is.under.parts (λ k. (goals k).worker.ledger.names) (λ k. (goals k).requests) put killed (Of event.Kill ∷ []) 0 put-is.under.tallied kills refl refl
-            (tallies-at epoch n goals put.requests put-is.under.parts put.shards put-is.under.count (λ k m e lt. come-goal k m e)) (passes-of tells seen c epoch n done js goals (sym n-is) reports-at);
-      };
-    }
+      }
 
 -- ---- from the start
 module _ {T : Type 0} (tells : T → Type 0) (seen : T → List Exchange) (is_for : ℕ → ℕ → T → Type 0) (c : Setup) (s : Shipping T) (r : Report T) (fed : List Fed) (h : HasStopped tells seen is_for s r) (was : Shards T) (p : PlacesAll s.log was) (set : IsSetAs c s.fleet.config) (choice : c.choice ≡ s.log.choice) (work : CanWork c) (fed_are : s.log.pieces ≡ map piece_of fed)
@@ -437,14 +438,14 @@ module _ {T : Type 0} (tells : T → Type 0) (seen : T → List Exchange) (is_fo
 
   -- all is fed
   abbrev origin : World
-  origin = begun tells seen is_for c s r fed h set choice work fed_are
+  origin = begun tells seen c s.log.pieces fed fed_are
 
   at-last : AtLast tells seen is_for c s.fleet.config set work was.ended s.log.pieces (map lane_of last) [] s.log.placed origin
   at-last = turned-run tells seen is_for c s.fleet.config set work p.epochs (map lane_of last) 0 [] was.ended [] s.log.placed h.read.0 s.log.pieces origin sound p.ended_is placed (turned-before p.epochs (map lane_of last) p.turned (subst IsShardCount (sym same) number))
-      (subst (λ (i : ℕ). BeginsEpoch c (past_of tells seen []) s.log.pieces 0 i [] origin) (sym (first-is p.epochs ∙ first)) (begins tells seen is_for c s r fed h set choice work fed_are)) h.read.1
+      (subst (λ (i : ℕ). BeginsEpoch c (past_of tells seen []) s.log.pieces 0 i [] origin) (sym (first-is p.epochs ∙ first)) (begins tells seen c s.log.pieces fed fed_are)) h.read.1
 
-  last-run : Reaches c at-last.reach.world (Killed tells seen is_for c s.fleet.config set work was.ended s.log.pieces (at-last.now ++ at-last.later) last)
-  last-run = abandoned-run tells seen is_for c s.fleet.config set work at-last.epoch last known-last (subst (λ (m : ℕ). 1 ≤ m) (sym same ∙ length-map last lane_of) number.0) at-last.now at-last.later h.read.0 at-last.dealt was.ended s.log.pieces at-last.reach.world
+  last-run : Reaches ⊥ c at-last.reach.world (Killed tells seen is_for c s.fleet.config set work was.ended s.log.pieces (at-last.now ++ at-last.later) last)
+  last-run = abandoned-run tells seen is_for c s.fleet.config set work at-last.epoch last known-last (subst (λ (m : ℕ). 1 ≤ m) (sym same ∙ length-map last lane_of) number.0) at-last.now at-last.later at-last.dealt h.read.0 was.ended s.log.pieces at-last.reach.world
       (subst (λ (m : ℕ). BeginsEpoch c (past_of tells seen was.ended) s.log.pieces at-last.epoch m at-last.now at-last.reach.world) (length-map last lane_of) at-last.reach.holds)
       (h.read.1 ∙ ap (λ (xs : List Entry). xs ++ h.read.0) at-last.are ∙ append_assoc at-last.now at-last.later h.read.0)
 
@@ -453,7 +454,7 @@ module _ {T : Type 0} (tells : T → Type 0) (seen : T → List Exchange) (is_fo
 
   leads : world_of c events ≡ last-run.world
   leads = run-append c (feeds fed) (at-last.reach.events ++ last-run.events) (start c)
-      ∙ ap (run_freely c (at-last.reach.events ++ last-run.events)) (fed-all tells seen is_for c s r fed h set choice work fed_are)
+      ∙ ap (run_freely c (at-last.reach.events ++ last-run.events)) (fed-all tells seen c s.log.pieces fed fed_are)
       ∙ run-append c at-last.reach.events last-run.events origin
       ∙ ap (run_freely c last-run.events) at-last.reach.is
       ∙ last-run.is

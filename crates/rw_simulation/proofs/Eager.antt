@@ -6,13 +6,14 @@ use Rattle.rw_plain_queue.specs.Items.{is_end}
 use Rattle.rw_plain_queue.specs.declared.item.Item.{Item}
 use Rattle.rw_plain_queue.specs.declared.item.Item.TheVariants.{Sample, Flush, End}
 use Rattle.rw_shard_core.specs.Shard.{Core}
+use Rattle.rw_worker.specs.Transcript.{Exchange}
 use Rattle.rw_worker.specs.Steps.{Working, working, Step, Takes, Freezes, Sends, Waits, AreSteps, after, after_step, items_of, exchanges_of}
 use Rattle.rw_worker.proofs.StepLemmas.{exchanges-append}
 use Rattle.rw_machine.specs.Shards.{Shard, Queued, One, FlushMark, EndMark}
 use Rattle.rw_machine.specs.Worlds.{Setup, Request, World}
 use Rattle.rw_machine.specs.Worlds as worlds
-use Rattle.rw_simulation.specs.Freely.{Happening, run_freely}
-use Rattle.rw_simulation.specs.WorkerRuns.{queued, happenings, steps_names, IsAfter, IsIdOf, IsShardNumbered, sent_bytes, request_in}
+use Rattle.rw_simulation.specs.Freely.{Happening, IsOwn, run_freely}
+use Rattle.rw_simulation.specs.WorkerRuns.{queued, step_happenings, happenings, steps_names, IsAfter, IsIdOf, IsShardNumbered, sent_bytes, request_in}
 use Rattle.rw_simulation.specs.EpochRuns.{Coming, StartsByTaking, IsReady}
 use Rattle.rw_simulation.proofs.Changes.{change-same}
 use Rattle.rw_simulation.proofs.WorkerSteps.{moved}
@@ -62,6 +63,24 @@ starts_by (Takes x ∷ ss) = tt
 starts_by (Freezes ∷ ss) = starts_by ss
 starts_by (Sends e ∷ ss) = starts_by ss
 starts_by (Waits ∷ ss) = starts_by ss
+
+no_exchange : (e : Exchange) (es : List Exchange) → e ∷ es ≡ [] → ⊥
+no_exchange e es h = cc
+
+no_sends : (ss : List Step) → exchanges_of ss ≡ [] → exchanges_of (no_takes ss) ≡ []
+no_sends [] h = refl
+no_sends (Takes x ∷ ss) h = refl
+no_sends (Freezes ∷ ss) h = no_sends ss h
+no_sends (Sends e ∷ ss) h = absurd (no_exchange e (exchanges_of ss) h)
+no_sends (Waits ∷ ss) h = no_sends ss h
+
+-- steps that send nothing are events of the sender's own
+pub own-steps : (c : Setup) (w : World) (k : ℕ) (ss : List Step) → exchanges_of ss ≡ [] → AllByRecursion IsOwn (happenings c w k ss)
+own-steps c w k [] h = tt
+own-steps c w k (Takes x ∷ ss) h = (tt, own-steps c (run_freely c (step_happenings w k (Takes x)) w) k ss h)
+own-steps c w k (Freezes ∷ ss) h = (tt, own-steps c (run_freely c (step_happenings w k Freezes) w) k ss h)
+own-steps c w k (Sends e ∷ ss) h = absurd (no_exchange e (exchanges_of ss) h)
+own-steps c w k (Waits ∷ ss) h = own-steps c w k ss h
 
 steps_front : (w : Working) (xs ys : List Step) → AreSteps w (xs ++ ys) → AreSteps w xs
 steps_front w [] ys h = tt
@@ -115,6 +134,7 @@ pub record GoesThrough (c : Setup) (w : World) (k : ℕ) (s : Shard) (d : Coming
   pub sent_is : map sent_bytes more ++ map request_in (exchanges_of coming.steps) ≡ map request_in (exchanges_of d.steps)
   pub replies : List worlds.Reply
   pub is : run_freely c events w ≡ moved w k shard names (w.requests ++ more) replies
+  pub own : exchanges_of d.steps ≡ [] → AllByRecursion IsOwn events
 
 tail_is : (x y : Queued) (xs ys : List Queued) → x ∷ xs ≡ y ∷ ys → xs ≡ ys
 tail_is x y xs ys e = cc
@@ -162,6 +182,7 @@ put-one c w k s x puts d is more h alive unclosed e = by_steps d.steps refl
       sent_is = ap (λ (ss : List Step). map request_in (exchanges_of ss)) (sym none);
       replies = w.replies;
       is = ap (λ ss. record w { shards = ss }) (sym (change-same k w.shards (with_item s x) e)) ∙ ap (λ rs. moved w k (with_item s x) w.names rs w.replies) (sym (append-nil w.requests));
+      own = λ _. tt;
     }
     by_steps (Freezes ∷ ss) some = absurd (subst StartsByTaking some h.starts)
     by_steps (Sends f ∷ ss) some = absurd (subst StartsByTaking some h.starts)
@@ -202,6 +223,7 @@ put-one c w k s x puts d is more h alive unclosed e = by_steps d.steps refl
               ∙ ap (λ (ss : List Step). map request_in (exchanges_of ss)) (ap (λ xs. Takes y ∷ xs) (both_parts ss) ∙ sym some);
           replies = w.replies ++ ran.replies;
           is = ran.is;
+          own = λ none. own-steps c w k (Takes y ∷ no_takes ss) (no_sends ss (ap exchanges_of (sym some) ∙ none));
         }
           where
             front : queued x ∷ map queued puts ≡ queued y ∷ (map queued (items_of ss) ++ d.left)

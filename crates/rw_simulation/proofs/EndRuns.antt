@@ -24,13 +24,13 @@ use Rattle.rw_machine.proofs.Steps.{and_both}
 use Rattle.rw_simulation.specs.Freely.{Of, run_freely}
 use Rattle.rw_simulation.specs.WorkerRuns.{queued, happenings, steps_names, IsAfter, IsIdOf, CanEnd, sent_bytes}
 use Rattle.rw_simulation.specs.Tallies.{Past, IsTallied, requests_of}
-use Rattle.rw_simulation.specs.EpochRuns.{ShardFate, end_in, Reaches, IsAtEnd, IsPut}
+use Rattle.rw_simulation.specs.EpochRuns.{ShardFate, end_in, AreUnsent, Reaches, IsAtEnd, IsPut}
 use Rattle.rw_simulation.proofs.Changes.{change-is, change-get, change-twice, not-over}
 use Rattle.rw_simulation.proofs.WorkerSteps.{moved}
 use Rattle.rw_simulation.proofs.WorkerRuns.{worker-run}
-use Rattle.rw_simulation.proofs.Eager.{has-room}
+use Rattle.rw_simulation.proofs.Eager.{has-room, own-steps}
 use Rattle.rw_simulation.proofs.Tallies.{Names, GrowAlike, alike-by, own-requests, other-requests, lists-at, with_part, part-own, part-other, tallied-shard}
-use Rattle.rw_simulation.proofs.EpochRuns.{stay, go-on, each-update}
+use Rattle.rw_simulation.proofs.EpochRuns.{stay, go-on, each-update, none-to-send}
 use Rattle.rw_simulation.proofs.MarkRuns.{put-still}
 
 -- the shard has come to its fate, and so have its requests and its names
@@ -41,8 +41,16 @@ pub record HasCome (epoch k : ℕ) (requests : List Request) (part : Names) (s :
   pub requests_are : map sent_bytes (requests_of epoch k requests) ≡ f.requests
   pub part_is : f.worker.ledger.names ≡ part
 
-come-still : (epoch j k : ℕ) (requests more : List Request) (now : Names) (parts : ℕ → Names) (s : Shard) (f : ShardFate) → (j ≡ k → ⊥) → AllByRecursion (IsIdOf epoch k) more → HasCome epoch j requests (parts j) s f → HasCome epoch j (requests ++ more) (with_part k now parts j) s f
+pub come-still : (epoch j k : ℕ) (requests more : List Request) (now : Names) (parts : ℕ → Names) (s : Shard) (f : ShardFate) → (j ≡ k → ⊥) → AllByRecursion (IsIdOf epoch k) more → HasCome epoch j requests (parts j) s f → HasCome epoch j (requests ++ more) (with_part k now parts j) s f
 come-still epoch j k requests more now parts s f differ ids h = record { put = h.put; core = h.core; queue = h.queue; requests_are = ap (map sent_bytes) (other-requests epoch j k requests more differ ids) ∙ h.requests_are; part_is = h.part_is ∙ sym (part-other k now parts j differ) }
+
+-- All shards of the epoch have come to their fates. Else nothing has changed since a world before.
+pub record IsOver (c : Setup) (past : Past) (epoch n : ℕ) (fates : ℕ → ShardFate) (placed : List Entry) (u w : World) : Type 0 where
+  pub same : w ≡ record u { shards = w.shards; names = w.names; requests = w.requests; replies = w.replies; head = w.head }
+  pub count : length w.shards ≡ n
+  pub parts : ℕ → Names
+  pub tallied : IsTallied c past epoch n placed parts w
+  pub done : (k : ℕ) (s : Shard) → slice_get w.shards k ≡ Some s → HasCome epoch k w.requests (parts k) s (fates k)
 
 -- its End was taken, and no fewer samples are resolved than it was put
 abbrev pub IsResolvedFate : ShardFate → Type 0
@@ -87,7 +95,7 @@ none_stand : (steps : List Step) → steps ≡ [] → length (items_of steps) �
 none_stand steps none = subst (λ (ss : List Step). length (items_of ss) ≤ 1) (sym none) (omega arith)
 
 -- the counts that a shard's lists give
-counted : (put taken waiting resolved held batch builder after : ℕ) → put ≡ taken + waiting → taken ≡ resolved + held → held ≡ batch + builder → after ≡ waiting → put ≡ resolved + (batch + (builder + after))
+pub counted : (put taken waiting resolved held batch builder after : ℕ) → put ≡ taken + waiting → taken ≡ resolved + held → held ≡ batch + builder → after ≡ waiting → put ≡ resolved + (batch + (builder + after))
 counted put taken waiting resolved held batch builder after a b c d = omega arith
 
 kept_count : (c : Setup) (s : Shard) (kind : Kind) → Lists c s → length s.put ≡ length s.core.resolved + (length s.core.batch + (length s.core.builder + length (samples_in (s.queue ++ EndMark kind ∷ []))))
@@ -109,22 +117,23 @@ not_above m le = omega arith
 
 module _ (c : Setup) (past : Past) (epoch n : ℕ) (fates : ℕ → ShardFate) (placed : List Entry) (kind : Kind) (ends : (k : ℕ) → k < n → (fates k).end ≡ Some kind) (u : World) (alive : u.killed ≡ false) (asks : (s : Shard) → mark u s ≡ shard_end kind s) (some : 1 ≤ c.capacity) where
   -- The first m shards have come to their fates, and the others have been put all but their Ends. Else nothing has changed since u.
-  pub record ClosedBelow (m : ℕ) (w : World) : Type 0 where
-    pub same : w ≡ record u { shards = w.shards; names = w.names; requests = w.requests; replies = w.replies }
-    pub count : length w.shards ≡ n
-    pub parts : ℕ → Names
-    pub tallied : IsTallied c past epoch n placed parts w
-    pub done : (k : ℕ) (s : Shard) → slice_get w.shards k ≡ Some s → k < m → HasCome epoch k w.requests (parts k) s (fates k)
-    pub still : (k : ℕ) (s : Shard) → slice_get w.shards k ≡ Some s → m ≤ k → IsPut c epoch k w.requests (parts k) s (fates k)
+  record ClosedBelow (m : ℕ) (w : World) : Type 0 where
+    same : w ≡ record u { shards = w.shards; names = w.names; requests = w.requests; replies = w.replies; head = w.head }
+    count : length w.shards ≡ n
+    parts : ℕ → Names
+    tallied : IsTallied c past epoch n placed parts w
+    done : (k : ℕ) (s : Shard) → slice_get w.shards k ≡ Some s → k < m → HasCome epoch k w.requests (parts k) s (fates k)
+    still : (k : ℕ) (s : Shard) → slice_get w.shards k ≡ Some s → m ≤ k → IsPut c epoch k w.requests (parts k) s (fates k)
 
   -- the End of shard m, and then all its steps
-  end-it : (m : ℕ) (w : World) (s : Shard) → (h : ClosedBelow m w) → slice_get w.shards m ≡ Some s → (p : IsPut c epoch m w.requests (h.parts m) s (fates m)) → p.way.coming.puts ≡ item.End kind ∷ [] → Reaches c w (ClosedBelow (suc m))
+  end-it : (m : ℕ) (w : World) (s : Shard) → (h : ClosedBelow m w) → slice_get w.shards m ≡ Some s → (p : IsPut c epoch m w.requests (h.parts m) s (fates m)) → p.way.coming.puts ≡ item.End kind ∷ [] → Reaches (AreUnsent fates) c w (ClosedBelow (suc m))
   end-it m w s h at p is = record {
     events = Of (event.Flush m) ∷ happenings c marked m p.way.coming.steps;
+    own = λ quiet. (tt, own-steps c marked m p.way.coming.steps (none-to-send c epoch m w.requests s [] (fates m) p.way (quiet m)));
     world = later;
     is = reached;
     holds = record {
-      same = ap (λ (x : World). record x { shards = later.shards; names = later.names; requests = later.requests; replies = later.replies }) h.same;
+      same = ap (λ (x : World). record x { shards = later.shards; names = later.names; requests = later.requests; replies = later.replies; head = later.head }) h.same;
       count = length_change m (λ _. final) w.shards ∙ h.count;
       parts = with_part m now h.parts;
       tallied = tallied-shard c past epoch n placed h.parts w later (Of (event.Flush m) ∷ happenings c marked m steps) m p.way.coming.ledger.names now ran.requests h.tallied reached (subst (λ (i : ℕ). m < i) h.count (slice_get_within w.shards m s at)) p.part_is refl ids
@@ -207,7 +216,7 @@ module _ (c : Setup) (past : Past) (epoch n : ℕ) (fates : ℕ → ShardFate) (
         part_is = ap (λ (x : Working). x.ledger.names) (sym p.way.worker) ∙ sym (part-own m now h.parts);
       }
 
-  end-one : (m : ℕ) (w : World) (s : Shard) → m < n → (h : ClosedBelow m w) → slice_get w.shards m ≡ Some s → (p : IsPut c epoch m w.requests (h.parts m) s (fates m)) → (ps : List Item) → p.way.coming.puts ≡ ps → Reaches c w (ClosedBelow (suc m))
+  end-one : (m : ℕ) (w : World) (s : Shard) → m < n → (h : ClosedBelow m w) → slice_get w.shards m ≡ Some s → (p : IsPut c epoch m w.requests (h.parts m) s (fates m)) → (ps : List Item) → p.way.coming.puts ≡ ps → Reaches (AreUnsent fates) c w (ClosedBelow (suc m))
   end-one m w s lt h at p [] is = absurd (none-some kind (sym (ap end_in is) ∙ p.way.end ∙ ends m lt))
   end-one m w s lt h at p (item.Sample place t word labels ∷ ps) is = absurd (subst IsAtEnd is p.at_end)
   end-one m w s lt h at p (item.Flush ∷ ps) is = absurd (subst IsAtEnd is p.at_end)
@@ -222,7 +231,7 @@ module _ (c : Setup) (past : Past) (epoch n : ℕ) (fates : ℕ → ShardFate) (
       alone : item.End other ∷ ps ≡ item.End kind ∷ []
       alone = λ i. item.End (kind_is i) ∷ last i
 
-  end-from : (more m : ℕ) (w : World) → m + more ≡ n → ClosedBelow m w → Reaches c w (ClosedBelow n)
+  end-from : (more m : ℕ) (w : World) → m + more ≡ n → ClosedBelow m w → Reaches (AreUnsent fates) c w (ClosedBelow n)
   end-from zero m w sum h = stay c w (ClosedBelow n) (subst (λ (k : ℕ). ClosedBelow k w) (no_more m sum) h)
     where
       no_more : (m : ℕ) → m + 0 ≡ n → m ≡ n
@@ -249,18 +258,23 @@ module _ (c : Setup) (past : Past) (epoch n : ℕ) (fates : ℕ → ShardFate) (
       put : IsPut c epoch m w.requests (h.parts m) found.0 (fates m)
       put = h.still m found.0 found.1 (itself m)
 
-  -- all of them
-  pub end-all : (w : World) → ClosedBelow 0 w → Reaches c w (ClosedBelow n)
-  end-all w h = end-from n 0 w (zero_plus n) h
+  none_below : (k : ℕ) → k < 0 → ⊥
+  none_below k lt = omega arith
+
+  -- all of them, where each has been put all but its End
+  pub end-all : length u.shards ≡ n → (parts : ℕ → Names) → IsTallied c past epoch n placed parts u → ((k : ℕ) (s : Shard) → slice_get u.shards k ≡ Some s → IsPut c epoch k u.requests (parts k) s (fates k)) → Reaches (AreUnsent fates) c u (IsOver c past epoch n fates placed u)
+  end-all count parts tallied put = go-on c u (ClosedBelow n) (IsOver c past epoch n fates placed u)
+      (end-from n 0 u (zero_plus n) (record { same = refl; count = count; parts = parts; tallied = tallied; done = λ k s e lt. absurd (none_below k lt); still = λ k s e le. put k s e }))
+      (λ v h. stay c v (IsOver c past epoch n fates placed u) (record { same = h.same; count = h.count; parts = h.parts; tallied = h.tallied; done = λ k s e. h.done k s e (subst (λ (m : ℕ). k < m) h.count (slice_get_within v.shards k s e)) }))
     where
       zero_plus : (n : ℕ) → 0 + n ≡ n
       zero_plus n = omega arith
 
 -- what all shards named and sent is known
-pub tallies-at : (epoch n : ℕ) (fates : ℕ → ShardFate) (requests : List Request) (parts : ℕ → Names) (ss : List Shard) → length ss ≡ n → ((k : ℕ) (s : Shard) → slice_get ss k ≡ Some s → k < n → HasCome epoch k requests (parts k) s (fates k))
+pub tallies-at : (epoch n : ℕ) (fates : ℕ → ShardFate) (requests : List Request) (parts : ℕ → Names) (ss : List Shard) → length ss ≡ n → ((k : ℕ) (s : Shard) → slice_get ss k ≡ Some s → HasCome epoch k requests (parts k) s (fates k))
     → (k : ℕ) → k < n → ((fates k).worker.ledger.names ≡ parts k) × (map sent_bytes (requests_of epoch k requests) ≡ (fates k).requests)
-tallies-at epoch n fates requests parts ss count come k lt = let found = get_some ss k (subst (λ (m : ℕ). k < m) (sym count) lt) in let h = come k found.0 found.1 lt in (h.part_is, h.requests_are)
+tallies-at epoch n fates requests parts ss count come k lt = let found = get_some ss k (subst (λ (m : ℕ). k < m) (sym count) lt) in let h = come k found.0 found.1 in (h.part_is, h.requests_are)
 
 -- where each has come to its fate, and all is resolved, they are drained
-pub drained-all : (c : Setup) (epoch n : ℕ) (fates : ℕ → ShardFate) (requests : List Request) (parts : ℕ → Names) (ss : List Shard) → length ss ≡ n → ((k : ℕ) (s : Shard) → slice_get ss k ≡ Some s → Lists c s) → ((k : ℕ) (s : Shard) → slice_get ss k ≡ Some s → k < n → HasCome epoch k requests (parts k) s (fates k)) → ((k : ℕ) → k < n → IsResolvedFate (fates k)) → list_all is_drained ss ≡ true
-drained-all c epoch n fates requests parts ss count kept come resolved = all-drained ss (λ k s e. let lt = subst (λ (m : ℕ). k < m) count (slice_get_within ss k s e) in drained c epoch k requests (parts k) s (fates k) (kept k s e) (come k s e lt) (resolved k lt))
+pub drained-all : (c : Setup) (epoch n : ℕ) (fates : ℕ → ShardFate) (requests : List Request) (parts : ℕ → Names) (ss : List Shard) → length ss ≡ n → ((k : ℕ) (s : Shard) → slice_get ss k ≡ Some s → Lists c s) → ((k : ℕ) (s : Shard) → slice_get ss k ≡ Some s → HasCome epoch k requests (parts k) s (fates k)) → ((k : ℕ) → k < n → IsResolvedFate (fates k)) → list_all is_drained ss ≡ true
+drained-all c epoch n fates requests parts ss count kept come resolved = all-drained ss (λ k s e. let lt = subst (λ (m : ℕ). k < m) count (slice_get_within ss k s e) in drained c epoch k requests (parts k) s (fates k) (kept k s e) (come k s e) (resolved k lt))

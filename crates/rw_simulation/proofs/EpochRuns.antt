@@ -4,6 +4,7 @@ use Rattle.std.proofs.lemmas.Option.{slice_get_within}
 use Rattle.std.proofs.Math.Nat.{mod-lt}
 use Rattle.std.proofs.Math.Seq.{take-append_seam}
 use Rattle.std.specs.List.{AllByRecursion}
+use Rattle.rw_types.proofs.AllLemmas.{AllByRecursion-append}
 use Rattle.std.proofs.lemmas.Bool.{lt-ltb, ne_eqb, eq-eqb}
 use Rattle.std.proofs.lemmas.List.{map-append}
 use Rattle.rw_types.specs.declared.entry.Entry.{Entry}
@@ -14,6 +15,7 @@ use Rattle.rw_plain_queue.specs.Items.{Placed, samples_in}
 use Rattle.rw_plain_queue.specs.declared.item.Item.{Item}
 use Rattle.rw_plain_queue.specs.declared.item.Item.TheVariants as item
 use Rattle.rw_shard_core.specs.Shard.{placed}
+use Rattle.rw_worker.specs.Transcript.{Exchange}
 use Rattle.rw_worker.specs.Steps.{working, after, exchanges_of}
 use Rattle.rw_router.specs.Fates.{Fate, Drops, Filters, Sends, fate}
 use Rattle.rw_feeder.specs.Logs.{Sent, kept_sample, sent_by_fate, sent_of, filtered, filtered_of}
@@ -25,27 +27,40 @@ use Rattle.rw_machine.specs.Worlds.{Setup, Request, World, log}
 use Rattle.rw_machine.specs.Steps.{change, flush_shard, happens, unless_over}
 use Rattle.rw_machine.specs.declared.event.Event.TheVariants as event
 use Rattle.rw_machine.proofs.Places.{length_change, get_some}
-use Rattle.rw_simulation.specs.Freely.{Of, run_freely}
+use Rattle.rw_simulation.specs.Freely.{Of, IsOwn, run_freely}
 use Rattle.rw_simulation.specs.WorkerRuns.{IsIdOf, sent_bytes, request_in}
 use Rattle.rw_simulation.specs.Tallies.{Past, IsTallied, requests_of}
 use Rattle.rw_simulation.proofs.Entries.{IsBefore, HasRoomFor, placed_as, put_each, after_entry}
-use Rattle.rw_simulation.specs.EpochRuns.{Coming, AreNext, IsReady, ShardFate, end_in, IsOnTheWay, IsOnTheWayWith, IsUnderWay, Reaches}
+use Rattle.rw_simulation.specs.EpochRuns.{Coming, AreNext, IsReady, ShardFate, end_in, AreUnsent, IsOnTheWay, IsOnTheWayWith, IsUnderWay, Reaches}
 use Rattle.rw_simulation.proofs.Changes.{change-is, change-get, change-twice, run-append, not-over}
 use Rattle.rw_simulation.proofs.WorkerSteps.{moved}
 use Rattle.rw_simulation.proofs.EntryRuns.{entry-run}
 use Rattle.rw_simulation.proofs.Tallies.{Names, own-requests, other-requests, with_part, part-own, part-other, tallied-shard, tallied-entry}
 use Rattle.rw_simulation.proofs.Eager.{GoesThrough, with_item, put-one, has-room}
 
-pub stay : (c : Setup) (w : World) (P : World → Type 0) → P w → Reaches c w P
-stay c w P h = record { events = []; world = w; is = refl; holds = h }
+pub stay : {quiet : Type 0} (c : Setup) (w : World) (P : World → Type 0) → P w → Reaches quiet c w P
+stay c w P h = record { events = []; world = w; is = refl; holds = h; own = λ _. tt }
 
-pub go-on : (c : Setup) (w : World) (P Q : World → Type 0) → Reaches c w P → ((v : World) → P v → Reaches c v Q) → Reaches c w Q
+pub go-on : {quiet : Type 0} (c : Setup) (w : World) (P Q : World → Type 0) → Reaches quiet c w P → ((v : World) → P v → Reaches quiet c v Q) → Reaches quiet c w Q
 go-on c w P Q r f = let q = f r.world r.holds in record {
   events = r.events ++ q.events;
   world = q.world;
   is = run-append c r.events q.events w ∙ ap (run_freely c q.events) r.is ∙ q.is;
   holds = q.holds;
+  own = λ h. AllByRecursion-append IsOwn r.events q.events (r.own h) (q.own h);
 }
+
+-- where nothing is sent on the way, nothing is sent by the steps that are to come
+second_none : (xs ys : List (List ℕ)) → xs ++ ys ≡ [] → ys ≡ []
+second_none [] ys e = e
+second_none (x ∷ xs) ys e = let no : ⊥ = cc in absurd no
+
+none_of_none : (es : List Exchange) → map request_in es ≡ [] → es ≡ []
+none_of_none [] e = refl
+none_of_none (x ∷ xs) e = let no : ⊥ = cc in absurd no
+
+pub none-to-send : (c : Setup) (epoch k : ℕ) (requests : List Request) (s : Shard) (todo : List Sent) (f : ShardFate) → (way : IsOnTheWay c epoch k requests s todo f) → f.requests ≡ [] → exchanges_of way.coming.steps ≡ []
+none-to-send c epoch k requests s todo f way none = none_of_none (exchanges_of way.coming.steps) (second_none (map sent_bytes (requests_of epoch k requests)) (map request_in (exchanges_of way.coming.steps)) (way.requests_are ∙ none))
 
 -- a shard is changed, and what held of the others holds of them
 pub each-update : (Q : ℕ → Shard → Type 0) (t : Shard) (k : ℕ) (ss : List Shard) → ((j : ℕ) (s : Shard) → slice_get ss j ≡ Some s → (j ≡ k → ⊥) → Q j s) → Q k t → (j : ℕ) (s : Shard) → slice_get (change k (λ _. t) ss) j ≡ Some s → Q j s
@@ -154,6 +169,9 @@ drop_if : (b : Bool) (x : Sent) (xs : List Sent) → b ≡ false → cond b (x �
 drop_if b x xs e = rw e refl
 
 module _ (c : Setup) (past : Past) (pieces : List Piece) (epoch n : ℕ) (fates : ℕ → ShardFate) (some : 1 ≤ c.capacity) where
+  abbrev Quiet : Type 0
+  Quiet = AreUnsent fates
+
   abbrev Todo : List Entry → List Entry → ℕ → List Sent
   Todo before es k = of_shard n k (gather_from (sent_of c.choice) before es)
 
@@ -171,14 +189,14 @@ module _ (c : Setup) (past : Past) (pieces : List Piece) (epoch n : ℕ) (fates 
 
   -- the shard's marks are put, up to its next sample
   advance : (before es : List Entry) (k : ℕ) (ps : List Item) (w : World) (s : Shard) (first : Sent) (more : List Sent) → Todo before es k ≡ first ∷ more → (under : IsUnderWay c past pieces epoch n fates before es w) → slice_get w.shards k ≡ Some s
-      → (way : IsOnTheWay c epoch k w.requests s (Todo before es k) (fates k)) → way.coming.ledger.names ≡ under.parts k → way.coming.puts ≡ ps → Reaches c w (StandsAt before es k)
+      → (way : IsOnTheWay c epoch k w.requests s (Todo before es k) (fates k)) → way.coming.ledger.names ≡ under.parts k → way.coming.puts ≡ ps → Reaches Quiet c w (StandsAt before es k)
   unfolding way-after
   advance before es k [] w s first more todo under at way part is = absurd (none_left first more (sym (ap (λ (xs : List Item). map as_sent (samples_in xs)) is) ∙ way.sent ∙ todo))
   advance before es k (item.Sample place t word labels ∷ ps) w s first more todo under at way part is = stay c w (StandsAt before es k) (record { under = under; s = s; at = at; way = way; part_is = part; x = item.Sample place t word labels; puts = ps; starts = is; sample = tt })
   advance before es k (item.End kind ∷ ps) w s first more todo under at way part is =
       let last : ps ≡ [] = subst (AreNext epoch k (length s.put)) is way.next in
       absurd (none_left first more (sym (ap (λ (xs : List Item). map as_sent (samples_in xs)) is ∙ ap (λ (xs : List Item). map as_sent (samples_in xs)) last) ∙ way.sent ∙ todo))
-  advance before es k (item.Flush ∷ ps) w s first more todo under at way part is = go-on c w (λ v. v ≡ later) (StandsAt before es k) flushed (λ v same. subst (λ (u : World). Reaches c u (StandsAt before es k)) (sym same) (advance before es k ps later g.shard first more todo under_later (change-get g.shard k w.shards s at) way_later (sym (part-own k g.coming.ledger.names under.parts)) g.puts_are))
+  advance before es k (item.Flush ∷ ps) w s first more todo under at way part is = go-on c w (λ v. v ≡ later) (StandsAt before es k) flushed (λ v same. subst (λ (u : World). Reaches Quiet c u (StandsAt before es k)) (sym same) (advance before es k ps later g.shard first more todo under_later (change-get g.shard k w.shards s at) way_later (sym (part-own k g.coming.ledger.names under.parts)) g.puts_are))
     where
       marked : World
       marked = record w { shards = change k (λ _. with_item s item.Flush) w.shards }
@@ -195,8 +213,8 @@ module _ (c : Setup) (past : Past) (pieces : List Piece) (epoch n : ℕ) (fates 
           ∙ g.is
           ∙ ap (λ ss. record later { shards = ss }) (change-twice (with_item s item.Flush) g.shard k w.shards)
 
-      flushed : Reaches c w (λ v. v ≡ later)
-      flushed = record { events = Of (event.Flush k) ∷ g.events; world = later; is = runs; holds = refl }
+      flushed : Reaches Quiet c w (λ v. v ≡ later)
+      flushed = record { events = Of (event.Flush k) ∷ g.events; world = later; is = runs; holds = refl; own = λ quiet. (tt, g.own (none-to-send c epoch k w.requests s (Todo before es k) (fates k) way (quiet k))) }
 
       ids : AllByRecursion (IsIdOf epoch k) g.more
       ids = subst (λ (e : ℕ). AllByRecursion (IsIdOf e k) g.more) way.epoch_is g.ids
@@ -250,11 +268,12 @@ module _ (c : Setup) (past : Past) (pieces : List Piece) (epoch n : ℕ) (fates 
   More before e es = IsUnderWay c past pieces epoch n fates (before ++ e ∷ []) es
 
   -- an entry that gives no sample
-  place-none : (before es : List Entry) (e : Entry) (v : World) → sent_of c.choice before e ≡ [] → IsUnderWay c past pieces epoch n fates before (e ∷ es) v → Reaches c v (More before e es)
+  place-none : (before es : List Entry) (e : Entry) (v : World) → sent_of c.choice before e ≡ [] → IsUnderWay c past pieces epoch n fates before (e ∷ es) v → Reaches Quiet c v (More before e es)
   place-none before es e v none under = record {
     events = Of event.Place ∷ [];
     world = later;
     is = runs;
+    own = λ _. (tt, tt);
     holds = record {
       going = under.going;
       pieces_are = under.pieces_are;
@@ -279,7 +298,7 @@ module _ (c : Setup) (past : Past) (pieces : List Piece) (epoch n : ℕ) (fates 
           ∙ ap (λ (xs : List Sent). record (after_entry c v before e) { shards = put_each v xs v.shards }) none
 
   -- an entry that gives a sample, which is next in its shard
-  place-one : (before es : List Entry) (e : Entry) (x : Sent) (v : World) → sent_of c.choice before e ≡ x ∷ [] → StandsAt before (e ∷ es) (shard_of n x.series) v → Reaches c v (More before e es)
+  place-one : (before es : List Entry) (e : Entry) (x : Sent) (v : World) → sent_of c.choice before e ≡ x ∷ [] → StandsAt before (e ∷ es) (shard_of n x.series) v → Reaches Quiet c v (More before e es)
   unfolding way-after
   place-one before es e x v one st = by_item st.x st.starts st.sample
     where
@@ -305,11 +324,12 @@ module _ (c : Setup) (past : Past) (pieces : List Piece) (epoch n : ℕ) (fates 
       room d starts y h = subst (λ (z : Sent). (s : Shard) × (slice_get v.shards (shard_of (length v.shards) z.series) ≡ Some s) × (has_room c.capacity s ≡ true)) (head_is x y [] [] (sym one ∙ h))
           (st.s, ap (λ (m : ℕ). slice_get v.shards (shard_of m x.series)) under.count ∙ st.at, lt-ltb (length st.s.queue) c.capacity (has-room c k st.s d st.puts st.way.coming some starts st.way.ready))
 
-      by_item : (d : Item) → st.way.coming.puts ≡ d ∷ st.puts → IsSample d → Reaches c v (More before e es)
+      by_item : (d : Item) → st.way.coming.puts ≡ d ∷ st.puts → IsSample d → Reaches Quiet c v (More before e es)
       by_item item.Flush starts sample = absurd sample
       by_item (item.End kind) starts sample = absurd sample
       by_item (item.Sample place t word labels) starts sample = record {
         events = Of event.Place ∷ g.events;
+        own = λ quiet. (tt, g.own (none-to-send c epoch k v.requests st.s (Todo before (e ∷ es) k) (fates k) st.way (quiet k)));
         world = later;
         is = ap (run_freely c g.events) places ∙ works;
         holds = record {
@@ -394,10 +414,10 @@ module _ (c : Setup) (past : Past) (pieces : List Piece) (epoch n : ℕ) (fates 
               one_put : (xs : List Placed) (z : Placed) → suc (length xs) ≡ length (xs ++ z ∷ [])
               one_put xs z = let l = length-append xs (z ∷ []) in omega arith
 
-  place-entry : (before es : List Entry) (e : Entry) (w : World) → 1 ≤ n → IsUnderWay c past pieces epoch n fates before (e ∷ es) w → Reaches c w (More before e es)
+  place-entry : (before es : List Entry) (e : Entry) (w : World) → 1 ≤ n → IsUnderWay c past pieces epoch n fates before (e ∷ es) w → Reaches Quiet c w (More before e es)
   place-entry before es e w shards under = by_sent (one_at_most c.choice before e)
     where
-      by_sent : (sent_of c.choice before e ≡ []) ⊎ ((x : Sent) × (sent_of c.choice before e ≡ x ∷ [])) → Reaches c w (More before e es)
+      by_sent : (sent_of c.choice before e ≡ []) ⊎ ((x : Sent) × (sent_of c.choice before e ≡ x ∷ [])) → Reaches Quiet c w (More before e es)
       by_sent (inl none) = place-none before es e w none under
       by_sent (inr (x, one)) = go-on c w (StandsAt before (e ∷ es) k) (More before e es)
           (advance before (e ∷ es) k (under.shards k found.0 found.1).way.coming.puts w found.0 x (of_shard n k (gather_from (sent_of c.choice) (before ++ e ∷ []) es)) own_todo under found.1 (under.shards k found.0 found.1).way (under.shards k found.0 found.1).part_is refl)
@@ -412,16 +432,16 @@ module _ (c : Setup) (past : Past) (pieces : List Piece) (epoch n : ℕ) (fates 
           own_todo : Todo before (e ∷ es) k ≡ x ∷ of_shard n k (gather_from (sent_of c.choice) (before ++ e ∷ []) es)
           own_todo = ap (λ (xs : List Sent). of_shard n k (xs ++ gather_from (sent_of c.choice) (before ++ e ∷ []) es)) one ∙ keep_if (k == k) x (of_shard n k (gather_from (sent_of c.choice) (before ++ e ∷ []) es)) (eq-eqb k k refl)
 
-  pub place-all : (before es : List Entry) (w : World) → 1 ≤ n → IsUnderWay c past pieces epoch n fates before es w → Reaches c w (IsUnderWay c past pieces epoch n fates (before ++ es) [])
+  pub place-all : (before es : List Entry) (w : World) → 1 ≤ n → IsUnderWay c past pieces epoch n fates before es w → Reaches Quiet c w (IsUnderWay c past pieces epoch n fates (before ++ es) [])
   place-all before [] w shards under = stay c w (IsUnderWay c past pieces epoch n fates (before ++ []) []) (subst (λ (xs : List Entry). IsUnderWay c past pieces epoch n fates xs [] w) (sym (append-nil before)) under)
   place-all before (e ∷ es) w shards under = go-on c w (More before e es) (IsUnderWay c past pieces epoch n fates (before ++ e ∷ es) []) (place-entry before es e w shards under)
-      (λ v next. subst (λ (xs : List Entry). Reaches c v (IsUnderWay c past pieces epoch n fates xs [])) (append_assoc before (e ∷ []) es) (place-all (before ++ e ∷ []) es v shards next))
+      (λ v next. subst (λ (xs : List Entry). Reaches Quiet c v (IsUnderWay c past pieces epoch n fates xs [])) (append_assoc before (e ∷ []) es) (place-all (before ++ e ∷ []) es v shards next))
 
 -- all the entries are placed, each shard being put its samples and its worker making its steps
 abbrev pub IsEpochRun : Setup → Past → Type 0
 IsEpochRun c past =
     (pieces : List Piece) (epoch n : ℕ) (fates : ℕ → ShardFate) (before es : List Entry) (w : World) → 1 ≤ c.capacity → 1 ≤ n
-    → IsUnderWay c past pieces epoch n fates before es w → Reaches c w (IsUnderWay c past pieces epoch n fates (before ++ es) [])
+    → IsUnderWay c past pieces epoch n fates before es w → Reaches (AreUnsent fates) c w (IsUnderWay c past pieces epoch n fates (before ++ es) [])
 
 pub epoch-run : (c : Setup) (past : Past) → IsEpochRun c past
 epoch-run c past pieces epoch n fates before es w some shards under = place-all c past pieces epoch n fates some before es w shards under

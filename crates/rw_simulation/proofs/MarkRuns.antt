@@ -18,12 +18,12 @@ use Rattle.rw_machine.proofs.Places.{length_change, get_some}
 use Rattle.rw_simulation.specs.Freely.{Of, run_freely}
 use Rattle.rw_simulation.specs.WorkerRuns.{IsIdOf}
 use Rattle.rw_simulation.specs.Tallies.{Past}
-use Rattle.rw_simulation.specs.EpochRuns.{AreNext, ShardFate, end_in, IsOnTheWay, IsUnderWay, Reaches, IsAtEnd, IsPut, IsAllPut}
+use Rattle.rw_simulation.specs.EpochRuns.{AreNext, ShardFate, end_in, AreUnsent, IsOnTheWay, IsUnderWay, Reaches, IsAtEnd, IsPut, IsAllPut}
 use Rattle.rw_simulation.proofs.Changes.{change-get, change-twice}
 use Rattle.rw_simulation.proofs.WorkerSteps.{moved}
 use Rattle.rw_simulation.proofs.Eager.{GoesThrough, with_item, put-one, has-room}
 use Rattle.rw_simulation.proofs.Tallies.{Names, with_part, part-own, part-other, tallied-shard}
-use Rattle.rw_simulation.proofs.EpochRuns.{stay, go-on, each-update, flush-run, way-after, way_still, moved-shards, epoch-run}
+use Rattle.rw_simulation.proofs.EpochRuns.{stay, go-on, each-update, none-to-send, flush-run, way-after, way_still, moved-shards, epoch-run}
 
 -- another shard sent more
 pub put-still : (c : Setup) (epoch j k : ℕ) (requests more : List Request) (now : Names) (parts : ℕ → Names) (s : Shard) (f : ShardFate) → (j ≡ k → ⊥) → AllByRecursion (IsIdOf epoch k) more → IsPut c epoch j requests (parts j) s f → IsPut c epoch j (requests ++ more) (with_part k now parts j) s f
@@ -54,12 +54,12 @@ module _ (c : Setup) (past : Past) (pieces : List Piece) (epoch n : ℕ) (fates 
       by_case (inr h') = h.first k t e (below_it k m lt h'.1)
 
   -- the marks of shard m
-  put-marks : (m : ℕ) (ps : List Item) (w : World) (s : Shard) → (h : PutBelow m w) → slice_get w.shards m ≡ Some s → (way : IsOnTheWay c epoch m w.requests s [] (fates m)) → way.coming.ledger.names ≡ h.under.parts m → way.coming.puts ≡ ps → Reaches c w (PutBelow (suc m))
+  put-marks : (m : ℕ) (ps : List Item) (w : World) (s : Shard) → (h : PutBelow m w) → slice_get w.shards m ≡ Some s → (way : IsOnTheWay c epoch m w.requests s [] (fates m)) → way.coming.ledger.names ≡ h.under.parts m → way.coming.puts ≡ ps → Reaches (AreUnsent fates) c w (PutBelow (suc m))
   unfolding way-after
   put-marks m [] w s h at way part is = stay c w (PutBelow (suc m)) (record { under = h.under; first = last-too m w s h at (record { way = way; part_is = part; at_end = subst IsAtEnd (sym is) tt }) })
   put-marks m (item.End kind ∷ ps) w s h at way part is = stay c w (PutBelow (suc m)) (record { under = h.under; first = last-too m w s h at (record { way = way; part_is = part; at_end = subst IsAtEnd (sym is) (subst (AreNext epoch m (length s.put)) is way.next) }) })
   put-marks m (item.Sample place t word labels ∷ ps) w s h at way part is = absurd (some_sent _ _ (sym (ap (λ (xs : List Item). map as_sent (samples_in xs)) is) ∙ way.sent))
-  put-marks m (item.Flush ∷ ps) w s h at way part is = go-on c w (λ v. v ≡ later) (PutBelow (suc m)) flushed (λ v same. subst (λ (u : World). Reaches c u (PutBelow (suc m))) (sym same) (put-marks m ps later g.shard below_later (change-get g.shard m w.shards s at) way_later (sym (part-own m g.coming.ledger.names h.under.parts)) g.puts_are))
+  put-marks m (item.Flush ∷ ps) w s h at way part is = go-on c w (λ v. v ≡ later) (PutBelow (suc m)) flushed (λ v same. subst (λ (u : World). Reaches (AreUnsent fates) c u (PutBelow (suc m))) (sym same) (put-marks m ps later g.shard below_later (change-get g.shard m w.shards s at) way_later (sym (part-own m g.coming.ledger.names h.under.parts)) g.puts_are))
     where
       marked : World
       marked = record w { shards = change m (λ _. with_item s item.Flush) w.shards }
@@ -76,8 +76,8 @@ module _ (c : Setup) (past : Past) (pieces : List Piece) (epoch n : ℕ) (fates 
           ∙ g.is
           ∙ ap (λ ss. record later { shards = ss }) (change-twice (with_item s item.Flush) g.shard m w.shards)
 
-      flushed : Reaches c w (λ v. v ≡ later)
-      flushed = record { events = Of (event.Flush m) ∷ g.events; world = later; is = runs; holds = refl }
+      flushed : Reaches (AreUnsent fates) c w (λ v. v ≡ later)
+      flushed = record { events = Of (event.Flush m) ∷ g.events; world = later; is = runs; holds = refl; own = λ quiet. (tt, g.own (none-to-send c epoch m w.requests s [] (fates m) way (quiet m))) }
 
       ids : AllByRecursion (IsIdOf epoch m) g.more
       ids = subst (λ (e : ℕ). AllByRecursion (IsIdOf e m) g.more) way.epoch_is g.ids
@@ -113,7 +113,7 @@ module _ (c : Setup) (past : Past) (pieces : List Piece) (epoch n : ℕ) (fates 
             (λ j t e differ lt. put-still c epoch j m w.requests g.more g.coming.ledger.names h.under.parts t (fates j) differ ids (h.first j t e lt)) (λ lt. absurd (not_itself m lt));
       }
 
-  put-from : (more m : ℕ) (w : World) → m + more ≡ n → PutBelow m w → Reaches c w (PutBelow n)
+  put-from : (more m : ℕ) (w : World) → m + more ≡ n → PutBelow m w → Reaches (AreUnsent fates) c w (PutBelow n)
   put-from zero m w sum h = stay c w (PutBelow n) (subst (λ (k : ℕ). PutBelow k w) (no_more m sum) h)
     where
       no_more : (m : ℕ) → m + 0 ≡ n → m ≡ n
@@ -131,7 +131,7 @@ module _ (c : Setup) (past : Past) (pieces : List Piece) (epoch n : ℕ) (fates 
       found : (s : Shard) × (slice_get w.shards m ≡ Some s)
       found = get_some w.shards m (subst (λ (k : ℕ). m < k) (sym h.under.count) (within m more sum))
 
-  put-all : (w : World) → IsUnderWay c past pieces epoch n fates placed [] w → Reaches c w (IsAllPut c past pieces epoch n fates placed)
+  put-all : (w : World) → IsUnderWay c past pieces epoch n fates placed [] w → Reaches (AreUnsent fates) c w (IsAllPut c past pieces epoch n fates placed)
   put-all w under = go-on c w (PutBelow n) (IsAllPut c past pieces epoch n fates placed) (put-from n 0 w (zero_plus n) (record { under = under; first = λ k s e lt. absurd (none_below k lt) }))
       (λ v h. stay c v (IsAllPut c past pieces epoch n fates placed) (record { under = h.under; each = λ k s e. h.first k s e (subst (λ (m : ℕ). k < m) h.under.count (slice_get_within v.shards k s e)) }))
     where
@@ -145,7 +145,7 @@ module _ (c : Setup) (past : Past) (pieces : List Piece) (epoch n : ℕ) (fates 
 abbrev pub IsWholeEpochRun : Setup → Past → Type 0
 IsWholeEpochRun c past =
     (pieces : List Piece) (epoch n : ℕ) (fates : ℕ → ShardFate) (before es : List Entry) (w : World) → 1 ≤ c.capacity → 1 ≤ n
-    → IsUnderWay c past pieces epoch n fates before es w → Reaches c w (IsAllPut c past pieces epoch n fates (before ++ es))
+    → IsUnderWay c past pieces epoch n fates before es w → Reaches (AreUnsent fates) c w (IsAllPut c past pieces epoch n fates (before ++ es))
 
 pub whole-epoch-run : (c : Setup) (past : Past) → IsWholeEpochRun c past
 whole-epoch-run c past pieces epoch n fates before es w some shards under =

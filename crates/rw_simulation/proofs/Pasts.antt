@@ -34,7 +34,7 @@ pub get-second : {X : Type 0} (xs ys : List X) (i : ℕ) (y : X) → slice_get y
 get-second [] ys i y e = (i, e)
 get-second (x ∷ xs) ys i y e = let h = get-second xs ys i y e in (suc h.0, h.1)
 
-get-either : {X : Type 0} (xs ys : List X) (i : ℕ) (z : X) → slice_get (xs ++ ys) i ≡ Some z → (slice_get xs i ≡ Some z) ⊎ ((k : ℕ) × (slice_get ys k ≡ Some z))
+pub get-either : {X : Type 0} (xs ys : List X) (i : ℕ) (z : X) → slice_get (xs ++ ys) i ≡ Some z → (slice_get xs i ≡ Some z) ⊎ ((k : ℕ) × (slice_get ys k ≡ Some z))
 get-either [] ys i z e = inr (i, e)
 get-either (x ∷ xs) ys zero z e = inl e
 get-either (x ∷ xs) ys (suc i) z e = get-either xs ys i z e
@@ -113,7 +113,7 @@ module _ {T : Type 0} (tells : T → Type 0) (seen : T → List Exchange) where
     pub seen-is : (j : StoppedShard T) (h : IsWorked tells seen is_for j) → tells j.finished.transport → seen j.finished.transport ≡ exchanges_of h.report.steps
     seen-is j h t = (h.report.made.adds t).1 ∙ ap (λ (es : List Exchange). es ++ exchanges_of h.report.steps) h.none
 
-    worked-at : (js : List (StoppedShard T)) → AreWorked tells seen is_for js → (i : ℕ) (j : StoppedShard T) → slice_get js i ≡ Some j → IsWorked tells seen is_for j
+    pub worked-at : (js : List (StoppedShard T)) → AreWorked tells seen is_for js → (i : ℕ) (j : StoppedShard T) → slice_get js i ≡ Some j → IsWorked tells seen is_for j
     worked-at [] h i j e = absurd (none-some j e)
     worked-at (x ∷ xs) h zero j e = subst (IsWorked tells seen is_for) (same_Some _ _ e) h.0
     worked-at (x ∷ xs) h (suc i) j e = worked-at xs h.1 i j e

@@ -1,5 +1,5 @@
 -- The number of shards changes: those at hand are ended once all is resolved, and the next ones begin.
-use Rattle.std.proofs.Common.{◌≡◌, ℕ, suc, ◌<◌, ◌≤◌, ◌&&◌, Bool, true, false, not, cond, nat_le, List, [], ◌∷◌, ◌++◌, length, None, Some, is_some, refl, ap, ◌∙◌, arith}
+use Rattle.std.proofs.Common.{◌≡◌, ℕ, suc, ◌<◌, ◌≤◌, ◌&&◌, Bool, true, false, not, cond, nat_le, List, [], ◌∷◌, ◌++◌, length, None, Some, is_some, refl, ap, ◌∙◌}
 use Rattle.std.specs.FinMap.{empty}
 use Rattle.std.proofs.lemmas.Bool.{le-leb}
 use Rattle.rw_types.specs.declared.entry.Entry.{Entry}
@@ -14,11 +14,11 @@ use Rattle.rw_machine.specs.declared.event.Event.TheVariants as event
 use Rattle.rw_machine.proofs.Steps.{and_both}
 use Rattle.rw_simulation.specs.Freely.{Of, run_freely}
 use Rattle.rw_simulation.specs.Tallies.{Past, IsTallied, requests_of}
-use Rattle.rw_simulation.specs.EpochRuns.{ShardFate, IsAllPut, Reaches}
+use Rattle.rw_simulation.specs.EpochRuns.{ShardFate, AreUnsent, IsAllPut, Reaches}
 use Rattle.rw_simulation.proofs.Changes.{run-append}
 use Rattle.rw_simulation.proofs.EntryRuns.{over_not}
 use Rattle.rw_simulation.proofs.Tallies.{Passes, later-requests, lists-at, tallied-still, tallied-next}
-use Rattle.rw_simulation.proofs.EndRuns.{IsResolvedFate, ClosedBelow, end-all, tallies-at, drained-all}
+use Rattle.rw_simulation.proofs.EndRuns.{IsResolvedFate, IsOver, end-all, tallies-at, drained-all}
 
 -- the machine at the beginning of an epoch of so many shards, with these entries placed; nothing was sent in it
 pub record BeginsEpoch (c : Setup) (past : Past) (pieces : List Piece) (epoch m : ℕ) (placed : List Entry) (w : World) : Type 0 where
@@ -32,66 +32,42 @@ pub record BeginsEpoch (c : Setup) (past : Past) (pieces : List Piece) (epoch m 
   pub tallied : IsTallied c past epoch m placed (λ k. empty) w
   pub unsent : (k : ℕ) → requests_of epoch k w.requests ≡ []
 
-module _ (c : Setup) (past next_past : Past) (pieces : List Piece) (epoch n m : ℕ) (fates : ℕ → ShardFate) (placed : List Entry) (some : 1 ≤ c.capacity) (least : 1 ≤ m) (most : m ≤ 1000)
-    (ends : (k : ℕ) → k < n → (fates k).end ≡ Some kind.Reshard) (resolved : (k : ℕ) → k < n → IsResolvedFate (fates k)) (w : World) (put : IsAllPut c past pieces epoch n fates placed w)
-    (passes : Passes c past epoch n next_past (λ k. (fates k).worker.ledger.names) (λ k. (fates k).requests)) where
-  alive : w.killed ≡ false
-  alive = put.under.going.0
-
-  unclosed : w.closed ≡ None
-  unclosed = put.under.going.1
-
-  -- ---- it is asked for
-  abbrev draining : World
+-- ---- it is asked for
+module _ (c : Setup) (past : Past) (pieces : List Piece) (epoch n m : ℕ) (fates : ℕ → ShardFate) (placed : List Entry) (least : 1 ≤ m) (most : m ≤ 1000) (w : World) (put : IsAllPut c past pieces epoch n fates placed w) where
+  abbrev pub draining : World
   draining = record w { draining = Some m }
 
   may_ask : (not (is_some w.draining) && (not (is_finished w) && (nat_le 1 m && nat_le m 1000))) ≡ true
   may_ask = and_both (not (is_some w.draining)) (not (is_finished w) && (nat_le 1 m && nat_le m 1000)) (rw put.under.going.2 refl)
       (and_both (not (is_finished w)) (nat_le 1 m && nat_le m 1000) (rw put.under.going.1 refl) (and_both (nat_le 1 m) (nat_le m 1000) (le-leb 1 m least) (le-leb m 1000 most)))
 
-  asked : happens c w (event.Reshard m) ≡ draining
-  asked = ap (unless_over c w (event.Reshard m)) (over_not w alive unclosed) ∙ ap (λ (b : Bool). cond b draining w) may_ask
+  pub asked : happens c w (event.Reshard m) ≡ draining
+  asked = ap (unless_over c w (event.Reshard m)) (over_not w put.under.going.0 put.under.going.1) ∙ ap (λ (b : Bool). cond b draining w) may_ask
 
   asks : (t : Shard) → mark draining t ≡ shard_end kind.Reshard t
-  asks t = rw unclosed refl
+  asks t = rw put.under.going.1 refl
 
-  -- ---- each shard is ended
-  abbrev Closed : World → Type 0
-  Closed = ClosedBelow c past epoch n fates placed kind.Reshard ends draining alive asks some n
+  -- each shard is ended
+  pub ended : 1 ≤ c.capacity → ((k : ℕ) → k < n → (fates k).end ≡ Some kind.Reshard) → Reaches (AreUnsent fates) c draining (IsOver c past epoch n fates placed draining)
+  ended some ends = end-all c past epoch n fates placed kind.Reshard ends draining put.under.going.0 asks some put.under.count put.under.parts
+      (tallied-still c past epoch n placed put.under.parts w draining (Of (event.Reshard m) ∷ []) put.under.tallied asked refl refl) put.each
 
-  none_below : (k : ℕ) → k < 0 → ⊥
-  none_below k lt = omega arith
-
-  closing : Reaches c draining Closed
-  closing = end-all c past epoch n fates placed kind.Reshard ends draining alive asks some draining (record {
-    same = refl;
-    count = put.under.count;
-    parts = put.under.parts;
-    tallied = tallied-still c past epoch n placed put.under.parts w draining (Of (event.Reshard m) ∷ []) put.under.tallied asked refl refl;
-    done = λ k t e lt. absurd (none_below k lt);
-    still = λ k t e le. put.each k t e;
-  })
-
-  abbrev over : World
-  over = closing.world
-
-  over-is : Closed over
-  over-is = closing.holds
-
-  -- ---- and the next ones take over
-  abbrev next : World
+-- ---- the shards are over, and the next ones take over
+module _ (c : Setup) (past next_past : Past) (pieces : List Piece) (epoch n m : ℕ) (first fates : ℕ → ShardFate) (placed : List Entry) (resolved : (k : ℕ) → k < n → IsResolvedFate (fates k)) (w : World) (put : IsAllPut c past pieces epoch n first placed w)
+    (passes : Passes c past epoch n next_past (λ k. (fates k).worker.ledger.names) (λ k. (fates k).requests)) (over : World) (over-is : IsOver c past epoch n fates placed (record w { draining = Some m }) over) where
+  abbrev pub next : World
   next = record over { epoch = suc over.epoch; shards = new_shards c (suc over.epoch) 0 m; draining = None }
 
   alive-still : over.killed ≡ false
-  alive-still = ap (λ (x : World). x.killed) over-is.same ∙ alive
+  alive-still = ap (λ (x : World). x.killed) over-is.same ∙ put.under.going.0
 
   unclosed-still : over.closed ≡ None
-  unclosed-still = ap (λ (x : World). x.closed) over-is.same ∙ unclosed
+  unclosed-still = ap (λ (x : World). x.closed) over-is.same ∙ put.under.going.1
 
   may_restart : (not (is_finished over) && all_drained over) ≡ true
   may_restart = and_both (not (is_finished over)) (all_drained over) (rw unclosed-still refl) (drained-all c epoch n fates over.requests over-is.parts over.shards over-is.count (lists-at c over over-is.tallied.reached) over-is.done resolved)
 
-  restarts : happens c over event.Restart ≡ next
+  pub restarts : happens c over event.Restart ≡ next
   restarts =
       ap (unless_over c over event.Restart) (over_not over alive-still unclosed-still)
       ∙ ap (restart_as c over) (ap (λ (x : World). x.draining) over-is.same)
@@ -100,24 +76,34 @@ module _ (c : Setup) (past next_past : Past) (pieces : List Piece) (epoch n m : 
   epoch-is : over.epoch ≡ epoch
   epoch-is = ap (λ (x : World). x.epoch) over-is.same ∙ put.under.epoch_is
 
-  pub reshard-run : Reaches c w (BeginsEpoch c next_past pieces (suc epoch) m placed)
+  pub next-begins : BeginsEpoch c next_past pieces (suc epoch) m placed next
+  next-begins = record {
+    going = (alive-still, unclosed-still, refl);
+    pieces_are = ap (λ (x : World). x.pieces) over-is.same ∙ put.under.pieces_are;
+    epoch_is = ap suc epoch-is;
+    shards = ap (λ (e : ℕ). new_shards c (suc e) 0 m) epoch-is;
+    placed_are = ap (λ (x : World). x.placed) over-is.same ∙ put.under.placed;
+    series = ap (λ (x : World). x.series) over-is.same ∙ put.under.series;
+    counted = ap (λ (x : World). x.filtered) over-is.same ∙ put.under.counted;
+    tallied = tallied-next c past epoch n next_past placed over-is.parts (λ k. (fates k).worker.ledger.names) (λ k. (fates k).requests) over next (Of event.Restart ∷ []) m over-is.tallied restarts refl refl
+        (tallies-at epoch n fates over.requests over-is.parts over.shards over-is.count over-is.done) passes;
+    unsent = λ k. later-requests past epoch n k over.requests over-is.tallied.owned;
+  }
+
+module _ (c : Setup) (past next_past : Past) (pieces : List Piece) (epoch n m : ℕ) (fates : ℕ → ShardFate) (placed : List Entry) (some : 1 ≤ c.capacity) (least : 1 ≤ m) (most : m ≤ 1000)
+    (ends : (k : ℕ) → k < n → (fates k).end ≡ Some kind.Reshard) (resolved : (k : ℕ) → k < n → IsResolvedFate (fates k)) (w : World) (put : IsAllPut c past pieces epoch n fates placed w)
+    (passes : Passes c past epoch n next_past (λ k. (fates k).worker.ledger.names) (λ k. (fates k).requests)) where
+  closing : Reaches (AreUnsent fates) c (draining c past pieces epoch n m fates placed least most w put) (IsOver c past epoch n fates placed (draining c past pieces epoch n m fates placed least most w put))
+  closing = ended c past pieces epoch n m fates placed least most w put some ends
+
+  pub reshard-run : Reaches ⊥ c w (BeginsEpoch c next_past pieces (suc epoch) m placed)
   reshard-run = record {
     events = Of (event.Reshard m) ∷ (closing.events ++ Of event.Restart ∷ []);
-    world = next;
-    is = ap (run_freely c (closing.events ++ Of event.Restart ∷ [])) asked
-        ∙ run-append c closing.events (Of event.Restart ∷ []) draining
+    world = next c past next_past pieces epoch n m fates fates placed resolved w put passes closing.world closing.holds;
+    is = ap (run_freely c (closing.events ++ Of event.Restart ∷ [])) (asked c past pieces epoch n m fates placed least most w put)
+        ∙ run-append c closing.events (Of event.Restart ∷ []) (draining c past pieces epoch n m fates placed least most w put)
         ∙ ap (run_freely c (Of event.Restart ∷ [])) closing.is
-        ∙ restarts;
-    holds = record {
-      going = (alive-still, unclosed-still, refl);
-      pieces_are = ap (λ (x : World). x.pieces) over-is.same ∙ put.under.pieces_are;
-      epoch_is = ap suc epoch-is;
-      shards = ap (λ (e : ℕ). new_shards c (suc e) 0 m) epoch-is;
-      placed_are = ap (λ (x : World). x.placed) over-is.same ∙ put.under.placed;
-      series = ap (λ (x : World). x.series) over-is.same ∙ put.under.series;
-      counted = ap (λ (x : World). x.filtered) over-is.same ∙ put.under.counted;
-      tallied = tallied-next c past epoch n next_past placed over-is.parts (λ k. (fates k).worker.ledger.names) (λ k. (fates k).requests) over next (Of event.Restart ∷ []) m over-is.tallied restarts refl refl
-          (tallies-at epoch n fates over.requests over-is.parts over.shards over-is.count over-is.done) passes;
-      unsent = λ k. later-requests past epoch n k over.requests over-is.tallied.owned;
-    };
+        ∙ restarts c past next_past pieces epoch n m fates fates placed resolved w put passes closing.world closing.holds;
+    holds = next-begins c past next_past pieces epoch n m fates fates placed resolved w put passes closing.world closing.holds;
+    own = λ no. absurd no;
   }

@@ -54,7 +54,7 @@ use Rattle.rw_simulation.specs.Freely.{Happening, Of, run_freely}
 use Rattle.rw_simulation.specs.FreeLaws.{world_of}
 use Rattle.rw_simulation.specs.WorkerRuns.{request_in}
 use Rattle.rw_simulation.specs.Tallies.{Past, IsNamedSo, IsTallied}
-use Rattle.rw_simulation.specs.EpochRuns.{ShardFate, end_in, IsAllPut, Reaches}
+use Rattle.rw_simulation.specs.EpochRuns.{ShardFate, end_in, AreUnsent, IsAllPut, Reaches}
 use Rattle.rw_simulation.specs.FleetRuns.{IsShardRun, fate_by, fate_at}
 use Rattle.rw_simulation.specs.StoppedShards.{IsShardOf}
 use Rattle.rw_machine.specs.Endings.{ending_of}
@@ -67,7 +67,7 @@ use Rattle.rw_simulation.proofs.FreeLaws.{keeps-laws}
 use Rattle.rw_simulation.proofs.FleetRuns.{fleet-run}
 use Rattle.rw_simulation.proofs.StoppedShards.{compared-is-run, has-taken, same_items}
 use Rattle.rw_simulation.proofs.EpochRuns.{stay, one_at_most}
-use Rattle.rw_simulation.proofs.EndRuns.{HasCome, IsResolvedFate, ClosedBelow, end-all, tallies-at, drained-all}
+use Rattle.rw_simulation.proofs.EndRuns.{HasCome, IsResolvedFate, IsOver, end-all, tallies-at, drained-all}
 use Rattle.rw_simulation.proofs.Tallies.{Names, Passes, lists-at, tallied-still, tallied-next}
 use Rattle.rw_simulation.proofs.Pasts.{get_map, map_get, past_of, ReportsAt, passes-of, seen-is, names-all, sends-all}
 
@@ -142,12 +142,12 @@ none_behind : (all resolved left : ℕ) → left ≡ all - resolved → left ≡
 none_behind all resolved left e h = omega arith
 
 -- the list behind a map is two lists, where its image is
-record Split {X Y : Type 0} (f : X → Y) (all : List X) (xs ys : List Y) : Type 0 where
-  first : List X
-  later : List X
-  are : all ≡ first ++ later
-  first_is : map f first ≡ xs
-  later_is : map f later ≡ ys
+pub record Split {X Y : Type 0} (f : X → Y) (all : List X) (xs ys : List Y) : Type 0 where
+  pub first : List X
+  pub later : List X
+  pub are : all ≡ first ++ later
+  pub first_is : map f first ≡ xs
+  pub later_is : map f later ≡ ys
 
 no_cons : {Y : Type 0} (y : Y) (ys : List Y) → [] ≡ y ∷ ys → ⊥
 no_cons y ys e = cc
@@ -158,7 +158,7 @@ head_of x y xs ys e = cc
 tail_of : {Y : Type 0} (x y : Y) (xs ys : List Y) → x ∷ xs ≡ y ∷ ys → xs ≡ ys
 tail_of x y xs ys e = cc
 
-split_map : {X Y : Type 0} (f : X → Y) (all : List X) (xs ys : List Y) → map f all ≡ xs ++ ys → Split f all xs ys
+pub split_map : {X Y : Type 0} (f : X → Y) (all : List X) (xs ys : List Y) → map f all ≡ xs ++ ys → Split f all xs ys
 split_map f all [] ys e = record { first = []; later = all; are = refl; first_is = refl; later_is = e }
 split_map f [] (x ∷ xs) ys e = absurd (no_cons x (xs ++ ys) e)
 split_map f (a ∷ all) (x ∷ xs) ys e =
@@ -166,18 +166,18 @@ split_map f (a ∷ all) (x ∷ xs) ys e =
     record { first = a ∷ h.first; later = h.later; are = ap (λ zs. a ∷ zs) h.are; first_is = λ j. head_of (f a) x (map f all) (xs ++ ys) e j ∷ h.first_is j; later_is = h.later_is }
 
 -- the entries are in two parts, where the samples that they give are
-record Parted (choice : Choice) (before es : List Entry) (first rest : List Sent) : Type 0 where
-  now : List Entry
-  later : List Entry
-  are : es ≡ now ++ later
-  first_is : gather_from (sent_of choice) before now ≡ first
-  rest_is : gather_from (sent_of choice) (before ++ now) later ≡ rest
+pub record Parted (choice : Choice) (before es : List Entry) (first rest : List Sent) : Type 0 where
+  pub now : List Entry
+  pub later : List Entry
+  pub are : es ≡ now ++ later
+  pub first_is : gather_from (sent_of choice) before now ≡ first
+  pub rest_is : gather_from (sent_of choice) (before ++ now) later ≡ rest
 
 none_first : (first rest : List Sent) → [] ≡ first ++ rest → (first ≡ []) × (rest ≡ [])
 none_first [] rest e = (refl, sym e)
 none_first (x ∷ xs) rest e = absurd (no_cons x (xs ++ rest) e)
 
-part : (choice : Choice) (before es : List Entry) (first rest : List Sent) → gather_from (sent_of choice) before es ≡ first ++ rest → Parted choice before es first rest
+pub part : (choice : Choice) (before es : List Entry) (first rest : List Sent) → gather_from (sent_of choice) before es ≡ first ++ rest → Parted choice before es first rest
 part choice before es [] rest e = record { now = []; later = es; are = refl; first_is = refl; rest_is = subst (λ (b : List Entry). gather_from (sent_of choice) b es ≡ rest) (sym (append-nil before)) e }
 part choice before [] (x ∷ xs) rest e = absurd (no_cons x (xs ++ rest) e)
 part choice before (y ∷ ys) (x ∷ xs) rest e = by_entry (λ zs given. part choice (before ++ y ∷ []) ys zs rest given) (one_at_most choice before y)
@@ -212,16 +212,16 @@ turned-before [] last turns number = tt
 turned-before (x ∷ xs) last turns number = (turns.0.0, turns.1, first_count xs last turns.2 number, turned-before xs last turns.2 number)
 
 -- all epochs, with the last one apart
-record Divided (lanes : List ShardHistory) (later : List (List ShardHistory)) : Type 0 where
-  turned : List (List ShardHistory)
-  last : List ShardHistory
-  are : lanes ∷ later ≡ turned ++ last ∷ []
-  first : first_number turned last ≡ length lanes
-  before : AreBefore turned last
-  some : 1 ≤ length last
-  by : AreEndedBy kind.Orderly (map put_into last)
+pub record Divided (lanes : List ShardHistory) (later : List (List ShardHistory)) : Type 0 where
+  pub turned : List (List ShardHistory)
+  pub last : List ShardHistory
+  pub are : lanes ∷ later ≡ turned ++ last ∷ []
+  pub first : first_number turned last ≡ length lanes
+  pub before : AreBefore turned last
+  pub some : 1 ≤ length last
+  pub by : AreEndedBy kind.Orderly (map put_into last)
 
-divide : (lanes : List ShardHistory) (later : List (List ShardHistory)) → 1 ≤ length lanes → AreNumbers later → EndInTurn (lanes ∷ later) → Divided lanes later
+pub divide : (lanes : List ShardHistory) (later : List (List ShardHistory)) → 1 ≤ length lanes → AreNumbers later → EndInTurn (lanes ∷ later) → Divided lanes later
 divide lanes [] some numbers turn = record { turned = []; last = lanes; are = refl; first = refl; before = tt; some = some; by = turn }
 divide lanes (next ∷ later) some numbers turn = let d = divide next later numbers.0.0 numbers.1 turn.1 in record {
   turned = lanes ∷ d.turned;
@@ -233,7 +233,7 @@ divide lanes (next ∷ later) some numbers turn = let d = divide next later numb
   by = d.by;
 }
 
-joined-last : (turned : List (List ShardHistory)) (last : List ShardHistory) → joined (turned ++ last ∷ []) ≡ joined turned ++ last
+pub joined-last : (turned : List (List ShardHistory)) (last : List ShardHistory) → joined (turned ++ last ∷ []) ≡ joined turned ++ last
 joined-last [] last = append-nil last
 joined-last (x ∷ xs) last = ap (λ (ls : List ShardHistory). x ++ ls) (joined-last xs last) ∙ sym (append_assoc x (joined xs) last)
 
@@ -242,9 +242,6 @@ tells-so : (o : Outcome) (found : Option Ending) → (IsAbandoned o → ⊥) →
 tells-so (outcome.Complete end) found whole e = e
 tells-so (outcome.Abandoned placed samples) found whole e = absurd (whole tt)
 tells-so (outcome.Damaged f) found whole e = e
-
-none_below : (k : ℕ) → k < 0 → ⊥
-none_below k lt = omega arith
 
 module _ {T : Type 0} (tells : T → Type 0) (seen : T → List Exchange) (is_for : ℕ → ℕ → T → Type 0) (c : Setup) (config : ConfigFields) (set : IsSetAs c config) (work : CanWork c) where
   -- what is known of each shard: it is set up so, and it did what its worker reports
@@ -274,19 +271,19 @@ module _ {T : Type 0} (tells : T → Type 0) (seen : T → List Exchange) (is_fo
       (eqb-true (length j.abandoned.items) 0 (and_parts (is_compared j.finished.ends) (length j.abandoned.items == 0) h.resolved).1)))
 
   -- the steps that the workers report
-  abbrev steps_in : (js : List (StoppedShard T)) → AllByRecursion Sound js → ℕ → List Step
+  abbrev pub steps_in : (js : List (StoppedShard T)) → AllByRecursion Sound js → ℕ → List Step
   steps_in [] h k = []
   steps_in (j ∷ js) h zero = h.0.worked.report.steps
   steps_in (j ∷ js) h (suc k) = steps_in js h.1 k
 
-  record Found (js : List (StoppedShard T)) (all : AllByRecursion Sound js) (k : ℕ) (l : ShardHistory) : Type 0 where
-    j : StoppedShard T
-    at : slice_get js k ≡ Some j
-    lane : lane_of j ≡ l
-    sound : Sound j
-    steps : sound.worked.report.steps ≡ steps_in js all k
+  pub record Found (js : List (StoppedShard T)) (all : AllByRecursion Sound js) (k : ℕ) (l : ShardHistory) : Type 0 where
+    pub j : StoppedShard T
+    pub at : slice_get js k ≡ Some j
+    pub lane : lane_of j ≡ l
+    pub sound : Sound j
+    pub steps : sound.worked.report.steps ≡ steps_in js all k
 
-  find : (js : List (StoppedShard T)) (all : AllByRecursion Sound js) (k : ℕ) (l : ShardHistory) → slice_get (map lane_of js) k ≡ Some l → Found js all k l
+  pub find : (js : List (StoppedShard T)) (all : AllByRecursion Sound js) (k : ℕ) (l : ShardHistory) → slice_get (map lane_of js) k ≡ Some l → Found js all k l
   find [] all k l e = absurd (none-some l e)
   find (j ∷ js) all zero l e = record { j = j; at = refl; lane = same_Some _ _ e; sound = all.0; steps = refl }
   find (j ∷ js) all (suc k) l e = let h = find js all.1 k l e in record { j = h.j; at = h.at; lane = h.lane; sound = h.sound; steps = h.steps }
@@ -304,19 +301,19 @@ module _ {T : Type 0} (tells : T → Type 0) (seen : T → List Exchange) (is_fo
 
   -- ---- one epoch
   module _ (epoch : ℕ) (kd : Kind) (js : List (StoppedShard T)) (sound : AllByRecursion Sound js) (some_lanes : 1 ≤ length (map lane_of js)) (by : AreEndedBy kd (map put_into (map lane_of js))) (before es : List Entry) (dealt : IsDealt epoch (map lane_of js) (gather_from (sent_of c.choice) before es)) where
-    abbrev n : ℕ
+    abbrev pub n : ℕ
     n = length (map lane_of js)
 
-    abbrev steps : ℕ → List Step
+    abbrev pub steps : ℕ → List Step
     steps k = steps_in js sound k
 
-    abbrev fates : ℕ → ShardFate
+    abbrev pub fates : ℕ → ShardFate
     fates = fate_at (map lane_of js) (λ k. steps_in js sound k) (λ k. [])
 
-    is-compared : (j : StoppedShard T) → Sound j → is_compared j.finished.ends ≡ true
+    pub is-compared : (j : StoppedShard T) → Sound j → is_compared j.finished.ends ≡ true
     is-compared j h = (and_parts (is_compared j.finished.ends) (length j.abandoned.items == 0) h.resolved).0
 
-    lane-at : (k : ℕ) (l : ShardHistory) → slice_get (map lane_of js) k ≡ Some l → IsShardRun c epoch k l (steps k) []
+    pub lane-at : (k : ℕ) (l : ShardHistory) → slice_get (map lane_of js) k ≡ Some l → IsShardRun c epoch k l (steps k) []
     lane-at k l e = subst (λ ss. IsShardRun c epoch k l ss []) f.steps (subst (λ (x : ShardHistory). IsShardRun c epoch k x f.sound.worked.report.steps []) f.lane (compared-is-run tells seen is_for f.j c epoch k f.sound.worked own (is-compared f.j f.sound)))
       where
         f : Found js sound k l
@@ -331,7 +328,7 @@ module _ {T : Type 0} (tells : T → Type 0) (seen : T → List Exchange) (is_fo
           shard_is = ap (λ (x : ShardHistory). x.setup.queue.shard) f.lane ∙ (dealt.each k l e).1;
         }
 
-    lane-end : (k : ℕ) (l : ShardHistory) → slice_get (map lane_of js) k ≡ Some l → end_in l.put ≡ Some kd
+    pub lane-end : (k : ℕ) (l : ShardHistory) → slice_get (map lane_of js) k ≡ Some l → end_in l.put ≡ Some kd
     lane-end k l e = end_is l.put kd (lane-at k l e).history.ending
         (subst (λ (x : ShardHistory). IsEnded x.put) f.lane (subst IsEnded (sym (same_items f.j.finished.ends (is-compared f.j f.sound))) (f.sound.worked.last (is-compared f.j f.sound))))
         (ended_by_at kd (map put_into (map lane_of js)) k l.put by (get_map put_into (map lane_of js) k l e))
@@ -339,10 +336,10 @@ module _ {T : Type 0} (tells : T → Type 0) (seen : T → List Exchange) (is_fo
         f : Found js sound k l
         f = find js sound k l e
 
-    fate-end : (k : ℕ) → k < n → (fates k).end ≡ Some kd
+    pub fate-end : (k : ℕ) → k < n → (fates k).end ≡ Some kd
     fate-end k lt = let l = get_some (map lane_of js) k lt in subst (λ (o : Option ShardHistory). (fate_by o (steps k) []).end ≡ Some kd) (sym l.1) (lane-end k l.0 l.1)
 
-    fate-resolved : (k : ℕ) → k < n → IsResolvedFate (fates k)
+    pub fate-resolved : (k : ℕ) → k < n → IsResolvedFate (fates k)
     fate-resolved k lt = subst (λ (o : Option ShardHistory). IsResolvedFate (fate_by o (steps k) [])) (sym l.1) (
       ended_in (start_of l.0.setup) (steps k) kd own.allowed (sym (ap end_in (own.split ∙ append-nil (items_of (steps k)))) ∙ lane-end k l.0 l.1),
       subst (λ (ss : List Step). length (samples_in l.0.put) ≤ length (after (start_of l.0.setup) ss).core.resolved) f.steps
@@ -358,7 +355,7 @@ module _ {T : Type 0} (tells : T → Type 0) (seen : T → List Exchange) (is_fo
         f : Found js sound k l.0
         f = find js sound k l.0 l.1
 
-    put-all : (past : Past) (pieces : List Piece) (rest : List Entry) (w : World) → BeginsEpoch c past pieces epoch n before w → entries pieces ≡ before ++ (es ++ rest) → Reaches c w (IsAllPut c past pieces epoch n fates (before ++ es))
+    put-all : (past : Past) (pieces : List Piece) (rest : List Entry) (w : World) → BeginsEpoch c past pieces epoch n before w → entries pieces ≡ before ++ (es ++ rest) → Reaches (AreUnsent fates) c w (IsAllPut c past pieces epoch n fates (before ++ es))
     put-all past pieces rest w b begins = fleet-run c past pieces epoch (map lane_of js) (λ k. steps_in js sound k) (λ k. []) before es w work.capacity work.batch some_lanes (record {
       going = b.going;
       pieces_are = b.pieces_are;
@@ -376,7 +373,7 @@ module _ {T : Type 0} (tells : T → Type 0) (seen : T → List Exchange) (is_fo
     })
 
     -- each shard's fate is what it reports
-    reports-at : (k : ℕ) (j : StoppedShard T) → slice_get js k ≡ Some j → ReportsAt tells seen epoch k (fates k) j
+    pub reports-at : (k : ℕ) (j : StoppedShard T) → slice_get js k ≡ Some j → ReportsAt tells seen epoch k (fates k) j
     reports-at k j at = record {
       epoch_is = (dealt.each k (lane_of j) here).0;
       shard_is = (dealt.each k (lane_of j) here).1;
@@ -440,7 +437,7 @@ module _ {T : Type 0} (tells : T → Type 0) (seen : T → List Exchange) (is_fo
     abbrev ends_so : ℕ → ShardFate
     ends_so = fates epoch kind.Orderly js sound some_lanes by before es dealt
 
-    reach : Reaches c w (IsAllPut c past pieces epoch m ends_so (before ++ es))
+    reach : Reaches (AreUnsent ends_so) c w (IsAllPut c past pieces epoch m ends_so (before ++ es))
     reach = put-all epoch kind.Orderly js sound some_lanes by before es dealt past pieces [] w b (all ∙ ap (λ (xs : List Entry). before ++ xs) (sym (append-nil es)))
 
     abbrev put : World
@@ -464,39 +461,31 @@ module _ {T : Type 0} (tells : T → Type 0) (seen : T → List Exchange) (is_fo
     fate-end-so : (k : ℕ) → k < m → (ends_so k).end ≡ Some kind.Orderly
     fate-end-so = fate-end epoch kind.Orderly js sound some_lanes by before es dealt
 
-    abbrev Closed : World → Type 0
-    Closed = ClosedBelow c past epoch m ends_so (before ++ es) kind.Orderly fate-end-so closed put-is.under.going.0 asks work.capacity m
-
-    closing : Reaches c closed Closed
-    closing = end-all c past epoch m ends_so (before ++ es) kind.Orderly fate-end-so closed put-is.under.going.0 asks work.capacity closed (record {
-      same = refl;
-      count = put-is.under.count;
-      parts = put-is.under.parts;
-      tallied = tallied-still c past epoch m (before ++ es) put-is.under.parts put closed (Of event.Close ∷ []) put-is.under.tallied closes refl refl;
-      done = λ k t e lt. absurd (none_below k lt);
-      still = λ k t e le. put-is.each k t e;
-    })
+    closing : Reaches (AreUnsent ends_so) c closed (IsOver c past epoch m ends_so (before ++ es) closed)
+    closing = end-all c past epoch m ends_so (before ++ es) kind.Orderly fate-end-so closed put-is.under.going.0 asks work.capacity put-is.under.count put-is.under.parts
+        (tallied-still c past epoch m (before ++ es) put-is.under.parts put closed (Of event.Close ∷ []) put-is.under.tallied closes refl refl) put-is.each
 
     abbrev over : World
     over = closing.world
 
-    over-is : Closed over
+    over-is : IsOver c past epoch m ends_so (before ++ es) closed over
     over-is = closing.holds
 
     all-drained-now : list_all is_drained over.shards ≡ true
     all-drained-now = drained-all c epoch m ends_so over.requests over-is.parts over.shards over-is.count (lists-at c over over-is.tallied.reached) over-is.done (fate-resolved epoch kind.Orderly js sound some_lanes by before es dealt)
 
-    last-run : Reaches c w (Final done pieces (before ++ es) js)
+    last-run : Reaches ⊥ c w (Final done pieces (before ++ es) js)
     last-run = record {
       events = reach.events ++ (Of event.Close ∷ closing.events);
       world = over;
+      own = λ no. absurd no;
       is = run-append c reach.events (Of event.Close ∷ closing.events) w ∙ ap (run_freely c (Of event.Close ∷ closing.events)) reach.is ∙ ap (run_freely c closing.events) closes ∙ closing.is;
       holds = record {
         pieces_are = ap (λ (x : World). x.pieces) over-is.same ∙ put-is.under.pieces_are;
         placed_are = ap (λ (x : World). x.placed) over-is.same ∙ put-is.under.placed;
         counted = ap (λ (x : World). x.filtered) over-is.same ∙ put-is.under.counted;
         shards = over-is.count ∙ length-map js lane_of;
-        each = λ k s j e at. let lt = subst (λ (i : ℕ). k < i) over-is.count (slice_get_within over.shards k s e) in alike epoch kind.Orderly js sound some_lanes by before es dealt k over.requests (over-is.parts k) s j lt (over-is.done k s e lt) at;
+        each = λ k s j e at. let lt = subst (λ (i : ℕ). k < i) over-is.count (slice_get_within over.shards k s e) in alike epoch kind.Orderly js sound some_lanes by before es dealt k over.requests (over-is.parts k) s j lt (over-is.done k s e) at;
         reported = ap report over-is.same ∙ rw (put-is.under.going.0, all-placed, all-drained-now) refl
             ∙ ap Some (ap (λ ps. ended_as (fault ps) put.placed) put-is.under.pieces_are ∙ ap (λ (i : ℕ). ended_as (fault pieces) i) put-is.under.placed);
         epoch = suc epoch;
@@ -512,9 +501,9 @@ module _ {T : Type 0} (tells : T → Type 0) (seen : T → List Exchange) (is_fo
     pub later : List Entry
     pub are : es ≡ now ++ later
     pub dealt : IsDealt epoch last (gather_from (sent_of c.choice) (before ++ now) later)
-    pub reach : Reaches c w (BeginsEpoch c (past_of tells seen done) pieces epoch (length last) (before ++ now))
+    pub reach : Reaches ⊥ c w (BeginsEpoch c (past_of tells seen done) pieces epoch (length last) (before ++ now))
 
-  none_joined : (js : List (StoppedShard T)) → map lane_of js ≡ [] → js ≡ []
+  pub none_joined : (js : List (StoppedShard T)) → map lane_of js ≡ [] → js ≡ []
   none_joined [] e = refl
   none_joined (j ∷ js) e = absurd (cc)
 
@@ -561,10 +550,10 @@ module _ {T : Type 0} (tells : T → Type 0) (seen : T → List Exchange) (is_fo
       begins : entries pieces ≡ before ++ (pt.now ++ (pt.later ++ rest))
       begins = all ∙ ap (λ (xs : List Entry). before ++ (xs ++ rest)) pt.are ∙ ap (λ (xs : List Entry). before ++ xs) (append_assoc pt.now pt.later rest)
 
-      r1 : Reaches c w (IsAllPut c (past_of tells seen done) pieces epoch (length (map lane_of sp.first)) (fates epoch kind.Reshard sp.first now some_now by before pt.now dealt) (before ++ pt.now))
+      r1 : Reaches (AreUnsent (fates epoch kind.Reshard sp.first now some_now by before pt.now dealt)) c w (IsAllPut c (past_of tells seen done) pieces epoch (length (map lane_of sp.first)) (fates epoch kind.Reshard sp.first now some_now by before pt.now dealt) (before ++ pt.now))
       r1 = put-all epoch kind.Reshard sp.first now some_now by before pt.now dealt (past_of tells seen done) pieces (pt.later ++ rest) w (subst (λ (ls : List ShardHistory). BeginsEpoch c (past_of tells seen done) pieces epoch (length ls) before w) same b) begins
 
-      r2 : Reaches c r1.world (BeginsEpoch c (past_of tells seen (done ++ sp.first)) pieces (suc epoch) (first_number turned last) (before ++ pt.now))
+      r2 : Reaches ⊥ c r1.world (BeginsEpoch c (past_of tells seen (done ++ sp.first)) pieces (suc epoch) (first_number turned last) (before ++ pt.now))
       r2 = reshard-run c (past_of tells seen done) (past_of tells seen (done ++ sp.first)) pieces epoch (length (map lane_of sp.first)) (first_number turned last) (fates epoch kind.Reshard sp.first now some_now by before pt.now dealt) (before ++ pt.now) work.capacity turns.2.0 turns.2.1
           (fate-end epoch kind.Reshard sp.first now some_now by before pt.now dealt) (fate-resolved epoch kind.Reshard sp.first now some_now by before pt.now dealt) r1.world r1.holds
           (passes epoch kind.Reshard sp.first now some_now by before pt.now dealt done)
@@ -582,6 +571,7 @@ module _ {T : Type 0} (tells : T → Type 0) (seen : T → List Exchange) (is_fo
         reach = record {
           events = r1.events ++ (r2.events ++ a.reach.events);
           world = a.reach.world;
+          own = λ no. absurd no;
           is = run-append c r1.events (r2.events ++ a.reach.events) w ∙ ap (run_freely c (r2.events ++ a.reach.events)) r1.is ∙ run-append c r2.events a.reach.events r1.world ∙ ap (run_freely c a.reach.events) r2.is ∙ a.reach.is;
           holds = subst (λ (bs : List Entry). BeginsEpoch c (past_of tells seen (done ++ js)) pieces a.epoch (length last) bs a.reach.world) (append_assoc before pt.now a.now)
               (subst (λ (ks : List (StoppedShard T)). BeginsEpoch c (past_of tells seen ks) pieces a.epoch (length last) ((before ++ pt.now) ++ a.now) a.reach.world) all_done a.reach.holds);
@@ -589,9 +579,9 @@ module _ {T : Type 0} (tells : T → Type 0) (seen : T → List Exchange) (is_fo
       }
 
 -- ---- from the start
-module _ {T : Type 0} (tells : T → Type 0) (seen : T → List Exchange) (is_for : ℕ → ℕ → T → Type 0) (c : Setup) (s : Shipping T) (r : Report T) (fed : List Fed) (h : HasStopped tells seen is_for s r) (set : IsSetAs c s.fleet.config) (choice : c.choice ≡ s.log.choice) (work : CanWork c) (fed_are : s.log.pieces ≡ map piece_of fed) where
+module _ {T : Type 0} (tells : T → Type 0) (seen : T → List Exchange) (c : Setup) (pieces : List Piece) (fed : List Fed) (fed_are : pieces ≡ map piece_of fed) where
   abbrev pub begun : World
-  begun = record (start c) { pieces = s.log.pieces }
+  begun = record (start c) { pieces = pieces }
 
   pub fed-all : run_freely c (feeds fed) (start c) ≡ begun
   fed-all = feed-all c fed (start c) refl refl ∙ ap (λ ps. record (start c) { pieces = ps }) (sym fed_are)
@@ -613,7 +603,7 @@ module _ {T : Type 0} (tells : T → Type 0) (seen : T → List Exchange) (is_fo
       begins_named p reason (inr (inl (i, j, e, h))) = absurd (none-some j e)
       begins_named p reason (inr (inr (k, lt, e))) = e
 
-  pub begins : BeginsEpoch c (past_of tells seen []) s.log.pieces 0 c.shards [] begun
+  pub begins : BeginsEpoch c (past_of tells seen []) pieces 0 c.shards [] begun
   begins = record {
     going = (refl, refl, refl);
     pieces_are = refl;
@@ -625,6 +615,10 @@ module _ {T : Type 0} (tells : T → Type 0) (seen : T → List Exchange) (is_fo
     tallied = begins_tallied;
     unsent = λ k. refl;
   }
+
+module _ {T : Type 0} (tells : T → Type 0) (seen : T → List Exchange) (is_for : ℕ → ℕ → T → Type 0) (c : Setup) (s : Shipping T) (r : Report T) (fed : List Fed) (h : HasStopped tells seen is_for s r) (set : IsSetAs c s.fleet.config) (choice : c.choice ≡ s.log.choice) (work : CanWork c) (fed_are : s.log.pieces ≡ map piece_of fed) where
+  abbrev origin : World
+  origin = begun tells seen c s.log.pieces fed fed_are
 
   finish : (epochs : List (List ShardHistory)) → map lane_of h.joined ≡ joined epochs → Places 0 epochs (sent c.choice s.log.placed) → HasNumbers c epochs → EndInTurn epochs → AreResolved h.joined → (IsAbandoned r.outcome → ⊥) → (found : Option TailFault) → HasRead s.log.pieces s.log.placed found → ending_of r.outcome ≡ ended_as found (length s.log.placed) → IsRun tells seen c s r
   finish [] e p numbers turn resolved whole found read out = absurd numbers
@@ -655,15 +649,15 @@ module _ {T : Type 0} (tells : T → Type 0) (seen : T → List Exchange) (is_fo
       sound : AllByRecursion (Sound tells seen is_for c s.fleet.config set work) (sp.first ++ sp.later)
       sound = subst (AllByRecursion (Sound tells seen is_for c s.fleet.config set work)) sp.are (sound-all tells seen is_for c s.fleet.config set work h.joined (known-all tells seen is_for c s.fleet.config set work h.joined h.worked h.setup) resolved)
 
-      at-last : AtLast tells seen is_for c s.fleet.config set work sp.first s.log.pieces d.last [] s.log.placed begun
-      at-last = turned-run tells seen is_for c s.fleet.config set work d.turned d.last 0 [] sp.first [] s.log.placed [] s.log.pieces begun
+      at-last : AtLast tells seen is_for c s.fleet.config set work sp.first s.log.pieces d.last [] s.log.placed origin
+      at-last = turned-run tells seen is_for c s.fleet.config set work d.turned d.last 0 [] sp.first [] s.log.placed [] s.log.pieces origin
           (AllByRecursion-left (Sound tells seen is_for c s.fleet.config set work) sp.first sp.later sound) sp.first_is (subst (λ (es : List (List ShardHistory)). Places 0 es (sent c.choice s.log.placed)) d.are p) d.before
-          (subst (λ (i : ℕ). BeginsEpoch c (past_of tells seen []) s.log.pieces 0 i [] begun) (sym (d.first ∙ numbers.0)) begins) (sym read.all ∙ sym (append-nil s.log.placed))
+          (subst (λ (i : ℕ). BeginsEpoch c (past_of tells seen []) s.log.pieces 0 i [] origin) (sym (d.first ∙ numbers.0)) (begins tells seen c s.log.pieces fed fed_are)) (sym read.all ∙ sym (append-nil s.log.placed))
 
       same : d.last ≡ map lane_of sp.later
       same = sym sp.later_is
 
-      final : Reaches c at-last.reach.world (Final tells seen is_for c s.fleet.config set work sp.first s.log.pieces (at-last.now ++ at-last.later) sp.later)
+      final : Reaches ⊥ c at-last.reach.world (Final tells seen is_for c s.fleet.config set work sp.first s.log.pieces (at-last.now ++ at-last.later) sp.later)
       final = last-run tells seen is_for c s.fleet.config set work at-last.epoch sp.later (AllByRecursion-right (Sound tells seen is_for c s.fleet.config set work) sp.first sp.later sound)
           (subst (λ (ls : List ShardHistory). 1 ≤ length ls) same d.some) (subst (λ (ls : List ShardHistory). AreEndedBy kind.Orderly (map put_into ls)) same d.by) at-last.now at-last.later
           (subst (λ (ls : List ShardHistory). IsDealt at-last.epoch ls (gather_from (sent_of c.choice) at-last.now at-last.later)) same at-last.dealt) sp.first s.log.pieces at-last.reach.world
@@ -673,7 +667,7 @@ module _ {T : Type 0} (tells : T → Type 0) (seen : T → List Exchange) (is_fo
       events = feeds fed ++ (at-last.reach.events ++ final.events)
 
       leads : world_of c events ≡ final.world
-      leads = run-append c (feeds fed) (at-last.reach.events ++ final.events) (start c) ∙ ap (run_freely c (at-last.reach.events ++ final.events)) fed-all ∙ run-append c at-last.reach.events final.events begun ∙ ap (run_freely c final.events) at-last.reach.is ∙ final.is
+      leads = run-append c (feeds fed) (at-last.reach.events ++ final.events) (start c) ∙ ap (run_freely c (at-last.reach.events ++ final.events)) (fed-all tells seen c s.log.pieces fed fed_are) ∙ run-append c at-last.reach.events final.events origin ∙ ap (run_freely c final.events) at-last.reach.is ∙ final.is
 
       last : Final tells seen is_for c s.fleet.config set work sp.first s.log.pieces s.log.placed sp.later final.world
       last = subst (λ (es : List Entry). Final tells seen is_for c s.fleet.config set work sp.first s.log.pieces es sp.later final.world) (sym at-last.are) final.holds

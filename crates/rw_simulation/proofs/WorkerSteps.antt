@@ -112,21 +112,21 @@ batch_ids epoch i [] some h = absurd (cc)
 batch_ids epoch i (x ∷ xs) some h = (h.0, h.1)
 
 module _ (c : Setup) (w : World) (i : ℕ) (s : Shard) (e : slice_get w.shards i ≡ Some s) (goes : Goes w s) (numbered : IsShardNumbered i s.core) (can : can_send s.core ≡ true) where
-  abbrev request : Request
+  abbrev pub request : Request
   request = request_by s
 
   -- the request is out
-  abbrev out : World
+  abbrev pub out : World
   out = moved w i (sent_shard s) w.names (w.requests ++ request ∷ []) w.replies
 
-  out_is : happens c w (event.Send i) ≡ out
+  pub out_is : happens c w (event.Send i) ≡ out
   out_is =
       ap (unless_over c w (event.Send i)) (not-over w i s e goes)
       ∙ ap (send_batch w i) e
       ∙ rw can refl
       ∙ ap (λ ss. record w { requests = w.requests ++ request ∷ []; shards = ss }) (change-is shard_send i w.shards s e ∙ ap (λ (k : Core). change i (λ _. record s { core = k }) w.shards) (sent-is s.core can))
 
-  own_ids : IsIdOf s.core.epoch i request
+  pub own_ids : IsIdOf s.core.epoch i request
   own_ids = batch_ids s.core.epoch i s.core.batch (send_parts s.core can).some numbered.batch
 
   out_get : slice_get out.shards i ≡ Some (sent_shard s)
@@ -135,7 +135,7 @@ module _ (c : Setup) (w : World) (i : ℕ) (s : Shard) (e : slice_get w.shards i
   out_over : is_over out ≡ false
   out_over = not-over out i (sent_shard s) out_get goes
 
-  lost_is : happens c out (event.Lost i) ≡ moved w i (record s { core = lose (sent_core s.core) }) w.names (w.requests ++ request ∷ []) w.replies
+  pub lost_is : happens c out (event.Lost i) ≡ moved w i (record s { core = lose (sent_core s.core) }) w.names (w.requests ++ request ∷ []) w.replies
   lost_is =
       ap (unless_over c out (event.Lost i)) out_over
       ∙ ap (λ ss. record out { shards = ss }) (change-is shard_lost i out.shards (sent_shard s) out_get ∙ change-twice (sent_shard s) (shard_lost (sent_shard s)) i w.shards)
@@ -150,7 +150,7 @@ module _ (c : Setup) (w : World) (i : ℕ) (s : Shard) (e : slice_get w.shards i
   back_is : (status : ℕ) → happens_freely c out (Answered (length w.requests) status) ≡ back status
   back_is status = ap (turned_away out status) (get-last w.requests request)
 
-  abbrev settled_shard : ℕ → Shard
+  abbrev pub settled_shard : ℕ → Shard
   settled_shard status = record s { core = settle (judgement_of status) (sent_core s.core) }
 
   abbrev done : ℕ → World

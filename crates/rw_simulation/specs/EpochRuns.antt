@@ -1,5 +1,6 @@
 -- What is still to come of a shard while an epoch runs.
 use Rattle.std.specs.Prelude.{◌≡◌, ◌⊎◌, ℕ, suc, ◌≤◌, false, List, [], ◌∷◌, ◌++◌, length, map, Option, None, Some, slice_get, ⊤}
+use Rattle.std.specs.List.{AllByRecursion}
 use Rattle.std.specs.Ordering.{nat_cmp}
 use Rattle.std.specs.FinMap.{FinMap}
 use Rattle.rw_types.specs.declared.entry.Entry.{Entry}
@@ -17,7 +18,7 @@ use Rattle.rw_feeder.specs.Logs.{Sent, sent_of, filtered}
 use Rattle.rw_shipper.specs.Placement.{as_sent, of_shard}
 use Rattle.rw_machine.specs.Shards.{Shard, Queued}
 use Rattle.rw_machine.specs.Worlds.{Setup, Request, World}
-use Rattle.rw_simulation.specs.Freely.{Happening, run_freely}
+use Rattle.rw_simulation.specs.Freely.{Happening, IsOwn, run_freely}
 use Rattle.rw_simulation.specs.WorkerRuns.{queued, IsShardNumbered, sent_bytes, request_in}
 use Rattle.rw_simulation.specs.Tallies.{Past, IsTallied, requests_of}
 
@@ -101,12 +102,17 @@ pub record IsUnderWay (c : Setup) (past : Past) (pieces : List Piece) (epoch n :
   pub tallied : IsTallied c past epoch n before parts w
   pub shards : (k : ℕ) (s : Shard) → slice_get w.shards k ≡ Some s → IsOnTheWayWith c epoch k w.requests (parts k) s (of_shard n k (gather_from (sent_of c.choice) before es)) (fates k)
 
--- a free schedule leads from this world to one of which this holds
-pub record Reaches (c : Setup) (w : World) (P : World → Type 0) : Type 0 where
+-- nothing is sent on the way to these fates
+abbrev pub AreUnsent : (ℕ → ShardFate) → Type 0
+AreUnsent fates = (k : ℕ) → (fates k).requests ≡ []
+
+-- A free schedule leads from this world to one of which this holds. Where it is quiet nobody answers in it.
+pub record Reaches (quiet : Type 0) (c : Setup) (w : World) (P : World → Type 0) : Type 0 where
   pub events : List Happening
   pub world : World
   pub is : run_freely c events w ≡ world
   pub holds : P world
+  pub own : quiet → AllByRecursion IsOwn events
 
 -- no mark is left to be put, but for the End
 abbrev pub IsAtEnd : List Item → Type 0

@@ -16,7 +16,7 @@ use Rattle.rw_shipper.specs.Placement.{IsDealt}
 use Rattle.rw_machine.specs.Worlds.{Setup, World, new_shards}
 use Rattle.rw_simulation.specs.WorkerRuns.{queued, request_in}
 use Rattle.rw_simulation.specs.Tallies.{Past, IsTallied, requests_of}
-use Rattle.rw_simulation.specs.EpochRuns.{ShardFate, end_in, IsAllPut, Reaches}
+use Rattle.rw_simulation.specs.EpochRuns.{ShardFate, end_in, AreUnsent, IsAllPut, Reaches}
 
 -- The lane is shard k of this epoch of the machine, its worker has made these steps, and these items were left in its queue.
 pub record IsShardRun (c : Setup) (epoch k : ℕ) (l : ShardHistory) (steps : List Step) (rest : List Item) : Type 0 where
@@ -60,4 +60,4 @@ pub record IsBeginning (c : Setup) (past : Past) (pieces : List Piece) (epoch : 
 abbrev pub IsFleetRun : Setup → Past → Type 0
 IsFleetRun c past =
     (pieces : List Piece) (epoch : ℕ) (lanes : List ShardHistory) (steps : ℕ → List Step) (left : ℕ → List Item) (before es : List Entry) (w : World) → 1 ≤ c.capacity → 1 ≤ c.batch → 1 ≤ length lanes
-    → IsBeginning c past pieces epoch lanes steps left before es w → Reaches c w (IsAllPut c past pieces epoch (length lanes) (fate_at lanes steps left) (before ++ es))
+    → IsBeginning c past pieces epoch lanes steps left before es w → Reaches (AreUnsent (fate_at lanes steps left)) c w (IsAllPut c past pieces epoch (length lanes) (fate_at lanes steps left) (before ++ es))

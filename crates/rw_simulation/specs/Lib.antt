@@ -7,3 +7,5 @@ pub mod FleetRuns
 pub mod StoppedShards
 pub mod StoppedRuns
 pub mod Accounts
+pub mod Arrivals
+pub mod Received

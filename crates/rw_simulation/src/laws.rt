@@ -13,6 +13,7 @@ ghost use Rattle.rw_simulation.specs.FleetRuns.{IsFleetRun};
 ghost use Rattle.rw_simulation.specs.StoppedShards.{StopsAsShard};
 ghost use Rattle.rw_simulation.specs.StoppedRuns.{StopsAbandoned, StopsAsRun, StopsInOrder};
 ghost use Rattle.rw_simulation.specs.Accounts.{RunAccounts};
+ghost use Rattle.rw_simulation.specs.Received.{ReceivesAbandoned, ReceivesInOrder};
 
 use rw_worker::Transport;
 
@@ -48,4 +49,15 @@ pub fn a_stopped_shipper_is_a_run<T: Transport>()
     ensures epochs { (s : Shipping T) (r : Report T) → StopsAsRun T.tells T.seen T.is_for s r }
     ensures abandoned { (s : Shipping T) (r : Report T) → StopsAbandoned T.tells T.seen T.is_for s r }
     ensures accounts { (s : Shipping T) (r : Report T) → RunAccounts T.tells T.seen T.is_for s r }
+{}
+
+/// What one receiver holds of the samples of a shipper that was stopped. The requests of its workers come to the receiver in whatever order, each once, often, late
+/// or never; nothing comes before its exchange began, a status that a worker read is one that the receiver gave to that exchange, and the receiver is one head that
+/// began empty. Then it holds of each label set that the rules keep a beginning of its samples, in log order, each once, less exactly those that the report names,
+/// and of other label sets none. Where the shipper left nothing it holds all of them. `orderly` and `abandoned` ask of the shipper what those of
+/// `a_stopped_shipper_is_a_run` ask.
+pub fn one_receiver_holds_the_samples<T: Transport>()
+    ensures orderly { (s : Shipping T) (r : Report T) → ReceivesInOrder T.tells T.seen T.is_for s r }
+    ensures abandoned { (s : Shipping T) (r : Report T)
+        → ReceivesAbandoned T.tells T.seen T.is_for s r }
 {}

@@ -1,0 +1,779 @@
+-- What one receiver holds, by a run of the machine in which the requests come in the order in which they came.
+use Rattle.std.proofs.Common.{◌≡◌, ℕ, zero, suc, ◌+◌, ◌<◌, ◌≤◌, ◌==◌, true, false, cond, List, [], ◌∷◌, ◌++◌, map, length, Option, None, Some, is_some, slice_get, refl, sym, ap, ◌∙◌, subst, append-nil, append_assoc, length-append, arith, ◌⊎◌, inl, inr}
+use Rattle.std.specs.List.{AllByRecursion, list_all}
+use Rattle.std.specs.FinMap.{empty, get}
+use Rattle.std.proofs.lemmas.Bool.{eq-eqb}
+use Rattle.std.proofs.lemmas.List.{length-map}
+use Rattle.std.proofs.lemmas.Option.{same_Some, none-some, slice_get_within}
+use Rattle.rw_types.proofs.AllLemmas.{AllByRecursion-left, AllByRecursion-right}
+use Rattle.rw_types.specs.Beginnings.{Begins}
+use Rattle.rw_types.specs.Labels.{Labels}
+use Rattle.rw_types.specs.declared.entry.Entry.{Entry}
+use Rattle.rw_types.specs.Gathering.{gather_from}
+use Rattle.rw_wal_format.specs.Pieces.{Piece, entries, fault}
+use Rattle.rw_wal_format.specs.declared.tail_fault.TailFault.{TailFault}
+use Rattle.rw_wal_tail.specs.Fed.{piece_of}
+use Rattle.rw_relabel.specs.declared.choice.Choice.{Choice}
+use Rattle.rw_series_cache.specs.Points.{kept_points, kept_points_below}
+use Rattle.rw_plain_queue.specs.declared.item.Item.{Item}
+use Rattle.rw_plain_queue.specs.declared.item.Kind.{Kind}
+use Rattle.rw_plain_queue.specs.declared.item.Kind.TheVariants as kind
+use Rattle.rw_shard_core.specs.declared.config.ConfigFields.{ConfigFields}
+use Rattle.rw_shard_core.specs.declared.outcome.Outcome.{Outcome}
+use Rattle.rw_shard_core.specs.declared.outcome.Outcome.TheVariants as outcome
+use Rattle.rw_worker.specs.Transcript.{Exchange}
+use Rattle.rw_worker.specs.Steps.{Step, exchanges_of, items_of}
+use Rattle.rw_head.specs.Head.{State}
+use Rattle.rw_head.specs.Store.{list_of}
+use Rattle.rw_fleet.specs.ShardHistories.{ShardHistory, put_into}
+use Rattle.rw_fleet.specs.Work.{AreResolved, AreEndedBy, lane_of, finished_of, put_of, queue_of}
+use Rattle.rw_fleet.specs.Fleets.{Shards, AreAll, EndBy}
+use Rattle.rw_fleet.specs.declared.joined.StoppedShard.{StoppedShard}
+use Rattle.rw_fleet.specs.declared.joined.Finished.{Finished}
+use Rattle.rw_fleet.proofs.LaneLemmas.{same_length}
+use Rattle.rw_feeder.specs.Feeders.{HasRead}
+use Rattle.rw_feeder.specs.Logs.{Sent, sent, sent_of}
+use Rattle.rw_shipper.specs.Placement.{IsDealt, IsShardCount, Places, joined}
+use Rattle.rw_shipper.specs.Reports.{IsAbandoned}
+use Rattle.rw_shipper.specs.Shipping.{Shipping, PlacesAll, HasStopped, Ends}
+use Rattle.rw_shipper.specs.declared.report.Report.{Report}
+use Rattle.rw_shipper.proofs.PlacementLemmas.{whole_is, whole_placed}
+use Rattle.rw_shipper.proofs.ShippingLemmas.{all_is, ends_last}
+use Rattle.rw_machine.specs.Shards.{Shard, is_drained, shard_end, shard_flush}
+use Rattle.rw_machine.specs.Worlds.{Setup, Request, World, Complete, Damaged, start, log, ended_as, report}
+use Rattle.rw_machine.specs.Steps.{happens, mark, run, unless_over}
+use Rattle.rw_machine.specs.declared.event.Event.{Event}
+use Rattle.rw_machine.specs.declared.event.Event.TheVariants as event
+use Rattle.rw_machine.specs.declared.event.How.{How}
+use Rattle.rw_machine.specs.declared.event.How.TheVariants.{Plain, Busy, OutOfMemory}
+use Rattle.rw_machine.specs.Promises.{CanWork, HoldsAll, HoldsBeginning, owed, pair_of}
+use Rattle.rw_machine.proofs.Places.{get_some}
+use Rattle.rw_machine.proofs.Runs.{in_order, all_when_complete, all_when_damaged}
+use Rattle.rw_simulation.specs.Freely.{Happening, Of, IsOwn, run_freely}
+use Rattle.rw_simulation.specs.Tallies.{Past, IsTallied, requests_of}
+use Rattle.rw_simulation.specs.EpochRuns.{ShardFate, AreUnsent, IsAllPut, Reaches}
+use Rattle.rw_simulation.specs.FleetRuns.{IsShardRun, fate_at}
+use Rattle.rw_simulation.specs.StoppedRuns.{IsSetAs, NamesAll, first_number}
+use Rattle.rw_simulation.specs.Arrivals.{Arrival, Receives, IsOneReceiver}
+use Rattle.rw_simulation.specs.Received.{AreExchangesOf, IsHeld, ReceivesInOrder, ReceivesAbandoned}
+use Rattle.rw_simulation.proofs.EntryRuns.{over_not}
+use Rattle.rw_simulation.proofs.ReshardRuns.{BeginsEpoch, asked, draining, ended, next, next-begins, restarts}
+use Rattle.rw_simulation.proofs.EndRuns.{IsResolvedFate, IsOver, end-all, tallies-at, drained-all}
+use Rattle.rw_simulation.proofs.Tallies.{Passes, lists-at, tallied-still, tallied-next}
+use Rattle.rw_simulation.proofs.Pasts.{get-first, get-either, get_map, map_get, past_of, passes-of, seen-is, worked-at, names-all}
+use Rattle.rw_simulation.proofs.StoppedRuns.{Fed, feeds, Known, known-all, Sound, sound-all, Split, split_map, Parted, part, none_joined, AreBefore, turned-before, Found, find, steps_in, lane-at, fates, fate-end, fate-resolved, reports-at, begun, fed-all, begins}
+use Rattle.rw_simulation.proofs.AbandonedRuns as soft
+use Rattle.rw_simulation.proofs.AbandonedRuns.{KnownOf, FoundAt, find-at, come, soft_lane}
+use Rattle.rw_simulation.proofs.FlushedShards.{flushed, exchanges_of-flushed}
+use Rattle.rw_simulation.proofs.Arriving.{HasArrived, arrived-own}
+use Rattle.rw_simulation.proofs.EpochArrivals.{put_by, first_at, same-end, sent-own, put-first, put-quiet, Gone, goes}
+
+-- ---- a queue that holds all
+-- how many items were put in all, and one more
+abbrev pub total_put : {T : Type 0} → List (StoppedShard T) → ℕ
+total_put [] = 1
+total_put (j ∷ js) = length (put_of j.finished.ends) + total_put js
+
+some_put : {T : Type 0} (js : List (StoppedShard T)) → 1 ≤ total_put js
+some_put [] = omega arith
+some_put (j ∷ js) = more (length (put_of j.finished.ends)) (total_put js) (some_put js)
+  where
+    more : (a b : ℕ) → 1 ≤ b → 1 ≤ a + b
+    more a b h = omega arith
+
+fits-all : {T : Type 0} (wide : ℕ) (js : List (StoppedShard T)) → total_put js ≤ wide → AllByRecursion (λ (j : StoppedShard T). length (put_of j.finished.ends) ≤ wide) js
+fits-all wide [] h = tt
+fits-all wide (j ∷ js) h = (first (length (put_of j.finished.ends)) (total_put js) wide h, fits-all wide js (later (length (put_of j.finished.ends)) (total_put js) wide h))
+  where
+    first : (a b n : ℕ) → a + b ≤ n → a ≤ n
+    first a b n h = omega arith
+
+    later : (a b n : ℕ) → a + b ≤ n → b ≤ n
+    later a b n h = omega arith
+
+abbrev pub widened : Setup → ℕ → Setup
+widened c wide = record c { capacity = wide }
+
+-- to a receiver it is all one how much a queue holds
+one-wide : (c : Setup) (wide : ℕ) (exs : ℕ → ℕ → List Exchange) (arrivals : List Arrival) (heads : ℕ → State) → IsOneReceiver c exs arrivals heads → IsOneReceiver (widened c wide) exs arrivals heads
+one-wide c wide exs arrivals heads one = record {
+  begins = one.begins;
+  receives = λ n a at. let h = one.receives n a at in (h.0, h.1, by_how a.how h.0.request (heads n) a.status (heads (suc n)) h.2);
+  later = one.later;
+  all = one.all;
+}
+  where
+    by_how : (how : How) (bytes : List ℕ) (head : State) (status : ℕ) (after : State) → Receives c how bytes head status after → Receives (widened c wide) how bytes head status after
+    by_how Plain bytes head status after h = h
+    by_how Busy bytes head status after h = h
+    by_how OutOfMemory bytes head status after h = h
+
+-- ---- which shards there are
+-- the shards of an epoch, counted from the first of these
+abbrev pub lanes_at : List (List ShardHistory) → ℕ → List ShardHistory
+lanes_at [] e = []
+lanes_at (lanes ∷ later) zero = lanes
+lanes_at (lanes ∷ later) (suc e) = lanes_at later e
+
+-- exchanges are of these shards alone
+abbrev pub AreWithin : (ℕ → ℕ → List Exchange) → ℕ → List (List ShardHistory) → Type 0
+AreWithin exs epoch epochs = (e k i : ℕ) (x : Exchange) → slice_get (exs (epoch + e) k) i ≡ Some x → k < length (lanes_at epochs e)
+
+plus_zero : (n : ℕ) → n ≡ n + 0
+plus_zero n = omega arith
+
+shift : (a e : ℕ) → suc a + e ≡ a + suc e
+shift a e = omega arith
+
+within-first : (exs : ℕ → ℕ → List Exchange) (epoch : ℕ) (lanes : List ShardHistory) (later : List (List ShardHistory)) → AreWithin exs epoch (lanes ∷ later) → (k i : ℕ) (x : Exchange) → slice_get (exs epoch k) i ≡ Some x → k < length lanes
+within-first exs epoch lanes later h k i x e = h 0 k i x (ap (λ (n : ℕ). slice_get (exs n k) i) (sym (plus_zero epoch)) ∙ e)
+
+within-later : (exs : ℕ → ℕ → List Exchange) (epoch : ℕ) (lanes : List ShardHistory) (later : List (List ShardHistory)) → AreWithin exs epoch (lanes ∷ later) → AreWithin exs (suc epoch) later
+within-later exs epoch lanes later h e k i x got = h (suc e) k i x (ap (λ (n : ℕ). slice_get (exs n k) i) (sym (shift epoch e)) ∙ got)
+
+-- a shard is of one of the epochs
+record IsOfEpoch (epoch : ℕ) (epochs : List (List ShardHistory)) (l : ShardHistory) : Type 0 where
+  e : ℕ
+  epoch_is : l.setup.queue.epoch ≡ epoch + e
+  shard_lt : l.setup.queue.shard < length (lanes_at epochs e)
+
+of-epoch : (epoch : ℕ) (epochs : List (List ShardHistory)) (xs : List Sent) → Places epoch epochs xs → (i : ℕ) (l : ShardHistory) → slice_get (joined epochs) i ≡ Some l → IsOfEpoch epoch epochs l
+of-epoch epoch [] xs p i l e = absurd (none-some l e)
+of-epoch epoch (lanes ∷ later) xs p i l e = by_place (get-either lanes (joined later) i l e) (λ k at. of-epoch (suc epoch) later p.1 p.4 k l at)
+  where
+    up : IsOfEpoch (suc epoch) later l → IsOfEpoch epoch (lanes ∷ later) l
+    up h = record { e = suc h.e; epoch_is = h.epoch_is ∙ shift epoch h.e; shard_lt = h.shard_lt }
+
+    by_place : (slice_get lanes i ≡ Some l) ⊎ ((k : ℕ) × (slice_get (joined later) k ≡ Some l)) → ((k : ℕ) → slice_get (joined later) k ≡ Some l → IsOfEpoch (suc epoch) later l) → IsOfEpoch epoch (lanes ∷ later) l
+    by_place (inl at) go = let d = p.3.each i l at in record { e = 0; epoch_is = d.0 ∙ plus_zero epoch; shard_lt = subst (λ (k : ℕ). k < length lanes) (sym d.1) (slice_get_within lanes i l at) }
+    by_place (inr (k, at)) go = up (go k at)
+
+all-at : {X : Type 0} (P : X → Type 0) (xs : List X) (i : ℕ) (x : X) → AllByRecursion P xs → slice_get xs i ≡ Some x → P x
+all-at P [] i x h e = absurd (none-some x e)
+all-at P (y ∷ ys) zero x h e = subst P (same_Some _ _ e) h.0
+all-at P (y ∷ ys) (suc i) x h e = all-at P ys i x h.1 e
+
+all-from : {X : Type 0} (P : X → Type 0) (xs : List X) → ((i : ℕ) (x : X) → slice_get xs i ≡ Some x → P x) → AllByRecursion P xs
+all-from P [] h = tt
+all-from P (x ∷ xs) h = (h 0 x refl, all-from P xs (λ i y e. h (suc i) y e))
+
+module _ {T : Type 0} (tells : T → Type 0) (seen : T → List Exchange) (is_for : ℕ → ℕ → T → Type 0) (c0 : Setup) (config : ConfigFields) (set : IsSetAs c0 config) (work : CanWork c0) (wide : ℕ) (room : 1 ≤ wide)
+    (exs : ℕ → ℕ → List Exchange) (arrivals : List Arrival) (heads : ℕ → State) (one : IsOneReceiver (widened c0 wide) exs arrivals heads) where
+  abbrev pub c : Setup
+  c = widened c0 wide
+
+  abbrev pub IsSound : StoppedShard T → Type 0
+  IsSound = Sound tells seen is_for c0 config set work
+
+  abbrev pub Arrived : ℕ → World → Type 0
+  Arrived m w = HasArrived c exs arrivals heads one m w
+
+  abbrev pub SentBelow : ℕ → World → Type 0
+  SentBelow end w = (e k i : ℕ) (x : Exchange) → e < end → slice_get (exs e k) i ≡ Some x → (r : Request) × (slice_get (requests_of e k w.requests) i ≡ Some r) × (r.bytes ≡ x.request)
+
+  -- what it told are these exchanges, and what it was put fits
+  pub record IsTold (j : StoppedShard T) : Type 0 where
+    pub tell : tells j.finished.transport
+    pub exchanges : exs (queue_of j.finished.ends).epoch (queue_of j.finished.ends).shard ≡ seen j.finished.transport
+    pub fits : length (put_of j.finished.ends) ≤ wide
+
+  -- a world on the way, with these arrivals made
+  pub record IsReached (m epoch : ℕ) (w : World) : Type 0 where
+    pub few : m ≤ length arrivals
+    pub arrived : Arrived m w
+    pub sent : SentBelow epoch w
+
+  pub on-own : (m epoch : ℕ) (w v : World) (hs : List Happening) → IsReached m epoch w → AllByRecursion IsOwn hs → run_freely c hs w ≡ v → IsReached m epoch v
+  on-own m epoch w v hs h own is = record {
+    few = h.few;
+    arrived = arrived-own c exs arrivals heads one m w v hs h.arrived own is;
+    sent = sent-own c exs arrivals heads one (past_of tells seen []) epoch 0 w v hs h.sent own is;
+  }
+
+  -- ---- one epoch
+  module _ (epoch : ℕ) (kd : Kind) (js : List (StoppedShard T)) (sound : AllByRecursion IsSound js) (told : AllByRecursion IsTold js) (some_lanes : 1 ≤ length (map lane_of js)) (by : AreEndedBy kd (map put_into (map lane_of js))) (before es : List Entry) (dealt : IsDealt epoch (map lane_of js) (gather_from (sent_of c.choice) before es)) where
+    abbrev pub lanes : List ShardHistory
+    lanes = map lane_of js
+
+    abbrev pub steps : ℕ → List Step
+    steps k = steps_in tells seen is_for c0 config set work js sound k
+
+    abbrev pub goals : ℕ → ShardFate
+    goals = fates tells seen is_for c0 config set work epoch kd js sound some_lanes by before es dealt
+
+    pub real-at : (k : ℕ) (l : ShardHistory) → slice_get lanes k ≡ Some l → IsShardRun c0 epoch k l (steps k) []
+    real-at k l e = lane-at tells seen is_for c0 config set work epoch kd js sound some_lanes by before es dealt k l e
+
+    pub runs : (k : ℕ) (l : ShardHistory) → slice_get lanes k ≡ Some l → IsShardRun c epoch k l (steps k) []
+    runs k l e = let h = real-at k l e in record { target = h.target; batch = h.batch; epoch_is = h.epoch_is; shard_is = h.shard_is; history = h.history; allowed = h.allowed; split = h.split; within = omega arith }
+
+    pub fits-at : (k : ℕ) (l : ShardHistory) → slice_get lanes k ≡ Some l → length l.put ≤ wide
+    fits-at k l e = let g = map_get lane_of js k l e in subst (λ (x : ShardHistory). length x.put ≤ wide) g.2 (all-at IsTold js k g.0 told g.1).fits
+
+    pub first-runs : (k : ℕ) (l : ShardHistory) → slice_get lanes k ≡ Some l → IsShardRun c epoch k l [] (put_by (slice_get lanes k))
+    first-runs k l e = let h = real-at k l e in record { target = h.target; batch = h.batch; epoch_is = h.epoch_is; shard_is = h.shard_is; history = h.history; allowed = tt; split = sym (ap put_by e); within = subst (λ (o : Option ShardHistory). length (put_by o) ≤ wide) (sym e) (fits-at k l e) }
+
+    pub told-at : (k : ℕ) (l : ShardHistory) → slice_get lanes k ≡ Some l → exchanges_of (steps k) ≡ exs epoch k
+    told-at k l e =
+        ap exchanges_of (sym f.steps)
+        ∙ sym (seen-is tells seen is_for f.j f.sound.worked t.tell)
+        ∙ sym t.exchanges
+        ∙ (λ i. exs ((f.sound.worked.queue i).epoch) ((f.sound.worked.queue i).shard))
+        ∙ (λ i. exs (d.0 i) (d.1 i))
+      where
+        f : Found tells seen is_for c0 config set work js sound k l
+        f = find tells seen is_for c0 config set work js sound k l e
+
+        t : IsTold f.j
+        t = all-at IsTold js k f.j told f.at
+
+        d : (f.j.worker.value.queue.epoch ≡ epoch) × (f.j.worker.value.queue.shard ≡ k)
+        d = let q = dealt.each k (lane_of f.j) (get_map lane_of js k f.j f.at) in (q.0, q.1)
+
+    pub first-end : (k : ℕ) → k < length lanes → (first_at lanes k).end ≡ Some kd
+    first-end k lt = same-end lanes steps (λ k. []) k ∙ fate-end tells seen is_for c0 config set work epoch kd js sound some_lanes by before es dealt k lt
+
+    pub resolved : (k : ℕ) → k < length lanes → IsResolvedFate (goals k)
+    resolved = fate-resolved tells seen is_for c0 config set work epoch kd js sound some_lanes by before es dealt
+
+    pub pass : (done : List (StoppedShard T)) → Passes c (past_of tells seen done) epoch (length lanes) (past_of tells seen (done ++ js)) (λ k. (goals k).worker.ledger.names) (λ k. (goals k).requests)
+    pass done = passes-of tells seen c epoch (length lanes) done js goals (sym (length-map js lane_of)) (reports-at tells seen is_for c0 config set work epoch kd js sound some_lanes by before es dealt)
+
+    pub few-then : (m : ℕ) → (m ≡ length arrivals) ⊎ ((a : Arrival) × (slice_get arrivals m ≡ Some a) × (epoch < a.epoch)) → m ≤ length arrivals
+    few-then m (inl e) = equal m (length arrivals) e
+      where
+        equal : (a b : ℕ) → a ≡ b → a ≤ b
+        equal a b e = omega arith
+    few-then m (inr (a, at, lt)) = less m (length arrivals) (slice_get_within arrivals m a at)
+      where
+        less : (a b : ℕ) → a < b → a ≤ b
+        less a b l = omega arith
+
+    module _ (within : (k i : ℕ) (x : Exchange) → slice_get (exs epoch k) i ≡ Some x → k < length lanes) (done : List (StoppedShard T)) (pieces : List Piece) (rest : List Entry) (m : ℕ) (w : World) (b : BeginsEpoch c (past_of tells seen done) pieces epoch (length lanes) before w) (at : IsReached m epoch w) (all : entries pieces ≡ before ++ (es ++ rest)) where
+      abbrev pub past : Past
+      past = past_of tells seen done
+
+      pub put : Reaches (AreUnsent (first_at lanes)) c w (IsAllPut c past pieces epoch (length lanes) (first_at lanes) (before ++ es))
+      put = put-first c exs arrivals heads one past pieces epoch lanes before es rest w room work.batch some_lanes dealt first-runs b all
+
+      pub put-at : IsReached m epoch put.world
+      put-at = on-own m epoch w put.world put.events at (put-quiet c exs arrivals heads one lanes w _ put) put.is
+
+      -- from a world in which each shard is to be put its End
+      pub record AllGone (u : World) : Type 0 where
+        pub made : ℕ
+        pub world : World
+        pub over : IsOver c past epoch (length lanes) goals (before ++ es) u world
+        pub now : IsReached made (suc epoch) world
+        pub stop : (made ≡ length arrivals) ⊎ ((a : Arrival) × (slice_get arrivals made ≡ Some a) × (epoch < a.epoch))
+
+      pub all-gone : (u : World) → u.killed ≡ false → (r : Reaches (AreUnsent (first_at lanes)) c u (IsOver c past epoch (length lanes) (first_at lanes) (before ++ es) u)) → IsReached m epoch u → AllGone u
+      all-gone u alive r now = record { made = gone.m; world = gone.world; over = gone.over; now = record { few = few-then gone.m gone.stop; arrived = gone.arrived; sent = gone.sent }; stop = gone.stop }
+        where
+          here : IsReached m epoch r.world
+          here = on-own m epoch u r.world r.events now (put-quiet c exs arrivals heads one lanes u _ r) r.is
+
+          gone : Gone c exs arrivals heads one past epoch lanes steps (λ k. []) (before ++ es) u alive within told-at runs
+          gone = goes c exs arrivals heads one past epoch lanes steps (λ k. []) (before ++ es) u alive within told-at runs m r.world here.few r.holds here.arrived here.sent
+
+      -- ---- an epoch before the last one
+      module _ (is_reshard : kd ≡ kind.Reshard) (next_number : ℕ) (least : 1 ≤ next_number) (most : next_number ≤ 1000) where
+        abbrev pub asking : World
+        asking = draining c past pieces epoch (length lanes) next_number (first_at lanes) (before ++ es) least most put.world put.holds
+
+        pub gone-next : AllGone asking
+        gone-next = all-gone asking put.holds.under.going.0
+            (ended c past pieces epoch (length lanes) next_number (first_at lanes) (before ++ es) least most put.world put.holds room (λ k lt. first-end k lt ∙ ap Some is_reshard))
+            (on-own m epoch put.world asking (Of (event.Reshard next_number) ∷ []) put-at (tt, tt) (asked c past pieces epoch (length lanes) next_number (first_at lanes) (before ++ es) least most put.world put.holds))
+
+        abbrev pub later-world : World
+        later-world = next c past (past_of tells seen (done ++ js)) pieces epoch (length lanes) next_number (first_at lanes) goals (before ++ es) resolved put.world put.holds (pass done) gone-next.world gone-next.over
+
+        pub later-begins : BeginsEpoch c (past_of tells seen (done ++ js)) pieces (suc epoch) next_number (before ++ es) later-world
+        later-begins = next-begins c past (past_of tells seen (done ++ js)) pieces epoch (length lanes) next_number (first_at lanes) goals (before ++ es) resolved put.world put.holds (pass done) gone-next.world gone-next.over
+
+        pub later-at : IsReached gone-next.made (suc epoch) later-world
+        later-at = on-own gone-next.made (suc epoch) gone-next.world later-world (Of event.Restart ∷ []) gone-next.now (tt, tt)
+            (restarts c past (past_of tells seen (done ++ js)) pieces epoch (length lanes) next_number (first_at lanes) goals (before ++ es) resolved put.world put.holds (pass done) gone-next.world gone-next.over)
+
+      -- ---- the last one, where the shards are ended in order
+      module _ (is_orderly : kd ≡ kind.Orderly) (none_rest : rest ≡ []) where
+        abbrev pub closed : World
+        closed = record put.world { closed = Some (length (log put.world)) }
+
+        pub closes : happens c put.world event.Close ≡ closed
+        closes = ap (unless_over c put.world event.Close) (over_not put.world put.holds.under.going.0 put.holds.under.going.1) ∙ rw put.holds.under.going.1 refl
+
+        pub whole-read : entries pieces ≡ before ++ es
+        whole-read = all ∙ ap (λ (xs : List Entry). before ++ (es ++ xs)) none_rest ∙ ap (λ (xs : List Entry). before ++ xs) (append-nil es)
+
+        pub all-placed : (put.world.placed == length (log put.world)) ≡ true
+        all-placed = eq-eqb put.world.placed (length (log put.world)) (put.holds.under.placed ∙ ap length (sym whole-read) ∙ ap (λ ps. length (entries ps)) (sym put.holds.under.pieces_are))
+
+        pub asks : (t : Shard) → mark closed t ≡ shard_end kind.Orderly t
+        asks t = ap (λ b. cond b (shard_end kind.Orderly t) (cond (is_some put.world.draining) (shard_end kind.Reshard t) (shard_flush t))) all-placed
+
+        pub closed-tallied : IsTallied c past epoch (length lanes) (before ++ es) put.holds.under.parts closed
+        closed-tallied = tallied-still c past epoch (length lanes) (before ++ es) put.holds.under.parts put.world closed (Of event.Close ∷ []) put.holds.under.tallied closes refl refl
+
+        abbrev pub LastGone : Type 0
+        LastGone = AllGone closed
+
+        pub gone-last : LastGone
+        gone-last = all-gone closed put.holds.under.going.0
+            (end-all c past epoch (length lanes) (first_at lanes) (before ++ es) kind.Orderly (λ k lt. first-end k lt ∙ ap Some is_orderly) closed put.holds.under.going.0 asks room put.holds.under.count put.holds.under.parts closed-tallied put.holds.each)
+            (on-own m epoch put.world closed (Of event.Close ∷ []) put-at (tt, tt) closes)
+
+        abbrev pub over : World
+        over = gone-last.world
+
+        pub drained-now : list_all is_drained over.shards ≡ true
+        drained-now = drained-all c epoch (length lanes) goals over.requests gone-last.over.parts over.shards gone-last.over.count (lists-at c over gone-last.over.tallied.reached) gone-last.over.done resolved
+
+        pub reported : report over ≡ Some (ended_as (fault pieces) (length (before ++ es)))
+        reported = ap report gone-last.over.same ∙ rw (put.holds.under.going.0, all-placed, drained-now) refl
+            ∙ ap Some (ap (λ ps. ended_as (fault ps) put.world.placed) put.holds.under.pieces_are ∙ ap (λ (i : ℕ). ended_as (fault pieces) i) put.holds.under.placed)
+
+        pub last-tallied : IsTallied c (past_of tells seen (done ++ js)) (suc epoch) 0 (before ++ es) (λ k. empty) over
+        last-tallied = tallied-next c past epoch (length lanes) (past_of tells seen (done ++ js)) (before ++ es) gone-last.over.parts (λ k. (goals k).worker.ledger.names) (λ k. (goals k).requests) over over [] 0 gone-last.over.tallied refl refl refl
+            (tallies-at epoch (length lanes) goals over.requests gone-last.over.parts over.shards gone-last.over.count gone-last.over.done) (pass done)
+
+        pub last-pieces : over.pieces ≡ pieces
+        last-pieces = ap (λ (x : World). x.pieces) gone-last.over.same ∙ put.holds.under.pieces_are
+
+        pub last-placed : over.placed ≡ length (before ++ es)
+        last-placed = ap (λ (x : World). x.placed) gone-last.over.same ∙ put.holds.under.placed
+
+  -- ---- the epochs before the last one
+  pub record AtLast (done : List (StoppedShard T)) (pieces : List Piece) (last : List ShardHistory) (before es : List Entry) : Type 0 where
+    pub epoch : ℕ
+    pub now : List Entry
+    pub later : List Entry
+    pub are : es ≡ now ++ later
+    pub dealt : IsDealt epoch last (gather_from (sent_of c.choice) (before ++ now) later)
+    pub m : ℕ
+    pub world : World
+    pub begins : BeginsEpoch c (past_of tells seen done) pieces epoch (length last) (before ++ now) world
+    pub at : IsReached m epoch world
+    pub within : AreWithin exs epoch (last ∷ [])
+
+  pub turned-arrive : (turned : List (List ShardHistory)) (last : List ShardHistory) (epoch m : ℕ) (done js : List (StoppedShard T)) (before es rest : List Entry) (pieces : List Piece) (w : World) → AllByRecursion IsSound js → AllByRecursion IsTold js → map lane_of js ≡ joined turned
+      → Places epoch (turned ++ last ∷ []) (gather_from (sent_of c.choice) before es) → AreBefore turned last → AreWithin exs epoch (turned ++ last ∷ []) → BeginsEpoch c (past_of tells seen done) pieces epoch (first_number turned last) before w → IsReached m epoch w → entries pieces ≡ before ++ (es ++ rest) → AtLast (done ++ js) pieces last before es
+  turned-arrive [] last epoch m done js before es rest pieces w sound told e p turned within b at all = record {
+    epoch = epoch;
+    now = [];
+    later = es;
+    are = refl;
+    dealt = subst (λ (bs : List Entry). IsDealt epoch last (gather_from (sent_of c.choice) bs es)) (sym (append-nil before)) (subst (IsDealt epoch last) (sym (p.2 ∙ ap (λ (xs : List Sent). p.0 ++ xs) p.4 ∙ append-nil p.0)) p.3);
+    m = m;
+    world = w;
+    begins = subst (λ (bs : List Entry). BeginsEpoch c (past_of tells seen (done ++ js)) pieces epoch (length last) bs w) (sym (append-nil before))
+        (subst (λ (ks : List (StoppedShard T)). BeginsEpoch c (past_of tells seen ks) pieces epoch (length last) before w) (sym (ap (λ (ks : List (StoppedShard T)). done ++ ks) (none_joined tells seen is_for c0 config set work js e) ∙ append-nil done)) b);
+    at = at;
+    within = within;
+  }
+  turned-arrive (lanes ∷ turned) last epoch m done js before es rest pieces w sound told e p turns within b at all =
+      with-later (turned-arrive turned last (suc epoch) _ (done ++ sp.first) sp.later (before ++ pt.now) pt.later rest pieces _ (AllByRecursion-right IsSound sp.first sp.later both) (AllByRecursion-right IsTold sp.first sp.later both_told) sp.later_is (subst (Places (suc epoch) (turned ++ last ∷ [])) (sym pt.rest_is) p.4) turns.3 (within-later exs epoch lanes (turned ++ last ∷ []) within)
+      (later-begins epoch kind.Reshard sp.first now now_told some_now by before pt.now dealt within_now done pieces (pt.later ++ rest) m w begun_so at begins refl (first_number turned last) turns.2.0 turns.2.1)
+      (later-at epoch kind.Reshard sp.first now now_told some_now by before pt.now dealt within_now done pieces (pt.later ++ rest) m w begun_so at begins refl (first_number turned last) turns.2.0 turns.2.1)
+      (begins ∙ sym (append_assoc before pt.now (pt.later ++ rest))))
+    where
+      sp : Split lane_of js lanes (joined turned)
+      sp = split_map lane_of js lanes (joined turned) e
+
+      pt : Parted c.choice before es p.0 p.1
+      pt = part c.choice before es p.0 p.1 p.2
+
+      both : AllByRecursion IsSound (sp.first ++ sp.later)
+      both = subst (AllByRecursion IsSound) sp.are sound
+
+      both_told : AllByRecursion IsTold (sp.first ++ sp.later)
+      both_told = subst (AllByRecursion IsTold) sp.are told
+
+      now : AllByRecursion IsSound sp.first
+      now = AllByRecursion-left IsSound sp.first sp.later both
+
+      now_told : AllByRecursion IsTold sp.first
+      now_told = AllByRecursion-left IsTold sp.first sp.later both_told
+
+      same : lanes ≡ map lane_of sp.first
+      same = sym sp.first_is
+
+      some_now : 1 ≤ length (map lane_of sp.first)
+      some_now = subst (λ (ls : List ShardHistory). 1 ≤ length ls) same turns.0
+
+      by : AreEndedBy kind.Reshard (map put_into (map lane_of sp.first))
+      by = subst (λ (ls : List ShardHistory). AreEndedBy kind.Reshard (map put_into ls)) same turns.1
+
+      dealt : IsDealt epoch (map lane_of sp.first) (gather_from (sent_of c.choice) before pt.now)
+      dealt = subst (λ (ls : List ShardHistory). IsDealt epoch ls (gather_from (sent_of c.choice) before pt.now)) same (subst (IsDealt epoch lanes) (sym pt.first_is) p.3)
+
+      within_now : (k i : ℕ) (x : Exchange) → slice_get (exs epoch k) i ≡ Some x → k < length (map lane_of sp.first)
+      within_now = subst (λ (ls : List ShardHistory). (k i : ℕ) (x : Exchange) → slice_get (exs epoch k) i ≡ Some x → k < length ls) same (within-first exs epoch lanes (turned ++ last ∷ []) within)
+
+      begins : entries pieces ≡ before ++ (pt.now ++ (pt.later ++ rest))
+      begins = all ∙ ap (λ (xs : List Entry). before ++ (xs ++ rest)) pt.are ∙ ap (λ (xs : List Entry). before ++ xs) (append_assoc pt.now pt.later rest)
+
+      begun_so : BeginsEpoch c (past_of tells seen done) pieces epoch (length (map lane_of sp.first)) before w
+      begun_so = subst (λ (ls : List ShardHistory). BeginsEpoch c (past_of tells seen done) pieces epoch (length ls) before w) same b
+
+      all_done : (done ++ sp.first) ++ sp.later ≡ done ++ js
+      all_done = append_assoc done sp.first sp.later ∙ ap (λ (ks : List (StoppedShard T)). done ++ ks) (sym sp.are)
+
+      with-later : AtLast ((done ++ sp.first) ++ sp.later) pieces last (before ++ pt.now) pt.later → AtLast (done ++ js) pieces last before es
+      with-later a = record {
+        epoch = a.epoch;
+        now = pt.now ++ a.now;
+        later = a.later;
+        are = pt.are ∙ ap (λ (xs : List Entry). pt.now ++ xs) a.are ∙ sym (append_assoc pt.now a.now a.later);
+        dealt = subst (λ (bs : List Entry). IsDealt a.epoch last (gather_from (sent_of c.choice) bs a.later)) (append_assoc before pt.now a.now) a.dealt;
+        m = a.m;
+        world = a.world;
+        begins = subst (λ (bs : List Entry). BeginsEpoch c (past_of tells seen (done ++ js)) pieces a.epoch (length last) bs a.world) (append_assoc before pt.now a.now)
+            (subst (λ (ks : List (StoppedShard T)). BeginsEpoch c (past_of tells seen ks) pieces a.epoch (length last) ((before ++ pt.now) ++ a.now) a.world) all_done a.begins);
+        at = a.at;
+        within = a.within;
+      }
+
+  -- ---- the last epoch, of which samples may be left: no End is put
+  module _ (epoch : ℕ) (js : List (StoppedShard T)) (known : AllByRecursion (KnownOf tells seen is_for c0 config set work) js) (told : AllByRecursion IsTold js) (some : 1 ≤ length js) (before es : List Entry) (dealt : IsDealt epoch (map lane_of js) (gather_from (sent_of c.choice) before es)) (within : (k i : ℕ) (x : Exchange) → slice_get (exs epoch k) i ≡ Some x → k < length js)
+      (done : List (StoppedShard T)) (pieces : List Piece) (rest : List Entry) (m : ℕ) (w : World) (b : BeginsEpoch c (past_of tells seen done) pieces epoch (length js) before w) (at : IsReached m epoch w) (all : entries pieces ≡ before ++ (es ++ rest)) where
+    abbrev pub soft_lanes : List ShardHistory
+    soft_lanes = map (soft_lane tells seen is_for c0 config set work) js
+
+    abbrev pub soft_steps : ℕ → List Step
+    soft_steps k = soft.steps_in tells seen is_for c0 config set work js known k
+
+    abbrev pub soft_left : ℕ → List Item
+    soft_left k = soft.rest_in tells seen is_for c0 config set work js known k
+
+    abbrev pub soft_goals : ℕ → ShardFate
+    soft_goals = fate_at soft_lanes (λ k. soft.steps_in tells seen is_for c0 config set work js known k) (λ k. soft.rest_in tells seen is_for c0 config set work js known k)
+
+    pub count-is : length soft_lanes ≡ length js
+    count-is = soft.n-is tells seen is_for c0 config set work epoch js known some before es dealt
+
+    pub run-of : (k : ℕ) (l : ShardHistory) → slice_get soft_lanes k ≡ Some l → IsShardRun c0 epoch k l (soft_steps k) (soft_left k)
+    run-of k l e = soft.runs tells seen is_for c0 config set work epoch js known some before es dealt k l e
+
+    pub soft-fits : (k : ℕ) (l : ShardHistory) → slice_get soft_lanes k ≡ Some l → length l.put ≤ wide
+    soft-fits k l e = let g = map_get (soft_lane tells seen is_for c0 config set work) js k l e in
+        subst (λ (x : ShardHistory). length x.put ≤ wide) g.2 (subst (λ (n : ℕ). n ≤ wide) (sym (length-map (put_of g.0.finished.ends) flushed)) (all-at IsTold js k g.0 told g.1).fits)
+
+    pub left_fits : (put taken left n : ℕ) → put ≡ taken + left → put ≤ n → left ≤ n
+    left_fits put taken left n e le = omega arith
+
+    pub soft-runs : (k : ℕ) (l : ShardHistory) → slice_get soft_lanes k ≡ Some l → IsShardRun c epoch k l (soft_steps k) (soft_left k)
+    soft-runs k l e = let h = run-of k l e in record {
+      target = h.target;
+      batch = h.batch;
+      epoch_is = h.epoch_is;
+      shard_is = h.shard_is;
+      history = h.history;
+      allowed = h.allowed;
+      split = h.split;
+      within = left_fits (length l.put) (length (items_of (soft_steps k))) (length (soft_left k)) wide (ap length h.split ∙ length-append (items_of (soft_steps k)) (soft_left k)) (soft-fits k l e);
+    }
+
+    pub soft-first : (k : ℕ) (l : ShardHistory) → slice_get soft_lanes k ≡ Some l → IsShardRun c epoch k l [] (put_by (slice_get soft_lanes k))
+    soft-first k l e = let h = run-of k l e in record { target = h.target; batch = h.batch; epoch_is = h.epoch_is; shard_is = h.shard_is; history = h.history; allowed = tt; split = sym (ap put_by e); within = subst (λ (o : Option ShardHistory). length (put_by o) ≤ wide) (sym e) (soft-fits k l e) }
+
+    pub soft-told : (k : ℕ) (l : ShardHistory) → slice_get soft_lanes k ≡ Some l → exchanges_of (soft_steps k) ≡ exs epoch k
+    soft-told k l e =
+        ap exchanges_of (sym f.steps)
+        ∙ exchanges_of-flushed f.known.worked.report.steps
+        ∙ sym (seen-is tells seen is_for f.it f.known.worked t.tell)
+        ∙ sym t.exchanges
+        ∙ (λ i. exs ((f.known.worked.queue i).epoch) ((f.known.worked.queue i).shard))
+        ∙ (λ i. exs (d.0 i) (d.1 i))
+      where
+        g : (j : StoppedShard T) × (slice_get js k ≡ Some j) × (soft_lane tells seen is_for c0 config set work j ≡ l)
+        g = map_get (soft_lane tells seen is_for c0 config set work) js k l e
+
+        f : FoundAt tells seen is_for c0 config set work js known k g.0
+        f = find-at tells seen is_for c0 config set work js known k g.0 g.1
+
+        at_it : slice_get js k ≡ Some f.it
+        at_it = g.1 ∙ ap Some (sym f.same)
+
+        t : IsTold f.it
+        t = all-at IsTold js k f.it told at_it
+
+        d : (f.it.worker.value.queue.epoch ≡ epoch) × (f.it.worker.value.queue.shard ≡ k)
+        d = let q = dealt.each k (lane_of f.it) (get_map lane_of js k f.it at_it) in (q.0, q.1)
+
+    pub soft-within : (k i : ℕ) (x : Exchange) → slice_get (exs epoch k) i ≡ Some x → k < length soft_lanes
+    soft-within = subst (λ (n : ℕ). (k i : ℕ) (x : Exchange) → slice_get (exs epoch k) i ≡ Some x → k < n) (sym count-is) within
+
+    pub soft-open : (k : ℕ) → (first_at soft_lanes k).end ≡ None
+    soft-open k = same-end soft_lanes (λ k. soft.steps_in tells seen is_for c0 config set work js known k) (λ k. soft.rest_in tells seen is_for c0 config set work js known k) k ∙ soft.goal-open tells seen is_for c0 config set work epoch js known some before es dealt k (slice_get soft_lanes k) refl
+
+    pub soft-put : Reaches (AreUnsent (first_at soft_lanes)) c w (IsAllPut c (past_of tells seen done) pieces epoch (length soft_lanes) (first_at soft_lanes) (before ++ es))
+    soft-put = put-first c exs arrivals heads one (past_of tells seen done) pieces epoch soft_lanes before es rest w room work.batch (soft.some_lanes tells seen is_for c0 config set work epoch js known some before es dealt) (soft.dealt-so tells seen is_for c0 config set work epoch js known some before es dealt) soft-first
+        (subst (λ (n : ℕ). BeginsEpoch c (past_of tells seen done) pieces epoch n before w) (sym count-is) b) all
+
+    pub soft-at : IsReached m epoch soft-put.world
+    soft-at = on-own m epoch w soft-put.world soft-put.events at (put-quiet c exs arrivals heads one soft_lanes w _ soft-put) soft-put.is
+
+    pub soft-over : IsOver c (past_of tells seen done) epoch (length soft_lanes) (first_at soft_lanes) (before ++ es) soft-put.world soft-put.world
+    soft-over = record {
+      same = refl;
+      count = soft-put.holds.under.count;
+      parts = soft-put.holds.under.parts;
+      tallied = soft-put.holds.under.tallied;
+      done = λ k s e. come c epoch k soft-put.world.requests (soft-put.holds.under.parts k) s (first_at soft_lanes k) (soft-put.holds.each k s e) (soft-open k);
+    }
+
+    abbrev pub SoftGone : Type 0
+    SoftGone = Gone c exs arrivals heads one (past_of tells seen done) epoch soft_lanes (λ k. soft.steps_in tells seen is_for c0 config set work js known k) (λ k. soft.rest_in tells seen is_for c0 config set work js known k) (before ++ es) soft-put.world soft-put.holds.under.going.0 soft-within soft-told soft-runs
+
+    pub soft-gone : SoftGone
+    soft-gone = goes c exs arrivals heads one (past_of tells seen done) epoch soft_lanes (λ k. soft.steps_in tells seen is_for c0 config set work js known k) (λ k. soft.rest_in tells seen is_for c0 config set work js known k) (before ++ es) soft-put.world soft-put.holds.under.going.0 soft-within soft-told soft-runs m soft-put.world soft-at.few soft-over soft-at.arrived soft-at.sent
+
+    pub soft-tallied : IsTallied c (past_of tells seen (done ++ js)) (suc epoch) 0 (before ++ es) (λ k. empty) soft-gone.world
+    soft-tallied = tallied-next c (past_of tells seen done) epoch (length soft_lanes) (past_of tells seen (done ++ js)) (before ++ es) soft-gone.over.parts (λ k. (soft_goals k).worker.ledger.names) (λ k. (soft_goals k).requests) soft-gone.world soft-gone.world [] 0 soft-gone.over.tallied refl refl refl
+        (tallies-at epoch (length soft_lanes) soft_goals soft-gone.world.requests soft-gone.over.parts soft-gone.world.shards soft-gone.over.count soft-gone.over.done)
+        (passes-of tells seen c epoch (length soft_lanes) done js soft_goals (sym count-is) (soft.reports-at tells seen is_for c0 config set work epoch js known some before es dealt))
+
+    pub soft-pieces : soft-gone.world.pieces ≡ pieces
+    soft-pieces = ap (λ (x : World). x.pieces) soft-gone.over.same ∙ soft-put.holds.under.pieces_are
+
+-- ---- from the start
+own-feeds : (fed : List Fed) → AllByRecursion IsOwn (feeds fed)
+own-feeds [] = tt
+own-feeds (p ∷ ps) = (tt, own-feeds ps)
+
+itself : (n : ℕ) → n ≤ n
+itself n = omega arith
+
+same_epoch : (e d q : ℕ) → q ≡ 0 + e → q ≡ 0 + d → d ≡ e
+same_epoch e d q a b = omega arith
+
+after-it : (a b : ℕ) → a < b → (d : ℕ) × (b ≡ a + suc d)
+after-it zero zero lt = absurd (omega arith)
+after-it zero (suc b) lt = (b, omega arith)
+after-it (suc a) zero lt = absurd (omega arith)
+after-it (suc a) (suc b) lt = let h = after-it a b (less a b lt) in (h.0, up a b h.0 h.1)
+  where
+    up : (a b d : ℕ) → b ≡ a + suc d → suc b ≡ suc a + suc d
+    up a b d e = omega arith
+
+    less : (a b : ℕ) → suc a < suc b → a < b
+    less a b l = omega arith
+
+none_of_none : (k : ℕ) → k < 0 → ⊥
+none_of_none k lt = omega arith
+
+-- what the machine's theorem says of a world with this report
+all-of : (c : Setup) (events : List Event) (w : World) → run c events (start c) ≡ w → (o : Option TailFault) (n : ℕ) → report w ≡ Some (ended_as o n) → w.placed ≡ n → (l : Labels) → HoldsAll c w n l
+all-of c events w is None n reported placed l = subst (λ (v : World). report v ≡ Some (Complete n) → HoldsAll c v n l) is (λ h. all_when_complete c events n h l) reported
+all-of c events w is (Some f) n reported placed l = subst (λ (m : ℕ). HoldsAll c w m l) placed (subst (λ (v : World). report v ≡ Some (Damaged f) → HoldsAll c v v.placed l) is (λ h. all_when_damaged c events f h l) reported)
+
+-- a head that holds what the machine's does
+held-so : {T : Type 0} (c : Setup) (s : Shipping T) (r : Report T) (v : World) (head : State) (events : List Event) → run c events (start c) ≡ v → v.head ≡ head → v.pieces ≡ s.log.pieces → c.choice ≡ s.log.choice → NamesAll v.names r.parts.items → ((IsAbandoned r.outcome → ⊥) → (l : Labels) → HoldsAll c v (length s.log.placed) l) → IsHeld s r head.store
+held-so c s r v head events is head_is pieces_are choice named all = record {
+  names = v.names;
+  named = named;
+  in_order = λ l. subst (λ (st : State). Begins (list_of st.store l) (map pair_of (owed v.names (kept_points s.log.choice (entries s.log.pieces) l)))) head_is
+      (subst (λ (ps : List Piece). Begins (list_of v.head.store l) (map pair_of (owed v.names (kept_points s.log.choice (entries ps) l)))) pieces_are
+      (subst (λ (ch : Choice). Begins (list_of v.head.store l) (map pair_of (owed v.names (kept_points ch (log v) l)))) choice (subst (λ (x : World). HoldsBeginning c x l) is (in_order c events l))));
+  whole = λ left l. subst (λ (st : State). list_of st.store l ≡ map pair_of (owed v.names (kept_points_below s.log.choice (entries s.log.pieces) l (length s.log.placed)))) head_is
+      (subst (λ (ps : List Piece). list_of v.head.store l ≡ map pair_of (owed v.names (kept_points_below s.log.choice (entries ps) l (length s.log.placed)))) pieces_are
+      (subst (λ (ch : Choice). list_of v.head.store l ≡ map pair_of (owed v.names (kept_points_below ch (log v) l (length s.log.placed)))) choice (all left l)));
+}
+
+module _ {T : Type 0} (tells : T → Type 0) (seen : T → List Exchange) (is_for : ℕ → ℕ → T → Type 0) (c0 : Setup) (s : Shipping T) (r : Report T) (fed : List Fed) (h : HasStopped tells seen is_for s r) (was : Shards T) (p : PlacesAll s.log was) (set : IsSetAs c0 s.fleet.config) (choice : c0.choice ≡ s.log.choice) (work : CanWork c0) (fed_are : s.log.pieces ≡ map piece_of fed)
+    (alls : AreAll was h.joined) (resolved : AreResolved was.ended) (number : IsShardCount (length was.current)) (first : first_number p.epochs was.current ≡ c0.shards)
+    (exs : ℕ → ℕ → List Exchange) (arrivals : List Arrival) (heads : ℕ → State) (told : AreExchangesOf tells seen r.workers.items exs) (one : IsOneReceiver c0 exs arrivals heads) where
+  abbrev wide : ℕ
+  wide = total_put h.joined
+
+  abbrev setup : Setup
+  setup = widened c0 wide
+
+  room : 1 ≤ wide
+  room = some_put h.joined
+
+  one-so : IsOneReceiver setup exs arrivals heads
+  one-so = one-wide c0 wide exs arrivals heads one
+
+  abbrev IsSoundHere : StoppedShard T → Type 0
+  IsSoundHere = Sound tells seen is_for c0 s.fleet.config set work
+
+  abbrev IsKnownHere : StoppedShard T → Type 0
+  IsKnownHere = Known tells seen is_for c0 s.fleet.config set work
+
+  abbrev IsToldHere : StoppedShard T → Type 0
+  IsToldHere = IsTold tells seen is_for c0 s.fleet.config set work wide room exs arrivals heads one-so
+
+  abbrev last : List (StoppedShard T)
+  last = alls.0
+
+  -- ---- what is known of the shards
+  known : AllByRecursion IsKnownHere (was.ended ++ last)
+  known = subst (AllByRecursion IsKnownHere) alls.1 (known-all tells seen is_for c0 s.fleet.config set work h.joined h.worked h.setup)
+
+  sound-ended : AllByRecursion IsSoundHere was.ended
+  sound-ended = sound-all tells seen is_for c0 s.fleet.config set work was.ended (AllByRecursion-left IsKnownHere was.ended last known) resolved
+
+  known-last : AllByRecursion IsKnownHere last
+  known-last = AllByRecursion-right IsKnownHere was.ended last known
+
+  worker-at : (i : ℕ) (j : StoppedShard T) → slice_get h.joined i ≡ Some j → slice_get r.workers.items i ≡ Some j.finished
+  worker-at i j e = ap (λ (fs : List (Finished T)). slice_get fs i) h.workers ∙ get_map finished_of h.joined i j e
+
+  told-all : AllByRecursion IsToldHere (was.ended ++ last)
+  told-all = subst (AllByRecursion IsToldHere) alls.1 (all-from IsToldHere h.joined (λ i j e. record {
+    tell = told.tell i j.finished (worker-at i j e);
+    exchanges = told.each i j.finished (worker-at i j e);
+    fits = all-at (λ (x : StoppedShard T). length (put_of x.finished.ends) ≤ wide) h.joined i j (fits-all wide h.joined (itself wide)) e;
+  }))
+
+  told-last : AllByRecursion IsToldHere last
+  told-last = AllByRecursion-right IsToldHere was.ended last told-all
+
+  same : length (map lane_of last) ≡ length was.current
+  same = same_length was.current (map lane_of last) alls.2
+
+  abbrev epochs : List (List ShardHistory)
+  epochs = p.epochs ++ map lane_of last ∷ []
+
+  placed : Places 0 epochs (sent setup.choice s.log.placed)
+  placed = subst (λ (ch : Choice). Places 0 epochs (sent ch s.log.placed)) (sym choice) (whole_placed was.epoch (map lane_of was.ended) was.current (map lane_of last) (sent s.log.choice s.log.placed) p alls.2)
+
+  lanes-are : map lane_of h.joined ≡ joined epochs
+  lanes-are = whole_is was.epoch (map lane_of was.ended) was.current (map lane_of last) (map lane_of h.joined) (sent s.log.choice s.log.placed) p (all_is was h.joined alls)
+
+  within : AreWithin exs 0 epochs
+  within e k i x got = subst (λ (d : ℕ). k < length (lanes_at epochs d)) (same_epoch e of.e j.worker.value.queue.epoch (sym (ap (λ q. q.epoch) queue) ∙ ap (λ (g : Finished T). (queue_of g.ends).epoch) found.2 ∙ owner.3) of.epoch_is)
+      (subst (λ (d : ℕ). d < length (lanes_at epochs of.e)) (sym (ap (λ q. q.shard) queue) ∙ ap (λ (g : Finished T). (queue_of g.ends).shard) found.2 ∙ owner.4) of.shard_lt)
+    where
+      owner : (n : ℕ) × (f : Finished T) × (slice_get r.workers.items n ≡ Some f) × ((queue_of f.ends).epoch ≡ 0 + e) × ((queue_of f.ends).shard ≡ k)
+      owner = told.owned (0 + e) k i x got
+
+      found : (j : StoppedShard T) × (slice_get h.joined owner.0 ≡ Some j) × (finished_of j ≡ owner.1)
+      found = map_get finished_of h.joined owner.0 owner.1 (ap (λ (fs : List (Finished T)). slice_get fs owner.0) (sym h.workers) ∙ owner.2)
+
+      j : StoppedShard T
+      j = found.0
+
+      queue : queue_of j.finished.ends ≡ j.worker.value.queue
+      queue = (worked-at tells seen is_for h.joined h.worked owner.0 j found.1).queue
+
+      of : IsOfEpoch 0 epochs (lane_of j)
+      of = of-epoch 0 epochs (sent setup.choice s.log.placed) placed owner.0 (lane_of j) (ap (λ (ls : List ShardHistory). slice_get ls owner.0) (sym lanes-are) ∙ get_map lane_of h.joined owner.0 j found.1)
+
+  first-is : (turned : List (List ShardHistory)) → first_number turned (map lane_of last) ≡ first_number turned was.current
+  first-is [] = same
+  first-is (x ∷ xs) = refl
+
+  -- ---- all is fed
+  abbrev origin : World
+  origin = begun tells seen setup s.log.pieces fed fed_are
+
+  abbrev IsReachedHere : ℕ → ℕ → World → Type 0
+  IsReachedHere = IsReached tells seen is_for c0 s.fleet.config set work wide room exs arrivals heads one-so
+
+  at-start : IsReachedHere 0 0 (start setup)
+  at-start = record {
+    few = omega arith;
+    arrived = record { events = []; is = refl; count = refl; head = sym one.begins; each = λ i a lt. absurd (none_of_none i lt) };
+    sent = λ e k i x lt. absurd (none_of_none e lt);
+  }
+
+  at-origin : IsReachedHere 0 0 origin
+  at-origin = on-own tells seen is_for c0 s.fleet.config set work wide room exs arrivals heads one-so 0 0 (start setup) origin (feeds fed) at-start (own-feeds fed) (fed-all tells seen setup s.log.pieces fed fed_are)
+
+  some_lanes : 1 ≤ length (map lane_of last)
+  some_lanes = subst (λ (i : ℕ). 1 ≤ i) (sym same) number.0
+
+  module _ (rest : List Entry) (read : entries s.log.pieces ≡ s.log.placed ++ rest) where
+    at-last : AtLast tells seen is_for c0 s.fleet.config set work wide room exs arrivals heads one-so was.ended s.log.pieces (map lane_of last) [] s.log.placed
+    at-last = turned-arrive tells seen is_for c0 s.fleet.config set work wide room exs arrivals heads one-so p.epochs (map lane_of last) 0 0 [] was.ended [] s.log.placed rest s.log.pieces origin
+        sound-ended (AllByRecursion-left IsToldHere was.ended last told-all) p.ended_is placed (turned-before p.epochs (map lane_of last) p.turned (subst IsShardCount (sym same) number)) within
+        (subst (λ (i : ℕ). BeginsEpoch setup (past_of tells seen []) s.log.pieces 0 i [] origin) (sym (first-is p.epochs ∙ first)) (begins tells seen setup s.log.pieces fed fed_are)) at-origin read
+
+    within-last : (k i : ℕ) (x : Exchange) → slice_get (exs at-last.epoch k) i ≡ Some x → k < length (map lane_of last)
+    within-last = within-first exs at-last.epoch (map lane_of last) [] at-last.within
+
+    whole-log : entries s.log.pieces ≡ at-last.now ++ (at-last.later ++ rest)
+    whole-log = read ∙ ap (λ (xs : List Entry). xs ++ rest) at-last.are ∙ append_assoc at-last.now at-last.later rest
+
+    -- nothing comes of an epoch behind the last one
+    no_later : (m : ℕ) (a : Arrival) → slice_get arrivals m ≡ Some a → at-last.epoch < a.epoch → ⊥
+    no_later m a at lt =
+        let d = after-it at-last.epoch a.epoch lt in
+        let x = one.receives m a at in
+        none_of_none a.shard (at-last.within (suc d.0) a.shard a.number x.0 (ap (λ (e : ℕ). slice_get (exs e a.shard) a.number) (sym d.1) ∙ x.1))
+
+    all-came : (m : ℕ) → (m ≡ length arrivals) ⊎ ((a : Arrival) × (slice_get arrivals m ≡ Some a) × (at-last.epoch < a.epoch)) → m ≡ length arrivals
+    all-came m (inl e) = e
+    all-came m (inr (a, at, lt)) = absurd (no_later m a at lt)
+
+    tallied-so : (v : World) → IsTallied setup (past_of tells seen (was.ended ++ last)) (suc at-last.epoch) 0 (at-last.now ++ at-last.later) (λ k. empty) v → NamesAll v.names r.parts.items
+    tallied-so v t = names-all tells seen is_for setup s r h choice (suc at-last.epoch) v
+        (subst (λ (js : List (StoppedShard T)). IsTallied setup (past_of tells seen js) (suc at-last.epoch) 0 s.log.placed (λ k. empty) v) (sym alls.1)
+        (subst (λ (es : List Entry). IsTallied setup (past_of tells seen (was.ended ++ last)) (suc at-last.epoch) 0 es (λ k. empty) v) (sym at-last.are) t))
+
+    -- ---- where samples were left
+    module _ (left : IsAbandoned r.outcome) where
+      some-last : 1 ≤ length last
+      some-last = subst (λ (i : ℕ). 1 ≤ i) (length-map last lane_of) some_lanes
+
+      within-left : (k i : ℕ) (x : Exchange) → slice_get (exs at-last.epoch k) i ≡ Some x → k < length last
+      within-left = subst (λ (n : ℕ). (k i : ℕ) (x : Exchange) → slice_get (exs at-last.epoch k) i ≡ Some x → k < n) (length-map last lane_of) within-last
+
+      begins-left : BeginsEpoch setup (past_of tells seen was.ended) s.log.pieces at-last.epoch (length last) at-last.now at-last.world
+      begins-left = subst (λ (n : ℕ). BeginsEpoch setup (past_of tells seen was.ended) s.log.pieces at-last.epoch n at-last.now at-last.world) (length-map last lane_of) at-last.begins
+
+      abbrev gone-left : SoftGone tells seen is_for c0 s.fleet.config set work wide room exs arrivals heads one-so at-last.epoch last known-last told-last some-last at-last.now at-last.later at-last.dealt within-left was.ended s.log.pieces rest at-last.m at-last.world begins-left at-last.at whole-log
+      gone-left = soft-gone tells seen is_for c0 s.fleet.config set work wide room exs arrivals heads one-so at-last.epoch last known-last told-last some-last at-last.now at-last.later at-last.dealt within-left was.ended s.log.pieces rest at-last.m at-last.world begins-left at-last.at whole-log
+
+      pub held-left : IsHeld s r (heads (length arrivals)).store
+      held-left = held-so setup s r gone-left.world (heads (length arrivals)) gone-left.arrived.events gone-left.arrived.is (gone-left.arrived.head ∙ ap heads (all-came gone-left.m gone-left.stop))
+          (soft-pieces tells seen is_for c0 s.fleet.config set work wide room exs arrivals heads one-so at-last.epoch last known-last told-last some-last at-last.now at-last.later at-last.dealt within-left was.ended s.log.pieces rest at-last.m at-last.world begins-left at-last.at whole-log)
+          choice
+          (tallied-so gone-left.world (soft-tallied tells seen is_for c0 s.fleet.config set work wide room exs arrivals heads one-so at-last.epoch last known-last told-last some-last at-last.now at-last.later at-last.dealt within-left was.ended s.log.pieces rest at-last.m at-last.world begins-left at-last.at whole-log))
+          (λ whole. absurd (whole left))
+
+    -- ---- where nothing was left
+    module _ (resolved_all : AreResolved h.joined) (by : AreEndedBy kind.Orderly (map put_into (map lane_of last))) (none : rest ≡ []) where
+      sound-last : AllByRecursion IsSoundHere last
+      sound-last = AllByRecursion-right IsSoundHere was.ended last (subst (AllByRecursion IsSoundHere) alls.1 (sound-all tells seen is_for c0 s.fleet.config set work h.joined (known-all tells seen is_for c0 s.fleet.config set work h.joined h.worked h.setup) resolved_all))
+
+      abbrev gone-whole : LastGone tells seen is_for c0 s.fleet.config set work wide room exs arrivals heads one-so at-last.epoch kind.Orderly last sound-last told-last some_lanes by at-last.now at-last.later at-last.dealt within-last was.ended s.log.pieces rest at-last.m at-last.world at-last.begins at-last.at whole-log refl none
+      gone-whole = gone-last tells seen is_for c0 s.fleet.config set work wide room exs arrivals heads one-so at-last.epoch kind.Orderly last sound-last told-last some_lanes by at-last.now at-last.later at-last.dealt within-last was.ended s.log.pieces rest at-last.m at-last.world at-last.begins at-last.at whole-log refl none
+
+      report-is : report gone-whole.world ≡ Some (ended_as (fault s.log.pieces) (length s.log.placed))
+      report-is = reported tells seen is_for c0 s.fleet.config set work wide room exs arrivals heads one-so at-last.epoch kind.Orderly last sound-last told-last some_lanes by at-last.now at-last.later at-last.dealt within-last was.ended s.log.pieces rest at-last.m at-last.world at-last.begins at-last.at whole-log refl none ∙ ap (λ (es : List Entry). Some (ended_as (fault s.log.pieces) (length es))) (sym at-last.are)
+
+      placed-is : gone-whole.world.placed ≡ length s.log.placed
+      placed-is = last-placed tells seen is_for c0 s.fleet.config set work wide room exs arrivals heads one-so at-last.epoch kind.Orderly last sound-last told-last some_lanes by at-last.now at-last.later at-last.dealt within-last was.ended s.log.pieces rest at-last.m at-last.world at-last.begins at-last.at whole-log refl none ∙ ap length (sym at-last.are)
+
+      pub held-whole : IsHeld s r (heads (length arrivals)).store
+      held-whole = held-so setup s r gone-whole.world (heads (length arrivals)) gone-whole.now.arrived.events gone-whole.now.arrived.is (gone-whole.now.arrived.head ∙ ap heads (all-came gone-whole.made gone-whole.stop))
+          (last-pieces tells seen is_for c0 s.fleet.config set work wide room exs arrivals heads one-so at-last.epoch kind.Orderly last sound-last told-last some_lanes by at-last.now at-last.later at-last.dealt within-last was.ended s.log.pieces rest at-last.m at-last.world at-last.begins at-last.at whole-log refl none)
+          choice
+          (tallied-so gone-whole.world (last-tallied tells seen is_for c0 s.fleet.config set work wide room exs arrivals heads one-so at-last.epoch kind.Orderly last sound-last told-last some_lanes by at-last.now at-last.later at-last.dealt within-last was.ended s.log.pieces rest at-last.m at-last.world at-last.begins at-last.at whole-log refl none))
+          (λ whole l. all-of setup gone-whole.now.arrived.events gone-whole.world gone-whole.now.arrived.is (fault s.log.pieces) (length s.log.placed) report-is placed-is l)
+
+resolved-front : {T : Type 0} (xs ys : List (StoppedShard T)) → AreResolved (xs ++ ys) → AreResolved xs
+resolved-front xs ys h k j e = h k j (get-first xs ys k j e)
+
+pub receives-in-order : {T : Type 0} (tells : T → Type 0) (seen : T → List Exchange) (is_for : ℕ → ℕ → T → Type 0) (s : Shipping T) (r : Report T) → ReceivesInOrder tells seen is_for s r
+receives-in-order {T} tells seen is_for s r c fed h p machine work fed_are number first ends left exs arrivals heads told one = by_outcome r.outcome refl h.ends left
+  where
+    by : AreEndedBy kind.Orderly (map put_into (map lane_of h.all.0))
+    by = ends_last kind.Orderly s.fleet h.joined h.all (subst (λ (fs : List (Finished T)). EndBy kind.Orderly s.fleet fs) h.workers ends)
+
+    with-all : (found : Option TailFault) → AreResolved h.joined → HasRead s.log.pieces s.log.placed found → IsHeld s r (heads (length arrivals)).store
+    with-all found resolved read = held-whole tells seen is_for c s r fed h s.fleet p machine.0 machine.1 work fed_are h.all (resolved-front s.fleet.ended h.all.0 (subst AreResolved h.all.1 resolved)) number first exs arrivals heads told one [] (sym read.all ∙ sym (append-nil s.log.placed)) resolved by refl
+
+    by_outcome : (o : Outcome) → r.outcome ≡ o → Ends s h.joined o → (IsAbandoned o → ⊥) → IsHeld s r (heads (length arrivals)).store
+    by_outcome (outcome.Complete end) is ended whole = with-all None ended.2 ended.1
+    by_outcome (outcome.Damaged f) is ended whole = with-all (Some f) ended.1 ended.0
+    by_outcome (outcome.Abandoned count samples) is ended whole = absurd (whole tt)
+
+pub receives-abandoned : {T : Type 0} (tells : T → Type 0) (seen : T → List Exchange) (is_for : ℕ → ℕ → T → Type 0) (s : Shipping T) (r : Report T) → ReceivesAbandoned tells seen is_for s r
+receives-abandoned tells seen is_for s r c fed h was p machine work fed_are all resolved number first stopped exs arrivals heads told one =
+    held-left tells seen is_for c s r fed h was p machine.0 machine.1 work fed_are all resolved number first exs arrivals heads told one h.read.0 h.read.1 stopped
