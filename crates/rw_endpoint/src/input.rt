@@ -1,6 +1,6 @@
 //! Heads and bodies, read from a connection.
 
-ghost use Rattle.std.specs.Prelude.{true, ◌≡◌, ◌≢◌, ℕ, ◌+◌, ◌*◌, ◌<◌, ◌≤◌, max, length, drop, Some, Err, None, IfOk, OnOk, if◌then◌else◌, ◌++◌, [], vec_len, vec_capacity, option_map};
+ghost use Rattle.std.specs.Prelude.{true, ◌≡◌, ◌≢◌, ℕ, ◌+◌, ◌*◌, ◌<◌, ◌≤◌, max, length, drop, Some, Err, IfOk, OnOk, vec_len, vec_capacity, option_map};
 ghost use Rattle.std.specs.Io.KnownBytes.{Keeps, IsAtEnd, prepend_known};
 ghost use Rattle.rw_endpoint.specs.Reading.{HasRead, HasBody};
 
@@ -37,27 +37,6 @@ pub(crate) fn new_chunk(alloc: Global) -> Result<Vec<u8>, AllocError>
     vec![in alloc; 0; CHUNK]
 }
 
-/// Appends bytes, in the room that there is for them where there is some.
-fn append(items: &mut Vec<u8>, bytes: &[u8]) -> Result<(), Stop>
-    ensures items { OnOk result (items.new.items ≡ items.old.items ++ bytes.now) }
-    ensures len { OnOk result (vec_len items.new ≡ vec_len items.old + length bytes.now) }
-    ensures in_place { vec_len items.old + length bytes.now ≤ vec_capacity items.old
-        → OnOk result (vec_capacity items.new ≡ vec_capacity items.old) }
-    ensures failed { result ≢ Err Stop.Device }
-{
-    let before = items.capacity();
-    let spare = before - items.len();
-    match items.extend_from_slice(bytes) {
-        Ok(()) => {}
-        Err(_) => return Err(Stop::OutOfMemory),
-    }
-    if bytes.len() <= spare && items.capacity() != before {
-        // It does not come to this, but the contract of `extend_from_slice` leaves open whether a vector with room stays in its block.
-        return Err(Stop::OutOfMemory);
-    }
-    Ok(())
-}
-
 /// Appends some bytes to those that wait, at most `most`, and returns how many. None come only at the end of the input.
 fn read_more<R: Source>(
     reader: &mut R,
@@ -74,8 +53,6 @@ fn read_more<R: Source>(
         × (pending.new.items ≡ pending.old.items)) }
     ensures len { IfOk result (λ n. vec_len pending.new ≡ vec_len pending.old + n) }
     ensures bound { IfOk result (λ n. n ≤ most) }
-    ensures in_place { vec_len pending.old + most ≤ vec_capacity pending.old
-        → OnOk result (vec_capacity pending.new ≡ vec_capacity pending.old) }
     ensures failed { result ≡ Err Stop.Device → R.has_failed reader.new ≡ true }
     ensures sure { R.is_sure reader.old ≡ true
         → (R.is_sure reader.new ≡ true) × (result ≢ Err Stop.Device) }
@@ -85,8 +62,10 @@ fn read_more<R: Source>(
         Ok(n) => n,
         Err(_) => return Err(Stop::Device),
     };
-    append(pending, &chunk[..n])?;
-    Ok(n)
+    match pending.extend_from_slice(&chunk[..n]) {
+        Ok(()) => Ok(n),
+        Err(_) => Err(Stop::OutOfMemory),
+    }
 }
 
 /// Reads until a head stands at the front of the input, or none can.
@@ -160,46 +139,6 @@ fn make_room(body: &mut Vec<u8>, n: usize) -> Result<usize, Stop>
     }
 }
 
-/// Reads a body of `n` bytes into a vector that is empty and has no block, and answers whether all of them came. Its block is at most 64 KiB
-/// larger than twice what has come.
-fn fill<R: Source>(
-    reader: &mut R,
-    chunk: &mut [u8],
-    pending: &mut Vec<u8>,
-    body: &mut Vec<u8>,
-    n: usize,
-) -> Result<bool, Stop>
-    requires few { vec_len pending.old ≤ 8192 }
-    requires room { 0 < length chunk.old }
-    requires empty { body.old.items ≡ [] }
-    requires bare { vec_capacity body.old ≡ 0 }
-    ensures body { IfOk result
-        (λ whole. HasBody (prepend_known pending.old.items (R.remaining reader.old))
-        (prepend_known pending.new.items (R.remaining reader.new)) n
-        (if whole then Some body.new.items else None)) }
-    ensures slow { OnOk result (vec_capacity body.new ≤ 2 * vec_len body.new + 65536) }
-    ensures len { vec_len pending.new ≤ 8192 }
-    ensures failed { result ≡ Err Stop.Device → R.has_failed reader.new ≡ true }
-    ensures sure { R.is_sure reader.old ≡ true
-        → (R.is_sure reader.new ≡ true) × (result ≢ Err Stop.Device) }
-{
-    let front = n.min(pending.len());
-    match body.reserve_exact(front) {
-        Ok(()) => {}
-        Err(_) => return Err(Stop::OutOfMemory),
-    }
-    append(body, &pending[..front])?;
-    drop_front(pending, front);
-    while body.len() < n {
-        let room = make_room(body, n)?;
-        let more = read_more(reader, chunk, body, room)?;
-        if more == 0 {
-            return Ok(false);
-        }
-    }
-    Ok(true)
-}
-
 /// Reads a body of `n` bytes; `None` where the input ends before.
 pub(crate) fn read_body<R: Source>(
     alloc: Global,
@@ -220,9 +159,18 @@ pub(crate) fn read_body<R: Source>(
         → (R.is_sure reader.new ≡ true) × (result ≢ Err Stop.Device) }
 {
     let mut body = Vec::new(alloc);
-    if fill(reader, chunk, pending, &mut body, n)? {
-        Ok(Some(body))
-    } else {
-        Ok(None)
+    let front = n.min(pending.len());
+    match body.extend_from_slice(&pending[..front]) {
+        Ok(()) => {}
+        Err(_) => return Err(Stop::OutOfMemory),
     }
+    drop_front(pending, front);
+    while body.len() < n {
+        let room = make_room(&mut body, n)?;
+        let more = read_more(reader, chunk, &mut body, room)?;
+        if more == 0 {
+            return Ok(None);
+        }
+    }
+    Ok(Some(body))
 }

@@ -1,14 +1,12 @@
-use Rattle.std.proofs.Common.{◌≡◌, ◌<◌, ◌≤◌, ◌+◌, ◌*◌, ◌-◌, ◌++◌, [], true, length}
-use Rattle.std.specs.Prelude.{vec_len, vec_capacity}
+use Rattle.std.proofs.Common.{◌≡◌, ◌<◌, ◌≤◌, ◌-◌, ◌++◌, [], true, length}
 use Rattle.std.specs.Io.KnownBytes.{Keeps, prepend_known}
-use Rattle.rw_endpoint.proofs.input.fill.Given as goal
+use Rattle.rw_endpoint.proofs.input.read_body.Given as goal
 
 abbrev pub invariant-loop-body : goal.invariant-loop-body
 invariant-loop-body g l = record {
   kept : Keeps (prepend_known l.fn.pending.items (g.R.Source.remaining l.fn.reader)) (prepend_known (l.body.items ++ l.pending.items) (g.R.Source.remaining l.reader));
   bound : length l.body.items ≤ l.n;
   empty : length l.body.items < l.n → l.pending.items ≡ [];
-  slow : vec_capacity l.body ≤ 2 * vec_len l.body + 65536;
   sure : g.R.Source.is_sure l.fn.reader ≡ true → g.R.Source.is_sure l.reader ≡ true;
 }
 
