@@ -91,7 +91,7 @@ fn commands_of<'a>(alloc: Global, rows: &[&Words]) -> Result<Vec<Command<'a>>, A
 /// The program without its commands.
 fn program<'a>(alloc: Global) -> Command<'a> {
     Command::new(alloc, "rwship")
-        .version("0.1.0")
+        .version("0.2.0")
         .about("Remote-write shipper and receiving head of Prometheus")
         .after_help(help::ALL)
         .subcommand_required(true)
