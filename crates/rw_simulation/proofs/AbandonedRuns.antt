@@ -24,7 +24,7 @@ use Rattle.rw_worker.specs.Transcript.{Exchange}
 use Rattle.rw_worker.specs.Setups.{start_of}
 use Rattle.rw_worker.specs.Steps.{Working, Step, Takes, Freezes, Sends, Waits, working, after, items_of, exchanges_of}
 use Rattle.rw_fleet.specs.ShardHistories.{ShardHistory}
-use Rattle.rw_fleet.specs.Work.{AreResolved, is_compared, lane_of, finished_of, put_of, taken_of, positions_in}
+use Rattle.rw_fleet.specs.Work.{AreResolved, IsWorked, is_compared, lane_of, finished_of, put_of, taken_of, positions_in}
 use Rattle.rw_fleet.specs.Fleets.{Shards, AreAll}
 use Rattle.rw_fleet.specs.declared.joined.StoppedShard.{StoppedShard}
 use Rattle.rw_fleet.specs.declared.joined.Finished.{Finished}
@@ -62,7 +62,7 @@ use Rattle.rw_simulation.proofs.StoppedShards.{has-taken, with-what-is-left}
 use Rattle.rw_simulation.proofs.RisingOrders.{is_in, passing-permutes, passing-rises}
 use Rattle.rw_simulation.proofs.Positions.{position_of, ArePartOf, AreApart, part-of, part-dropped, positions_in-is, all-apart}
 use Rattle.rw_simulation.proofs.FlushedShards.{flushed, flushed_step, flushed_lane, samples_in-flushed, end_in-flushed, exchanges_of-flushed, names-flushed, goes-alike, run-flushed}
-use Rattle.rw_simulation.proofs.StoppedRuns.{Fed, feeds, Known, known-all, Sound, sound-all, AtLast, turned-before, turned-run, begun, fed-all, begins}
+use Rattle.rw_simulation.proofs.StoppedRuns.{Fed, feeds, no_more, none-asked, Known, known-all, Sound, sound-all, AtLast, turned-before, turned-run, begun, fed-all, begins}
 
 -- ---- a shard to which no End is to come has done all
 no_queued : (x : Queued) (xs : List Queued) → [] ≡ x ∷ xs → ⊥
@@ -152,9 +152,9 @@ module _ {T : Type 0} where
   abandoned_in-none [] r = refl
   abandoned_in-none (j ∷ js) r = ap (λ (ps : List ℕ). ps ++ abandoned_in js) (none_long j.abandoned.items (eqb-true (length j.abandoned.items) 0 (and_parts (is_compared j.finished.ends) (length j.abandoned.items == 0) (r 0 j refl)).1)) ∙ abandoned_in-none js (λ k i e. r (suc k) i e)
 
-module _ {T : Type 0} (tells : T → Type 0) (seen : T → List Exchange) (is_for : ℕ → ℕ → T → Type 0) (c : Setup) (config : ConfigFields) (set : IsSetAs c config) (work : CanWork c) where
+module _ {T : Type 0} (tells : T → Type 0) (seen : T → List Exchange) (is_for : ℕ → ℕ → T → Type 0) (c : Setup) (config : ConfigFields) (set : IsSetAs c config) (work : CanWork c) (Asked : (j : StoppedShard T) → IsWorked tells seen is_for j → Type 0) where
   abbrev pub KnownOf : StoppedShard T → Type 0
-  KnownOf = Known tells seen is_for c config set work
+  KnownOf = Known tells seen is_for c config set work Asked
 
   -- the machine is killed, with these shards at the end
   record Killed (done : List (StoppedShard T)) (pieces : List Piece) (all : List Entry) (last : List (StoppedShard T)) (v : World) : Type 0 where
@@ -420,14 +420,14 @@ module _ {T : Type 0} (tells : T → Type 0) (seen : T → List Exchange) (is_fo
   same : length (map lane_of last) ≡ length was.current
   same = same_length was.current (map lane_of last) all.2
 
-  known : AllByRecursion (Known tells seen is_for c s.fleet.config set work) (was.ended ++ last)
-  known = subst (AllByRecursion (Known tells seen is_for c s.fleet.config set work)) all.1 (known-all tells seen is_for c s.fleet.config set work h.joined h.worked h.setup)
+  known : AllByRecursion (Known tells seen is_for c s.fleet.config set work (no_more tells seen is_for)) (was.ended ++ last)
+  known = subst (AllByRecursion (Known tells seen is_for c s.fleet.config set work (no_more tells seen is_for))) all.1 (known-all tells seen is_for c s.fleet.config set work (no_more tells seen is_for) h.joined h.worked h.setup (none-asked tells seen is_for c s.fleet.config set work h.joined h.worked))
 
-  known-last : AllByRecursion (Known tells seen is_for c s.fleet.config set work) last
-  known-last = AllByRecursion-right (Known tells seen is_for c s.fleet.config set work) was.ended last known
+  known-last : AllByRecursion (Known tells seen is_for c s.fleet.config set work (no_more tells seen is_for)) last
+  known-last = AllByRecursion-right (Known tells seen is_for c s.fleet.config set work (no_more tells seen is_for)) was.ended last known
 
-  sound : AllByRecursion (Sound tells seen is_for c s.fleet.config set work) was.ended
-  sound = sound-all tells seen is_for c s.fleet.config set work was.ended (AllByRecursion-left (Known tells seen is_for c s.fleet.config set work) was.ended last known) resolved
+  sound : AllByRecursion (Sound tells seen is_for c s.fleet.config set work (no_more tells seen is_for)) was.ended
+  sound = sound-all tells seen is_for c s.fleet.config set work (no_more tells seen is_for) was.ended (AllByRecursion-left (Known tells seen is_for c s.fleet.config set work (no_more tells seen is_for)) was.ended last known) resolved
 
   placed : Places 0 (p.epochs ++ map lane_of last ∷ []) (sent c.choice s.log.placed)
   placed = subst (λ (ch : Choice). Places 0 (p.epochs ++ map lane_of last ∷ []) (sent ch s.log.placed)) (sym choice) (whole_placed was.epoch (map lane_of was.ended) was.current (map lane_of last) (sent s.log.choice s.log.placed) p all.2)
@@ -440,12 +440,12 @@ module _ {T : Type 0} (tells : T → Type 0) (seen : T → List Exchange) (is_fo
   abbrev origin : World
   origin = begun tells seen c s.log.pieces fed fed_are
 
-  at-last : AtLast tells seen is_for c s.fleet.config set work was.ended s.log.pieces (map lane_of last) [] s.log.placed origin
-  at-last = turned-run tells seen is_for c s.fleet.config set work p.epochs (map lane_of last) 0 [] was.ended [] s.log.placed h.read.0 s.log.pieces origin sound p.ended_is placed (turned-before p.epochs (map lane_of last) p.turned (subst IsShardCount (sym same) number))
+  at-last : AtLast tells seen is_for c s.fleet.config set work (no_more tells seen is_for) was.ended s.log.pieces (map lane_of last) [] s.log.placed origin
+  at-last = turned-run tells seen is_for c s.fleet.config set work (no_more tells seen is_for) p.epochs (map lane_of last) 0 [] was.ended [] s.log.placed h.read.0 s.log.pieces origin sound p.ended_is placed (turned-before p.epochs (map lane_of last) p.turned (subst IsShardCount (sym same) number))
       (subst (λ (i : ℕ). BeginsEpoch c (past_of tells seen []) s.log.pieces 0 i [] origin) (sym (first-is p.epochs ∙ first)) (begins tells seen c s.log.pieces fed fed_are)) h.read.1
 
-  last-run : Reaches ⊥ c at-last.reach.world (Killed tells seen is_for c s.fleet.config set work was.ended s.log.pieces (at-last.now ++ at-last.later) last)
-  last-run = abandoned-run tells seen is_for c s.fleet.config set work at-last.epoch last known-last (subst (λ (m : ℕ). 1 ≤ m) (sym same ∙ length-map last lane_of) number.0) at-last.now at-last.later at-last.dealt h.read.0 was.ended s.log.pieces at-last.reach.world
+  last-run : Reaches ⊥ c at-last.reach.world (Killed tells seen is_for c s.fleet.config set work (no_more tells seen is_for) was.ended s.log.pieces (at-last.now ++ at-last.later) last)
+  last-run = abandoned-run tells seen is_for c s.fleet.config set work (no_more tells seen is_for) at-last.epoch last known-last (subst (λ (m : ℕ). 1 ≤ m) (sym same ∙ length-map last lane_of) number.0) at-last.now at-last.later at-last.dealt h.read.0 was.ended s.log.pieces at-last.reach.world
       (subst (λ (m : ℕ). BeginsEpoch c (past_of tells seen was.ended) s.log.pieces at-last.epoch m at-last.now at-last.reach.world) (length-map last lane_of) at-last.reach.holds)
       (h.read.1 ∙ ap (λ (xs : List Entry). xs ++ h.read.0) at-last.are ∙ append_assoc at-last.now at-last.later h.read.0)
 
@@ -459,7 +459,7 @@ module _ {T : Type 0} (tells : T → Type 0) (seen : T → List Exchange) (is_fo
       ∙ ap (run_freely c last-run.events) at-last.reach.is
       ∙ last-run.is
 
-  over : Killed tells seen is_for c s.fleet.config set work was.ended s.log.pieces (at-last.now ++ at-last.later) last last-run.world
+  over : Killed tells seen is_for c s.fleet.config set work (no_more tells seen is_for) was.ended s.log.pieces (at-last.now ++ at-last.later) last last-run.world
   over = last-run.holds
 
   tallied : IsTallied c (past_of tells seen h.joined) over.epoch 0 s.log.placed (λ k. empty) (world_of c events)

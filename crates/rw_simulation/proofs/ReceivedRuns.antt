@@ -26,7 +26,7 @@ use Rattle.rw_worker.specs.Steps.{Step, exchanges_of, items_of}
 use Rattle.rw_head.specs.Head.{State}
 use Rattle.rw_head.specs.Store.{list_of}
 use Rattle.rw_fleet.specs.ShardHistories.{ShardHistory, put_into}
-use Rattle.rw_fleet.specs.Work.{AreResolved, AreEndedBy, lane_of, finished_of, put_of, queue_of}
+use Rattle.rw_fleet.specs.Work.{AreResolved, AreWorked, IsWorked, AreEndedBy, lane_of, finished_of, put_of}
 use Rattle.rw_fleet.specs.Fleets.{Shards, AreAll, EndBy}
 use Rattle.rw_fleet.specs.declared.joined.StoppedShard.{StoppedShard}
 use Rattle.rw_fleet.specs.declared.joined.Finished.{Finished}
@@ -55,13 +55,13 @@ use Rattle.rw_simulation.specs.EpochRuns.{ShardFate, AreUnsent, IsAllPut, Reache
 use Rattle.rw_simulation.specs.FleetRuns.{IsShardRun, fate_at}
 use Rattle.rw_simulation.specs.StoppedRuns.{IsSetAs, NamesAll, first_number}
 use Rattle.rw_simulation.specs.Arrivals.{Arrival, Receives, IsOneReceiver}
-use Rattle.rw_simulation.specs.Received.{AreExchangesOf, IsHeld, ReceivesInOrder, ReceivesAbandoned}
+use Rattle.rw_simulation.specs.Received.{AreOfSteps, AreExchangesOf, IsHeld, ReceivesInOrder, ReceivesAbandoned}
 use Rattle.rw_simulation.proofs.EntryRuns.{over_not}
 use Rattle.rw_simulation.proofs.ReshardRuns.{BeginsEpoch, asked, draining, ended, next, next-begins, restarts}
 use Rattle.rw_simulation.proofs.EndRuns.{IsResolvedFate, IsOver, end-all, tallies-at, drained-all}
 use Rattle.rw_simulation.proofs.Tallies.{Passes, lists-at, tallied-still, tallied-next}
-use Rattle.rw_simulation.proofs.Pasts.{get-first, get-either, get_map, map_get, past_of, passes-of, seen-is, worked-at, names-all}
-use Rattle.rw_simulation.proofs.StoppedRuns.{Fed, feeds, Known, known-all, Sound, sound-all, Split, split_map, Parted, part, none_joined, AreBefore, turned-before, Found, find, steps_in, lane-at, fates, fate-end, fate-resolved, reports-at, begun, fed-all, begins}
+use Rattle.rw_simulation.proofs.Pasts.{get-first, get-either, get_map, map_get, past_of, passes-of, names-all}
+use Rattle.rw_simulation.proofs.StoppedRuns.{Fed, feeds, Known, AreAsked, known-all, Sound, sound-all, Split, split_map, Parted, part, none_joined, AreBefore, turned-before, Found, find, steps_in, lane-at, fates, fate-end, fate-resolved, reports-at, begun, fed-all, begins}
 use Rattle.rw_simulation.proofs.AbandonedRuns as soft
 use Rattle.rw_simulation.proofs.AbandonedRuns.{KnownOf, FoundAt, find-at, come, soft_lane}
 use Rattle.rw_simulation.proofs.FlushedShards.{flushed, exchanges_of-flushed}
@@ -162,20 +162,19 @@ module _ {T : Type 0} (tells : T → Type 0) (seen : T → List Exchange) (is_fo
   abbrev pub c : Setup
   c = widened c0 wide
 
+  -- its exchanges are these, and what it was put fits
+  pub record IsTold (j : StoppedShard T) (h : IsWorked tells seen is_for j) : Type 0 where
+    pub exchanges : exs j.worker.value.queue.epoch j.worker.value.queue.shard ≡ exchanges_of h.report.steps
+    pub fits : length (put_of j.finished.ends) ≤ wide
+
   abbrev pub IsSound : StoppedShard T → Type 0
-  IsSound = Sound tells seen is_for c0 config set work
+  IsSound = Sound tells seen is_for c0 config set work IsTold
 
   abbrev pub Arrived : ℕ → World → Type 0
   Arrived m w = HasArrived c exs arrivals heads one m w
 
   abbrev pub SentBelow : ℕ → World → Type 0
   SentBelow end w = (e k i : ℕ) (x : Exchange) → e < end → slice_get (exs e k) i ≡ Some x → (r : Request) × (slice_get (requests_of e k w.requests) i ≡ Some r) × (r.bytes ≡ x.request)
-
-  -- what it told are these exchanges, and what it was put fits
-  pub record IsTold (j : StoppedShard T) : Type 0 where
-    pub tell : tells j.finished.transport
-    pub exchanges : exs (queue_of j.finished.ends).epoch (queue_of j.finished.ends).shard ≡ seen j.finished.transport
-    pub fits : length (put_of j.finished.ends) ≤ wide
 
   -- a world on the way, with these arrivals made
   pub record IsReached (m epoch : ℕ) (w : World) : Type 0 where
@@ -191,53 +190,45 @@ module _ {T : Type 0} (tells : T → Type 0) (seen : T → List Exchange) (is_fo
   }
 
   -- ---- one epoch
-  module _ (epoch : ℕ) (kd : Kind) (js : List (StoppedShard T)) (sound : AllByRecursion IsSound js) (told : AllByRecursion IsTold js) (some_lanes : 1 ≤ length (map lane_of js)) (by : AreEndedBy kd (map put_into (map lane_of js))) (before es : List Entry) (dealt : IsDealt epoch (map lane_of js) (gather_from (sent_of c.choice) before es)) where
+  module _ (epoch : ℕ) (kd : Kind) (js : List (StoppedShard T)) (sound : AllByRecursion IsSound js) (some_lanes : 1 ≤ length (map lane_of js)) (by : AreEndedBy kd (map put_into (map lane_of js))) (before es : List Entry) (dealt : IsDealt epoch (map lane_of js) (gather_from (sent_of c.choice) before es)) where
     abbrev pub lanes : List ShardHistory
     lanes = map lane_of js
 
     abbrev pub steps : ℕ → List Step
-    steps k = steps_in tells seen is_for c0 config set work js sound k
+    steps k = steps_in tells seen is_for c0 config set work IsTold js sound k
 
     abbrev pub goals : ℕ → ShardFate
-    goals = fates tells seen is_for c0 config set work epoch kd js sound some_lanes by before es dealt
+    goals = fates tells seen is_for c0 config set work IsTold epoch kd js sound some_lanes by before es dealt
 
     pub real-at : (k : ℕ) (l : ShardHistory) → slice_get lanes k ≡ Some l → IsShardRun c0 epoch k l (steps k) []
-    real-at k l e = lane-at tells seen is_for c0 config set work epoch kd js sound some_lanes by before es dealt k l e
+    real-at k l e = lane-at tells seen is_for c0 config set work IsTold epoch kd js sound some_lanes by before es dealt k l e
 
     pub runs : (k : ℕ) (l : ShardHistory) → slice_get lanes k ≡ Some l → IsShardRun c epoch k l (steps k) []
     runs k l e = let h = real-at k l e in record { target = h.target; batch = h.batch; epoch_is = h.epoch_is; shard_is = h.shard_is; history = h.history; allowed = h.allowed; split = h.split; within = omega arith }
 
     pub fits-at : (k : ℕ) (l : ShardHistory) → slice_get lanes k ≡ Some l → length l.put ≤ wide
-    fits-at k l e = let g = map_get lane_of js k l e in subst (λ (x : ShardHistory). length x.put ≤ wide) g.2 (all-at IsTold js k g.0 told g.1).fits
+    fits-at k l e = let f = find tells seen is_for c0 config set work IsTold js sound k l e in subst (λ (x : ShardHistory). length x.put ≤ wide) f.lane f.sound.asked.fits
 
     pub first-runs : (k : ℕ) (l : ShardHistory) → slice_get lanes k ≡ Some l → IsShardRun c epoch k l [] (put_by (slice_get lanes k))
     first-runs k l e = let h = real-at k l e in record { target = h.target; batch = h.batch; epoch_is = h.epoch_is; shard_is = h.shard_is; history = h.history; allowed = tt; split = sym (ap put_by e); within = subst (λ (o : Option ShardHistory). length (put_by o) ≤ wide) (sym e) (fits-at k l e) }
 
     pub told-at : (k : ℕ) (l : ShardHistory) → slice_get lanes k ≡ Some l → exchanges_of (steps k) ≡ exs epoch k
-    told-at k l e =
-        ap exchanges_of (sym f.steps)
-        ∙ sym (seen-is tells seen is_for f.j f.sound.worked t.tell)
-        ∙ sym t.exchanges
-        ∙ (λ i. exs ((f.sound.worked.queue i).epoch) ((f.sound.worked.queue i).shard))
-        ∙ (λ i. exs (d.0 i) (d.1 i))
+    told-at k l e = ap exchanges_of (sym f.steps) ∙ sym f.sound.asked.exchanges ∙ (λ i. exs (d.0 i) (d.1 i))
       where
-        f : Found tells seen is_for c0 config set work js sound k l
-        f = find tells seen is_for c0 config set work js sound k l e
-
-        t : IsTold f.j
-        t = all-at IsTold js k f.j told f.at
+        f : Found tells seen is_for c0 config set work IsTold js sound k l
+        f = find tells seen is_for c0 config set work IsTold js sound k l e
 
         d : (f.j.worker.value.queue.epoch ≡ epoch) × (f.j.worker.value.queue.shard ≡ k)
         d = let q = dealt.each k (lane_of f.j) (get_map lane_of js k f.j f.at) in (q.0, q.1)
 
     pub first-end : (k : ℕ) → k < length lanes → (first_at lanes k).end ≡ Some kd
-    first-end k lt = same-end lanes steps (λ k. []) k ∙ fate-end tells seen is_for c0 config set work epoch kd js sound some_lanes by before es dealt k lt
+    first-end k lt = same-end lanes steps (λ k. []) k ∙ fate-end tells seen is_for c0 config set work IsTold epoch kd js sound some_lanes by before es dealt k lt
 
     pub resolved : (k : ℕ) → k < length lanes → IsResolvedFate (goals k)
-    resolved = fate-resolved tells seen is_for c0 config set work epoch kd js sound some_lanes by before es dealt
+    resolved = fate-resolved tells seen is_for c0 config set work IsTold epoch kd js sound some_lanes by before es dealt
 
     pub pass : (done : List (StoppedShard T)) → Passes c (past_of tells seen done) epoch (length lanes) (past_of tells seen (done ++ js)) (λ k. (goals k).worker.ledger.names) (λ k. (goals k).requests)
-    pass done = passes-of tells seen c epoch (length lanes) done js goals (sym (length-map js lane_of)) (reports-at tells seen is_for c0 config set work epoch kd js sound some_lanes by before es dealt)
+    pass done = passes-of tells seen c epoch (length lanes) done js goals (sym (length-map js lane_of)) (reports-at tells seen is_for c0 config set work IsTold epoch kd js sound some_lanes by before es dealt)
 
     pub few-then : (m : ℕ) → (m ≡ length arrivals) ⊎ ((a : Arrival) × (slice_get arrivals m ≡ Some a) × (epoch < a.epoch)) → m ≤ length arrivals
     few-then m (inl e) = equal m (length arrivals) e
@@ -357,9 +348,9 @@ module _ {T : Type 0} (tells : T → Type 0) (seen : T → List Exchange) (is_fo
     pub at : IsReached m epoch world
     pub within : AreWithin exs epoch (last ∷ [])
 
-  pub turned-arrive : (turned : List (List ShardHistory)) (last : List ShardHistory) (epoch m : ℕ) (done js : List (StoppedShard T)) (before es rest : List Entry) (pieces : List Piece) (w : World) → AllByRecursion IsSound js → AllByRecursion IsTold js → map lane_of js ≡ joined turned
+  pub turned-arrive : (turned : List (List ShardHistory)) (last : List ShardHistory) (epoch m : ℕ) (done js : List (StoppedShard T)) (before es rest : List Entry) (pieces : List Piece) (w : World) → AllByRecursion IsSound js → map lane_of js ≡ joined turned
       → Places epoch (turned ++ last ∷ []) (gather_from (sent_of c.choice) before es) → AreBefore turned last → AreWithin exs epoch (turned ++ last ∷ []) → BeginsEpoch c (past_of tells seen done) pieces epoch (first_number turned last) before w → IsReached m epoch w → entries pieces ≡ before ++ (es ++ rest) → AtLast (done ++ js) pieces last before es
-  turned-arrive [] last epoch m done js before es rest pieces w sound told e p turned within b at all = record {
+  turned-arrive [] last epoch m done js before es rest pieces w sound e p turned within b at all = record {
     epoch = epoch;
     now = [];
     later = es;
@@ -368,14 +359,14 @@ module _ {T : Type 0} (tells : T → Type 0) (seen : T → List Exchange) (is_fo
     m = m;
     world = w;
     begins = subst (λ (bs : List Entry). BeginsEpoch c (past_of tells seen (done ++ js)) pieces epoch (length last) bs w) (sym (append-nil before))
-        (subst (λ (ks : List (StoppedShard T)). BeginsEpoch c (past_of tells seen ks) pieces epoch (length last) before w) (sym (ap (λ (ks : List (StoppedShard T)). done ++ ks) (none_joined tells seen is_for c0 config set work js e) ∙ append-nil done)) b);
+        (subst (λ (ks : List (StoppedShard T)). BeginsEpoch c (past_of tells seen ks) pieces epoch (length last) before w) (sym (ap (λ (ks : List (StoppedShard T)). done ++ ks) (none_joined tells seen is_for c0 config set work IsTold js e) ∙ append-nil done)) b);
     at = at;
     within = within;
   }
-  turned-arrive (lanes ∷ turned) last epoch m done js before es rest pieces w sound told e p turns within b at all =
-      with-later (turned-arrive turned last (suc epoch) _ (done ++ sp.first) sp.later (before ++ pt.now) pt.later rest pieces _ (AllByRecursion-right IsSound sp.first sp.later both) (AllByRecursion-right IsTold sp.first sp.later both_told) sp.later_is (subst (Places (suc epoch) (turned ++ last ∷ [])) (sym pt.rest_is) p.4) turns.3 (within-later exs epoch lanes (turned ++ last ∷ []) within)
-      (later-begins epoch kind.Reshard sp.first now now_told some_now by before pt.now dealt within_now done pieces (pt.later ++ rest) m w begun_so at begins refl (first_number turned last) turns.2.0 turns.2.1)
-      (later-at epoch kind.Reshard sp.first now now_told some_now by before pt.now dealt within_now done pieces (pt.later ++ rest) m w begun_so at begins refl (first_number turned last) turns.2.0 turns.2.1)
+  turned-arrive (lanes ∷ turned) last epoch m done js before es rest pieces w sound e p turns within b at all =
+      with-later (turned-arrive turned last (suc epoch) _ (done ++ sp.first) sp.later (before ++ pt.now) pt.later rest pieces _ (AllByRecursion-right IsSound sp.first sp.later both) sp.later_is (subst (Places (suc epoch) (turned ++ last ∷ [])) (sym pt.rest_is) p.4) turns.3 (within-later exs epoch lanes (turned ++ last ∷ []) within)
+      (later-begins epoch kind.Reshard sp.first now some_now by before pt.now dealt within_now done pieces (pt.later ++ rest) m w begun_so at begins refl (first_number turned last) turns.2.0 turns.2.1)
+      (later-at epoch kind.Reshard sp.first now some_now by before pt.now dealt within_now done pieces (pt.later ++ rest) m w begun_so at begins refl (first_number turned last) turns.2.0 turns.2.1)
       (begins ∙ sym (append_assoc before pt.now (pt.later ++ rest))))
     where
       sp : Split lane_of js lanes (joined turned)
@@ -387,14 +378,8 @@ module _ {T : Type 0} (tells : T → Type 0) (seen : T → List Exchange) (is_fo
       both : AllByRecursion IsSound (sp.first ++ sp.later)
       both = subst (AllByRecursion IsSound) sp.are sound
 
-      both_told : AllByRecursion IsTold (sp.first ++ sp.later)
-      both_told = subst (AllByRecursion IsTold) sp.are told
-
       now : AllByRecursion IsSound sp.first
       now = AllByRecursion-left IsSound sp.first sp.later both
-
-      now_told : AllByRecursion IsTold sp.first
-      now_told = AllByRecursion-left IsTold sp.first sp.later both_told
 
       same : lanes ≡ map lane_of sp.first
       same = sym sp.first_is
@@ -436,29 +421,30 @@ module _ {T : Type 0} (tells : T → Type 0) (seen : T → List Exchange) (is_fo
       }
 
   -- ---- the last epoch, of which samples may be left: no End is put
-  module _ (epoch : ℕ) (js : List (StoppedShard T)) (known : AllByRecursion (KnownOf tells seen is_for c0 config set work) js) (told : AllByRecursion IsTold js) (some : 1 ≤ length js) (before es : List Entry) (dealt : IsDealt epoch (map lane_of js) (gather_from (sent_of c.choice) before es)) (within : (k i : ℕ) (x : Exchange) → slice_get (exs epoch k) i ≡ Some x → k < length js)
+  module _ (epoch : ℕ) (js : List (StoppedShard T)) (known : AllByRecursion (KnownOf tells seen is_for c0 config set work IsTold) js) (some : 1 ≤ length js) (before es : List Entry) (dealt : IsDealt epoch (map lane_of js) (gather_from (sent_of c.choice) before es)) (within : (k i : ℕ) (x : Exchange) → slice_get (exs epoch k) i ≡ Some x → k < length js)
       (done : List (StoppedShard T)) (pieces : List Piece) (rest : List Entry) (m : ℕ) (w : World) (b : BeginsEpoch c (past_of tells seen done) pieces epoch (length js) before w) (at : IsReached m epoch w) (all : entries pieces ≡ before ++ (es ++ rest)) where
     abbrev pub soft_lanes : List ShardHistory
-    soft_lanes = map (soft_lane tells seen is_for c0 config set work) js
+    soft_lanes = map (soft_lane tells seen is_for c0 config set work IsTold) js
 
     abbrev pub soft_steps : ℕ → List Step
-    soft_steps k = soft.steps_in tells seen is_for c0 config set work js known k
+    soft_steps k = soft.steps_in tells seen is_for c0 config set work IsTold js known k
 
     abbrev pub soft_left : ℕ → List Item
-    soft_left k = soft.rest_in tells seen is_for c0 config set work js known k
+    soft_left k = soft.rest_in tells seen is_for c0 config set work IsTold js known k
 
     abbrev pub soft_goals : ℕ → ShardFate
-    soft_goals = fate_at soft_lanes (λ k. soft.steps_in tells seen is_for c0 config set work js known k) (λ k. soft.rest_in tells seen is_for c0 config set work js known k)
+    soft_goals = fate_at soft_lanes (λ k. soft.steps_in tells seen is_for c0 config set work IsTold js known k) (λ k. soft.rest_in tells seen is_for c0 config set work IsTold js known k)
 
     pub count-is : length soft_lanes ≡ length js
-    count-is = soft.n-is tells seen is_for c0 config set work epoch js known some before es dealt
+    count-is = soft.n-is tells seen is_for c0 config set work IsTold epoch js known some before es dealt
 
     pub run-of : (k : ℕ) (l : ShardHistory) → slice_get soft_lanes k ≡ Some l → IsShardRun c0 epoch k l (soft_steps k) (soft_left k)
-    run-of k l e = soft.runs tells seen is_for c0 config set work epoch js known some before es dealt k l e
+    run-of k l e = soft.runs tells seen is_for c0 config set work IsTold epoch js known some before es dealt k l e
 
     pub soft-fits : (k : ℕ) (l : ShardHistory) → slice_get soft_lanes k ≡ Some l → length l.put ≤ wide
-    soft-fits k l e = let g = map_get (soft_lane tells seen is_for c0 config set work) js k l e in
-        subst (λ (x : ShardHistory). length x.put ≤ wide) g.2 (subst (λ (n : ℕ). n ≤ wide) (sym (length-map (put_of g.0.finished.ends) flushed)) (all-at IsTold js k g.0 told g.1).fits)
+    soft-fits k l e = let g = map_get (soft_lane tells seen is_for c0 config set work IsTold) js k l e in
+        let f = find-at tells seen is_for c0 config set work IsTold js known k g.0 g.1 in
+        subst (λ (x : ShardHistory). length x.put ≤ wide) g.2 (subst (λ (n : ℕ). n ≤ wide) (sym (length-map (put_of g.0.finished.ends) flushed)) (subst (λ (x : StoppedShard T). length (put_of x.finished.ends) ≤ wide) f.same f.known.asked.fits))
 
     pub left_fits : (put taken left n : ℕ) → put ≡ taken + left → put ≤ n → left ≤ n
     left_fits put taken left n e le = omega arith
@@ -479,25 +465,16 @@ module _ {T : Type 0} (tells : T → Type 0) (seen : T → List Exchange) (is_fo
     soft-first k l e = let h = run-of k l e in record { target = h.target; batch = h.batch; epoch_is = h.epoch_is; shard_is = h.shard_is; history = h.history; allowed = tt; split = sym (ap put_by e); within = subst (λ (o : Option ShardHistory). length (put_by o) ≤ wide) (sym e) (soft-fits k l e) }
 
     pub soft-told : (k : ℕ) (l : ShardHistory) → slice_get soft_lanes k ≡ Some l → exchanges_of (soft_steps k) ≡ exs epoch k
-    soft-told k l e =
-        ap exchanges_of (sym f.steps)
-        ∙ exchanges_of-flushed f.known.worked.report.steps
-        ∙ sym (seen-is tells seen is_for f.it f.known.worked t.tell)
-        ∙ sym t.exchanges
-        ∙ (λ i. exs ((f.known.worked.queue i).epoch) ((f.known.worked.queue i).shard))
-        ∙ (λ i. exs (d.0 i) (d.1 i))
+    soft-told k l e = ap exchanges_of (sym f.steps) ∙ exchanges_of-flushed f.known.worked.report.steps ∙ sym f.known.asked.exchanges ∙ (λ i. exs (d.0 i) (d.1 i))
       where
-        g : (j : StoppedShard T) × (slice_get js k ≡ Some j) × (soft_lane tells seen is_for c0 config set work j ≡ l)
-        g = map_get (soft_lane tells seen is_for c0 config set work) js k l e
+        g : (j : StoppedShard T) × (slice_get js k ≡ Some j) × (soft_lane tells seen is_for c0 config set work IsTold j ≡ l)
+        g = map_get (soft_lane tells seen is_for c0 config set work IsTold) js k l e
 
-        f : FoundAt tells seen is_for c0 config set work js known k g.0
-        f = find-at tells seen is_for c0 config set work js known k g.0 g.1
+        f : FoundAt tells seen is_for c0 config set work IsTold js known k g.0
+        f = find-at tells seen is_for c0 config set work IsTold js known k g.0 g.1
 
         at_it : slice_get js k ≡ Some f.it
         at_it = g.1 ∙ ap Some (sym f.same)
-
-        t : IsTold f.it
-        t = all-at IsTold js k f.it told at_it
 
         d : (f.it.worker.value.queue.epoch ≡ epoch) × (f.it.worker.value.queue.shard ≡ k)
         d = let q = dealt.each k (lane_of f.it) (get_map lane_of js k f.it at_it) in (q.0, q.1)
@@ -506,10 +483,10 @@ module _ {T : Type 0} (tells : T → Type 0) (seen : T → List Exchange) (is_fo
     soft-within = subst (λ (n : ℕ). (k i : ℕ) (x : Exchange) → slice_get (exs epoch k) i ≡ Some x → k < n) (sym count-is) within
 
     pub soft-open : (k : ℕ) → (first_at soft_lanes k).end ≡ None
-    soft-open k = same-end soft_lanes (λ k. soft.steps_in tells seen is_for c0 config set work js known k) (λ k. soft.rest_in tells seen is_for c0 config set work js known k) k ∙ soft.goal-open tells seen is_for c0 config set work epoch js known some before es dealt k (slice_get soft_lanes k) refl
+    soft-open k = same-end soft_lanes (λ k. soft.steps_in tells seen is_for c0 config set work IsTold js known k) (λ k. soft.rest_in tells seen is_for c0 config set work IsTold js known k) k ∙ soft.goal-open tells seen is_for c0 config set work IsTold epoch js known some before es dealt k (slice_get soft_lanes k) refl
 
     pub soft-put : Reaches (AreUnsent (first_at soft_lanes)) c w (IsAllPut c (past_of tells seen done) pieces epoch (length soft_lanes) (first_at soft_lanes) (before ++ es))
-    soft-put = put-first c exs arrivals heads one (past_of tells seen done) pieces epoch soft_lanes before es rest w room work.batch (soft.some_lanes tells seen is_for c0 config set work epoch js known some before es dealt) (soft.dealt-so tells seen is_for c0 config set work epoch js known some before es dealt) soft-first
+    soft-put = put-first c exs arrivals heads one (past_of tells seen done) pieces epoch soft_lanes before es rest w room work.batch (soft.some_lanes tells seen is_for c0 config set work IsTold epoch js known some before es dealt) (soft.dealt-so tells seen is_for c0 config set work IsTold epoch js known some before es dealt) soft-first
         (subst (λ (n : ℕ). BeginsEpoch c (past_of tells seen done) pieces epoch n before w) (sym count-is) b) all
 
     pub soft-at : IsReached m epoch soft-put.world
@@ -525,15 +502,15 @@ module _ {T : Type 0} (tells : T → Type 0) (seen : T → List Exchange) (is_fo
     }
 
     abbrev pub SoftGone : Type 0
-    SoftGone = Gone c exs arrivals heads one (past_of tells seen done) epoch soft_lanes (λ k. soft.steps_in tells seen is_for c0 config set work js known k) (λ k. soft.rest_in tells seen is_for c0 config set work js known k) (before ++ es) soft-put.world soft-put.holds.under.going.0 soft-within soft-told soft-runs
+    SoftGone = Gone c exs arrivals heads one (past_of tells seen done) epoch soft_lanes (λ k. soft.steps_in tells seen is_for c0 config set work IsTold js known k) (λ k. soft.rest_in tells seen is_for c0 config set work IsTold js known k) (before ++ es) soft-put.world soft-put.holds.under.going.0 soft-within soft-told soft-runs
 
     pub soft-gone : SoftGone
-    soft-gone = goes c exs arrivals heads one (past_of tells seen done) epoch soft_lanes (λ k. soft.steps_in tells seen is_for c0 config set work js known k) (λ k. soft.rest_in tells seen is_for c0 config set work js known k) (before ++ es) soft-put.world soft-put.holds.under.going.0 soft-within soft-told soft-runs m soft-put.world soft-at.few soft-over soft-at.arrived soft-at.sent
+    soft-gone = goes c exs arrivals heads one (past_of tells seen done) epoch soft_lanes (λ k. soft.steps_in tells seen is_for c0 config set work IsTold js known k) (λ k. soft.rest_in tells seen is_for c0 config set work IsTold js known k) (before ++ es) soft-put.world soft-put.holds.under.going.0 soft-within soft-told soft-runs m soft-put.world soft-at.few soft-over soft-at.arrived soft-at.sent
 
     pub soft-tallied : IsTallied c (past_of tells seen (done ++ js)) (suc epoch) 0 (before ++ es) (λ k. empty) soft-gone.world
     soft-tallied = tallied-next c (past_of tells seen done) epoch (length soft_lanes) (past_of tells seen (done ++ js)) (before ++ es) soft-gone.over.parts (λ k. (soft_goals k).worker.ledger.names) (λ k. (soft_goals k).requests) soft-gone.world soft-gone.world [] 0 soft-gone.over.tallied refl refl refl
         (tallies-at epoch (length soft_lanes) soft_goals soft-gone.world.requests soft-gone.over.parts soft-gone.world.shards soft-gone.over.count soft-gone.over.done)
-        (passes-of tells seen c epoch (length soft_lanes) done js soft_goals (sym count-is) (soft.reports-at tells seen is_for c0 config set work epoch js known some before es dealt))
+        (passes-of tells seen c epoch (length soft_lanes) done js soft_goals (sym count-is) (soft.reports-at tells seen is_for c0 config set work IsTold epoch js known some before es dealt))
 
     pub soft-pieces : soft-gone.world.pieces ≡ pieces
     soft-pieces = ap (λ (x : World). x.pieces) soft-gone.over.same ∙ soft-put.holds.under.pieces_are
@@ -584,7 +561,7 @@ held-so c s r v head events is head_is pieces_are choice named all = record {
 
 module _ {T : Type 0} (tells : T → Type 0) (seen : T → List Exchange) (is_for : ℕ → ℕ → T → Type 0) (c0 : Setup) (s : Shipping T) (r : Report T) (fed : List Fed) (h : HasStopped tells seen is_for s r) (was : Shards T) (p : PlacesAll s.log was) (set : IsSetAs c0 s.fleet.config) (choice : c0.choice ≡ s.log.choice) (work : CanWork c0) (fed_are : s.log.pieces ≡ map piece_of fed)
     (alls : AreAll was h.joined) (resolved : AreResolved was.ended) (number : IsShardCount (length was.current)) (first : first_number p.epochs was.current ≡ c0.shards)
-    (exs : ℕ → ℕ → List Exchange) (arrivals : List Arrival) (heads : ℕ → State) (told : AreExchangesOf tells seen r.workers.items exs) (one : IsOneReceiver c0 exs arrivals heads) where
+    (exs : ℕ → ℕ → List Exchange) (arrivals : List Arrival) (heads : ℕ → State) (told : AreExchangesOf tells seen is_for h.joined h.worked exs) (one : IsOneReceiver c0 exs arrivals heads) where
   abbrev wide : ℕ
   wide = total_put h.joined
 
@@ -597,40 +574,34 @@ module _ {T : Type 0} (tells : T → Type 0) (seen : T → List Exchange) (is_fo
   one-so : IsOneReceiver setup exs arrivals heads
   one-so = one-wide c0 wide exs arrivals heads one
 
+  abbrev AskedHere : (j : StoppedShard T) → IsWorked tells seen is_for j → Type 0
+  AskedHere = IsTold tells seen is_for c0 s.fleet.config set work wide room exs arrivals heads one-so
+
   abbrev IsSoundHere : StoppedShard T → Type 0
-  IsSoundHere = Sound tells seen is_for c0 s.fleet.config set work
+  IsSoundHere = Sound tells seen is_for c0 s.fleet.config set work AskedHere
 
   abbrev IsKnownHere : StoppedShard T → Type 0
-  IsKnownHere = Known tells seen is_for c0 s.fleet.config set work
-
-  abbrev IsToldHere : StoppedShard T → Type 0
-  IsToldHere = IsTold tells seen is_for c0 s.fleet.config set work wide room exs arrivals heads one-so
+  IsKnownHere = Known tells seen is_for c0 s.fleet.config set work AskedHere
 
   abbrev last : List (StoppedShard T)
   last = alls.0
 
   -- ---- what is known of the shards
+  asked-all : (js : List (StoppedShard T)) (w : AreWorked tells seen is_for js) → AreOfSteps tells seen is_for exs js w → AllByRecursion (λ (j : StoppedShard T). length (put_of j.finished.ends) ≤ wide) js → AreAsked tells seen is_for c0 s.fleet.config set work AskedHere js w
+  asked-all [] w e f = tt
+  asked-all (j ∷ js) w e f = (record { exchanges = e.0; fits = f.0 }, asked-all js w.1 e.1 f.1)
+
+  known-joined : AllByRecursion IsKnownHere h.joined
+  known-joined = known-all tells seen is_for c0 s.fleet.config set work AskedHere h.joined h.worked h.setup (asked-all h.joined h.worked told.each (fits-all wide h.joined (itself wide)))
+
   known : AllByRecursion IsKnownHere (was.ended ++ last)
-  known = subst (AllByRecursion IsKnownHere) alls.1 (known-all tells seen is_for c0 s.fleet.config set work h.joined h.worked h.setup)
+  known = subst (AllByRecursion IsKnownHere) alls.1 known-joined
 
   sound-ended : AllByRecursion IsSoundHere was.ended
-  sound-ended = sound-all tells seen is_for c0 s.fleet.config set work was.ended (AllByRecursion-left IsKnownHere was.ended last known) resolved
+  sound-ended = sound-all tells seen is_for c0 s.fleet.config set work AskedHere was.ended (AllByRecursion-left IsKnownHere was.ended last known) resolved
 
   known-last : AllByRecursion IsKnownHere last
   known-last = AllByRecursion-right IsKnownHere was.ended last known
-
-  worker-at : (i : ℕ) (j : StoppedShard T) → slice_get h.joined i ≡ Some j → slice_get r.workers.items i ≡ Some j.finished
-  worker-at i j e = ap (λ (fs : List (Finished T)). slice_get fs i) h.workers ∙ get_map finished_of h.joined i j e
-
-  told-all : AllByRecursion IsToldHere (was.ended ++ last)
-  told-all = subst (AllByRecursion IsToldHere) alls.1 (all-from IsToldHere h.joined (λ i j e. record {
-    tell = told.tell i j.finished (worker-at i j e);
-    exchanges = told.each i j.finished (worker-at i j e);
-    fits = all-at (λ (x : StoppedShard T). length (put_of x.finished.ends) ≤ wide) h.joined i j (fits-all wide h.joined (itself wide)) e;
-  }))
-
-  told-last : AllByRecursion IsToldHere last
-  told-last = AllByRecursion-right IsToldHere was.ended last told-all
 
   same : length (map lane_of last) ≡ length was.current
   same = same_length was.current (map lane_of last) alls.2
@@ -645,23 +616,14 @@ module _ {T : Type 0} (tells : T → Type 0) (seen : T → List Exchange) (is_fo
   lanes-are = whole_is was.epoch (map lane_of was.ended) was.current (map lane_of last) (map lane_of h.joined) (sent s.log.choice s.log.placed) p (all_is was h.joined alls)
 
   within : AreWithin exs 0 epochs
-  within e k i x got = subst (λ (d : ℕ). k < length (lanes_at epochs d)) (same_epoch e of.e j.worker.value.queue.epoch (sym (ap (λ q. q.epoch) queue) ∙ ap (λ (g : Finished T). (queue_of g.ends).epoch) found.2 ∙ owner.3) of.epoch_is)
-      (subst (λ (d : ℕ). d < length (lanes_at epochs of.e)) (sym (ap (λ q. q.shard) queue) ∙ ap (λ (g : Finished T). (queue_of g.ends).shard) found.2 ∙ owner.4) of.shard_lt)
+  within e k i x got = subst (λ (d : ℕ). k < length (lanes_at epochs d)) (same_epoch e of.e owner.1.worker.value.queue.epoch owner.3 of.epoch_is)
+      (subst (λ (d : ℕ). d < length (lanes_at epochs of.e)) owner.4 of.shard_lt)
     where
-      owner : (n : ℕ) × (f : Finished T) × (slice_get r.workers.items n ≡ Some f) × ((queue_of f.ends).epoch ≡ 0 + e) × ((queue_of f.ends).shard ≡ k)
+      owner : (n : ℕ) × (j : StoppedShard T) × (slice_get h.joined n ≡ Some j) × (j.worker.value.queue.epoch ≡ 0 + e) × (j.worker.value.queue.shard ≡ k)
       owner = told.owned (0 + e) k i x got
 
-      found : (j : StoppedShard T) × (slice_get h.joined owner.0 ≡ Some j) × (finished_of j ≡ owner.1)
-      found = map_get finished_of h.joined owner.0 owner.1 (ap (λ (fs : List (Finished T)). slice_get fs owner.0) (sym h.workers) ∙ owner.2)
-
-      j : StoppedShard T
-      j = found.0
-
-      queue : queue_of j.finished.ends ≡ j.worker.value.queue
-      queue = (worked-at tells seen is_for h.joined h.worked owner.0 j found.1).queue
-
-      of : IsOfEpoch 0 epochs (lane_of j)
-      of = of-epoch 0 epochs (sent setup.choice s.log.placed) placed owner.0 (lane_of j) (ap (λ (ls : List ShardHistory). slice_get ls owner.0) (sym lanes-are) ∙ get_map lane_of h.joined owner.0 j found.1)
+      of : IsOfEpoch 0 epochs (lane_of owner.1)
+      of = of-epoch 0 epochs (sent setup.choice s.log.placed) placed owner.0 (lane_of owner.1) (ap (λ (ls : List ShardHistory). slice_get ls owner.0) (sym lanes-are) ∙ get_map lane_of h.joined owner.0 owner.1 owner.2)
 
   first-is : (turned : List (List ShardHistory)) → first_number turned (map lane_of last) ≡ first_number turned was.current
   first-is [] = same
@@ -690,7 +652,7 @@ module _ {T : Type 0} (tells : T → Type 0) (seen : T → List Exchange) (is_fo
   module _ (rest : List Entry) (read : entries s.log.pieces ≡ s.log.placed ++ rest) where
     at-last : AtLast tells seen is_for c0 s.fleet.config set work wide room exs arrivals heads one-so was.ended s.log.pieces (map lane_of last) [] s.log.placed
     at-last = turned-arrive tells seen is_for c0 s.fleet.config set work wide room exs arrivals heads one-so p.epochs (map lane_of last) 0 0 [] was.ended [] s.log.placed rest s.log.pieces origin
-        sound-ended (AllByRecursion-left IsToldHere was.ended last told-all) p.ended_is placed (turned-before p.epochs (map lane_of last) p.turned (subst IsShardCount (sym same) number)) within
+        sound-ended p.ended_is placed (turned-before p.epochs (map lane_of last) p.turned (subst IsShardCount (sym same) number)) within
         (subst (λ (i : ℕ). BeginsEpoch setup (past_of tells seen []) s.log.pieces 0 i [] origin) (sym (first-is p.epochs ∙ first)) (begins tells seen setup s.log.pieces fed fed_are)) at-origin read
 
     within-last : (k i : ℕ) (x : Exchange) → slice_get (exs at-last.epoch k) i ≡ Some x → k < length (map lane_of last)
@@ -726,35 +688,35 @@ module _ {T : Type 0} (tells : T → Type 0) (seen : T → List Exchange) (is_fo
       begins-left : BeginsEpoch setup (past_of tells seen was.ended) s.log.pieces at-last.epoch (length last) at-last.now at-last.world
       begins-left = subst (λ (n : ℕ). BeginsEpoch setup (past_of tells seen was.ended) s.log.pieces at-last.epoch n at-last.now at-last.world) (length-map last lane_of) at-last.begins
 
-      abbrev gone-left : SoftGone tells seen is_for c0 s.fleet.config set work wide room exs arrivals heads one-so at-last.epoch last known-last told-last some-last at-last.now at-last.later at-last.dealt within-left was.ended s.log.pieces rest at-last.m at-last.world begins-left at-last.at whole-log
-      gone-left = soft-gone tells seen is_for c0 s.fleet.config set work wide room exs arrivals heads one-so at-last.epoch last known-last told-last some-last at-last.now at-last.later at-last.dealt within-left was.ended s.log.pieces rest at-last.m at-last.world begins-left at-last.at whole-log
+      abbrev gone-left : SoftGone tells seen is_for c0 s.fleet.config set work wide room exs arrivals heads one-so at-last.epoch last known-last some-last at-last.now at-last.later at-last.dealt within-left was.ended s.log.pieces rest at-last.m at-last.world begins-left at-last.at whole-log
+      gone-left = soft-gone tells seen is_for c0 s.fleet.config set work wide room exs arrivals heads one-so at-last.epoch last known-last some-last at-last.now at-last.later at-last.dealt within-left was.ended s.log.pieces rest at-last.m at-last.world begins-left at-last.at whole-log
 
       pub held-left : IsHeld s r (heads (length arrivals)).store
       held-left = held-so setup s r gone-left.world (heads (length arrivals)) gone-left.arrived.events gone-left.arrived.is (gone-left.arrived.head ∙ ap heads (all-came gone-left.m gone-left.stop))
-          (soft-pieces tells seen is_for c0 s.fleet.config set work wide room exs arrivals heads one-so at-last.epoch last known-last told-last some-last at-last.now at-last.later at-last.dealt within-left was.ended s.log.pieces rest at-last.m at-last.world begins-left at-last.at whole-log)
+          (soft-pieces tells seen is_for c0 s.fleet.config set work wide room exs arrivals heads one-so at-last.epoch last known-last some-last at-last.now at-last.later at-last.dealt within-left was.ended s.log.pieces rest at-last.m at-last.world begins-left at-last.at whole-log)
           choice
-          (tallied-so gone-left.world (soft-tallied tells seen is_for c0 s.fleet.config set work wide room exs arrivals heads one-so at-last.epoch last known-last told-last some-last at-last.now at-last.later at-last.dealt within-left was.ended s.log.pieces rest at-last.m at-last.world begins-left at-last.at whole-log))
+          (tallied-so gone-left.world (soft-tallied tells seen is_for c0 s.fleet.config set work wide room exs arrivals heads one-so at-last.epoch last known-last some-last at-last.now at-last.later at-last.dealt within-left was.ended s.log.pieces rest at-last.m at-last.world begins-left at-last.at whole-log))
           (λ whole. absurd (whole left))
 
     -- ---- where nothing was left
     module _ (resolved_all : AreResolved h.joined) (by : AreEndedBy kind.Orderly (map put_into (map lane_of last))) (none : rest ≡ []) where
       sound-last : AllByRecursion IsSoundHere last
-      sound-last = AllByRecursion-right IsSoundHere was.ended last (subst (AllByRecursion IsSoundHere) alls.1 (sound-all tells seen is_for c0 s.fleet.config set work h.joined (known-all tells seen is_for c0 s.fleet.config set work h.joined h.worked h.setup) resolved_all))
+      sound-last = AllByRecursion-right IsSoundHere was.ended last (subst (AllByRecursion IsSoundHere) alls.1 (sound-all tells seen is_for c0 s.fleet.config set work AskedHere h.joined known-joined resolved_all))
 
-      abbrev gone-whole : LastGone tells seen is_for c0 s.fleet.config set work wide room exs arrivals heads one-so at-last.epoch kind.Orderly last sound-last told-last some_lanes by at-last.now at-last.later at-last.dealt within-last was.ended s.log.pieces rest at-last.m at-last.world at-last.begins at-last.at whole-log refl none
-      gone-whole = gone-last tells seen is_for c0 s.fleet.config set work wide room exs arrivals heads one-so at-last.epoch kind.Orderly last sound-last told-last some_lanes by at-last.now at-last.later at-last.dealt within-last was.ended s.log.pieces rest at-last.m at-last.world at-last.begins at-last.at whole-log refl none
+      abbrev gone-whole : LastGone tells seen is_for c0 s.fleet.config set work wide room exs arrivals heads one-so at-last.epoch kind.Orderly last sound-last some_lanes by at-last.now at-last.later at-last.dealt within-last was.ended s.log.pieces rest at-last.m at-last.world at-last.begins at-last.at whole-log refl none
+      gone-whole = gone-last tells seen is_for c0 s.fleet.config set work wide room exs arrivals heads one-so at-last.epoch kind.Orderly last sound-last some_lanes by at-last.now at-last.later at-last.dealt within-last was.ended s.log.pieces rest at-last.m at-last.world at-last.begins at-last.at whole-log refl none
 
       report-is : report gone-whole.world ≡ Some (ended_as (fault s.log.pieces) (length s.log.placed))
-      report-is = reported tells seen is_for c0 s.fleet.config set work wide room exs arrivals heads one-so at-last.epoch kind.Orderly last sound-last told-last some_lanes by at-last.now at-last.later at-last.dealt within-last was.ended s.log.pieces rest at-last.m at-last.world at-last.begins at-last.at whole-log refl none ∙ ap (λ (es : List Entry). Some (ended_as (fault s.log.pieces) (length es))) (sym at-last.are)
+      report-is = reported tells seen is_for c0 s.fleet.config set work wide room exs arrivals heads one-so at-last.epoch kind.Orderly last sound-last some_lanes by at-last.now at-last.later at-last.dealt within-last was.ended s.log.pieces rest at-last.m at-last.world at-last.begins at-last.at whole-log refl none ∙ ap (λ (es : List Entry). Some (ended_as (fault s.log.pieces) (length es))) (sym at-last.are)
 
       placed-is : gone-whole.world.placed ≡ length s.log.placed
-      placed-is = last-placed tells seen is_for c0 s.fleet.config set work wide room exs arrivals heads one-so at-last.epoch kind.Orderly last sound-last told-last some_lanes by at-last.now at-last.later at-last.dealt within-last was.ended s.log.pieces rest at-last.m at-last.world at-last.begins at-last.at whole-log refl none ∙ ap length (sym at-last.are)
+      placed-is = last-placed tells seen is_for c0 s.fleet.config set work wide room exs arrivals heads one-so at-last.epoch kind.Orderly last sound-last some_lanes by at-last.now at-last.later at-last.dealt within-last was.ended s.log.pieces rest at-last.m at-last.world at-last.begins at-last.at whole-log refl none ∙ ap length (sym at-last.are)
 
       pub held-whole : IsHeld s r (heads (length arrivals)).store
       held-whole = held-so setup s r gone-whole.world (heads (length arrivals)) gone-whole.now.arrived.events gone-whole.now.arrived.is (gone-whole.now.arrived.head ∙ ap heads (all-came gone-whole.made gone-whole.stop))
-          (last-pieces tells seen is_for c0 s.fleet.config set work wide room exs arrivals heads one-so at-last.epoch kind.Orderly last sound-last told-last some_lanes by at-last.now at-last.later at-last.dealt within-last was.ended s.log.pieces rest at-last.m at-last.world at-last.begins at-last.at whole-log refl none)
+          (last-pieces tells seen is_for c0 s.fleet.config set work wide room exs arrivals heads one-so at-last.epoch kind.Orderly last sound-last some_lanes by at-last.now at-last.later at-last.dealt within-last was.ended s.log.pieces rest at-last.m at-last.world at-last.begins at-last.at whole-log refl none)
           choice
-          (tallied-so gone-whole.world (last-tallied tells seen is_for c0 s.fleet.config set work wide room exs arrivals heads one-so at-last.epoch kind.Orderly last sound-last told-last some_lanes by at-last.now at-last.later at-last.dealt within-last was.ended s.log.pieces rest at-last.m at-last.world at-last.begins at-last.at whole-log refl none))
+          (tallied-so gone-whole.world (last-tallied tells seen is_for c0 s.fleet.config set work wide room exs arrivals heads one-so at-last.epoch kind.Orderly last sound-last some_lanes by at-last.now at-last.later at-last.dealt within-last was.ended s.log.pieces rest at-last.m at-last.world at-last.begins at-last.at whole-log refl none))
           (λ whole l. all-of setup gone-whole.now.arrived.events gone-whole.world gone-whole.now.arrived.is (fault s.log.pieces) (length s.log.placed) report-is placed-is l)
 
 resolved-front : {T : Type 0} (xs ys : List (StoppedShard T)) → AreResolved (xs ++ ys) → AreResolved xs

@@ -243,25 +243,32 @@ tells-so (outcome.Complete end) found whole e = e
 tells-so (outcome.Abandoned placed samples) found whole e = absurd (whole tt)
 tells-so (outcome.Damaged f) found whole e = e
 
-module _ {T : Type 0} (tells : T → Type 0) (seen : T → List Exchange) (is_for : ℕ → ℕ → T → Type 0) (c : Setup) (config : ConfigFields) (set : IsSetAs c config) (work : CanWork c) where
+module _ {T : Type 0} (tells : T → Type 0) (seen : T → List Exchange) (is_for : ℕ → ℕ → T → Type 0) (c : Setup) (config : ConfigFields) (set : IsSetAs c config) (work : CanWork c) (Asked : (j : StoppedShard T) → IsWorked tells seen is_for j → Type 0) where
   -- what is known of each shard: it is set up so, and it did what its worker reports
   pub record Known (j : StoppedShard T) : Type 0 where
     pub worked : IsWorked tells seen is_for j
     pub up : IsSetUp config j.worker.value
+    pub asked : Asked j worked
 
-  pub known-all : (js : List (StoppedShard T)) → AreWorked tells seen is_for js → AreSetUp config (map lane_of js) → AllByRecursion Known js
-  known-all [] h up = tt
-  known-all (j ∷ js) h up = (record { worked = h.0; up = up.0 }, known-all js h.1 up.1)
+  -- and what is asked of each besides
+  abbrev pub AreAsked : (js : List (StoppedShard T)) → AreWorked tells seen is_for js → Type 0
+  AreAsked [] h = Unit {0}
+  AreAsked (j ∷ js) h = Asked j h.0 × AreAsked js h.1
+
+  pub known-all : (js : List (StoppedShard T)) → (h : AreWorked tells seen is_for js) → AreSetUp config (map lane_of js) → AreAsked js h → AllByRecursion Known js
+  known-all [] h up asked = tt
+  known-all (j ∷ js) h up asked = (record { worked = h.0; up = up.0; asked = asked.0 }, known-all js h.1 up.1 asked.1)
 
   -- and nothing is left
   pub record Sound (j : StoppedShard T) : Type 0 where
     pub worked : IsWorked tells seen is_for j
     pub up : IsSetUp config j.worker.value
     pub resolved : is_resolved j ≡ true
+    pub asked : Asked j worked
 
   pub sound-all : (js : List (StoppedShard T)) → AllByRecursion Known js → AreResolved js → AllByRecursion Sound js
   sound-all [] h r = tt
-  sound-all (j ∷ js) h r = (record { worked = h.0.worked; up = h.0.up; resolved = r 0 j refl }, sound-all js h.1 (λ k i e. r (suc k) i e))
+  sound-all (j ∷ js) h r = (record { worked = h.0.worked; up = h.0.up; resolved = r 0 j refl; asked = h.0.asked }, sound-all js h.1 (λ k i e. r (suc k) i e))
 
   all_put_resolved : (j : StoppedShard T) → (h : Sound j) → length (samples_in (put_of j.finished.ends)) ≤ length (after (start_of j.worker.value) h.worked.report.steps).core.resolved
   all_put_resolved j h = subst (λ (n : ℕ). length (samples_in (put_of j.finished.ends)) ≤ n) h.worked.report.counted
@@ -579,6 +586,14 @@ module _ {T : Type 0} (tells : T → Type 0) (seen : T → List Exchange) (is_fo
       }
 
 -- ---- from the start
+-- nothing more is asked of a shard
+abbrev pub no_more : {T : Type 0} (tells : T → Type 0) (seen : T → List Exchange) (is_for : ℕ → ℕ → T → Type 0) (j : StoppedShard T) → IsWorked tells seen is_for j → Type 0
+no_more tells seen is_for j h = Unit {0}
+
+pub none-asked : {T : Type 0} (tells : T → Type 0) (seen : T → List Exchange) (is_for : ℕ → ℕ → T → Type 0) (c : Setup) (config : ConfigFields) (set : IsSetAs c config) (work : CanWork c) (js : List (StoppedShard T)) (h : AreWorked tells seen is_for js) → AreAsked tells seen is_for c config set work (no_more tells seen is_for) js h
+none-asked tells seen is_for c config set work [] h = tt
+none-asked tells seen is_for c config set work (j ∷ js) h = (tt, none-asked tells seen is_for c config set work js h.1)
+
 module _ {T : Type 0} (tells : T → Type 0) (seen : T → List Exchange) (c : Setup) (pieces : List Piece) (fed : List Fed) (fed_are : pieces ≡ map piece_of fed) where
   abbrev pub begun : World
   begun = record (start c) { pieces = pieces }
@@ -646,19 +661,19 @@ module _ {T : Type 0} (tells : T → Type 0) (seen : T → List Exchange) (is_fo
       sp : Split lane_of h.joined (joined d.turned) d.last
       sp = split_map lane_of h.joined (joined d.turned) d.last (e ∙ ap joined d.are ∙ joined-last d.turned d.last)
 
-      sound : AllByRecursion (Sound tells seen is_for c s.fleet.config set work) (sp.first ++ sp.later)
-      sound = subst (AllByRecursion (Sound tells seen is_for c s.fleet.config set work)) sp.are (sound-all tells seen is_for c s.fleet.config set work h.joined (known-all tells seen is_for c s.fleet.config set work h.joined h.worked h.setup) resolved)
+      sound : AllByRecursion (Sound tells seen is_for c s.fleet.config set work (no_more tells seen is_for)) (sp.first ++ sp.later)
+      sound = subst (AllByRecursion (Sound tells seen is_for c s.fleet.config set work (no_more tells seen is_for))) sp.are (sound-all tells seen is_for c s.fleet.config set work (no_more tells seen is_for) h.joined (known-all tells seen is_for c s.fleet.config set work (no_more tells seen is_for) h.joined h.worked h.setup (none-asked tells seen is_for c s.fleet.config set work h.joined h.worked)) resolved)
 
-      at-last : AtLast tells seen is_for c s.fleet.config set work sp.first s.log.pieces d.last [] s.log.placed origin
-      at-last = turned-run tells seen is_for c s.fleet.config set work d.turned d.last 0 [] sp.first [] s.log.placed [] s.log.pieces origin
-          (AllByRecursion-left (Sound tells seen is_for c s.fleet.config set work) sp.first sp.later sound) sp.first_is (subst (λ (es : List (List ShardHistory)). Places 0 es (sent c.choice s.log.placed)) d.are p) d.before
+      at-last : AtLast tells seen is_for c s.fleet.config set work (no_more tells seen is_for) sp.first s.log.pieces d.last [] s.log.placed origin
+      at-last = turned-run tells seen is_for c s.fleet.config set work (no_more tells seen is_for) d.turned d.last 0 [] sp.first [] s.log.placed [] s.log.pieces origin
+          (AllByRecursion-left (Sound tells seen is_for c s.fleet.config set work (no_more tells seen is_for)) sp.first sp.later sound) sp.first_is (subst (λ (es : List (List ShardHistory)). Places 0 es (sent c.choice s.log.placed)) d.are p) d.before
           (subst (λ (i : ℕ). BeginsEpoch c (past_of tells seen []) s.log.pieces 0 i [] origin) (sym (d.first ∙ numbers.0)) (begins tells seen c s.log.pieces fed fed_are)) (sym read.all ∙ sym (append-nil s.log.placed))
 
       same : d.last ≡ map lane_of sp.later
       same = sym sp.later_is
 
-      final : Reaches ⊥ c at-last.reach.world (Final tells seen is_for c s.fleet.config set work sp.first s.log.pieces (at-last.now ++ at-last.later) sp.later)
-      final = last-run tells seen is_for c s.fleet.config set work at-last.epoch sp.later (AllByRecursion-right (Sound tells seen is_for c s.fleet.config set work) sp.first sp.later sound)
+      final : Reaches ⊥ c at-last.reach.world (Final tells seen is_for c s.fleet.config set work (no_more tells seen is_for) sp.first s.log.pieces (at-last.now ++ at-last.later) sp.later)
+      final = last-run tells seen is_for c s.fleet.config set work (no_more tells seen is_for) at-last.epoch sp.later (AllByRecursion-right (Sound tells seen is_for c s.fleet.config set work (no_more tells seen is_for)) sp.first sp.later sound)
           (subst (λ (ls : List ShardHistory). 1 ≤ length ls) same d.some) (subst (λ (ls : List ShardHistory). AreEndedBy kind.Orderly (map put_into ls)) same d.by) at-last.now at-last.later
           (subst (λ (ls : List ShardHistory). IsDealt at-last.epoch ls (gather_from (sent_of c.choice) at-last.now at-last.later)) same at-last.dealt) sp.first s.log.pieces at-last.reach.world
           (subst (λ (ls : List ShardHistory). BeginsEpoch c (past_of tells seen sp.first) s.log.pieces at-last.epoch (length ls) at-last.now at-last.reach.world) same at-last.reach.holds) (sym read.all ∙ at-last.are)
@@ -669,8 +684,8 @@ module _ {T : Type 0} (tells : T → Type 0) (seen : T → List Exchange) (is_fo
       leads : world_of c events ≡ final.world
       leads = run-append c (feeds fed) (at-last.reach.events ++ final.events) (start c) ∙ ap (run_freely c (at-last.reach.events ++ final.events)) (fed-all tells seen c s.log.pieces fed fed_are) ∙ run-append c at-last.reach.events final.events origin ∙ ap (run_freely c final.events) at-last.reach.is ∙ final.is
 
-      last : Final tells seen is_for c s.fleet.config set work sp.first s.log.pieces s.log.placed sp.later final.world
-      last = subst (λ (es : List Entry). Final tells seen is_for c s.fleet.config set work sp.first s.log.pieces es sp.later final.world) (sym at-last.are) final.holds
+      last : Final tells seen is_for c s.fleet.config set work (no_more tells seen is_for) sp.first s.log.pieces s.log.placed sp.later final.world
+      last = subst (λ (es : List Entry). Final tells seen is_for c s.fleet.config set work (no_more tells seen is_for) sp.first s.log.pieces es sp.later final.world) (sym at-last.are) final.holds
 
       tallied : IsTallied c (past_of tells seen h.joined) last.epoch 0 s.log.placed (λ k. empty) (world_of c events)
       tallied = subst (λ (js : List (StoppedShard T)). IsTallied c (past_of tells seen js) last.epoch 0 s.log.placed (λ k. empty) (world_of c events)) (sym sp.are)

@@ -1,5 +1,5 @@
 -- What one receiver holds of the samples of a shipper that was stopped.
-use Rattle.std.specs.Prelude.{◌≡◌, ℕ, List, length, map, slice_get, Some}
+use Rattle.std.specs.Prelude.{◌≡◌, ℕ, List, [], ◌∷◌, length, map, slice_get, Some, ⊤}
 use Rattle.std.specs.Ordering.{nat_cmp}
 use Rattle.std.specs.FinMap.{FinMap}
 use Rattle.rw_types.specs.Labels.{Labels}
@@ -13,9 +13,10 @@ use Rattle.rw_plain_queue.specs.declared.item.Kind.TheVariants.{Orderly}
 use Rattle.rw_head.specs.Head.{State}
 use Rattle.rw_head.specs.Store.{Store, list_of}
 use Rattle.rw_worker.specs.Transcript.{Exchange}
-use Rattle.rw_fleet.specs.Work.{AreResolved, queue_of}
+use Rattle.rw_worker.specs.Steps.{exchanges_of}
+use Rattle.rw_fleet.specs.Work.{AreResolved, AreWorked}
 use Rattle.rw_fleet.specs.Fleets.{Shards, AreAll, EndBy}
-use Rattle.rw_fleet.specs.declared.joined.Finished.{Finished}
+use Rattle.rw_fleet.specs.declared.joined.StoppedShard.{StoppedShard}
 use Rattle.rw_shipper.specs.Placement.{IsShardCount}
 use Rattle.rw_shipper.specs.Reports.{IsAbandoned}
 use Rattle.rw_shipper.specs.Shipping.{Shipping, PlacesAll, HasStopped}
@@ -25,11 +26,15 @@ use Rattle.rw_machine.specs.Promises.{CanWork, owed, pair_of}
 use Rattle.rw_simulation.specs.Arrivals.{Arrival, IsOneReceiver}
 use Rattle.rw_simulation.specs.StoppedRuns.{IsMachineOf, NamesAll, first_number}
 
--- All workers tell their exchanges, and these are they: by epoch and shard, and there are no others.
-pub record AreExchangesOf {T : Type 0} (tells : T → Type 0) (seen : T → List Exchange) (workers : List (Finished T)) (exchanges : ℕ → ℕ → List Exchange) : Type 0 where
-  pub tell : (i : ℕ) (f : Finished T) → slice_get workers i ≡ Some f → tells f.transport
-  pub each : (i : ℕ) (f : Finished T) → slice_get workers i ≡ Some f → exchanges (queue_of f.ends).epoch (queue_of f.ends).shard ≡ seen f.transport
-  pub owned : (e k i : ℕ) (x : Exchange) → slice_get (exchanges e k) i ≡ Some x → (j : ℕ) × (f : Finished T) × (slice_get workers j ≡ Some f) × ((queue_of f.ends).epoch ≡ e) × ((queue_of f.ends).shard ≡ k)
+-- these are the exchanges of each worker, by its epoch and shard: those of the steps that its report tells of
+abbrev pub AreOfSteps : {T : Type 0} (tells : T → Type 0) (seen : T → List Exchange) (is_for : ℕ → ℕ → T → Type 0) → (ℕ → ℕ → List Exchange) → (js : List (StoppedShard T)) → AreWorked tells seen is_for js → Type 0
+AreOfSteps tells seen is_for exchanges [] h = ⊤
+AreOfSteps tells seen is_for exchanges (j ∷ js) h = (exchanges j.worker.value.queue.epoch j.worker.value.queue.shard ≡ exchanges_of h.0.report.steps) × AreOfSteps tells seen is_for exchanges js h.1
+
+-- and there are no others. What a transport tells is the same, where it tells.
+pub record AreExchangesOf {T : Type 0} (tells : T → Type 0) (seen : T → List Exchange) (is_for : ℕ → ℕ → T → Type 0) (js : List (StoppedShard T)) (worked : AreWorked tells seen is_for js) (exchanges : ℕ → ℕ → List Exchange) : Type 0 where
+  pub each : AreOfSteps tells seen is_for exchanges js worked
+  pub owned : (e k i : ℕ) (x : Exchange) → slice_get (exchanges e k) i ≡ Some x → (n : ℕ) × (j : StoppedShard T) × (slice_get js n ≡ Some j) × (j.worker.value.queue.epoch ≡ e) × (j.worker.value.queue.shard ≡ k)
 
 -- Of each label set the store holds a beginning of its samples in the log that was fed, in log order, each once, less exactly those that the report names; of
 -- one that the rules do not keep it holds none. Where the shipper left nothing, the store holds all of the samples that were placed.
@@ -44,11 +49,11 @@ abbrev pub ReceivesInOrder : {T : Type 0} → (T → Type 0) → (T → List Exc
 ReceivesInOrder tells seen is_for s r =
     (c : Setup) (fed : List Piece) (h : HasStopped tells seen is_for s r) (p : PlacesAll s.log s.fleet) → IsMachineOf c s → CanWork c → s.log.pieces ≡ map piece_of fed → IsShardCount (length s.fleet.current) → first_number p.epochs s.fleet.current ≡ c.shards
     → EndBy Orderly s.fleet r.workers.items → (IsAbandoned r.outcome → ⊥)
-    → (exchanges : ℕ → ℕ → List Exchange) (arrivals : List Arrival) (heads : ℕ → State) → AreExchangesOf tells seen r.workers.items exchanges → IsOneReceiver c exchanges arrivals heads → IsHeld s r (heads (length arrivals)).store
+    → (exchanges : ℕ → ℕ → List Exchange) (arrivals : List Arrival) (heads : ℕ → State) → AreExchangesOf tells seen is_for h.joined h.worked exchanges → IsOneReceiver c exchanges arrivals heads → IsHeld s r (heads (length arrivals)).store
 
 -- and of every shipper that abandoned what was left, however it was stopped: a beginning of them. `before` is the fleet as for the run of the machine.
 abbrev pub ReceivesAbandoned : {T : Type 0} → (T → Type 0) → (T → List Exchange) → (ℕ → ℕ → T → Type 0) → Shipping T → Report T → Type 0
 ReceivesAbandoned {T} tells seen is_for s r =
     (c : Setup) (fed : List Piece) (h : HasStopped tells seen is_for s r) (before : Shards T) (p : PlacesAll s.log before) → IsMachineOf c s → CanWork c → s.log.pieces ≡ map piece_of fed
     → AreAll before h.joined → AreResolved before.ended → IsShardCount (length before.current) → first_number p.epochs before.current ≡ c.shards → IsAbandoned r.outcome
-    → (exchanges : ℕ → ℕ → List Exchange) (arrivals : List Arrival) (heads : ℕ → State) → AreExchangesOf tells seen r.workers.items exchanges → IsOneReceiver c exchanges arrivals heads → IsHeld s r (heads (length arrivals)).store
+    → (exchanges : ℕ → ℕ → List Exchange) (arrivals : List Arrival) (heads : ℕ → State) → AreExchangesOf tells seen is_for h.joined h.worked exchanges → IsOneReceiver c exchanges arrivals heads → IsHeld s r (heads (length arrivals)).store
