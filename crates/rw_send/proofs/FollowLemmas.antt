@@ -30,7 +30,7 @@ use Rattle.rw_log_shipping.specs.declared.halt.Halt.{Halt}
 use Rattle.rw_log_shipping.specs.declared.halt.Halt.TheVariants as halt
 use Rattle.rw_send.specs.declared.live.Cut.{Cut}
 use Rattle.rw_send.specs.declared.live.Cut.TheVariants as cut
-use Rattle.rw_send.specs.Following.{FollowAnswers, HasRead, IsCut, IsFollowPrinted, IsFollowPrintedPart, IsFollowed, IsUnread, answer_by, cut_short, meal_after, meal_of, no_meal, shipped_by, told}
+use Rattle.rw_send.specs.Following.{FollowAnswers, HasRead, IsCut, IsFollowPrinted, IsFollowPrintedPart, IsFollowed, IsUnread, answer_by, left_undone, meal_after, meal_of, no_meal, shipped_by, told}
 use Rattle.rw_send.specs.ReportText.{IsTextOf, WritesPart}
 use Rattle.rw_log_shipping.specs.Halting.{IsHalted}
 use Rattle.rw_send.specs.Sending.{Answers, hard_fault}
@@ -189,7 +189,7 @@ err_answers W V o tool.Device h = h
 err_answers W V o (tool.Line n) h = h
 err_answers W V o tool.SegmentFull h = h
 
-said_answers : (now : Option Moment) (old new : Wish) (fed : Meal) (o : Outcome) (answer : Result (Unit {0}) FollowFault) → ((answer ≡ cut_short → ⊥) → new ≡ old)
+said_answers : (now : Option Moment) (old new : Wish) (fed : Meal) (o : Outcome) (answer : Result (Unit {0}) FollowFault) → ((answer ≡ left_undone → ⊥) → new ≡ old)
     → FollowAnswers now old fed o answer → FollowAnswers now new fed o answer
 said_answers now old new fed o (Ok u) same h = let e = same (λ bad. cc) in subst (λ (w : Wish). FollowAnswers now w fed o (Ok u)) (sym e) h
 said_answers now old new fed o (Err (fault.Tool f)) same h = err_answers _ _ o f h
@@ -198,7 +198,7 @@ said_answers now old new fed o (Err fault.Stopped) same h = let e = same (λ bad
 
 -- and where the sign is looked at once more
 pub signed_answers : (now : Option Moment) (old new : Wish) (fed : Meal) (o : Outcome) (answer result : Result (Unit {0}) FollowFault)
-    → (result ≡ answer) ⊎ ((answer ≡ cut_short) × (result ≡ Err fault.Stopped) × (new ≡ wish.Hard)) → ((answer ≡ cut_short → ⊥) → new ≡ old)
+    → (result ≡ answer) ⊎ ((answer ≡ left_undone) × (result ≡ Err fault.Stopped) × (new ≡ wish.Hard)) → ((answer ≡ left_undone → ⊥) → new ≡ old)
     → FollowAnswers now old fed o answer → FollowAnswers now new fed o result
 signed_answers now old new fed o answer result (inl e) same h = subst (λ (r : Result (Unit {0}) FollowFault). FollowAnswers now new fed o r) (sym e) (said_answers now old new fed o answer same h)
 signed_answers now old new fed o answer result (inr (e, stopped, hard)) same h =

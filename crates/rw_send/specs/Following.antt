@@ -85,8 +85,8 @@ answer_by (Err (cut.Broken (broken.Unreadable f))) answer = told answer
 answer_by (Err (cut.Halted h)) answer = told answer
 
 -- the answer where work was left that nobody asked to leave
-abbrev pub cut_short : Result (Unit {0}) FollowFault
-cut_short = Err (fault.Tool tool.OutOfMemory)
+abbrev pub left_undone : Result (Unit {0}) FollowFault
+left_undone = Err (fault.Tool tool.OutOfMemory)
 
 -- it was told to end, and all that stood was fed
 abbrev pub HasRead : Option Moment → Wish → Meal → Type 0

@@ -5,7 +5,7 @@ ghost use Rattle.rw_wal_format.specs.declared.tail_fault.TailFault.{TailFault};
 ghost use Rattle.rw_follow.specs.Growth.{Known};
 ghost use Rattle.rw_follow.specs.declared.watch.Wish.TheVariants as Wish;
 ghost use Rattle.rw_fault.specs.declared.tool_fault.ToolFault.TheVariants.{OutOfMemory, Log, Line, SegmentFull, Device};
-ghost use Rattle.rw_send.specs.Following.{IsFollowPrinted, IsFollowPrintedPart, IsFollowed, IsUnread, answer_by, cut_short, shipped_by, told};
+ghost use Rattle.rw_send.specs.Following.{IsFollowPrinted, IsFollowPrintedPart, IsFollowed, IsUnread, answer_by, left_undone, shipped_by, told};
 ghost use Rattle.rw_send.specs.declared.follow_fault.FollowFault.TheVariants.{Tool, Missing, Stopped};
 
 use crate::follow_fault::FollowFault;
@@ -74,9 +74,9 @@ fn answer_signed<W: Watch>(
     watch: &mut W,
     answer: Result<(), FollowFault>,
 ) -> Result<(), FollowFault>
-    ensures answer { (result ≡ answer) ⊎ ((answer ≡ cut_short) × (result ≡ Err Stopped)
+    ensures answer { (result ≡ answer) ⊎ ((answer ≡ left_undone) × (result ≡ Err Stopped)
         × (W.said watch.new ≡ Wish.Hard)) }
-    ensures watch { (answer ≡ cut_short → ⊥) → W.said watch.new ≡ W.said watch.old }
+    ensures watch { (answer ≡ left_undone → ⊥) → W.said watch.new ≡ W.said watch.old }
 {
     let Err(FollowFault::Tool(ToolFault::OutOfMemory)) = answer else {
         return answer;
