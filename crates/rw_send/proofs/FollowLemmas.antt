@@ -192,7 +192,7 @@ err_answers W V o tool.SegmentFull h = h
 said_answers : (now : Option Moment) (old new : Wish) (fed : Meal) (o : Outcome) (answer : Result (Unit {0}) FollowFault) → ((answer ≡ left_undone → ⊥) → new ≡ old)
     → FollowAnswers now old fed o answer → FollowAnswers now new fed o answer
 said_answers now old new fed o (Ok u) same h = let e = same (λ bad. cc) in subst (λ (w : Wish). FollowAnswers now w fed o (Ok u)) (sym e) h
-said_answers now old new fed o (Err (fault.Tool f)) same h = err_answers _ _ o f h
+said_answers now old new fed o (Err (fault.Tool f)) same h = err_answers (HasRead now old fed) (HasRead now new fed) o f h
 said_answers now old new fed o (Err (fault.Missing n)) same h = h
 said_answers now old new fed o (Err fault.Stopped) same h = let e = same (λ bad. cc) in subst (λ (w : Wish). FollowAnswers now w fed o (Err fault.Stopped)) (sym e) h
 
