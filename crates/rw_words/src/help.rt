@@ -79,9 +79,9 @@ Example:
 
 DIR is the folder 'wal' of a server that has stopped, or a copy of it, from its first segment on; with
 --follow that of a server that runs. --follow ends once standard input ends, or, with --stop-file, once
-FILE is there: it ships what stands, and prints its report. A line 'hard' on standard input ends it at
-once. The report names each sample that was not taken; docs/OPERATING.md tells its lines, and
-docs/SETTINGS.md the settings.
+FILE is there: it ships what stands, and prints its report. A line 'hard', on standard input or as the
+first one of FILE, ends it at once. The report names each sample that was not taken; docs/OPERATING.md
+tells its lines, and docs/SETTINGS.md the settings.
 
 Exit status: 0 where each sample is answered for (look for 'dropped' lines); 1 for a fault of the log,
 and with --fail-on-drop where samples were dropped;
@@ -95,10 +95,10 @@ Example:
   rwship receive --listen 127.0.0.1:9090 --until-eof --stop-file stop --progress --metrics 127.0.0.1:9201 > held
 
 With --until-eof any number of connections is served, 1000 at once, until standard input ends, or, with
---stop-file, until FILE is there. Those in a request finish it. A line 'hard' on standard input ends
-them too. With --connections N the end comes when N connections have ended; each attempt of a sender is
-one. What is held is in memory alone, and is printed at the end. docs/OPERATING.md tells more, and
-docs/SETTINGS.md the settings.
+--stop-file, until FILE is there. Those in a request finish it. A line 'hard', on standard input or as
+the first one of FILE, ends them too. With --connections N the end comes when N connections have ended;
+each attempt of a sender is one. What is held is in memory alone, and is printed at the end.
+docs/OPERATING.md tells more, and docs/SETTINGS.md the settings.
 
 Exit status: 0; 2 for bad words or settings; 3 out of memory; 4 where a file, the network or standard
 output failed.";
