@@ -1,23 +1,19 @@
 -- Requests come to the receiver in whatever order, while the workers of an epoch go on.
 use Rattle.std.proofs.Common.{◌≡◌, ℕ, zero, suc, ◌+◌, ◌-◌, ◌<◌, ◌≤◌, ◌==◌, ◌&&◌, Bool, true, false, cond, List, [], ◌∷◌, ◌++◌, filter, map, length, Option, None, Some, Result, Ok, Err, slice_get, refl, sym, ap, ◌∙◌, subst, append-nil, append_assoc, length-append, arith, ◌⊎◌, inl, inr}
 use Rattle.std.specs.List.{AllByRecursion}
-use Rattle.std.specs.FinMap.{FinMap}
-use Rattle.std.specs.Ordering.{nat_cmp}
 use Rattle.std.proofs.lemmas.Bool.Decides.{eqb_tells}
 use Rattle.std.proofs.lemmas.List.{length-map, map-append}
 use Rattle.std.proofs.lemmas.List.Elements.{filter-append}
 use Rattle.std.proofs.lemmas.Option.{same_Some, none-some, slice_get_within}
 use Rattle.rw_types.specs.declared.entry.Entry.{Entry}
-use Rattle.rw_ledger.specs.declared.ledger.Reason.{Reason}
 use Rattle.rw_ledger.specs.Names.{Named}
 use Rattle.rw_retry.specs.Judgements.{judgement_of}
-use Rattle.rw_plain_queue.specs.Items.{Placed}
 use Rattle.rw_plain_queue.specs.declared.item.Item.{Item}
-use Rattle.rw_shard_core.specs.Shard.{Core, can_send, settle, lose, batch_id, take_item, freeze}
+use Rattle.rw_shard_core.specs.Shard.{Core, settle, lose, batch_id, freeze}
 use Rattle.rw_worker.specs.declared.transport.Reply.{Reply}
 use Rattle.rw_worker.specs.declared.transport.Lost.{Lost}
 use Rattle.rw_worker.specs.Transcript.{Exchange, exchange_of, batch_request}
-use Rattle.rw_worker.specs.Steps.{Working, working, Step, Takes, Freezes, Sends, Waits, MayStep, AreSteps, after, after_step, items_of, exchanges_of}
+use Rattle.rw_worker.specs.Steps.{Working, working, Step, Takes, Freezes, Sends, Waits, AreSteps, after, after_step, items_of, exchanges_of}
 use Rattle.rw_head.specs.Head.{State}
 use Rattle.rw_machine.specs.Shards.{Shard, Queued, is_drained, shard_take, shard_freeze, shard_lost, with_core}
 use Rattle.rw_machine.specs.Worlds.{Setup, Request, World, start}
@@ -31,11 +27,11 @@ use Rattle.rw_machine.specs.declared.event.Event.TheVariants as event
 use Rattle.rw_machine.proofs.Places.{get_some, length_change}
 use Rattle.rw_simulation.specs.Freely.{Happening, Of, IsOwn, run_freely}
 use Rattle.rw_simulation.specs.FreeLaws.{world_of}
-use Rattle.rw_simulation.specs.WorkerRuns.{queued, IsIdOf, IsShardNumbered, CanEnd, step_names, sent_bytes, request_in}
+use Rattle.rw_simulation.specs.WorkerRuns.{queued, IsIdOf, IsShardNumbered, CanEnd, sent_bytes, request_in}
 use Rattle.rw_simulation.specs.Tallies.{Past, IsTallied, requests_of}
 use Rattle.rw_simulation.specs.EpochRuns.{ShardFate}
-use Rattle.rw_simulation.specs.Arrivals.{Arrival, Receives, IsBefore, IsAnsweredBy, IsOneReceiver}
-use Rattle.rw_simulation.proofs.Changes.{change-is, change-get, change-same, change-twice, get-last, Goes, not-over}
+use Rattle.rw_simulation.specs.Arrivals.{Arrival, Receives, IsAnsweredBy, IsOneReceiver}
+use Rattle.rw_simulation.proofs.Changes.{change-is, change-get, get-last, Goes, not-over}
 use Rattle.rw_simulation.proofs.FreeLaws.{keeps-laws}
 use Rattle.rw_simulation.proofs.WorkerSteps.{moved, take-is, sent_core, sent_shard, sent_awaits, sent_answers, out_is, own_ids, ledger-step}
 use Rattle.rw_simulation.proofs.WorkerLists.{core_after, after-is, numbered-after, epoch-step, goes-on, can-end-after}

@@ -1,5 +1,5 @@
 -- An epoch whose shards are put all that they will be put before their workers begin, so that requests may come in whatever order.
-use Rattle.std.proofs.Common.{◌≡◌, ℕ, ◌<◌, ◌≤◌, ◌+◌, ◌++◌, ◌∷◌, true, false, List, [], map, length, Option, None, Some, slice_get, refl, sym, ap, ◌∙◌, subst, arith, append_assoc, length-append}
+use Rattle.std.proofs.Common.{◌≡◌, ℕ, ◌<◌, ◌≤◌, ◌+◌, ◌++◌, ◌∷◌, false, List, [], map, length, Option, None, Some, slice_get, refl, sym, ap, ◌∙◌, subst, arith, append_assoc, length-append}
 use Rattle.std.specs.FinMap.{empty}
 use Rattle.std.specs.List.{AllByRecursion}
 use Rattle.std.proofs.lemmas.Bool.{both_ways}
@@ -9,15 +9,12 @@ use Rattle.rw_types.specs.declared.entry.Entry.{Entry}
 use Rattle.rw_types.specs.Gathering.{gather_from}
 use Rattle.rw_wal_format.specs.Pieces.{Piece, entries}
 use Rattle.rw_ledger.specs.Names.{Named}
-use Rattle.rw_plain_queue.specs.Items.{samples_in}
 use Rattle.rw_plain_queue.specs.History.{EndIsLast}
 use Rattle.rw_plain_queue.specs.declared.item.Item.{Item}
 use Rattle.rw_plain_queue.specs.declared.item.Item.TheVariants.{End}
-use Rattle.rw_plain_queue.specs.declared.item.Kind.{Kind}
 use Rattle.rw_shard_core.specs.Shard.{Core}
 use Rattle.rw_worker.specs.Transcript.{Exchange}
-use Rattle.rw_worker.specs.Setups.{start_of}
-use Rattle.rw_worker.specs.Steps.{Working, Step, working, AreSteps, after, items_of, exchanges_of}
+use Rattle.rw_worker.specs.Steps.{Step, working, AreSteps, after, items_of, exchanges_of}
 use Rattle.rw_head.specs.Head.{State}
 use Rattle.rw_fleet.specs.ShardHistories.{ShardHistory}
 use Rattle.rw_feeder.specs.Logs.{sent_of}
@@ -27,7 +24,7 @@ use Rattle.rw_machine.specs.Worlds.{Setup, Request, World}
 use Rattle.rw_machine.proofs.Lists.{Lists}
 use Rattle.rw_machine.proofs.Places.{get_some}
 use Rattle.rw_simulation.specs.Freely.{Happening, IsOwn, run_freely}
-use Rattle.rw_simulation.specs.WorkerRuns.{queued, IsShardNumbered, CanEnd, sent_bytes, request_in}
+use Rattle.rw_simulation.specs.WorkerRuns.{queued, IsShardNumbered, request_in}
 use Rattle.rw_simulation.specs.Tallies.{Past, requests_of}
 use Rattle.rw_simulation.specs.EpochRuns.{ShardFate, AreUnsent, IsAllPut, Reaches}
 use Rattle.rw_simulation.specs.FleetRuns.{IsShardRun, fate_of, fate_by, fate_at}
@@ -37,7 +34,7 @@ use Rattle.rw_simulation.proofs.FleetRuns.{fleet-run}
 use Rattle.rw_simulation.proofs.ReshardRuns.{BeginsEpoch}
 use Rattle.rw_simulation.proofs.EndRuns.{HasCome, IsOver, counted}
 use Rattle.rw_simulation.proofs.OwnRuns.{OwnRun, own-run}
-use Rattle.rw_simulation.proofs.Arriving.{HasArrived, AtWork, AnyWork, AtWorks, HasGone, HasSentBelow, epoch-goes, still-at}
+use Rattle.rw_simulation.proofs.Arriving.{HasArrived, AnyWork, AtWorks, HasGone, epoch-goes, still-at}
 
 -- all that a shard is put
 abbrev pub put_by : Option ShardHistory → List Item

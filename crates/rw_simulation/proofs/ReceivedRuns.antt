@@ -1,7 +1,7 @@
 -- What one receiver holds, by a run of the machine in which the requests come in the order in which they came.
 use Rattle.std.proofs.Common.{◌≡◌, ℕ, zero, suc, ◌+◌, ◌<◌, ◌≤◌, ◌==◌, true, false, cond, List, [], ◌∷◌, ◌++◌, map, length, Option, None, Some, is_some, slice_get, refl, sym, ap, ◌∙◌, subst, append-nil, append_assoc, length-append, arith, ◌⊎◌, inl, inr}
 use Rattle.std.specs.List.{AllByRecursion, list_all}
-use Rattle.std.specs.FinMap.{empty, get}
+use Rattle.std.specs.FinMap.{empty}
 use Rattle.std.proofs.lemmas.Bool.{eq-eqb}
 use Rattle.std.proofs.lemmas.List.{length-map}
 use Rattle.std.proofs.lemmas.Option.{same_Some, none-some, slice_get_within}
@@ -26,7 +26,7 @@ use Rattle.rw_worker.specs.Steps.{Step, exchanges_of, items_of}
 use Rattle.rw_head.specs.Head.{State}
 use Rattle.rw_head.specs.Store.{list_of}
 use Rattle.rw_fleet.specs.ShardHistories.{ShardHistory, put_into}
-use Rattle.rw_fleet.specs.Work.{AreResolved, AreWorked, IsWorked, AreEndedBy, lane_of, finished_of, put_of}
+use Rattle.rw_fleet.specs.Work.{AreResolved, AreWorked, IsWorked, AreEndedBy, lane_of, put_of}
 use Rattle.rw_fleet.specs.Fleets.{Shards, AreAll, EndBy}
 use Rattle.rw_fleet.specs.declared.joined.StoppedShard.{StoppedShard}
 use Rattle.rw_fleet.specs.declared.joined.Finished.{Finished}
@@ -47,7 +47,6 @@ use Rattle.rw_machine.specs.declared.event.Event.TheVariants as event
 use Rattle.rw_machine.specs.declared.event.How.{How}
 use Rattle.rw_machine.specs.declared.event.How.TheVariants.{Plain, Busy, OutOfMemory}
 use Rattle.rw_machine.specs.Promises.{CanWork, HoldsAll, HoldsBeginning, owed, pair_of}
-use Rattle.rw_machine.proofs.Places.{get_some}
 use Rattle.rw_machine.proofs.Runs.{in_order, all_when_complete, all_when_damaged}
 use Rattle.rw_simulation.specs.Freely.{Happening, Of, IsOwn, run_freely}
 use Rattle.rw_simulation.specs.Tallies.{Past, IsTallied, requests_of}
