@@ -321,20 +321,19 @@ fn stop_twice<R: Clock>(rt: &R, sign: &rw_stop::Sign, workers: &StopFlag) {
     workers.set();
 }
 
-/// Follows a log while its receiver is always busy, and is stopped twice.
-fn stopped_twice<R: Threads + Wait + Clock + Copy + Send + Sync + 'static>(
+/// Follows a log while its receiver is always busy, until the sign or the flag of the workers ends that.
+fn follow_in_vain<R: Threads + Wait + Clock + Copy + Send + 'static>(
     rt: &R,
     alloc: Global,
     text: &[u8],
+    sign: &rw_stop::Sign,
+    stop: StopFlag,
     printed: &mut Room,
 ) -> Result<Result<(), FollowFault>, AllocError> {
     let settings = settings_of(alloc, b"[send]\ncapacity = 1\nbatch = 1\n")?;
     let counters = SendCounters::new(alloc)?;
-    let stop = StopFlag::new(alloc)?;
-    let workers = stop.share()?;
-    let sign = rw_stop::Sign::new();
     let moment = Duration::from_millis(5);
-    let mut watch = Timed::new(*rt, Seen { sign: &sign }, moment, moment, moment);
+    let mut watch = Timed::new(*rt, Seen { sign }, moment, moment, moment);
     let line = Counted {
         connect: Receivers {
             clock: *rt,
@@ -347,17 +346,30 @@ fn stopped_twice<R: Threads + Wait + Clock + Copy + Send + Sync + 'static>(
         max_batch_bytes: None,
         stop,
     };
+    follow(
+        rt,
+        alloc,
+        settings,
+        &[More(text)],
+        line,
+        &mut watch,
+        printed,
+    )
+}
+
+/// Follows a log in vain, and is stopped twice.
+fn stopped_twice<R: Threads + Wait + Clock + Copy + Send + Sync + 'static>(
+    rt: &R,
+    alloc: Global,
+    text: &[u8],
+    printed: &mut Room,
+) -> Result<Result<(), FollowFault>, AllocError> {
+    let stop = StopFlag::new(alloc)?;
+    let workers = stop.share()?;
+    let sign = rw_stop::Sign::new();
     let (answer, ()) = thread::join(
         rt,
-        || follow(
-            rt,
-            alloc,
-            settings,
-            &[More(text)],
-            line,
-            &mut watch,
-            printed,
-        ),
+        || follow_in_vain(rt, alloc, text, &sign, stop, printed),
         || stop_twice(rt, &sign, &workers),
     );
     answer
