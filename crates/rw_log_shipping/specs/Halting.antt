@@ -1,5 +1,5 @@
 -- Why the reading of a log ends early.
-use Rattle.std.specs.Prelude.{◌≡◌, Option, None, Some, ⊤}
+use Rattle.std.specs.Prelude.{◌≡◌, None, Some, ⊤}
 use Rattle.rw_feeder.specs.Feeders.{HasRead}
 use Rattle.rw_shipper.specs.Shipping.{Shipping}
 use Rattle.rw_shipper.specs.declared.shipper.FeedFault.{FeedFault}
