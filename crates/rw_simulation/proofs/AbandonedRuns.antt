@@ -111,11 +111,11 @@ positions-behind : (xs ys : List Placed) → drop (length xs) (positions (xs ++ 
 positions-behind [] ys = refl
 positions-behind (x ∷ xs) ys = positions-behind xs ys
 
+pub put-split : (c : Setup) (m : Shard) → Lists c m → m.put ≡ m.core.resolved ++ pending m
+put-split c m h = h.queued ∙ ap (λ (xs : List Placed). xs ++ waiting_in m.queue) h.held ∙ append_assoc m.core.resolved (m.core.batch ++ m.core.builder) (waiting_in m.queue)
+
 positions-pending : (c : Setup) (m : Shard) → Lists c m → positions (pending m) ≡ drop (length m.core.resolved) (positions m.put)
-positions-pending c m h = sym (positions-behind m.core.resolved (pending m)) ∙ ap (λ (xs : List Placed). drop (length m.core.resolved) (positions xs)) (sym put_is)
-  where
-    put_is : m.put ≡ m.core.resolved ++ pending m
-    put_is = h.queued ∙ ap (λ (xs : List Placed). xs ++ waiting_in m.queue) h.held ∙ append_assoc m.core.resolved (m.core.batch ++ m.core.builder) (waiting_in m.queue)
+positions-pending c m h = sym (positions-behind m.core.resolved (pending m)) ∙ ap (λ (xs : List Placed). drop (length m.core.resolved) (positions xs)) (sym (put-split c m h))
 
 list_any-positions : (p : ℕ) (xs : List Placed) → list_any (λ (x : Placed). x.place.pos == p) xs ≡ is_in (positions xs) p
 list_any-positions p [] = refl
@@ -151,6 +151,10 @@ module _ {T : Type 0} where
   abandoned_in-none : (js : List (StoppedShard T)) → AreResolved js → abandoned_in js ≡ []
   abandoned_in-none [] r = refl
   abandoned_in-none (j ∷ js) r = ap (λ (ps : List ℕ). ps ++ abandoned_in js) (none_long j.abandoned.items (eqb-true (length j.abandoned.items) 0 (and_parts (is_compared j.finished.ends) (length j.abandoned.items == 0) (r 0 j refl)).1)) ∙ abandoned_in-none js (λ k i e. r (suc k) i e)
+
+  -- so what is left is what the last ones left
+  pub left-by-last : (js ended last : List (StoppedShard T)) → js ≡ ended ++ last → AreResolved ended → abandoned_in js ≡ abandoned_in last
+  left-by-last js ended last are resolved = ap abandoned_in are ∙ abandoned_in-append ended last ∙ ap (λ (ps : List ℕ). ps ++ abandoned_in last) (abandoned_in-none ended resolved)
 
 module _ {T : Type 0} (tells : T → Type 0) (seen : T → List Exchange) (is_for : ℕ → ℕ → T → Type 0) (c : Setup) (config : ConfigFields) (set : IsSetAs c config) (work : CanWork c) (Asked : (j : StoppedShard T) → IsWorked tells seen is_for j → Type 0) where
   abbrev pub KnownOf : StoppedShard T → Type 0
@@ -286,6 +290,49 @@ module _ {T : Type 0} (tells : T → Type 0) (seen : T → List Exchange) (is_fo
         f : FoundAt js known k j
         f = find-at js known k j at
 
+    resolved-is : (k : ℕ) (j : StoppedShard T) → slice_get js k ≡ Some j → length (after (start_of j.worker.value) (steps k)).core.resolved ≡ j.finished.resolved
+    resolved-is k j at = subst (λ (x : StoppedShard T). length (after (start_of x.worker.value) (steps k)).core.resolved ≡ x.finished.resolved) f.same
+        (subst (λ (ss : List Step). length (after (start_of f.it.worker.value) ss).core.resolved ≡ f.it.finished.resolved) f.steps
+        (ap (λ (x : Core). length x.resolved) (goes-alike (start_of f.it.worker.value) (start_of f.it.worker.value) f.known.worked.report.steps refl f.known.worked.report.made.allowed).core ∙ sym f.known.worked.report.counted))
+      where
+        f : FoundAt js known k j
+        f = find-at js known k j at
+
+    taken-is : (k : ℕ) (j : StoppedShard T) → slice_get js k ≡ Some j → (after (start_of j.worker.value) (steps k)).core.taken ≡ samples_in (taken_of j.finished.ends)
+    taken-is k j at = subst (λ (x : StoppedShard T). (after (start_of x.worker.value) (steps k)).core.taken ≡ samples_in (taken_of x.finished.ends)) f.same
+        (subst (λ (ss : List Step). (after (start_of f.it.worker.value) ss).core.taken ≡ samples_in (taken_of f.it.finished.ends)) f.steps
+        (ap (λ (x : Core). x.taken) (goes-alike (start_of f.it.worker.value) (start_of f.it.worker.value) f.known.worked.report.steps refl f.known.worked.report.made.allowed).core ∙ has-taken tells seen is_for f.it f.known.worked))
+      where
+        f : FoundAt js known k j
+        f = find-at js known k j at
+
+    abandoned-is : (k : ℕ) (j : StoppedShard T) → slice_get js k ≡ Some j → j.abandoned.items ≡ drop j.finished.resolved (positions_in (put_of j.finished.ends))
+    abandoned-is k j at = let f = find-at js known k j at in subst (λ (x : StoppedShard T). x.abandoned.items ≡ drop x.finished.resolved (positions_in (put_of x.finished.ends))) f.same f.known.worked.abandoned
+
+    -- ---- a world in which each shard has come to that
+    module _ (d : Setup) (v : World) (parts : ℕ → Names) (count : length v.shards ≡ length js) (kept : lists.All d v) (has_come : (k : ℕ) (m : Shard) → slice_get v.shards k ≡ Some m → HasCome epoch k v.requests (parts k) m (goals k)) where
+      come-at : (k : ℕ) (m : Shard) (j : StoppedShard T) → slice_get v.shards k ≡ Some m → slice_get js k ≡ Some j → HasCome epoch k v.requests (parts k) m (fate_of (soft_lane j) (steps k) (left_at k))
+      come-at k m j e at = subst (λ (o : Option ShardHistory). HasCome epoch k v.requests (parts k) m (fate_by o (steps k) (left_at k))) (get_map soft_lane js k j at) (has_come k m e)
+
+      alike-at : (k : ℕ) (m : Shard) (j : StoppedShard T) → slice_get v.shards k ≡ Some m → slice_get js k ≡ Some j → IsAlike j.finished m
+      alike-at k m j e at = let h = come-at k m j e at in record {
+        put = h.put ∙ samples_in-flushed (put_of j.finished.ends);
+        taken = ap (λ (x : Core). x.taken) h.core ∙ taken-is k j at;
+        resolved = ap (λ (x : Core). length x.resolved) h.core ∙ resolved-is k j at;
+      }
+
+      left-at : (k : ℕ) (m : Shard) (j : StoppedShard T) → slice_get v.shards k ≡ Some m → slice_get js k ≡ Some j → positions (pending m) ≡ j.abandoned.items
+      left-at k m j e at = let a = alike-at k m j e at in
+          positions-pending d m (kept k m e)
+          ∙ ap (λ (r : ℕ). drop r (positions m.put)) a.resolved
+          ∙ ap (λ (xs : List Placed). drop j.finished.resolved (positions xs)) a.put
+          ∙ ap (λ (ps : List Place). drop j.finished.resolved (map (λ (p : Place). p.pos) ps)) (sym (places_in-is (put_of j.finished.ends)))
+          ∙ sym (abandoned-is k j at)
+
+      -- what is pending is what the shards left
+      pub tells-left : (p : ℕ) → is_pending v p ≡ is_in (abandoned_in js) p
+      tells-left p = list_any-pending p v.shards js count left-at
+
     module _ (rest : List Entry) (done : List (StoppedShard T)) (pieces : List Piece) (w : World) (b : BeginsEpoch c (past_of tells seen done) pieces epoch (length js) before w) (begins-so : entries pieces ≡ before ++ (es ++ rest)) where
       abbrev past : Past
       past = past_of tells seen done
@@ -319,43 +366,6 @@ module _ {T : Type 0} (tells : T → Type 0) (seen : T → List Exchange) (is_fo
       come-goal : (k : ℕ) (m : Shard) → slice_get put.shards k ≡ Some m → HasCome epoch k put.requests (put-is.under.parts k) m (goals k)
       come-goal k m e = come c epoch k put.requests (put-is.under.parts k) m (goals k) (put-is.each k m e) (goal-open k (slice_get lanes k) refl)
 
-      come-at : (k : ℕ) (m : Shard) (j : StoppedShard T) → slice_get put.shards k ≡ Some m → slice_get js k ≡ Some j → HasCome epoch k put.requests (put-is.under.parts k) m (fate_of (soft_lane j) (steps k) (left_at k))
-      come-at k m j e at = subst (λ (o : Option ShardHistory). HasCome epoch k put.requests (put-is.under.parts k) m (fate_by o (steps k) (left_at k))) (get_map soft_lane js k j at) (come-goal k m e)
-
-      resolved-is : (k : ℕ) (j : StoppedShard T) → slice_get js k ≡ Some j → length (after (start_of j.worker.value) (steps k)).core.resolved ≡ j.finished.resolved
-      resolved-is k j at = subst (λ (x : StoppedShard T). length (after (start_of x.worker.value) (steps k)).core.resolved ≡ x.finished.resolved) f.same
-          (subst (λ (ss : List Step). length (after (start_of f.it.worker.value) ss).core.resolved ≡ f.it.finished.resolved) f.steps
-          (ap (λ (x : Core). length x.resolved) (goes-alike (start_of f.it.worker.value) (start_of f.it.worker.value) f.known.worked.report.steps refl f.known.worked.report.made.allowed).core ∙ sym f.known.worked.report.counted))
-        where
-          f : FoundAt js known k j
-          f = find-at js known k j at
-
-      taken-is : (k : ℕ) (j : StoppedShard T) → slice_get js k ≡ Some j → (after (start_of j.worker.value) (steps k)).core.taken ≡ samples_in (taken_of j.finished.ends)
-      taken-is k j at = subst (λ (x : StoppedShard T). (after (start_of x.worker.value) (steps k)).core.taken ≡ samples_in (taken_of x.finished.ends)) f.same
-          (subst (λ (ss : List Step). (after (start_of f.it.worker.value) ss).core.taken ≡ samples_in (taken_of f.it.finished.ends)) f.steps
-          (ap (λ (x : Core). x.taken) (goes-alike (start_of f.it.worker.value) (start_of f.it.worker.value) f.known.worked.report.steps refl f.known.worked.report.made.allowed).core ∙ has-taken tells seen is_for f.it f.known.worked))
-        where
-          f : FoundAt js known k j
-          f = find-at js known k j at
-
-      alike-at : (k : ℕ) (m : Shard) (j : StoppedShard T) → slice_get put.shards k ≡ Some m → slice_get js k ≡ Some j → IsAlike j.finished m
-      alike-at k m j e at = let h = come-at k m j e at in record {
-        put = h.put ∙ samples_in-flushed (put_of j.finished.ends);
-        taken = ap (λ (x : Core). x.taken) h.core ∙ taken-is k j at;
-        resolved = ap (λ (x : Core). length x.resolved) h.core ∙ resolved-is k j at;
-      }
-
-      abandoned-is : (k : ℕ) (j : StoppedShard T) → slice_get js k ≡ Some j → j.abandoned.items ≡ drop j.finished.resolved (positions_in (put_of j.finished.ends))
-      abandoned-is k j at = let f = find-at js known k j at in subst (λ (x : StoppedShard T). x.abandoned.items ≡ drop x.finished.resolved (positions_in (put_of x.finished.ends))) f.same f.known.worked.abandoned
-
-      left-at : (k : ℕ) (m : Shard) (j : StoppedShard T) → slice_get put.shards k ≡ Some m → slice_get js k ≡ Some j → positions (pending m) ≡ j.abandoned.items
-      left-at k m j e at = let a = alike-at k m j e at in
-          positions-pending c m (lists-put k m e)
-          ∙ ap (λ (r : ℕ). drop r (positions m.put)) a.resolved
-          ∙ ap (λ (xs : List Placed). drop j.finished.resolved (positions xs)) a.put
-          ∙ ap (λ (ps : List Place). drop j.finished.resolved (map (λ (p : Place). p.pos) ps)) (sym (places_in-is (put_of j.finished.ends)))
-          ∙ sym (abandoned-is k j at)
-
       -- ---- what they left differs, and is below what was placed
       part-at : (k : ℕ) (j : StoppedShard T) → slice_get js k ≡ Some j → ArePartOf n (0 + k) samples (length (before ++ es)) j.abandoned.items
       part-at k j at = subst (λ (ps : List ℕ). ArePartOf n (0 + k) samples (length (before ++ es)) ps) (sym (abandoned-is k j at))
@@ -381,9 +391,6 @@ module _ {T : Type 0} (tells : T → Type 0) (seen : T → List Exchange) (is_fo
       shards-are : length put.shards ≡ length js
       shards-are = put-is.under.count ∙ n-is
 
-      tells-left : (p : ℕ) → is_pending killed p ≡ is_in (abandoned_in js) p
-      tells-left p = list_any-pending p put.shards js shards-are left-at
-
       abbrev left : List ℕ
       left = filter (is_pending killed) (up_to (length (before ++ es)))
 
@@ -398,11 +405,11 @@ module _ {T : Type 0} (tells : T → Type 0) (seen : T → List Exchange) (is_fo
           placed_are = put-is.under.placed;
           counted = put-is.under.counted;
           shards = shards-are;
-          each = alike-at;
+          each = alike-at c put put-is.under.parts shards-are lists-put come-goal;
           left = left;
           reported = ap (λ (i : ℕ). Some (Abandoned i (filter (is_pending killed) (up_to i)))) put-is.under.placed;
           order = record {
-            same = passing-permutes (length (before ++ es)) (abandoned_in js) (is_pending killed) tells-left apart.differ apart.below;
+            same = passing-permutes (length (before ++ es)) (abandoned_in js) (is_pending killed) (tells-left c put put-is.under.parts shards-are lists-put come-goal) apart.differ apart.below;
             rises = passing-rises (length (before ++ es)) (is_pending killed);
           };
           epoch = suc epoch;
@@ -467,16 +474,13 @@ module _ {T : Type 0} (tells : T → Type 0) (seen : T → List Exchange) (is_fo
       (subst (λ (v : World). IsTallied c (past_of tells seen (was.ended ++ last)) over.epoch 0 s.log.placed (λ k. empty) v) (sym leads)
       (subst (λ (es : List Entry). IsTallied c (past_of tells seen (was.ended ++ last)) over.epoch 0 es (λ k. empty) last-run.world) (sym at-last.are) over.tallied))
 
-  left-is : abandoned_in h.joined ≡ abandoned_in last
-  left-is = ap abandoned_in all.1 ∙ abandoned_in-append was.ended last ∙ ap (λ (ps : List ℕ). ps ++ abandoned_in last) (abandoned_in-none was.ended resolved)
-
   tells-left-so : (o : Outcome) → Ends s h.joined o → IsAbandoned o → Tells o (report (world_of c events))
   tells-left-so (outcome.Complete end) ends stopped = absurd stopped
   tells-left-so (outcome.Damaged f) ends stopped = absurd stopped
   tells-left-so (outcome.Abandoned count ps) ends stopped = (
     over.left,
     ap report leads ∙ over.reported ∙ ap (λ (i : ℕ). Some (Abandoned i over.left)) (ap length (sym at-last.are) ∙ sym ends.0),
-    subst (λ (xs : List ℕ). IsRisingOrderOf xs over.left) (sym (ends.1 ∙ left-is)) over.order,
+    subst (λ (xs : List ℕ). IsRisingOrderOf xs over.left) (sym (ends.1 ∙ left-by-last h.joined was.ended last all.1 resolved)) over.order,
   )
 
   whole-run : IsAbandoned r.outcome → IsRun tells seen c s r

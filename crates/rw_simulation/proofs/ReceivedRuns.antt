@@ -1,20 +1,23 @@
 -- What one receiver holds, by a run of the machine in which the requests come in the order in which they came.
-use Rattle.std.proofs.Common.{◌≡◌, ℕ, zero, suc, ◌+◌, ◌<◌, ◌≤◌, ◌==◌, true, false, cond, List, [], ◌∷◌, ◌++◌, map, length, Option, None, Some, is_some, slice_get, refl, sym, ap, ◌∙◌, subst, append-nil, append_assoc, length-append, arith, ◌⊎◌, inl, inr}
-use Rattle.std.specs.List.{AllByRecursion, list_all}
+use Rattle.std.proofs.Common.{◌≡◌, ℕ, zero, suc, ◌+◌, ◌<◌, ◌≤◌, ◌==◌, ◌||◌, true, false, cond, List, [], ◌∷◌, ◌++◌, map, length, take, Option, None, Some, is_some, slice_get, refl, sym, ap, ◌∙◌, subst, append-nil, append_assoc, length-append, arith, ◌⊎◌, inl, inr}
+use Rattle.std.specs.List.{AllByRecursion, list_all, list_any}
 use Rattle.std.specs.FinMap.{empty}
-use Rattle.std.proofs.lemmas.Bool.{eq-eqb}
-use Rattle.std.proofs.lemmas.List.{length-map}
+use Rattle.std.proofs.lemmas.Bool.{eq-eqb, eqb-true, and_parts}
+use Rattle.std.proofs.lemmas.List.{length-map, take-append-le}
 use Rattle.std.proofs.lemmas.Option.{same_Some, none-some, slice_get_within}
 use Rattle.rw_types.proofs.AllLemmas.{AllByRecursion-left, AllByRecursion-right}
 use Rattle.rw_types.specs.Beginnings.{Begins}
 use Rattle.rw_types.specs.Labels.{Labels}
 use Rattle.rw_types.specs.declared.entry.Entry.{Entry}
+use Rattle.rw_types.specs.declared.entry.Entry.TheVariants as entry
 use Rattle.rw_types.specs.Gathering.{gather_from}
 use Rattle.rw_wal_format.specs.Pieces.{Piece, entries, fault}
 use Rattle.rw_wal_format.specs.declared.tail_fault.TailFault.{TailFault}
 use Rattle.rw_wal_tail.specs.Fed.{piece_of}
 use Rattle.rw_relabel.specs.declared.choice.Choice.{Choice}
+use Rattle.rw_series_cache.specs.Known.{known as known_in}
 use Rattle.rw_series_cache.specs.Points.{kept_points, kept_points_below}
+use Rattle.rw_plain_queue.specs.Items.{Placed}
 use Rattle.rw_plain_queue.specs.declared.item.Item.{Item}
 use Rattle.rw_plain_queue.specs.declared.item.Kind.{Kind}
 use Rattle.rw_plain_queue.specs.declared.item.Kind.TheVariants as kind
@@ -24,6 +27,7 @@ use Rattle.rw_shard_core.specs.declared.outcome.Outcome.TheVariants as outcome
 use Rattle.rw_worker.specs.Transcript.{Exchange}
 use Rattle.rw_worker.specs.Steps.{Step, exchanges_of, items_of}
 use Rattle.rw_head.specs.Head.{State}
+use Rattle.rw_head.specs.Order.{holds}
 use Rattle.rw_head.specs.Store.{list_of}
 use Rattle.rw_fleet.specs.ShardHistories.{ShardHistory, put_into}
 use Rattle.rw_fleet.specs.Work.{AreResolved, AreWorked, IsWorked, AreEndedBy, lane_of, put_of}
@@ -34,19 +38,21 @@ use Rattle.rw_fleet.proofs.LaneLemmas.{same_length}
 use Rattle.rw_feeder.specs.Feeders.{HasRead}
 use Rattle.rw_feeder.specs.Logs.{Sent, sent, sent_of}
 use Rattle.rw_shipper.specs.Placement.{IsDealt, IsShardCount, Places, joined}
-use Rattle.rw_shipper.specs.Reports.{IsAbandoned}
+use Rattle.rw_shipper.specs.Reports.{IsAbandoned, abandoned_in}
 use Rattle.rw_shipper.specs.Shipping.{Shipping, PlacesAll, HasStopped, Ends}
 use Rattle.rw_shipper.specs.declared.report.Report.{Report}
 use Rattle.rw_shipper.proofs.PlacementLemmas.{whole_is, whole_placed}
 use Rattle.rw_shipper.proofs.ShippingLemmas.{all_is, ends_last}
-use Rattle.rw_machine.specs.Shards.{Shard, is_drained, shard_end, shard_flush}
-use Rattle.rw_machine.specs.Worlds.{Setup, Request, World, Complete, Damaged, start, log, ended_as, report}
+use Rattle.rw_machine.specs.Shards.{Shard, is_drained, pending, shard_end, shard_flush}
+use Rattle.rw_machine.specs.Worlds.{Setup, Request, World, Complete, Damaged, start, log, ended_as, is_pending, report}
 use Rattle.rw_machine.specs.Steps.{happens, mark, run, unless_over}
 use Rattle.rw_machine.specs.declared.event.Event.{Event}
 use Rattle.rw_machine.specs.declared.event.Event.TheVariants as event
 use Rattle.rw_machine.specs.declared.event.How.{How}
 use Rattle.rw_machine.specs.declared.event.How.TheVariants.{Plain, Busy, OutOfMemory}
-use Rattle.rw_machine.specs.Promises.{CanWork, HoldsAll, HoldsBeginning, owed, pair_of}
+use Rattle.rw_machine.specs.Promises.{CanWork, HoldsAll, HoldsBeginning, StoresResolved, owed, pair_of}
+use Rattle.rw_machine.proofs.Lists.{Lists}
+use Rattle.rw_machine.proofs.Stored.{resolved_is_stored}
 use Rattle.rw_machine.proofs.Runs.{in_order, all_when_complete, all_when_damaged}
 use Rattle.rw_simulation.specs.Freely.{Happening, Of, IsOwn, run_freely}
 use Rattle.rw_simulation.specs.Tallies.{Past, IsTallied, requests_of}
@@ -54,7 +60,7 @@ use Rattle.rw_simulation.specs.EpochRuns.{ShardFate, AreUnsent, IsAllPut, Reache
 use Rattle.rw_simulation.specs.FleetRuns.{IsShardRun, fate_at}
 use Rattle.rw_simulation.specs.StoppedRuns.{IsSetAs, NamesAll, first_number}
 use Rattle.rw_simulation.specs.Arrivals.{Arrival, Receives, IsOneReceiver}
-use Rattle.rw_simulation.specs.Received.{AreOfSteps, AreExchangesOf, IsHeld, ReceivesInOrder, ReceivesAbandoned}
+use Rattle.rw_simulation.specs.Received.{AreOfSteps, AreExchangesOf, IsHeld, is_left, ReceivesInOrder, ReceivesAbandoned}
 use Rattle.rw_simulation.proofs.EntryRuns.{over_not}
 use Rattle.rw_simulation.proofs.ReshardRuns.{BeginsEpoch, asked, draining, ended, next, next-begins, restarts}
 use Rattle.rw_simulation.proofs.EndRuns.{IsResolvedFate, IsOver, end-all, tallies-at, drained-all}
@@ -62,7 +68,8 @@ use Rattle.rw_simulation.proofs.Tallies.{Passes, lists-at, tallied-still, tallie
 use Rattle.rw_simulation.proofs.Pasts.{get-first, get-either, get_map, map_get, past_of, passes-of, names-all}
 use Rattle.rw_simulation.proofs.StoppedRuns.{Fed, feeds, Known, AreAsked, known-all, Sound, sound-all, Split, split_map, Parted, part, none_joined, AreBefore, turned-before, Found, find, steps_in, lane-at, fates, fate-end, fate-resolved, reports-at, begun, fed-all, begins}
 use Rattle.rw_simulation.proofs.AbandonedRuns as soft
-use Rattle.rw_simulation.proofs.AbandonedRuns.{KnownOf, FoundAt, find-at, come, soft_lane}
+use Rattle.rw_simulation.proofs.AbandonedRuns.{KnownOf, FoundAt, find-at, come, soft_lane, put-split, left-by-last}
+use Rattle.rw_simulation.proofs.RisingOrders.{is_in}
 use Rattle.rw_simulation.proofs.FlushedShards.{flushed, exchanges_of-flushed}
 use Rattle.rw_simulation.proofs.Arriving.{HasArrived, arrived-own}
 use Rattle.rw_simulation.proofs.EpochArrivals.{put_by, first_at, same-end, sent-own, put-first, put-quiet, Gone, goes}
@@ -511,6 +518,12 @@ module _ {T : Type 0} (tells : T → Type 0) (seen : T → List Exchange) (is_fo
         (tallies-at epoch (length soft_lanes) soft_goals soft-gone.world.requests soft-gone.over.parts soft-gone.world.shards soft-gone.over.count soft-gone.over.done)
         (passes-of tells seen c epoch (length soft_lanes) done js soft_goals (sym count-is) (soft.reports-at tells seen is_for c0 config set work IsTold epoch js known some before es dealt))
 
+    pub soft-placed : soft-gone.world.placed ≡ length (before ++ es)
+    soft-placed = ap (λ (x : World). x.placed) soft-gone.over.same ∙ soft-put.holds.under.placed
+
+    pub soft-pending : (p : ℕ) → is_pending soft-gone.world p ≡ is_in (abandoned_in js) p
+    soft-pending p = soft.tells-left tells seen is_for c0 config set work IsTold epoch js known some before es dealt c soft-gone.world soft-gone.over.parts (soft-gone.over.count ∙ count-is) (lists-at c soft-gone.world soft-gone.over.tallied.reached) soft-gone.over.done p
+
     pub soft-pieces : soft-gone.world.pieces ≡ pieces
     soft-pieces = ap (λ (x : World). x.pieces) soft-gone.over.same ∙ soft-put.holds.under.pieces_are
 
@@ -545,9 +558,26 @@ all-of : (c : Setup) (events : List Event) (w : World) → run c events (start c
 all-of c events w is None n reported placed l = subst (λ (v : World). report v ≡ Some (Complete n) → HoldsAll c v n l) is (λ h. all_when_complete c events n h l) reported
 all-of c events w is (Some f) n reported placed l = subst (λ (m : ℕ). HoldsAll c w m l) placed (subst (λ (v : World). report v ≡ Some (Damaged f) → HoldsAll c v v.placed l) is (λ h. all_when_damaged c events f h l) reported)
 
+-- where all is drained nothing is pending
+no_rest : (xs ys zs : List Placed) → xs ≡ ys ++ zs → length ys ≡ length xs → zs ≡ []
+no_rest xs ys [] e same = refl
+no_rest xs ys (z ∷ zs) e same = absurd (never (length ys) (length zs) (same ∙ ap length e ∙ length-append ys (z ∷ zs)))
+  where
+    never : (a b : ℕ) → a ≡ a + suc b → ⊥
+    never a b e = omega arith
+
+none-pending : (c : Setup) (p : ℕ) (ms : List Shard) → ((k : ℕ) (m : Shard) → slice_get ms k ≡ Some m → Lists c m) → list_all is_drained ms ≡ true → list_any (λ (m : Shard). list_any (λ (x : Placed). x.place.pos == p) (pending m)) ms ≡ false
+none-pending c p [] kept all = refl
+none-pending c p (m ∷ ms) kept all =
+    let both = and_parts (is_drained m) (list_all is_drained ms) all in
+    let ended = and_parts m.core.ended (length m.core.resolved == length m.put) both.0 in
+    ap (λ (xs : List Placed). list_any (λ (x : Placed). x.place.pos == p) xs || list_any (λ (n : Shard). list_any (λ (x : Placed). x.place.pos == p) (pending n)) ms)
+    (no_rest m.put m.core.resolved (pending m) (put-split c m (kept 0 m refl)) (eqb-true (length m.core.resolved) (length m.put) ended.1)) ∙ none-pending c p ms (λ k n e. kept (suc k) n e) both.1
+
 -- a head that holds what the machine's does
-held-so : {T : Type 0} (c : Setup) (s : Shipping T) (r : Report T) (v : World) (head : State) (events : List Event) → run c events (start c) ≡ v → v.head ≡ head → v.pieces ≡ s.log.pieces → c.choice ≡ s.log.choice → NamesAll v.names r.parts.items → ((IsAbandoned r.outcome → ⊥) → (l : Labels) → HoldsAll c v (length s.log.placed) l) → IsHeld s r head.store
-held-so c s r v head events is head_is pieces_are choice named all = record {
+held-so : {T : Type 0} (c : Setup) (s : Shipping T) (r : Report T) (v : World) (head : State) (events : List Event) → run c events (start c) ≡ v → v.head ≡ head → v.pieces ≡ s.log.pieces → c.choice ≡ s.log.choice → NamesAll v.names r.parts.items → ((IsAbandoned r.outcome → ⊥) → (l : Labels) → HoldsAll c v (length s.log.placed) l)
+    → (rest : List Entry) → entries s.log.pieces ≡ s.log.placed ++ rest → v.placed ≡ length s.log.placed → ((p : ℕ) → is_left r.outcome p ≡ false → is_pending v p ≡ false) → IsHeld s r head.store
+held-so c s r v head events is head_is pieces_are choice named all rest read placed none_pending = record {
   names = v.names;
   named = named;
   in_order = λ l. subst (λ (st : State). Begins (list_of st.store l) (map pair_of (owed v.names (kept_points s.log.choice (entries s.log.pieces) l)))) head_is
@@ -556,7 +586,19 @@ held-so c s r v head events is head_is pieces_are choice named all = record {
   whole = λ left l. subst (λ (st : State). list_of st.store l ≡ map pair_of (owed v.names (kept_points_below s.log.choice (entries s.log.pieces) l (length s.log.placed)))) head_is
       (subst (λ (ps : List Piece). list_of v.head.store l ≡ map pair_of (owed v.names (kept_points_below s.log.choice (entries ps) l (length s.log.placed)))) pieces_are
       (subst (λ (ch : Choice). list_of v.head.store l ≡ map pair_of (owed v.names (kept_points_below ch (log v) l (length s.log.placed)))) choice (all left l)));
+  settled = λ p ref t word l at is_known left unnamed. subst (λ (st : State). holds (t, word) (list_of st.store l) ≡ true) head_is
+      (subst (λ (x : World). StoresResolved c x) is (resolved_is_stored c events) p ref t word l
+      (subst (λ (n : ℕ). p < n) (sym placed) (slice_get_within s.log.placed p (entry.Sample ref t word) at))
+      (ap (λ (es : List Entry). slice_get es p) log-is ∙ get-first s.log.placed rest p (entry.Sample ref t word) at)
+      ((λ i. known_in (choice i) (take p (log-is i)) ref) ∙ ap (λ (es : List Entry). known_in s.log.choice es ref) (take-append-le p s.log.placed rest (below p (length s.log.placed) (slice_get_within s.log.placed p (entry.Sample ref t word) at))) ∙ is_known)
+      (none_pending p left) unnamed);
 }
+  where
+    log-is : log v ≡ s.log.placed ++ rest
+    log-is = ap entries pieces_are ∙ read
+
+    below : (a b : ℕ) → a < b → a ≤ b
+    below a b lt = omega arith
 
 module _ {T : Type 0} (tells : T → Type 0) (seen : T → List Exchange) (is_for : ℕ → ℕ → T → Type 0) (c0 : Setup) (s : Shipping T) (r : Report T) (fed : List Fed) (h : HasStopped tells seen is_for s r) (was : Shards T) (p : PlacesAll s.log was) (set : IsSetAs c0 s.fleet.config) (choice : c0.choice ≡ s.log.choice) (work : CanWork c0) (fed_are : s.log.pieces ≡ map piece_of fed)
     (alls : AreAll was h.joined) (resolved : AreResolved was.ended) (number : IsShardCount (length was.current)) (first : first_number p.epochs was.current ≡ c0.shards)
@@ -690,12 +732,19 @@ module _ {T : Type 0} (tells : T → Type 0) (seen : T → List Exchange) (is_fo
       abbrev gone-left : SoftGone tells seen is_for c0 s.fleet.config set work wide room exs arrivals heads one-so at-last.epoch last known-last some-last at-last.now at-last.later at-last.dealt within-left was.ended s.log.pieces rest at-last.m at-last.world begins-left at-last.at whole-log
       gone-left = soft-gone tells seen is_for c0 s.fleet.config set work wide room exs arrivals heads one-so at-last.epoch last known-last some-last at-last.now at-last.later at-last.dealt within-left was.ended s.log.pieces rest at-last.m at-last.world begins-left at-last.at whole-log
 
+      -- nothing is pending but what the report lists
+      pending-by : (o : Outcome) → Ends s h.joined o → IsAbandoned o → (p : ℕ) → is_left o p ≡ false → is_in (abandoned_in last) p ≡ false
+      pending-by (outcome.Complete end) ends stopped p not_left = absurd stopped
+      pending-by (outcome.Damaged f) ends stopped p not_left = absurd stopped
+      pending-by (outcome.Abandoned count samples) ends stopped p not_left = ap (λ (ps : List ℕ). is_in ps p) (sym (ends.1 ∙ left-by-last h.joined was.ended last alls.1 resolved)) ∙ not_left
+
       pub held-left : IsHeld s r (heads (length arrivals)).store
       held-left = held-so setup s r gone-left.world (heads (length arrivals)) gone-left.arrived.events gone-left.arrived.is (gone-left.arrived.head ∙ ap heads (all-came gone-left.m gone-left.stop))
           (soft-pieces tells seen is_for c0 s.fleet.config set work wide room exs arrivals heads one-so at-last.epoch last known-last some-last at-last.now at-last.later at-last.dealt within-left was.ended s.log.pieces rest at-last.m at-last.world begins-left at-last.at whole-log)
           choice
           (tallied-so gone-left.world (soft-tallied tells seen is_for c0 s.fleet.config set work wide room exs arrivals heads one-so at-last.epoch last known-last some-last at-last.now at-last.later at-last.dealt within-left was.ended s.log.pieces rest at-last.m at-last.world begins-left at-last.at whole-log))
           (λ whole. absurd (whole left))
+          rest read (soft-placed tells seen is_for c0 s.fleet.config set work wide room exs arrivals heads one-so at-last.epoch last known-last some-last at-last.now at-last.later at-last.dealt within-left was.ended s.log.pieces rest at-last.m at-last.world begins-left at-last.at whole-log ∙ ap length (sym at-last.are)) (λ p not_left. soft-pending tells seen is_for c0 s.fleet.config set work wide room exs arrivals heads one-so at-last.epoch last known-last some-last at-last.now at-last.later at-last.dealt within-left was.ended s.log.pieces rest at-last.m at-last.world begins-left at-last.at whole-log p ∙ pending-by r.outcome h.ends left p not_left)
 
     -- ---- where nothing was left
     module _ (resolved_all : AreResolved h.joined) (by : AreEndedBy kind.Orderly (map put_into (map lane_of last))) (none : rest ≡ []) where
@@ -717,6 +766,7 @@ module _ {T : Type 0} (tells : T → Type 0) (seen : T → List Exchange) (is_fo
           choice
           (tallied-so gone-whole.world (last-tallied tells seen is_for c0 s.fleet.config set work wide room exs arrivals heads one-so at-last.epoch kind.Orderly last sound-last some_lanes by at-last.now at-last.later at-last.dealt within-last was.ended s.log.pieces rest at-last.m at-last.world at-last.begins at-last.at whole-log refl none))
           (λ whole l. all-of setup gone-whole.now.arrived.events gone-whole.world gone-whole.now.arrived.is (fault s.log.pieces) (length s.log.placed) report-is placed-is l)
+          rest read placed-is (λ p not_left. none-pending setup p gone-whole.world.shards (lists-at setup gone-whole.world gone-whole.over.tallied.reached) (drained-now tells seen is_for c0 s.fleet.config set work wide room exs arrivals heads one-so at-last.epoch kind.Orderly last sound-last some_lanes by at-last.now at-last.later at-last.dealt within-last was.ended s.log.pieces rest at-last.m at-last.world at-last.begins at-last.at whole-log refl none))
 
 resolved-front : {T : Type 0} (xs ys : List (StoppedShard T)) → AreResolved (xs ++ ys) → AreResolved xs
 resolved-front xs ys h k j e = h k j (get-first xs ys k j e)

@@ -1,16 +1,22 @@
 -- What one receiver holds of the samples of a shipper that was stopped.
-use Rattle.std.specs.Prelude.{◌≡◌, ℕ, List, [], ◌∷◌, length, map, slice_get, Some, ⊤}
+use Rattle.std.specs.Prelude.{◌≡◌, ℕ, List, [], ◌∷◌, length, take, map, ◌==◌, Bool, true, false, ℤ, slice_get, Some, None, ⊤}
 use Rattle.std.specs.Ordering.{nat_cmp}
-use Rattle.std.specs.FinMap.{FinMap}
+use Rattle.std.specs.List.{list_any}
+use Rattle.std.specs.FinMap.{FinMap, get}
 use Rattle.rw_types.specs.Labels.{Labels}
 use Rattle.rw_types.specs.Beginnings.{Begins}
+use Rattle.rw_types.specs.declared.entry.Entry.TheVariants.{Sample}
 use Rattle.rw_wal_format.specs.Pieces.{entries}
 use Rattle.rw_wal_tail.specs.Fed.{piece_of}
 use Rattle.rw_wal_tail.specs.declared.piece.Piece.{Piece}
+use Rattle.rw_series_cache.specs.Known.{Kept, known}
 use Rattle.rw_series_cache.specs.Points.{kept_points, kept_points_below}
 use Rattle.rw_ledger.specs.declared.ledger.Reason.{Reason}
 use Rattle.rw_plain_queue.specs.declared.item.Kind.TheVariants.{Orderly}
+use Rattle.rw_shard_core.specs.declared.outcome.Outcome.{Outcome}
+use Rattle.rw_shard_core.specs.declared.outcome.Outcome.TheVariants.{Complete, Abandoned, Damaged}
 use Rattle.rw_head.specs.Head.{State}
+use Rattle.rw_head.specs.Order.{holds}
 use Rattle.rw_head.specs.Store.{Store, list_of}
 use Rattle.rw_worker.specs.Transcript.{Exchange}
 use Rattle.rw_worker.specs.Steps.{exchanges_of}
@@ -36,13 +42,21 @@ pub record AreExchangesOf {T : Type 0} (tells : T → Type 0) (seen : T → List
   pub each : AreOfSteps tells seen is_for exchanges js worked
   pub owned : (e k i : ℕ) (x : Exchange) → slice_get (exchanges e k) i ≡ Some x → (n : ℕ) × (j : StoppedShard T) × (slice_get js n ≡ Some j) × (j.worker.value.queue.epoch ≡ e) × (j.worker.value.queue.shard ≡ k)
 
+-- the outcome lists this position among those that were left
+abbrev pub is_left : Outcome → ℕ → Bool
+is_left (Complete end) p = false
+is_left (Abandoned placed samples) p = list_any (λ (q : ℕ). q == p) samples.items
+is_left (Damaged f) p = false
+
 -- Of each label set the store holds a beginning of its samples in the log that was fed, in log order, each once, less exactly those that the report names; of
--- one that the rules do not keep it holds none. Where the shipper left nothing, the store holds all of the samples that were placed.
+-- one that the rules do not keep it holds none. Where the shipper left nothing, the store holds all of the samples that were placed; and else each
+-- that was placed and of which the report neither says that it was left nor names it (`settled`).
 pub record IsHeld {T : Type 0} (s : Shipping T) (r : Report T) (store : Store) : Type 0 where
   pub names : FinMap nat_cmp Reason
   pub named : NamesAll names r.parts.items
   pub in_order : (l : Labels) → Begins (list_of store l) (map pair_of (owed names (kept_points s.log.choice (entries s.log.pieces) l)))
   pub whole : (IsAbandoned r.outcome → ⊥) → (l : Labels) → list_of store l ≡ map pair_of (owed names (kept_points_below s.log.choice (entries s.log.pieces) l (length s.log.placed)))
+  pub settled : (p ref : ℕ) (t : ℤ) (word : ℕ) (l : Labels) → slice_get s.log.placed p ≡ Some (Sample ref t word) → known s.log.choice (take p s.log.placed) ref ≡ Kept l → is_left r.outcome p ≡ false → get names p ≡ None → holds (t, word) (list_of store l) ≡ true
 
 -- So one receiver holds the samples of every shipper that was stopped in order with nothing left, whatever the network lost, repeated, delayed or put in another order.
 abbrev pub ReceivesInOrder : {T : Type 0} → (T → Type 0) → (T → List Exchange) → (ℕ → ℕ → T → Type 0) → Shipping T → Report T → Type 0

@@ -54,8 +54,8 @@ pub fn a_stopped_shipper_is_a_run<T: Transport>()
 /// What one receiver holds of the samples of a shipper that was stopped. The requests of its workers come to the receiver in whatever order, each once, often, late
 /// or never; nothing comes before its exchange began, a status that a worker read is one that the receiver gave to that exchange, and the receiver is one head that
 /// began empty. Then it holds of each label set that the rules keep a beginning of its samples, in log order, each once, less exactly those that the report names,
-/// and of other label sets none. Where the shipper left nothing it holds all of them. `orderly` and `abandoned` ask of the shipper what those of
-/// `a_stopped_shipper_is_a_run` ask.
+/// and of other label sets none. Where the shipper left nothing it holds all of them, and else each that the report neither lists as left nor names.
+/// `orderly` and `abandoned` ask of the shipper what those of `a_stopped_shipper_is_a_run` ask.
 pub fn one_receiver_holds_the_samples<T: Transport>()
     ensures orderly { (s : Shipping T) (r : Report T) → ReceivesInOrder T.tells T.seen T.is_for s r }
     ensures abandoned { (s : Shipping T) (r : Report T)
