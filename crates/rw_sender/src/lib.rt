@@ -7,7 +7,9 @@ pub use rw_shard_core::{
     Attempt, Config, ConfigFields, MAX_FIELDS, MAX_HEAD_BYTES, Outcome, ReplyRead, ShardCore,
     Target, read_reply, request_bytes,
 };
-pub use rw_shipper::{FeedFault, Report, Shipper, samples_are_spread};
+pub use rw_shipper::{
+    FeedFault, Report, Shipper, batches_are_short, queues_stay_within, samples_are_spread,
+};
 pub use rw_worker::{
     Begun, Lost, Pause, Reply, StopFlag, Stopped, TakingEnd, Tally, Transport, Worker,
     WorkerReport, spawn,

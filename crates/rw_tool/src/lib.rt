@@ -8,8 +8,8 @@ pub use rw_metrics::{ReceiveCounters, SendCounters};
 pub use rw_receive::{Service, run_receive, run_receive_until};
 pub use rw_replay::run_replay;
 pub use rw_send::{
-    Counted, Folder, FollowFault, Open, Opened, SegmentFile, TcpConnect, run_follow, run_send,
-    segment_files,
+    Counted, Folder, FollowFault, Open, Opened, SegmentFile, StopFlag, TcpConnect, run_follow,
+    run_send, segment_files,
 };
 pub use rw_settings::{Settings, SettingsFault, read_settings};
 pub use rw_stop::Sign;
