@@ -150,12 +150,12 @@ impl<T: Transport + Send + Drop + 'static> RunningShard<T> {
         self.window.len()
     }
 
-    /// How many samples wait to be resolved, as far as the worker has told: at most `most`, and none where they are fewer than the `batch` samples of a batch.
+    /// How many samples wait to be resolved, as far as the worker has told: at most `most`, and none where they only wait for the `batch` samples of a full batch.
     pub(crate) fn waiting(&self, batch: u64, most: u64) -> u64
         ensures { result ≤ left_at_work most self.now }
     {
         let waiting = self.count().saturating_sub(self.tally.read());
-        if waiting < batch {
+        if waiting < batch && !self.tally.is_sending() {
             0
         } else {
             waiting.min(most)

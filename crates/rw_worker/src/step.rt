@@ -30,7 +30,7 @@ fn freeze<T: Transport, P: Pause>(
         pause.new }
 {
     match sending.core.freeze(&mut sending.ledger) {
-        Ok(_) => {}
+        Ok(is_cut) => sending.tally.tell_cut(is_cut),
         Err(_) => {
             pause.pause(sending.backoff.least());
         }

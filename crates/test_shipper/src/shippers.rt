@@ -165,6 +165,12 @@ const TWO_OF_TWO: Load = Load {
     backlog: 0,
 };
 
+const ONE_WAITS: Load = Load {
+    placed: 1,
+    resolved: 0,
+    backlog: 1,
+};
+
 static ONE_SERIES: Row<'static> = Row {
     task: Task {
         shards: 2,
@@ -437,11 +443,11 @@ fn workers_send_at_once(rt: HostRuntime) -> Result<(), Fail> {
     Ok(())
 }
 
-/// Whether the two samples that were fed are resolved in time.
-fn is_resolved(shipper: &Shipper<Peers>) -> bool {
+/// Whether this load is told in time.
+fn comes_to(shipper: &Shipper<Peers>, load: Load) -> bool {
     for _ in 0..TURNS {
         thread::yield_now();
-        if shipper.load() == TWO_OF_TWO {
+        if shipper.load() == load {
             return true;
         }
     }
@@ -459,7 +465,7 @@ fn resolves_in_time<R: Threads + Wait + Copy + Send + 'static>(
         return Ok(false);
     };
     let mut shipper = Shipper::start(rt, alloc, config, peers)?;
-    let is_so = shipper.feed(rt, Piece::Bytes(log)).is_ok() && is_resolved(&shipper);
+    let is_so = shipper.feed(rt, Piece::Bytes(log)).is_ok() && comes_to(&shipper, TWO_OF_TWO);
     shipper.stop_hard(rt);
     Ok(is_so)
 }
@@ -468,6 +474,29 @@ fn resolves_in_time<R: Threads + Wait + Copy + Send + 'static>(
 #[test]
 fn a_fed_sample_is_resolved_without_a_flush(rt: HostRuntime) {
     assert_eq!(rt; resolves_in_time(&rt, rt.alloc()), Ok(true));
+}
+
+/// Whether a sample that a flush cut off is told as waiting, where its receiver is busy.
+fn waits_in_time<R: Threads + Wait + Copy + Send + 'static>(
+    rt: &R,
+    alloc: Global,
+) -> Result<bool, AllocError> {
+    let log = segment(alloc, &FOUR, &[(1, 10, ONE)])?;
+    let peers = peers_of(alloc, 503, u64::MAX, None)?;
+    let Some(config) = config_of(alloc, 1, 2_000) else {
+        return Ok(false);
+    };
+    let mut shipper = Shipper::start(rt, alloc, config, peers)?;
+    let is_fed = shipper.feed(rt, Piece::Bytes(log)).is_ok() && shipper.flush(rt).is_ok();
+    let is_so = is_fed && comes_to(&shipper, ONE_WAITS);
+    shipper.stop_hard(rt);
+    Ok(is_so)
+}
+
+/// A batch that was cut before it was full waits for its receiver, and not for more samples.
+#[test]
+fn a_batch_that_was_cut_waits(rt: HostRuntime) {
+    assert_eq!(rt; waits_in_time(&rt, rt.alloc()), Ok(true));
 }
 
 /// Two samples of one series, each of which counts 31 bytes, though the body of both takes 44.
