@@ -1,5 +1,5 @@
 -- How far the samples of all shards have come.
-use Rattle.std.specs.Prelude.{◌≡◌, ℕ, ◌+◌, ◌-◌, ◌≤◌, List, length, min}
+use Rattle.std.specs.Prelude.{◌≡◌, ℕ, ◌+◌, ◌≤◌, List, length, min}
 use Rattle.std.specs.List.{sum_by}
 use Rattle.rw_plain_queue.specs.Items.{places_in}
 use Rattle.rw_shard_core.specs.declared.config.ConfigFields.{ConfigFields}

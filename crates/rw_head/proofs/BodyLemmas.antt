@@ -1,9 +1,15 @@
 -- Bodies, series by series.
-use Rattle.std.proofs.Common.{◌≡◌, ◌≢◌, ℕ, ◌<◌, ◌≤◌, List, [], ◌∷◌, ◌++◌, length, map, Bool, true, false, cond, Option, Some, None, Result, Ok, Err, ◌-◌, refl, sym, ◌∙◌, ap, subst, arith}
+use Rattle.std.proofs.Common.{◌≡◌, ◌≢◌, ℕ, ◌<◌, ◌≤◌, List, [], ◌∷◌, ◌++◌, length, map, Bool, true, false, cond, Option, Some, None, Result, Ok, Err, ◌-◌, refl, sym, ◌∙◌, ap, subst, arith, append-nil, ◌^◌}
 use Rattle.std.specs.Prelude.{is_some, nat_lt, ◌||◌, IfOk, String}
 use Rattle.std.specs.Global.{Global}
 use Rattle.std.proofs.lemmas.Bool.{lt-ltb}
-use Rattle.rw_types.specs.Labels.{Labels, label_fault, text_label, text_len}
+use Rattle.rw_types.specs.Labels.{Labels, IsLabelSet, label_fault, text_label, text_len}
+use Rattle.rw_types.specs.LabelFields.{label_fields}
+use Rattle.rw_types.specs.declared.names.Names.TheVariants.{Utf8}
+use Rattle.rw_write_request.specs.Canon.{series}
+use Rattle.rw_write_request.proofs.Meanings.{series-again}
+use Rattle.rw_write_request.proofs.Spelled.{series-spelled}
+use Rattle.rw_write_request.proofs.Validity.{set_texts}
 use Rattle.rw_write_request.specs.Message.{Sample, TimeSeries, WriteRequest}
 use Rattle.rw_write_request.specs.Parts.{read_on, with_series, IsHeadOf, SamplesGive}
 use Rattle.rw_write_request.specs.Texts.{series_of}
@@ -185,3 +191,12 @@ refused_status h (Err e) g = refl
 pub refused_store : (h : State) (r : Result WriteRequest WireFault) → RefusesAll h.limits h.store r → (judged_body h r).store ≡ h.store
 refused_store h (Ok m) g = ap (λ q. (judged h.store q).store) g.1
 refused_store h (Err e) g = refl
+
+-- the canonical fields of a label set spell it
+pub fields_spell : (labels : Labels) → IsLabelSet Utf8 labels → length (label_fields labels) < 2 ^ 64 → IsHeadOf (label_fields labels) labels
+unfolding series
+fields_spell labels set short =
+    let whole : TimeSeries = record { labels = labels; samples = [] } in
+    let same : series whole ≡ label_fields labels = append-nil (label_fields labels) in
+    let spelled = series-spelled whole (record { labels = set_texts labels set; samples = tt }) (subst (λ (bytes : List ℕ). length bytes < 2 ^ 64) (sym same) short) in
+    subst (λ (bytes : List ℕ). read_series bytes ≡ Ok whole) same (series-again (series whole) whole spelled)

@@ -1,6 +1,7 @@
 pub mod BlockLemmas
 pub mod BodyLemmas
 pub mod GrowthLemmas
+pub mod KeyLemmas
 pub mod NameLemmas
 pub mod OrderLemmas
 pub mod PartLemmas

@@ -19,7 +19,7 @@ use Rattle.rw_types.specs.Labels.{Labels}
 use Rattle.rw_types.specs.LabelOrder.{labels_cmp, labels_eq, labels_cmp-total}
 use Rattle.rw_types.proofs.OrderLemmas.{same_if_equal, equal_if_same}
 use Rattle.rw_head.specs.Order.{Point}
-use Rattle.rw_head.specs.Store.{Store, list_of, with_list, total, label_sets, HasNoEmptyList}
+use Rattle.rw_head.specs.Store.{Store, list_of, with_list, total, label_sets, held_series, AreListsOf, HasNoEmptyList}
 use Rattle.rw_head.specs.Verdicts.{LabelLimits}
 use Rattle.rw_head.specs.Growth.{HoldsNoneRefused}
 use Rattle.rw_head.specs.Lists.{Lists, no_lists, IsSound, IsFresh, IsAdded, AllFilled, has_samples, with_samples, AreWithin, listed, store_of_lists, kept_store, staged_store, HasPlaces, Settled}
@@ -433,20 +433,36 @@ entries-store lists (e ∷ es) h =
     entries-put e.0 (get_or lists e.1 no_lists).kept s (no_empty_list (λ l. l.kept) es lists) (ap (below_all labels_cmp e.0) rest ∙ below_shown e.0 lists es h.0)
     ∙ ap (cons_shown e.0 (get_or lists e.1 no_lists).kept) rest
 
-keys-cons : (k : Labels) (xs : List Point) (es : List (Labels × List Point)) → map (λ e. e.0) (cons_shown k xs es) ≡ cond (has_samples xs) (k ∷ map (λ e. e.0) es) (map (λ e. e.0) es)
-keys-cons k [] es = refl
-keys-cons k (x ∷ xs) es = refl
+shown-cons : (k : Labels) (xs : List Point) (es : List (Labels × List Point)) → cons_shown k xs es ≡ cond (has_samples xs) ((k, xs) ∷ es) es
+shown-cons k [] es = refl
+shown-cons k (x ∷ xs) es = refl
 
-keys-shown : (lists : List Lists) (places : List (Labels × ℕ)) → map (λ e. e.0) (shown lists places) ≡ with_samples lists places
-keys-shown lists [] = refl
-keys-shown lists (e ∷ es) =
-    keys-cons e.0 (get_or lists e.1 no_lists).kept (shown lists es)
-    ∙ ap (λ ks. cond (has_samples (get_or lists e.1 no_lists).kept) (e.0 ∷ ks) ks) (keys-shown lists es)
+shown-with_samples : (lists : List Lists) (places : List (Labels × ℕ)) → shown lists places ≡ with_samples lists places
+shown-with_samples lists [] = refl
+shown-with_samples lists (e ∷ es) =
+    let xs = (get_or lists e.1 no_lists).kept in
+    shown-cons e.0 xs (shown lists es) ∙ ap (λ rest. cond (has_samples xs) ((e.0, xs) ∷ rest) rest) (shown-with_samples lists es)
 
--- places in order show the label sets of the store in order
-pub label_sets-kept : (places : List (Labels × ℕ)) (lists : List Lists) → IsStrictlySortedBy labels_cmp (keys_of places) → with_samples lists places ≡ label_sets (kept_store places lists)
+-- places in order show the series of the store in order
+pub series-kept : (places : List (Labels × ℕ)) (lists : List Lists) → IsStrictlySortedBy labels_cmp (keys_of places) → with_samples lists places ≡ held_series (kept_store places lists)
 unfolding kept_store
-label_sets-kept places lists h = sym (ap (map (λ e. e.0)) (entries-store lists places h) ∙ keys-shown lists places)
+series-kept places lists h = sym (entries-store lists places h ∙ shown-with_samples lists places)
+
+-- each label set that is shown has the samples that it is shown with
+lists_at : (index : Index) (lists : List Lists) (es : List (Labels × ℕ)) → ((k : ℕ) (d : Labels × ℕ) → k < length es → get labels_cmp index (get_or es k d).0 ≡ Some (get_or es k d).1)
+    → AreListsOf (store_by (λ l. l.kept) index.entries lists) (with_samples lists es)
+lists_at index lists [] h = tt
+lists_at index lists (e ∷ es) h = if_some (has_samples (get_or lists e.1 no_lists).kept) (lists_at index lists es (λ k d lt. h (suc k) d (omega arith)))
+  where
+    if_some : (b : Bool) → AreListsOf (store_by (λ l. l.kept) index.entries lists) (with_samples lists es)
+        → AreListsOf (store_by (λ l. l.kept) index.entries lists) (cond b ((e.0, (get_or lists e.1 no_lists).kept) ∷ with_samples lists es) (with_samples lists es))
+    if_some true rest = (list_at_place (λ l. l.kept) index lists e.0 e.1 (h 0 e (omega arith)), rest)
+    if_some false rest = rest
+
+pub are_lists : (index : Index) (lists : List Lists) → ((k : ℕ) (d : Labels × ℕ) → k < length index.entries → get labels_cmp index (get_or index.entries k d).0 ≡ Some (get_or index.entries k d).1)
+    → AreListsOf (kept_store index.entries lists) (with_samples lists index.entries)
+unfolding kept_store
+are_lists index lists found = lists_at index lists index.entries found
 
 within_each : (lists : List Lists) (es : List (Labels × ℕ)) → ((k : ℕ) (d : Labels × ℕ) → k < length es → (get_or es k d).1 < length lists) → AreWithin (length lists) es
 within_each lists [] h = tt
@@ -462,7 +478,7 @@ length-kept false x xs n h = omega (arith, h)
 
 pub length-with_samples : (lists : List Lists) (places : List (Labels × ℕ)) → length (with_samples lists places) ≤ length places
 length-with_samples lists [] = omega arith
-length-with_samples lists (e ∷ es) = length-kept (has_samples (get_or lists e.1 no_lists).kept) e.0 (with_samples lists es) (length es) (length-with_samples lists es)
+length-with_samples lists (e ∷ es) = length-kept (has_samples (get_or lists e.1 no_lists).kept) (e.0, (get_or lists e.1 no_lists).kept) (with_samples lists es) (length es) (length-with_samples lists es)
 
 pub kept_filled : (places : List (Labels × ℕ)) (lists : List Lists) → HasNoEmptyList (kept_store places lists)
 unfolding kept_store
@@ -472,7 +488,7 @@ kept_filled places lists = no_empty_list (λ l. l.kept) places lists
 all_with_samples : (ls : List Lists) (es : List (Labels × ℕ)) → AreWithin (length ls) es → ((n : ℕ) → n < length ls → has_samples (get_or ls n no_lists).kept ≡ true) → length (with_samples ls es) ≡ length es
 all_with_samples ls [] h filled = refl
 all_with_samples ls (e ∷ es) h filled =
-    ap (λ b. length (cond b (e.0 ∷ with_samples ls es) (with_samples ls es))) (filled e.1 h.0) ∙ ap suc (all_with_samples ls es h.1 filled)
+    ap (λ b. length (cond b ((e.0, (get_or ls e.1 no_lists).kept) ∷ with_samples ls es) (with_samples ls es))) (filled e.1 h.0) ∙ ap suc (all_with_samples ls es h.1 filled)
 
 abbrev as_kept : Lists → Lists
 as_kept x = record { kept = x.staged; staged = x.staged }
@@ -494,4 +510,4 @@ places_of_staged index ls n places filled ordered e =
     let len : length ms ≡ length ls = length-map ls as_kept in
     let same : HasPlaces index ms = HasPlaces-len index ls ms places len in
     e ∙ sym (all_with_samples ms index.entries (are_within index ms same (found_each index ordered)) (λ k lt. ap has_samples (as_kept_at ls k) ∙ filled k (omega (arith, lt, len))))
-    ∙ ap length (label_sets-kept index.entries ms ordered) ∙ ap (λ s. length (label_sets s)) (kept-staged index ms ls same (λ k lt. as_kept_at ls k))
+    ∙ ap length (series-kept index.entries ms ordered) ∙ sym (length-map (held_series (kept_store index.entries ms)) (λ e. e.0)) ∙ ap (λ s. length (label_sets s)) (kept-staged index ms ls same (λ k lt. as_kept_at ls k))

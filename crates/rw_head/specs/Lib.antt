@@ -3,6 +3,7 @@ pub mod Bodies
 pub mod Finds
 pub mod Growth
 pub mod Head
+pub mod Keys
 pub mod Lists
 pub mod Names
 pub mod Order

@@ -97,10 +97,12 @@ pub record IsSound (index : BTreeMap Labels ℕ) (lists : List Lists) (touched :
   pub counted_staged : count + staged_count ≡ total (staged_store index.entries lists)
   pub few : count + staged_count ≤ 2 ^ 60
 
--- the label sets that keep samples
-abbrev pub with_samples : List Lists → List (Labels × ℕ) → List Labels
+-- the label sets that keep samples, each with these
+abbrev pub with_samples : List Lists → List (Labels × ℕ) → List (Labels × List Point)
 with_samples lists [] = []
-with_samples lists (e ∷ es) = if has_samples (slice_index_or lists e.1 no_lists).kept then e.0 ∷ with_samples lists es else with_samples lists es
+with_samples lists (e ∷ es) =
+    if has_samples (slice_index_or lists e.1 no_lists).kept then (e.0, (slice_index_or lists e.1 no_lists).kept) ∷ with_samples lists es
+    else with_samples lists es
 
 -- all places are below that number
 abbrev pub AreWithin : ℕ → List (Labels × ℕ) → Type 0

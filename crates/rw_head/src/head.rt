@@ -3,7 +3,7 @@
 ghost use Rattle.std.specs.Prelude.{◌≡◌, ◌≢◌, ◌+◌, ◌^◌, ◌<◌, ◌≤◌, ◌++◌, length, Ok, OnOk, IfOk, map};
 ghost use Rattle.std.specs.FinMap.{empty};
 ghost use Rattle.rw_head.specs.declared.verdict.Verdict.TheVariants.{NoMemory};
-ghost use Rattle.rw_head.specs.Store.{list_of, total, label_sets, HasNoEmptyList};
+ghost use Rattle.rw_head.specs.Store.{list_of, total, label_sets, held_series, AreListsOf, HasNoEmptyList};
 ghost use Rattle.rw_head.specs.Verdicts.{taken_all, apply};
 ghost use Rattle.rw_write_request.specs.Read.{read};
 ghost use Rattle.rw_head.specs.Head.{status_of, judged_body, answer, SpellsMessage, IsStatus};
@@ -16,6 +16,7 @@ use crate::body::stage_body;
 use crate::label_bounds::LabelBounds;
 use crate::label_sets::LabelSets;
 use crate::limits::Limits;
+use crate::series::AllSeries;
 use crate::table::Table;
 use crate::verdict::Verdict;
 use rw_types::{LabelSet, Word};
@@ -230,6 +231,15 @@ impl Head {
         ensures filled { HasNoEmptyList self.now.store }
         ensures fits { length result < 2 ^ 63 }
     {
-        self.table.label_sets()
+        LabelSets::new(self.table.series())
+    }
+
+    /// The label sets that have samples with these, in the same order. This takes no memory.
+    pub fn series(&self) -> AllSeries<'_>
+        ensures list { result ≡ held_series self.now.store }
+        ensures lists { AreListsOf self.now.store result }
+        ensures fits { length result < 2 ^ 63 }
+    {
+        self.table.series()
     }
 }

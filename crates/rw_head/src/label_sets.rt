@@ -1,43 +1,32 @@
 //! The label sets that have samples.
 
-ghost use Rattle.std.specs.Prelude.{◌≡◌, length};
-ghost use Rattle.rw_head.specs.Lists.{with_samples, AreWithin};
+ghost use Rattle.std.specs.Prelude.{◌≡◌, map};
 ghost use Rattle.std.specs.Iterator.{YieldsFirstRef, item_count};
 
-use crate::name::Name;
-use crate::sample_list::SampleList;
+use crate::series::AllSeries;
 use rw_types::LabelSet;
-use std::collections::btree_map;
 use std::marker::Model;
 
 /// An iterator over the label sets that have samples, by byte order of their lists of (name, value). Contracts see those that are still to come.
 #[derive(Drop)]
 pub struct LabelSets<'a> {
-    places: btree_map::Iter<'a, Name, usize>,
-    lists: &'a [SampleList],
+    series: AllSeries<'a>,
 }
 
 impl<'a> Model for LabelSets<'a> {
-    ghost use Rattle.std.specs.Prelude.{ℕ, List, length};
-    ghost use Rattle.rw_head.specs.Lists.{with_samples, AreWithin};
+    ghost use Rattle.std.specs.Prelude.{ℕ, List, map};
 
     ghost Value = { List (List (List ℕ × List ℕ)) };
 
-    ghost view = { λ s. with_samples s.lists.now s.places };
-
-    ghost invariant = { λ s. AreWithin (length s.lists.now) s.places };
+    ghost view = { λ s. map (λ e. e.0) s.series };
 }
 
 impl<'a> LabelSets<'a> {
-    /// Those of these label sets whose lists keep samples.
-    pub(crate) fn new(
-        places: btree_map::Iter<'a, Name, usize>,
-        lists: &'a [SampleList],
-    ) -> LabelSets<'a>
-        requires { AreWithin (length lists.now) places }
-        ensures { result ≡ with_samples lists.entry.now places.entry }
+    /// The label sets of these series.
+    pub(crate) fn new(series: AllSeries<'a>) -> LabelSets<'a>
+        ensures { result ≡ map (λ e. e.0) series.entry }
     {
-        LabelSets { places, lists }
+        LabelSets { series }
     }
 }
 
@@ -49,12 +38,9 @@ impl<'a> Iterator for LabelSets<'a> {
     ghost remaining = { item_count (λ s. s) };
 
     fn next(&mut self) -> Option<&'a LabelSet> {
-        let lists = self.lists;
-        while let Some((name, place)) = self.places.next() {
-            if lists[*place].has_samples() {
-                return Some(name.labels());
-            }
+        match self.series.next() {
+            Some(series) => Some(series.labels()),
+            None => None,
         }
-        None
     }
 }

@@ -13,6 +13,7 @@ mod name;
 mod place;
 mod places;
 mod sample_list;
+mod series;
 mod table;
 mod verdict;
 
@@ -21,4 +22,5 @@ pub use head::Head;
 pub use label_sets::LabelSets;
 pub use laws::{stores_are_lists, stores_hold_no_empty_list};
 pub use limits::Limits;
+pub use series::{AllSeries, HeldSeries};
 pub use verdict::Verdict;

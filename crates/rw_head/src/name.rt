@@ -1,6 +1,7 @@
 //! Label sets with several owners.
 
-ghost use Rattle.std.specs.Prelude.{◌≡◌, IfOk};
+ghost use Rattle.std.specs.Prelude.{◌≡◌, ◌++◌, IfOk, OnOk};
+ghost use Rattle.rw_head.specs.Keys.{labels_key, text_key};
 
 use rw_types::{LabelSet, Names};
 use std::alloc::{AllocError, Global};
@@ -8,10 +9,18 @@ use std::cmp::Ordering;
 use std::marker::Model;
 use std::sync::Arc;
 
+/// A label set, and the bytes by which it is found.
+#[derive(Debug, Drop)]
+struct Keyed {
+    labels: LabelSet,
+    key: Vec<u8>,
+    ghost keyed: { key.items ≡ labels_key labels },
+}
+
 /// A label set with several owners. Contracts see its list of (name, value).
 #[derive(Debug, Drop)]
 pub(crate) struct Name {
-    labels: Arc<LabelSet>,
+    keyed: Arc<Keyed>,
 }
 
 impl Model for Name {
@@ -20,7 +29,30 @@ impl Model for Name {
 
     ghost Value = { List (List ℕ × List ℕ) };
 
-    ghost view = { λ n. arc_value n.labels };
+    ghost view = { λ n. (arc_value n.keyed).labels };
+}
+
+/// Appends the key of a text.
+fn put_text(key: &mut Vec<u8>, text: &str) -> Result<(), AllocError>
+    ensures { OnOk result (key.new.items ≡ key.old.items ++ text_key text.now) }
+{
+    for byte in text.as_bytes() {
+        key.push(*byte + 1)?;
+    }
+    key.push(0)?;
+    Ok(())
+}
+
+/// The key of a label set. It has fewer bytes than the fields of the labels.
+fn key_of(alloc: Global, labels: &LabelSet) -> Result<Vec<u8>, AllocError>
+    ensures { IfOk result (λ k. k.items ≡ labels_key labels.now) }
+{
+    let mut key = Vec::with_capacity(alloc, labels.fields().len())?;
+    for (name, value) in labels.as_slice() {
+        put_text(&mut key, name)?;
+        put_text(&mut key, value)?;
+    }
+    Ok(key)
 }
 
 impl Name {
@@ -28,8 +60,9 @@ impl Name {
     pub(crate) fn of(alloc: Global, labels: LabelSet) -> Result<Name, AllocError>
         ensures { IfOk result (λ n. n ≡ labels) }
     {
+        let key = key_of(alloc, &labels)?;
         Ok(Name {
-            labels: Arc::new(alloc, labels)?,
+            keyed: Arc::new(alloc, Keyed { labels, key })?,
         })
     }
 
@@ -49,7 +82,7 @@ impl Name {
         ensures { IfOk result (λ n. n ≡ self.now) }
     {
         Ok(Name {
-            labels: Arc::try_clone(&self.labels)?,
+            keyed: Arc::try_clone(&self.keyed)?,
         })
     }
 
@@ -57,7 +90,7 @@ impl Name {
     pub(crate) fn labels(&self) -> &LabelSet
         ensures { result.now ≡ self.now }
     {
-        &self.labels
+        &self.keyed.labels
     }
 }
 
@@ -112,7 +145,9 @@ impl Ord for Name {
 
     ghost matches_eq = { λ _ _. refl };
 
+    // One run of bytes is sooner compared than many texts.
+    #[tactic(auto, using(crate::proofs::KeyLemmas::keys_in_order))]
     fn cmp(&self, other: &Name) -> Ordering {
-        self.labels().cmp(other.labels())
+        self.keyed.key.cmp(&other.keyed.key)
     }
 }

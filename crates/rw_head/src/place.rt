@@ -68,10 +68,13 @@ fn are_texts_of(texts: &[(String, String)], labels: &LabelSet) -> bool
     labels.as_slice() == texts
 }
 
-/// Whether the bytes spell these labels, and no sample.
+/// Whether the bytes spell these labels, and no sample. The canonical spelling is known by a look, any other one is read.
 fn is_head_of(alloc: Global, bytes: &[u8], labels: &LabelSet) -> bool
     ensures { IsTrue result → IsHeadOf bytes.now labels.now }
 {
+    if bytes == labels.fields() {
+        return true;
+    }
     let Ok(series) = read_series(alloc, bytes) else {
         return false;
     };

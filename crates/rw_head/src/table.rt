@@ -6,7 +6,7 @@ ghost use Rattle.std.specs.FinMap.{empty};
 ghost use Rattle.rw_types.specs.LabelOrder.{labels_cmp};
 ghost use Rattle.rw_head.specs.declared.verdict.Verdict.TheVariants.{OutOfOrder, NoMemory};
 ghost use Rattle.rw_head.specs.Order.{points, accept};
-ghost use Rattle.rw_head.specs.Store.{list_of, total, label_sets, HasNoEmptyList};
+ghost use Rattle.rw_head.specs.Store.{list_of, total, label_sets, held_series, AreListsOf, HasNoEmptyList};
 ghost use Rattle.rw_head.specs.Verdicts.{LabelLimits, taken};
 ghost use Rattle.rw_head.specs.Bodies.{known_of, KnownGives};
 ghost use Rattle.rw_write_request.specs.Read.{read_series};
@@ -16,10 +16,10 @@ ghost use Rattle.rw_head.specs.Lists.{no_lists, Settled, IsAdded, ListGives, Sto
 
 use crate::block::Block;
 use crate::label_bounds::LabelBounds;
-use crate::label_sets::LabelSets;
 use crate::name::Name;
 use crate::places::{Found, Places, put};
 use crate::sample_list::SampleList;
+use crate::series::AllSeries;
 use crate::verdict::Verdict;
 use rw_types::{LabelSet, Word};
 use rw_write_request::{Series, read_samples};
@@ -368,12 +368,13 @@ impl Table {
         }
     }
 
-    /// The label sets that have samples which are kept, in order.
-    pub(crate) fn label_sets(&self) -> LabelSets<'_>
-        ensures list { result ≡ label_sets self.now.kept }
+    /// The label sets that have samples which are kept, in order, each with these.
+    pub(crate) fn series(&self) -> AllSeries<'_>
+        ensures list { result ≡ held_series self.now.kept }
+        ensures lists { AreListsOf self.now.kept result }
         ensures filled { HasNoEmptyList self.now.kept }
         ensures fits { length result < 2 ^ 63 }
     {
-        LabelSets::new(self.places.iter(), self.lists.as_slice())
+        AllSeries::new(self.places.iter(), self.lists.as_slice())
     }
 }

@@ -1,5 +1,5 @@
 -- What a request asks for.
-use Rattle.std.specs.Prelude.{◌≡◌, ◌≢◌, ℕ, List, codes}
+use Rattle.std.specs.Prelude.{◌≡◌, ℕ, List, codes}
 use Rattle.httparse.specs.Grammar.{RequestHead, ReadsRequest}
 
 -- the bytes begin with the head of a request of this method and this target

@@ -2,6 +2,7 @@
 #![tactic(auto)]
 
 pub use rw_head::{
-    Block, Head, LabelSets, Limits, Verdict, stores_are_lists, stores_hold_no_empty_list,
+    AllSeries, Block, Head, HeldSeries, LabelSets, Limits, Verdict, stores_are_lists,
+    stores_hold_no_empty_list,
 };
 pub use rw_shared_head::{Asked, Seat, SharedHead};

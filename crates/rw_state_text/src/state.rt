@@ -62,10 +62,11 @@ pub fn push_store(out: &mut Vec<u8>, head: &Head) -> Result<(), AllocError>
     ensures ok { OnOk result (out.new.items ≡ out.old.items ++ store_text head.now.store) }
     ensures err { OnErr result (Begins out.old.items out.new.items) }
 {
-    let mut label_sets = head.label_sets();
-    while let Some(labels) = label_sets.next() {
-        let samples = head.samples(labels)?;
-        push_received(out, labels, &samples)?;
+    let alloc = *out.allocator();
+    let mut all = head.series();
+    while let Some(series) = all.next() {
+        let samples = series.samples(alloc)?;
+        push_received(out, series.labels(), &samples)?;
     }
     Ok(())
 }

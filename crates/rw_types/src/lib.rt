@@ -28,7 +28,7 @@ pub use label_fields::{
     bytes_field_len, label_field_len, label_fields_len, put_bytes, put_field_front,
     put_label_field, put_label_fields,
 };
-pub use label_set::LabelSet;
+pub use label_set::{LabelSet, equal_where_same, utf8_takes_any_name};
 pub use names::Names;
 pub use place::Place;
 pub use raw_labels::RawLabels;

@@ -3,7 +3,7 @@ use Rattle.std.proofs.Common.{◌≡◌, ℕ, ◌+◌, ◌<◌, ◌≤◌, ◌^�
 use Rattle.std.proofs.lemmas.List.{take-append-le}
 use Rattle.rw_types.specs.declared.entry.Entry.{Entry}
 use Rattle.rw_wal_format.specs.Segments as grammar
-use Rattle.rw_wal_format.specs.Segments.{full, first, middle, last, fragment, item_at, left_after}
+use Rattle.rw_wal_format.specs.Segments.{full, first, middle, last, item_at, left_after}
 use Rattle.rw_wal_format.specs.Records.{record_entries}
 use Rattle.rw_wal_format.specs.declared.tail_fault.TailFault.{TailFault}
 use Rattle.rw_wal_format.specs.declared.tail_fault.TailFault.TheVariants.{BadRecord, Sequence, TornSegment}

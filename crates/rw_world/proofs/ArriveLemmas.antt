@@ -9,7 +9,7 @@ use Rattle.rw_batch.specs.Grouping.{message}
 use Rattle.rw_shard_core.specs.declared.config.Target.{Target}
 use Rattle.rw_shard_core.specs.Shard.{labelled, body_of, IsReadAgain}
 use Rattle.rw_shard_core.specs.SentRequest.{request_of, request_head}
-use Rattle.rw_head.specs.Head.{answer_to, answered}
+use Rattle.rw_head.specs.Head.{answer_to}
 use Rattle.rw_endpoint.specs.Alone.{IsOneRequest, IsOneRefusal}
 use Rattle.rw_machine.specs.Worlds.{Setup, Request, World}
 use Rattle.rw_machine.specs.Steps.{arrive, endpoint_answer}

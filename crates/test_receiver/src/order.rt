@@ -1,10 +1,11 @@
 //! Messages, their verdicts, and what the head holds after them.
 
 use crate::messages::{
-    DOWN, FALLING, Labels, Row, Samples, UP, WIDE, asked, first_wrong, label_set, narrow, standard,
+    DOWN, FALLING, Labels, Row, Samples, UP, WIDE, are_same, asked, first_wrong, label_set, narrow,
+    standard,
 };
 use crate::rows::{holds, none_is_wrong};
-use rw_head::{Head, Verdict};
+use rw_head::{Head, HeldSeries, Verdict};
 use rw_types::LabelSet;
 use std::alloc::Global;
 
@@ -107,12 +108,44 @@ fn has_label_sets(alloc: Global, head: &Head, list: &[Labels<'_>]) -> bool {
     sets.next().is_none()
 }
 
+/// Whether a series is that of these labels and samples. No, where memory is refused.
+fn is_series(
+    alloc: Global,
+    series: &HeldSeries<'_>,
+    labels: Labels<'_>,
+    samples: Samples<'_>,
+) -> bool {
+    match series.samples(alloc) {
+        Ok(held) => is_of(alloc, series.labels(), labels) && are_same(&held, samples),
+        Err(_) => false,
+    }
+}
+
+/// Whether the head's series are these, in this order.
+fn has_series(alloc: Global, head: &Head, list: &[(Labels<'_>, Samples<'_>)]) -> bool {
+    let mut all = head.series();
+    for (labels, samples) in list {
+        match all.next() {
+            Some(series) if is_series(alloc, &series, labels, samples) => {}
+            _ => return false,
+        }
+    }
+    all.next().is_none()
+}
+
 /// Series in another order than that of their label sets, and one without samples.
 static SERIES: [(Labels<'static>, Samples<'static>); 4] = [
     (WIDE, &[(1, 1)]),
-    (UP, &[(1, 1)]),
+    (UP, &[(1, 1), (2, 3)]),
     (&[], &[]),
     (DOWN, &[(1, 1)]),
+];
+
+/// Those of them that have samples, in byte order of their label sets.
+static HELD: [(Labels<'static>, Samples<'static>); 3] = [
+    (DOWN, &[(1, 1)]),
+    (UP, &[(1, 1), (2, 3)]),
+    (WIDE, &[(1, 1)]),
 ];
 
 fn come_in_byte_order(alloc: Global) -> bool {
@@ -120,8 +153,10 @@ fn come_in_byte_order(alloc: Global) -> bool {
         return false;
     };
     has_label_sets(alloc, &head, &[])
-        && asked(alloc, &mut head, &SERIES) == Verdict::Stored(3)
+        && has_series(alloc, &head, &[])
+        && asked(alloc, &mut head, &SERIES) == Verdict::Stored(4)
         && has_label_sets(alloc, &head, &[DOWN, UP, WIDE])
+        && has_series(alloc, &head, &HELD)
 }
 
 #[test]

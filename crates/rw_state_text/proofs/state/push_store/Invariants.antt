@@ -1,11 +1,10 @@
 use Rattle.std.proofs.Common.{length}
-use Rattle.rw_head.specs.Store.{list_of}
 use Rattle.rw_state_text.specs.StateText.{received_text, store_text}
 use Rattle.rw_state_text.proofs.StateLemmas.{Written}
 use Rattle.rw_state_text.proofs.state.push_store.Given as goal
 
-abbrev pub invariant-loop-labels : goal.invariant-loop-labels
-invariant-loop-labels l = Written (λ x. received_text x (list_of l.fn.head.store x)) l.fn.out.items (store_text l.fn.head.store) l.out.items l.label_sets
+abbrev pub invariant-loop-series : goal.invariant-loop-series
+invariant-loop-series l = Written (λ s. received_text s.0 s.1) l.fn.out.items (store_text l.fn.head.store) l.out.items l.all
 
-abbrev pub decreases-loop-labels : goal.decreases-loop-labels
-decreases-loop-labels l = length l.label_sets
+abbrev pub decreases-loop-series : goal.decreases-loop-series
+decreases-loop-series l = length l.all
