@@ -1,6 +1,6 @@
-use Rattle.std.proofs.Common.{◌≡◌, length, arith, subst, sym, ap, ◌∙◌}
+use Rattle.std.proofs.Common.{◌≡◌, length, arith, subst, ap, ◌∙◌}
 use Rattle.rw_head.specs.Lists.{with_samples}
-use Rattle.rw_head.specs.Store.{held_series, AreListsOf, HasNoEmptyList}
+use Rattle.rw_head.specs.Store.{held_series, HasNoEmptyList}
 use Rattle.rw_head.proofs.PlaceLemmas.{are_within, are_lists, series-kept, kept_filled, length-with_samples}
 use Rattle.rw_head.proofs.table.Table.series.Goals as goal
 
