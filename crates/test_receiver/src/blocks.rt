@@ -117,6 +117,19 @@ fn wrong_size(alloc: Global) -> Option<usize> {
     None
 }
 
+/// Whether a head holds 1,100,000 samples of `up`, which came in requests of 10,000.
+fn holds_a_million(alloc: Global) -> bool {
+    let (Ok(samples), Ok(mut head)) = (tens(alloc, &[(1, 1_100_000)]), narrow(alloc)) else {
+        return false;
+    };
+    stores(alloc, &mut head, &samples, 10_000) && shape(&head) == (9166, 80, 1_100_000)
+}
+
+#[test]
+fn a_head_takes_more_than_a_million_samples(rt: HostRuntime) {
+    holds(&rt, holds_a_million(rt.alloc()));
+}
+
 #[test]
 fn a_series_is_blocks_whatever_the_requests(rt: HostRuntime) {
     none_is_wrong(&rt, wrong_size(rt.alloc()));

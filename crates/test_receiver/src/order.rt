@@ -133,19 +133,28 @@ fn has_series(alloc: Global, head: &Head, list: &[(Labels<'_>, Samples<'_>)]) ->
     all.next().is_none()
 }
 
+const SHORT: Labels<'static> = &[("a", "b")];
+
+/// A value that goes on with the least byte.
+const ZERO: Labels<'static> = &[("a", "b\0")];
+
 /// Series in another order than that of their label sets, and one without samples.
-static SERIES: [(Labels<'static>, Samples<'static>); 4] = [
+static SERIES: [(Labels<'static>, Samples<'static>); 6] = [
+    (ZERO, &[(1, 4)]),
     (WIDE, &[(1, 1)]),
     (UP, &[(1, 1), (2, 3)]),
     (&[], &[]),
+    (SHORT, &[(1, 5)]),
     (DOWN, &[(1, 1)]),
 ];
 
 /// Those of them that have samples, in byte order of their label sets.
-static HELD: [(Labels<'static>, Samples<'static>); 3] = [
+static HELD: [(Labels<'static>, Samples<'static>); 5] = [
     (DOWN, &[(1, 1)]),
     (UP, &[(1, 1), (2, 3)]),
     (WIDE, &[(1, 1)]),
+    (SHORT, &[(1, 5)]),
+    (ZERO, &[(1, 4)]),
 ];
 
 fn come_in_byte_order(alloc: Global) -> bool {
@@ -154,8 +163,8 @@ fn come_in_byte_order(alloc: Global) -> bool {
     };
     has_label_sets(alloc, &head, &[])
         && has_series(alloc, &head, &[])
-        && asked(alloc, &mut head, &SERIES) == Verdict::Stored(4)
-        && has_label_sets(alloc, &head, &[DOWN, UP, WIDE])
+        && asked(alloc, &mut head, &SERIES) == Verdict::Stored(6)
+        && has_label_sets(alloc, &head, &[DOWN, UP, WIDE, SHORT, ZERO])
         && has_series(alloc, &head, &HELD)
 }
 
