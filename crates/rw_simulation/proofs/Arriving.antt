@@ -1,10 +1,9 @@
 -- Requests come to the receiver in whatever order, while the workers of an epoch go on.
-use Rattle.std.proofs.Common.{◌≡◌, ℕ, zero, suc, ◌+◌, ◌-◌, ◌<◌, ◌≤◌, ◌==◌, ◌&&◌, Bool, true, false, cond, List, [], ◌∷◌, ◌++◌, filter, map, length, Option, None, Some, Result, Ok, Err, slice_get, refl, sym, ap, ◌∙◌, subst, append-nil, append_assoc, length-append, arith, ◌⊎◌, inl, inr}
+use Rattle.std.proofs.Common.{◌≡◌, ℕ, zero, suc, ◌+◌, ◌-◌, ◌<◌, ◌≤◌, ◌==◌, true, false, List, [], ◌∷◌, ◌++◌, map, length, Option, None, Some, Result, Ok, Err, slice_get, refl, sym, ap, ◌∙◌, subst, append-nil, append_assoc, length-append, arith, ◌⊎◌, inl, inr}
 use Rattle.std.specs.List.{AllByRecursion}
 use Rattle.std.proofs.lemmas.Bool.Decides.{eqb_tells}
 use Rattle.std.proofs.lemmas.List.{length-map, map-append}
-use Rattle.std.proofs.lemmas.List.Elements.{filter-append}
-use Rattle.std.proofs.lemmas.Option.{same_Some, none-some, slice_get_within}
+use Rattle.std.proofs.lemmas.Option.{same_Some, slice_get_within}
 use Rattle.rw_types.specs.declared.entry.Entry.{Entry}
 use Rattle.rw_ledger.specs.Names.{Named}
 use Rattle.rw_retry.specs.Judgements.{judgement_of}
@@ -12,17 +11,13 @@ use Rattle.rw_plain_queue.specs.declared.item.Item.{Item}
 use Rattle.rw_shard_core.specs.Shard.{Core, settle, lose, batch_id, freeze}
 use Rattle.rw_worker.specs.declared.transport.Reply.{Reply}
 use Rattle.rw_worker.specs.declared.transport.Lost.{Lost}
-use Rattle.rw_worker.specs.Transcript.{Exchange, exchange_of, batch_request}
+use Rattle.rw_worker.specs.Transcript.{Exchange, exchange_of}
 use Rattle.rw_worker.specs.Steps.{Working, working, Step, Takes, Freezes, Sends, Waits, AreSteps, after, after_step, items_of, exchanges_of}
 use Rattle.rw_head.specs.Head.{State}
 use Rattle.rw_machine.specs.Shards.{Shard, Queued, is_drained, shard_take, shard_freeze, shard_lost, with_core}
-use Rattle.rw_machine.specs.Worlds.{Setup, Request, World, start}
-use Rattle.rw_machine.specs.Worlds as worlds
-use Rattle.rw_machine.specs.Steps.{answered, arrive, change, endpoint_answer, happens, names_after, reply_to, request_by, run, take_reply, unless_over}
+use Rattle.rw_machine.specs.Worlds.{Setup, Request, World}
+use Rattle.rw_machine.specs.Steps.{change, happens, names_after, reply_to, request_by, take_reply, unless_over}
 use Rattle.rw_machine.specs.Promises.{CarriesItsBatch, CarriesEachBatch}
-use Rattle.rw_machine.specs.declared.event.How.{How}
-use Rattle.rw_machine.specs.declared.event.How.TheVariants.{Plain, Busy, OutOfMemory}
-use Rattle.rw_machine.specs.declared.event.Event.{Event}
 use Rattle.rw_machine.specs.declared.event.Event.TheVariants as event
 use Rattle.rw_machine.proofs.Places.{get_some, length_change}
 use Rattle.rw_simulation.specs.Freely.{Happening, Of, IsOwn, run_freely}
@@ -30,7 +25,7 @@ use Rattle.rw_simulation.specs.FreeLaws.{world_of}
 use Rattle.rw_simulation.specs.WorkerRuns.{queued, IsIdOf, IsShardNumbered, CanEnd, sent_bytes, request_in}
 use Rattle.rw_simulation.specs.Tallies.{Past, IsTallied, requests_of}
 use Rattle.rw_simulation.specs.EpochRuns.{ShardFate}
-use Rattle.rw_simulation.specs.Arrivals.{Arrival, Receives, IsAnsweredBy, IsOneReceiver}
+use Rattle.rw_simulation.specs.Arrivals.{Arrival, IsAnsweredBy, IsOneReceiver}
 use Rattle.rw_simulation.proofs.Changes.{change-is, change-get, get-last, Goes, not-over}
 use Rattle.rw_simulation.proofs.FreeLaws.{keeps-laws}
 use Rattle.rw_simulation.proofs.WorkerSteps.{moved, take-is, sent_core, sent_shard, sent_awaits, sent_answers, out_is, own_ids, ledger-step}
@@ -39,115 +34,9 @@ use Rattle.rw_simulation.proofs.Tallies.{Names, GrowAlike, alike-self, alike-by,
 use Rattle.rw_simulation.proofs.EpochRuns.{each-update}
 use Rattle.rw_simulation.proofs.EndRuns.{HasCome, IsOver, come-still}
 use Rattle.rw_simulation.proofs.Pasts.{get-first, get_map, map_get}
-use Rattle.rw_simulation.proofs.OwnRuns.{OwnRun, own-run, run-both}
+use Rattle.rw_simulation.proofs.Arrived.{is_of, still-at, find-in, below_it, IsAnsweredAs, HasArrived, arrived-own, came, comes, arrived-next}
 
--- ---- the requests of a shard
-abbrev is_of : ℕ → ℕ → Request → Bool
-is_of epoch k r = (r.id.epoch == epoch) && (r.id.shard == k)
-
--- one stays where it is, whatever comes behind
-pub still-at : (epoch k i : ℕ) (rs more : List Request) (r : Request) → slice_get (requests_of epoch k rs) i ≡ Some r → slice_get (requests_of epoch k (rs ++ more)) i ≡ Some r
-still-at epoch k i rs more r at = ap (λ (xs : List Request). slice_get xs i) (filter-append (is_of epoch k) rs more) ∙ get-first (requests_of epoch k rs) (filter (is_of epoch k) more) i r at
-
--- and it is one of all
-find-in : (p : Request → Bool) (rs : List Request) (i : ℕ) (r : Request) → slice_get (filter p rs) i ≡ Some r → (j : ℕ) × (slice_get rs j ≡ Some r)
-find-in p [] i r e = absurd (none-some r e)
-find-in p (x ∷ xs) i r e = by_test (p x) i e (λ j f. find-in p xs j r f)
-  where
-    by_test : (b : Bool) (i : ℕ) → slice_get (cond b (x ∷ filter p xs) (filter p xs)) i ≡ Some r → ((j : ℕ) → slice_get (filter p xs) j ≡ Some r → (j : ℕ) × (slice_get xs j ≡ Some r)) → (j : ℕ) × (slice_get (x ∷ xs) j ≡ Some r)
-    by_test true zero e go = (0, e)
-    by_test true (suc i) e go = let h = go i e in (suc h.0, h.1)
-    by_test false i e go = let h = go i e in (suc h.0, h.1)
-
-below_it : (k m : ℕ) → k < suc m → (k ≡ m → ⊥) → k < m
-below_it k m lt differ = omega arith
-
--- ---- what has come
 module _ (c : Setup) (exs : ℕ → ℕ → List Exchange) (arrivals : List Arrival) (heads : ℕ → State) (one : IsOneReceiver c exs arrivals heads) where
-  -- the arrival is of a request that was sent, and the reply to it is there
-  pub record IsAnsweredAs (requests : List Request) (replies : List worlds.Reply) (i : ℕ) (a : Arrival) : Type 0 where
-    pub request : Request
-    pub at : slice_get (requests_of a.epoch a.shard requests) a.number ≡ Some request
-    pub reply : slice_get replies i ≡ Some (record { id = request.id; status = a.status })
-
-  -- A schedule of the machine leads here, in which these arrivals and no others were made.
-  pub record HasArrived (m : ℕ) (w : World) : Type 0 where
-    pub events : List Event
-    pub is : run c events (start c) ≡ w
-    pub count : length w.replies ≡ m
-    pub head : w.head ≡ heads m
-    pub each : (i : ℕ) (a : Arrival) → i < m → slice_get arrivals i ≡ Some a → IsAnsweredAs w.requests w.replies i a
-
-  pub arrived-own : (m : ℕ) (w v : World) (hs : List Happening) → HasArrived m w → AllByRecursion IsOwn hs → run_freely c hs w ≡ v → HasArrived m v
-  arrived-own m w v hs a own is = record {
-    events = a.events ++ r.events;
-    is = run-both c a.events r.events (start c) ∙ ap (run c r.events) a.is ∙ r.is ∙ is;
-    count = ap length replies ∙ a.count;
-    head = ap (λ (x : World). x.head) (sym is) ∙ r.grows.head ∙ a.head;
-    each = λ i b lt e. let x = a.each i b lt e in record {
-      request = x.request;
-      at = ap (λ (rs : List Request). slice_get (requests_of b.epoch b.shard rs) b.number) requests ∙ still-at b.epoch b.shard b.number w.requests r.grows.more x.request x.at;
-      reply = ap (λ (rs : List worlds.Reply). slice_get rs i) replies ∙ x.reply;
-    };
-  }
-    where
-      r : OwnRun c hs w
-      r = own-run c hs w own
-
-      replies : v.replies ≡ w.replies
-      replies = ap (λ (x : World). x.replies) (sym is) ∙ r.grows.replies
-
-      requests : v.requests ≡ w.requests ++ r.grows.more
-      requests = ap (λ (x : World). x.requests) (sym is) ∙ r.grows.requests
-
-  -- the request has come, and is answered
-  abbrev pub came : ℕ → World → Arrival → Request → World
-  came m w a r = record w { replies = w.replies ++ record { id = r.id; status = a.status } ∷ []; head = heads (suc m) }
-
-  comes : (m : ℕ) (w : World) (a : Arrival) (r : Request) (x : Exchange) → w.head ≡ heads m → slice_get arrivals m ≡ Some a → slice_get (requests_of a.epoch a.shard w.requests) a.number ≡ Some r → slice_get (exs a.epoch a.shard) a.number ≡ Some x → r.bytes ≡ x.request → CarriesItsBatch c r
-      → (j : ℕ) × (happens c w (event.Arrive j a.how) ≡ came m w a r)
-  comes m w a r x head at sent is bytes carries = (found.0, ap (arrive c w a.how) found.1 ∙ by_how a.how received.2)
-    where
-      found : (j : ℕ) × (slice_get w.requests j ≡ Some r)
-      found = find-in (is_of a.epoch a.shard) w.requests a.number r sent
-
-      received : (y : Exchange) × (slice_get (exs a.epoch a.shard) a.number ≡ Some y) × Receives c a.how y.request (heads m) a.status (heads (suc m))
-      received = one.receives m a at
-
-      carried : received.0.request ≡ batch_request c.target r.batch
-      carried = ap (λ (y : Exchange). y.request) (same_Some _ _ (sym received.1 ∙ is)) ∙ sym bytes ∙ carries
-
-      by_how : (how : How) → Receives c how received.0.request (heads m) a.status (heads (suc m)) → arrive c w how (Some r) ≡ came m w a r
-      by_how Plain h = ap (λ (s : State). answered w r.id (endpoint_answer c s r.batch)) head ∙ ap (answered w r.id) (h r.batch carried)
-      by_how Busy h = let status = sym h.0 in let next = head ∙ sym h.1 in λ i. answered w r.id (record { status = status i; head = next i })
-      by_how OutOfMemory h = let status = sym h.0 in let next = head ∙ sym h.1 in λ i. answered w r.id (record { status = status i; head = next i })
-
-  arrived-next : (m : ℕ) (w : World) (a : Arrival) (r : Request) → HasArrived m w → slice_get arrivals m ≡ Some a → slice_get (requests_of a.epoch a.shard w.requests) a.number ≡ Some r → (j : ℕ) → happens c w (event.Arrive j a.how) ≡ came m w a r → HasArrived (suc m) (came m w a r)
-  arrived-next m w a r h at sent j is = record {
-    events = h.events ++ event.Arrive j a.how ∷ [];
-    is = run-both c h.events (event.Arrive j a.how ∷ []) (start c) ∙ ap (λ (x : World). happens c x (event.Arrive j a.how)) h.is ∙ is;
-    count = one_more w.replies (record { id = r.id; status = a.status }) m h.count;
-    head = refl;
-    each = λ i b lt e. by_place i b lt e (eqb_tells i m);
-  }
-    where
-      one_more : (rs : List worlds.Reply) (x : worlds.Reply) (n : ℕ) → length rs ≡ n → length (rs ++ x ∷ []) ≡ suc n
-      one_more rs x n e = let l = length-append rs (x ∷ []) in omega arith
-
-      by_place : (i : ℕ) (b : Arrival) → i < suc m → slice_get arrivals i ≡ Some b → (((i == m) ≡ true) × (i ≡ m)) ⊎ (((i == m) ≡ false) × (i ≡ m → ⊥)) → IsAnsweredAs w.requests (w.replies ++ record { id = r.id; status = a.status } ∷ []) i b
-      by_place i b lt e (inl same) =
-          let own : a ≡ b = same_Some _ _ (sym at ∙ ap (slice_get arrivals) (sym same.1) ∙ e) in
-          subst (λ (y : Arrival). IsAnsweredAs w.requests (w.replies ++ record { id = r.id; status = a.status } ∷ []) i y) own (record {
-            request = r;
-            at = sent;
-            reply = ap (slice_get (w.replies ++ record { id = r.id; status = a.status } ∷ [])) (same.1 ∙ sym h.count) ∙ get-last w.replies (record { id = r.id; status = a.status });
-          })
-      by_place i b lt e (inr differ) = let x = h.each i b (below_it i m lt differ.1) e in record {
-        request = x.request;
-        at = x.at;
-        reply = get-first w.replies (record { id = r.id; status = a.status } ∷ []) i _ x.reply;
-      }
-
   -- ---- one epoch, from a world on in which each shard has been put all that it will be put
   module _ (past : Past) (epoch n : ℕ) (fates : ℕ → ShardFate) (placed : List Entry) (u : World) (alive : u.killed ≡ false) (within : (k i : ℕ) (x : Exchange) → slice_get (exs epoch k) i ≡ Some x → k < n) (tells : (k : ℕ) → k < n → (fates k).requests ≡ map request_in (exs epoch k)) where
     -- a shard whose request is out, or not
@@ -195,7 +84,7 @@ module _ (c : Setup) (exs : ℕ → ℕ → List Exchange) (arrivals : List Arri
       pub tallied : IsTallied c past epoch n placed parts w
       pub each : (k : ℕ) (s : Shard) → slice_get w.shards k ≡ Some s → AnyWork k (requests_of epoch k w.requests) (parts k) s
       pub done : (k : ℕ) (s : Shard) → slice_get w.shards k ≡ Some s → k < j → HasCome epoch k w.requests (parts k) s (fates k)
-      pub arrived : HasArrived m w
+      pub arrived : HasArrived c exs arrivals heads one m w
       pub earlier : (e k i : ℕ) (x : Exchange) → e < epoch → slice_get (exs e k) i ≡ Some x → (r : Request) × (slice_get (requests_of e k w.requests) i ≡ Some r) × (r.bytes ≡ x.request)
 
     -- and shard k stands so
@@ -224,7 +113,7 @@ module _ (c : Setup) (exs : ℕ → ℕ → List Exchange) (arrivals : List Arri
         done = each-update (λ i v. i < j → HasCome epoch i requests (with_part k now all.parts i) v (fates i)) t k w.shards
             (λ i v e differ lt. subst (λ (rs : List Request). HasCome epoch i rs (with_part k now all.parts i) v (fates i)) (sym requests_are) (come-still epoch i k w.requests more now all.parts v (fates i) differ ids (all.done i v e lt)))
             (λ lt. absurd (not_itself j k lt le));
-        arrived = arrived-own m w later hs all.arrived own is;
+        arrived = arrived-own c exs arrivals heads one m w later hs all.arrived own is;
         earlier = λ e i number x lt got. let h = all.earlier e i number x lt got in (h.0, ap (λ (rs : List Request). slice_get (requests_of e i rs) number) requests_are ∙ still-at e i number w.requests more h.0 h.1, h.2);
       };
       s = t;
@@ -461,7 +350,7 @@ module _ (c : Setup) (exs : ℕ → ℕ → List Exchange) (arrivals : List Arri
         answer : IsAnsweredBy arrivals m epoch k place.number r.status
         answer = known place.number (exchange_of bytes (Ok r)) r place.exchange refl (inside place.number (length sent) bound place.count few)
 
-        came_so : IsAnsweredAs w.requests w.replies answer.at answer.a
+        came_so : IsAnsweredAs c exs arrivals heads one w.requests w.replies answer.at answer.a
         came_so = h.all.arrived.each answer.at answer.a answer.early answer.is
 
         request_is : came_so.request ≡ request_by q
@@ -653,19 +542,19 @@ module _ (c : Setup) (exs : ℕ → ℕ → List Exchange) (arrivals : List Arri
         tallied = tallied-still c past epoch n placed all.parts w v (Of (event.Arrive event_is.0 a.how) ∷ []) all.tallied event_is.1 refl refl;
         each = all.each;
         done = all.done;
-        arrived = arrived-next m w a out.0 all.arrived at out.1 event_is.0 event_is.1;
+        arrived = arrived-next c exs arrivals heads one m w a out.0 all.arrived at out.1 event_is.0 event_is.1;
         earlier = all.earlier;
       };
     }
       where
         v : World
-        v = came m w a out.0
+        v = came c exs arrivals heads one m w a out.0
 
         found : (j : ℕ) × (slice_get w.requests j ≡ Some out.0)
         found = find-in (is_of a.epoch a.shard) w.requests a.number out.0 out.1
 
-        event_is : (j : ℕ) × (happens c w (event.Arrive j a.how) ≡ came m w a out.0)
-        event_is = comes m w a out.0 x all.arrived.head at out.1 e out.2 (carries w found.0 out.0 all.tallied.reached found.1)
+        event_is : (j : ℕ) × (happens c w (event.Arrive j a.how) ≡ came c exs arrivals heads one m w a out.0)
+        event_is = comes c exs arrivals heads one m w a out.0 x all.arrived.head at out.1 e out.2 (carries w found.0 out.0 all.tallied.reached found.1)
 
     arrive-one : (m : ℕ) (w : World) (a : Arrival) → AtWorks 0 m w → slice_get arrivals m ≡ Some a → a.epoch ≤ epoch → Next (suc m)
     arrive-one m w a all at le = by_epoch (lt_or_le a.epoch epoch)
@@ -816,7 +705,7 @@ module _ (c : Setup) (exs : ℕ → ℕ → List Exchange) (arrivals : List Arri
       pub m : ℕ
       pub world : World
       pub over : IsOver c past epoch n fates placed u world
-      pub arrived : HasArrived m world
+      pub arrived : HasArrived c exs arrivals heads one m world
       pub stop : HasStop m
       pub sent : HasSentBelow (suc epoch) world
 

@@ -34,7 +34,8 @@ use Rattle.rw_simulation.proofs.FleetRuns.{fleet-run}
 use Rattle.rw_simulation.proofs.ReshardRuns.{BeginsEpoch}
 use Rattle.rw_simulation.proofs.EndRuns.{HasCome, IsOver, counted}
 use Rattle.rw_simulation.proofs.OwnRuns.{OwnRun, own-run}
-use Rattle.rw_simulation.proofs.Arriving.{HasArrived, AnyWork, AtWorks, HasGone, epoch-goes, still-at}
+use Rattle.rw_simulation.proofs.Arrived.{HasArrived, still-at}
+use Rattle.rw_simulation.proofs.Arriving.{AnyWork, AtWorks, HasGone, epoch-goes}
 
 -- all that a shard is put
 abbrev pub put_by : Option ShardHistory → List Item

@@ -1,5 +1,6 @@
 pub mod AbandonedRuns
 pub mod Accounts
+pub mod Arrived
 pub mod Arriving
 pub mod Changes
 pub mod Eager

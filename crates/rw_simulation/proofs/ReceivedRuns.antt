@@ -71,7 +71,7 @@ use Rattle.rw_simulation.proofs.AbandonedRuns as soft
 use Rattle.rw_simulation.proofs.AbandonedRuns.{KnownOf, FoundAt, find-at, come, soft_lane, put-split, left-by-last}
 use Rattle.rw_simulation.proofs.RisingOrders.{is_in}
 use Rattle.rw_simulation.proofs.FlushedShards.{flushed, exchanges_of-flushed}
-use Rattle.rw_simulation.proofs.Arriving.{HasArrived, arrived-own}
+use Rattle.rw_simulation.proofs.Arrived.{HasArrived, arrived-own}
 use Rattle.rw_simulation.proofs.EpochArrivals.{put_by, first_at, same-end, sent-own, put-first, put-quiet, Gone, goes}
 
 -- ---- a queue that holds all
