@@ -1,10 +1,9 @@
 -- Requests come to the receiver: what has come, and is answered.
-use Rattle.std.proofs.Common.{◌≡◌, ℕ, zero, suc, ◌+◌, ◌-◌, ◌<◌, ◌==◌, ◌&&◌, Bool, true, false, cond, List, [], ◌∷◌, ◌++◌, filter, length, Some, slice_get, refl, sym, ap, ◌∙◌, subst, length-append, arith, ◌⊎◌, inl, inr}
+use Rattle.std.proofs.Common.{◌≡◌, ℕ, zero, suc, ◌<◌, ◌==◌, ◌&&◌, Bool, true, false, cond, List, [], ◌∷◌, ◌++◌, filter, length, Some, slice_get, refl, sym, ap, ◌∙◌, subst, length-append, arith, ◌⊎◌, inl, inr}
 use Rattle.std.specs.List.{AllByRecursion}
 use Rattle.std.proofs.lemmas.Bool.Decides.{eqb_tells}
 use Rattle.std.proofs.lemmas.List.Elements.{filter-append}
 use Rattle.std.proofs.lemmas.Option.{same_Some, none-some}
-use Rattle.rw_worker.specs.declared.transport.Reply.{Reply}
 use Rattle.rw_worker.specs.Transcript.{Exchange, batch_request}
 use Rattle.rw_head.specs.Head.{State}
 use Rattle.rw_machine.specs.Worlds.{Setup, Request, World, start}
