@@ -3,13 +3,12 @@
 ghost use Rattle.std.specs.Prelude.{◌≡◌, ◌<◌, IfOk, vec_len};
 
 use rw_serving::{Post, next_connection, served};
-use rw_shared_head::{Seat, SharedHead};
+use rw_shared_head::{Naming, Seat, SharedHead};
 use rw_stop::Wish;
 use std::alloc::{AllocError, Global};
 use std::marker::Model;
 use std::net::{TcpListener, TcpStream};
 use std::sync::atomic::{AtomicBool, Ordering};
-use std::sync::ledger::Ledger;
 use std::sync::{Arc, Wait};
 use std::thread;
 use std::thread::{JoinHandle, Scope, Threads};
@@ -20,7 +19,7 @@ const NAP_MS: u64 = 10;
 
 /// A connection that is served in a thread.
 #[derive(Drop)]
-struct Busy<L: Ledger> {
+struct Busy<L: Naming> {
     thread: JoinHandle<Seat<L>>,
     /// Whether it has ended, but for the thread's last steps.
     has_ended: Arc<AtomicBool, Global>,
@@ -28,7 +27,7 @@ struct Busy<L: Ledger> {
 
 /// What became of a connection.
 #[derive(Drop)]
-enum Begun<L: Ledger> {
+enum Begun<L: Naming> {
     /// It is served in a thread.
     Busy(Busy<L>),
     /// It has ended.
@@ -37,12 +36,12 @@ enum Begun<L: Ledger> {
 
 /// Seats, each free or with a connection. Contracts see how many there are.
 #[derive(Drop)]
-pub struct Places<L: Ledger> {
+pub struct Places<L: Naming> {
     free: Vec<Seat<L>>,
     busy: Vec<Busy<L>>,
 }
 
-impl<L: Ledger> Model for Places<L> {
+impl<L: Naming> Model for Places<L> {
     ghost use Rattle.std.specs.Prelude.{ℕ, ◌+◌, ◌≤◌, vec_len, vec_capacity};
 
     ghost Value = { ℕ };
@@ -54,7 +53,7 @@ impl<L: Ledger> Model for Places<L> {
 }
 
 /// Serves a connection in a thread of the scope, or here, where no thread can be made. One for which memory is refused is closed.
-fn begin<'s, E, L: Ledger + Send + Sync + 's, R: Wait + Clock + Sync>(
+fn begin<'s, E, L: Naming + Send + Sync + 's, R: Wait + Clock + Sync>(
     scope: &Scope<'s, E>,
     rt: &'s R,
     post: &'s Post<'s>,
@@ -79,7 +78,7 @@ fn begin<'s, E, L: Ledger + Send + Sync + 's, R: Wait + Clock + Sync>(
     }
 }
 
-impl<L: Ledger> Places<L> {
+impl<L: Naming> Places<L> {
     /// Seats that are all free.
     pub fn new(alloc: Global, seats: Vec<Seat<L>>) -> Result<Places<L>, AllocError>
         ensures { IfOk result (λ places. places ≡ vec_len seats) }
@@ -120,7 +119,7 @@ impl<L: Ledger> Places<L> {
 }
 
 /// Serves the next connection from a free seat, in a thread of the scope, where one comes within a tick. Where no seat is free it waits a little.
-fn serve_next<'s, E, L: Ledger + Send + Sync + 's, R: Threads + Wait + Clock + Sync>(
+fn serve_next<'s, E, L: Naming + Send + Sync + 's, R: Threads + Wait + Clock + Sync>(
     places: &mut Places<L>,
     scope: &Scope<'s, E>,
     rt: &'s R,
@@ -146,7 +145,7 @@ fn serve_next<'s, E, L: Ledger + Send + Sync + 's, R: Threads + Wait + Clock + S
 }
 
 /// Serves connection after connection until the sign is set.
-pub fn serve_on<'s, E, L: Ledger + Send + Sync + 's, R: Threads + Wait + Clock + Sync>(
+pub fn serve_on<'s, E, L: Naming + Send + Sync + 's, R: Threads + Wait + Clock + Sync>(
     places: &mut Places<L>,
     scope: &Scope<'s, E>,
     rt: &'s R,

@@ -7,11 +7,10 @@ ghost use Rattle.rw_fault.specs.declared.tool_fault.ToolFault.TheVariants.{OutOf
 use rw_fault::ToolFault;
 use rw_head::Head;
 use rw_serving::{Post, served};
-use rw_shared_head::{Seat, SharedHead};
+use rw_shared_head::{Blank, Naming, Seat, SharedHead};
 use std::alloc::{AllocError, Global};
 use std::net::{TcpListener, TcpStream};
 use std::sync::Wait;
-use std::sync::ledger::{Blank, Ledger};
 use std::thread;
 use std::thread::{JoinHandle, Scope, Threads};
 use std::time::Clock;
@@ -27,7 +26,7 @@ fn accepted(listener: &TcpListener) -> Result<TcpStream, ToolFault>
 }
 
 /// Begins to serve a connection in a thread of the scope.
-fn begun<'s, E, L: Ledger + Send + Sync + 's, R: Wait + Clock + Sync>(
+fn begun<'s, E, L: Naming + Send + Sync + 's, R: Wait + Clock + Sync>(
     scope: &Scope<'s, E>,
     rt: &'s R,
     post: &'s Post<'s>,
@@ -44,7 +43,7 @@ fn begun<'s, E, L: Ledger + Send + Sync + 's, R: Wait + Clock + Sync>(
 }
 
 /// Accepts a connection for each seat, and begins to serve it in a thread of the scope.
-fn start_each<'s, E, L: Ledger + Send + Sync + 's, R: Wait + Clock + Sync>(
+fn start_each<'s, E, L: Naming + Send + Sync + 's, R: Wait + Clock + Sync>(
     scope: &Scope<'s, E>,
     rt: &'s R,
     listener: &TcpListener,
@@ -64,7 +63,7 @@ fn start_each<'s, E, L: Ledger + Send + Sync + 's, R: Wait + Clock + Sync>(
 }
 
 /// Waits for the threads, and gives their seats back.
-fn join_each<L: Ledger, R: Threads>(
+fn join_each<L: Naming, R: Threads>(
     rt: &R,
     alloc: Global,
     handles: Vec<JoinHandle<Seat<L>>>,
@@ -80,7 +79,7 @@ fn join_each<L: Ledger, R: Threads>(
 
 /// Serves one connection from each seat, each in a thread of its own, and gives the seats back. Nobody is listened to once the last one
 /// has come, or none can be served any more: whoever comes then is refused at once, and does not wait for those in work.
-fn serve_each<L: Ledger + Send + Sync, R: Threads + Wait + Clock + Sync>(
+fn serve_each<L: Naming + Send + Sync, R: Threads + Wait + Clock + Sync>(
     rt: &R,
     listener: TcpListener,
     post: &Post<'_>,
@@ -104,21 +103,23 @@ fn serve_each<L: Ledger + Send + Sync, R: Threads + Wait + Clock + Sync>(
     )
 }
 
-/// Serves so many connections over one head, which had nothing. Gives the head that they leave.
-pub(crate) fn receive_all<L: Ledger + Send + Sync, R: Threads + Wait + Clock + Sync>(
+/// Serves so many connections over one head. Gives the head that they leave.
+pub(crate) fn receive_all<L: Naming + Send + Sync, R: Threads + Wait + Clock + Sync>(
     rt: &R,
     post: &Post<'_>,
     blank: Blank,
+    head: Head,
     connections: usize,
     listener: TcpListener,
 ) -> Result<Head, ToolFault>
     requires some { 0 < connections }
     requires name { blank.name ≡ L.name }
     requires parts { (blank.parts ≡ connections + 1) × (L.parts ≡ connections + 1) }
+    requires table { blank.table ≡ L.table }
+    requires opening { head ≡ L.opening }
     ensures rises { IfOk result (λ head. EachRises head.store) }
     ensures faults { IfErr result (λ e. (e ≡ OutOfMemory) ⊎ (e ≡ Device)) }
 {
-    let head = Head::new(post.alloc, post.limits);
     let Ok((shared, seats)) = SharedHead::<L>::seats(post.alloc, blank, head, connections) else {
         return Err(ToolFault::OutOfMemory);
     };

@@ -13,6 +13,7 @@ use rw_head::Head;
 use rw_metrics::ReceiveCounters;
 use rw_serving::Post;
 use rw_settings::Settings;
+use rw_shared_head::Blank;
 use rw_state_text::push_store;
 use rw_stop::Sign;
 use rw_types::{Bounded, Sink, write_all};
@@ -20,7 +21,6 @@ use std::alloc::Global;
 use std::marker::Brand;
 use std::net::TcpListener;
 use std::sync::Wait;
-use std::sync::ledger::Blank;
 use std::thread::Threads;
 use std::time::Clock;
 
@@ -82,7 +82,8 @@ pub fn run_receive<R: Threads + Wait + Clock + Sync, W: Sink>(
         × WritesHeldPart (W.contents writer.old) (W.contents writer.new)) }
 {
     let count = service.most.get();
-    let blank = Blank::new(count + 1);
+    let blank = Blank::new(alloc, count + 1)?;
+    let head = Head::new(alloc, &settings.limits);
     let never = Sign::new();
     let post = Post {
         alloc,
@@ -91,7 +92,7 @@ pub fn run_receive<R: Threads + Wait + Clock + Sync, W: Sink>(
         idle_ms: service.idle_ms,
         counters: service.counters,
     };
-    let head = receive_all::<Brand, R>(rt, &post, blank, count as usize, listener)?;
+    let head = receive_all::<Brand, R>(rt, &post, blank, head, count as usize, listener)?;
     print_held(alloc, &head, writer)
 }
 
@@ -124,7 +125,8 @@ pub fn run_receive_until<R: Threads + Wait + Clock + Sync, W: Sink>(
         × WritesHeldPart (W.contents writer.old) (W.contents writer.new)) }
 {
     let most = service.most.get();
-    let blank = Blank::new(most + 1);
+    let blank = Blank::new(alloc, most + 1)?;
+    let head = Head::new(alloc, &settings.limits);
     let post = Post {
         alloc,
         limits: &settings.limits,
@@ -132,6 +134,6 @@ pub fn run_receive_until<R: Threads + Wait + Clock + Sync, W: Sink>(
         idle_ms: service.idle_ms,
         counters: service.counters,
     };
-    let head = receive_until::<Brand, R>(rt, &post, blank, most as usize, listener)?;
+    let head = receive_until::<Brand, R>(rt, &post, blank, head, most as usize, listener)?;
     print_held(alloc, &head, writer)
 }

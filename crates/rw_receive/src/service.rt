@@ -1,6 +1,6 @@
 //! Connections that are served until a sign is set.
 
-ghost use Rattle.std.specs.Prelude.{◌≡◌, ◌+◌, ◌<◌, ◌⊎◌, sum, IfOk, IfErr, vec_len};
+ghost use Rattle.std.specs.Prelude.{◌≡◌, ◌+◌, ◌<◌, ◌⊎◌, sum_by, IfOk, IfErr, vec_len};
 ghost use Rattle.rw_head.specs.Store.{total};
 ghost use Rattle.rw_head.specs.Growth.{EachRises};
 ghost use Rattle.rw_fault.specs.declared.tool_fault.ToolFault.TheVariants.{OutOfMemory, Device};
@@ -9,17 +9,16 @@ use rw_fault::ToolFault;
 use rw_head::Head;
 use rw_places::{Places, serve_on};
 use rw_serving::{Post, accept_in_ticks};
-use rw_shared_head::{Seat, SharedHead};
+use rw_shared_head::{Blank, Naming, Seat, SharedHead};
 use std::alloc::AllocError;
 use std::net::TcpListener;
 use std::sync::Wait;
-use std::sync::ledger::{Blank, Ledger};
 use std::thread;
 use std::thread::Threads;
 use std::time::Clock;
 
 /// Serves from all seats until the sign is set, waits for those in work, and gives the seats back. Nobody is listened to from then on.
-fn serve_until<L: Ledger + Send + Sync, R: Threads + Wait + Clock + Sync>(
+fn serve_until<L: Naming + Send + Sync, R: Threads + Wait + Clock + Sync>(
     rt: &R,
     listener: TcpListener,
     post: &Post<'_>,
@@ -43,32 +42,34 @@ fn serve_until<L: Ledger + Send + Sync, R: Threads + Wait + Clock + Sync>(
 }
 
 /// The head once all seats are back. It holds what it held at first, and what was stored from each seat over all its connections.
-fn gathered<L: Ledger>(shared: SharedHead<L>, seats: Vec<Seat<L>>) -> Head
+fn gathered<L: Naming>(shared: SharedHead<L>, seats: Vec<Seat<L>>) -> Head
     requires { vec_len seats ≡ shared.seats }
-    ensures adds_up { total result.store ≡ shared.start + sum seats.items }
+    ensures adds_up { total result.store ≡ shared.start + sum_by (λ s. s.stored) seats.items }
     ensures rises { EachRises result.store }
 {
     shared.gather(seats)
 }
 
-/// Serves at most so many connections at once over one head, which had nothing, until the sign is set. Gives the head that they leave.
-pub(crate) fn receive_until<L: Ledger + Send + Sync, R: Threads + Wait + Clock + Sync>(
+/// Serves at most so many connections at once over one head, until the sign is set. Gives the head that they leave.
+pub(crate) fn receive_until<L: Naming + Send + Sync, R: Threads + Wait + Clock + Sync>(
     rt: &R,
     post: &Post<'_>,
     blank: Blank,
+    head: Head,
     most: usize,
     listener: TcpListener,
 ) -> Result<Head, ToolFault>
     requires some { 0 < most }
     requires name { blank.name ≡ L.name }
     requires parts { (blank.parts ≡ most + 1) × (L.parts ≡ most + 1) }
+    requires table { blank.table ≡ L.table }
+    requires opening { head ≡ L.opening }
     ensures rises { IfOk result (λ head. EachRises head.store) }
     ensures faults { IfErr result (λ e. (e ≡ OutOfMemory) ⊎ (e ≡ Device)) }
 {
     if accept_in_ticks(&listener).is_err() {
         return Err(ToolFault::Device);
     }
-    let head = Head::new(post.alloc, post.limits);
     let Ok((shared, seats)) = SharedHead::<L>::seats(post.alloc, blank, head, most) else {
         return Err(ToolFault::OutOfMemory);
     };

@@ -2,13 +2,12 @@
 
 use rw_endpoint::Answer;
 use rw_metrics::ReceiveCounters;
-use rw_shared_head::{Seat, SharedHead};
+use rw_shared_head::{Naming, Seat, SharedHead};
 use std::sync::Wait;
-use std::sync::ledger::Ledger;
 
 /// A seat that is lent to answer the bodies of a connection's requests. Each answer may wait for the lock, and is counted.
 #[derive(Drop)]
-pub(crate) struct Counting<'a, R, L: Ledger> {
+pub(crate) struct Counting<'a, R, L: Naming> {
     pub(crate) rt: &'a R,
     pub(crate) shared: &'a SharedHead<L>,
     /// A seat of that shared head.
@@ -16,11 +15,11 @@ pub(crate) struct Counting<'a, R, L: Ledger> {
     pub(crate) counters: &'a ReceiveCounters,
 }
 
-impl<R: Wait, L: Ledger> Answer for Counting<'_, R, L> {
+impl<R: Wait, L: Naming> Answer for Counting<'_, R, L> {
     ghost use Rattle.std.specs.Prelude.{◌≡◌};
     ghost use Rattle.rw_shared_head.specs.Seats.{HasAsked};
 
-    ghost answers = { λ old body status new. (new.seat.ghost_name ≡ old.seat.ghost_name) × HasAsked old.seat.now body status new.seat.now };
+    ghost answers = { λ old body status new. (new.seat.ghost_name ≡ old.seat.ghost_name) × HasAsked L.opening old.seat.now body status new.seat.now };
 
     fn answer(&mut self, body: &[u8]) -> u16 {
         let before = self.seat.stored();

@@ -6,14 +6,13 @@ use crate::patient::{Patience, Patient};
 use rw_endpoint::serve;
 use rw_head::Limits;
 use rw_metrics::ReceiveCounters;
-use rw_shared_head::{Seat, SharedHead};
+use rw_shared_head::{Naming, Seat, SharedHead};
 use rw_stop::Sign;
 use rw_types::{Bounded, Std};
 use std::alloc::Global;
 use std::cell::Cell;
 use std::net::TcpStream;
 use std::sync::Wait;
-use std::sync::ledger::Ledger;
 use std::time::Clock;
 
 /// What all connections have in common.
@@ -32,7 +31,7 @@ pub struct Post<'a> {
 }
 
 /// Serves a connection to its end, however it ends, parts from the client, and gives the seat back. It is counted as long.
-pub fn served<L: Ledger, R: Wait + Clock>(
+pub fn served<L: Naming, R: Wait + Clock>(
     rt: &R,
     post: &Post<'_>,
     shared: &SharedHead<L>,
@@ -46,7 +45,7 @@ pub fn served<L: Ledger, R: Wait + Clock>(
 }
 
 /// Serves a connection to its end, and gives its seat back. It is not counted here.
-fn served_to_end<L: Ledger, R: Wait + Clock>(
+fn served_to_end<L: Naming, R: Wait + Clock>(
     rt: &R,
     post: &Post<'_>,
     shared: &SharedHead<L>,

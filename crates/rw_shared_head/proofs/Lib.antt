@@ -1,1 +1,4 @@
-mod SumLemmas
+mod BodyMoves
+mod HoldingLemmas
+mod StayingLemmas
+mod StoredLemmas

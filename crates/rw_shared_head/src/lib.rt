@@ -1,11 +1,18 @@
-//! A receiving head that threads ask under one lock, each from a seat that counts what its requests stored.
+//! A receiving head that threads ask under one lock, each from a seat that counts what its requests stored. What a seat is told is stored, the head holds.
 #![tactic(auto)]
 
 mod asking;
+mod blank;
+mod bodies;
+mod laws;
 mod locked;
+mod naming;
 mod seat;
 mod shared_head;
 
 pub use asking::Asking;
+pub use blank::Blank;
+pub use laws::{what_is_answered_204_is_held, what_is_stored_stays};
+pub use naming::Naming;
 pub use seat::{Asked, Seat};
 pub use shared_head::SharedHead;

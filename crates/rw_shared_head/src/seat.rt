@@ -1,13 +1,17 @@
 //! The right of one thread to ask.
 
-ghost use Rattle.std.specs.Prelude.{◌≡◌, ◌+◌, ◌≤◌, ◌<◌};
+ghost use Rattle.std.specs.Prelude.{◌≡◌, ◌+◌, ◌≤◌, ◌<◌, [], length};
+ghost use Rattle.rw_types.specs.Beginnings.{Begins};
 ghost use Rattle.rw_head.specs.Head.{IsStatus};
-ghost use Rattle.rw_shared_head.specs.Seats.{most, HasAsked, HasLabelSets};
+ghost use Rattle.rw_head.specs.Store.{label_sets};
+ghost use Rattle.rw_shared_head.specs.Seats.{most, store_after, HasAsked};
 
+use crate::bodies::{Bodies, Seen};
+use crate::naming::Naming;
 use crate::shared_head::SharedHead;
 use std::marker::Model;
 use std::sync::Wait;
-use std::sync::ledger::{Ledger, Share, Total};
+use std::sync::ledger::{Share, Total};
 
 /// How a request was answered.
 #[derive(Clone, Copy, Debug, PartialEq, Eq)]
@@ -18,31 +22,38 @@ pub struct Asked {
     pub label_sets: usize,
 }
 
-/// The right of one thread to ask a shared head. Contracts see how many samples its requests stored.
+/// The right of one thread to ask a shared head. Contracts see how many samples its requests stored, and the bodies that the head had taken
+/// from all seats when this one asked last.
 #[derive(Drop)]
-pub struct Seat<L: Ledger> {
+pub struct Seat<L: Naming> {
     stored: u64,
     share: Share<L>,
+    seen: Seen<L>,
 }
 
-impl<L: Ledger> Model for Seat<L> {
-    ghost use Rattle.std.specs.Prelude.{◌≡◌, ℕ};
+impl<L: Naming> Model for Seat<L> {
+    ghost use Rattle.std.specs.Prelude.{◌≡◌};
+    ghost use Rattle.rw_shared_head.specs.Seats.{Seated};
 
-    ghost Value = { ℕ };
+    ghost Value = { Seated };
 
-    ghost view = { λ s. s.stored };
+    ghost view = { λ s. record { stored = s.stored; bodies = s.seen } };
 
     ghost invariant = { λ s. (s.share.parts ≡ 1) × (s.share.amount ≡ s.stored) };
 }
 
-impl<L: Ledger> Seat<L> {
+impl<L: Naming> Seat<L> {
     /// A seat of nothing stored.
-    pub(crate) fn new(share: Share<L>) -> Seat<L>
+    pub(crate) fn new(share: Share<L>, seen: Seen<L>) -> Seat<L>
         requires one_part { share.parts ≡ 1 }
         requires nothing { share.amount ≡ 0 }
-        ensures { result ≡ 0 }
+        ensures { result ≡ record { stored = 0; bodies = seen } }
     {
-        Seat { stored: 0, share }
+        Seat {
+            stored: 0,
+            share,
+            seen,
+        }
     }
 
     /// Moves samples from the rest of the ledger to this seat.
@@ -50,7 +61,7 @@ impl<L: Ledger> Seat<L> {
         requires there { count ≤ rest.old.amount }
         requires part { 0 < rest.old.parts }
         requires fits { all.now.amount ≤ most }
-        ensures stored { self.new ≡ self.old + count }
+        ensures stored { self.new ≡ record self.old { stored = self.old.stored + count } }
         ensures parts { rest.new.parts ≡ rest.old.parts }
         ensures amount { rest.new.amount + count ≡ rest.old.amount }
     {
@@ -59,31 +70,27 @@ impl<L: Ledger> Seat<L> {
         self.stored += count;
     }
 
-    /// What is left in the ledger, with what this seat stored, is no more than all.
-    pub(crate) fn compare(&mut self, all: &Total<L>, rest: &mut Share<L>, left: u64)
-        requires amount { left ≡ rest.old.amount }
-        requires part { 0 < rest.old.parts }
-        ensures within { left + self.old ≤ all.now.amount }
-        ensures seat { self.new ≡ self.old }
-        ensures parts { rest.new.parts ≡ rest.old.parts }
-        ensures rest { rest.new.amount ≡ rest.old.amount }
+    /// Sees all bodies.
+    pub(crate) fn see(&mut self, bodies: &mut Bodies<L>)
+        ensures seen { self.new ≡ record self.old { bodies = bodies.old } }
+        ensures later { Begins self.old.bodies bodies.old }
+        ensures bodies { bodies.new ≡ bodies.old }
     {
-        rest.transfer(&mut self.share, left);
-        all.audit(&mut self.share);
-        self.share.transfer(rest, left);
+        bodies.show(&mut self.seen);
     }
 
-    /// Gives the share back.
-    pub(crate) fn into_share(self) -> Share<L>
-        ensures parts { result.parts ≡ 1 }
-        ensures amount { result.amount ≡ self }
+    /// The share of the ledger, and what was seen.
+    pub(crate) fn into_parts(self) -> (Share<L>, Seen<L>)
+        ensures parts { result.0.parts ≡ 1 }
+        ensures amount { result.0.amount ≡ self.stored }
+        ensures seen { result.1 ≡ self.bodies }
     {
-        self.share
+        (self.share, self.seen)
     }
 
     /// How many samples the requests from this seat stored. This takes no memory.
     pub fn stored(&self) -> u64
-        ensures { result ≡ self.now }
+        ensures { result ≡ self.now.stored }
     {
         self.stored
     }
@@ -91,17 +98,17 @@ impl<L: Ledger> Seat<L> {
     /// The head's answer to a request's body, under the lock: 204, 400, 429 or 503, as `Head::answer` gives it. May wait for the lock.
     pub fn answer<R: Wait>(&mut self, rt: &R, shared: &SharedHead<L>, body: &[u8]) -> u16
         ensures statuses { IsStatus result }
-        ensures asked { HasAsked self.old body.now result self.new }
+        ensures asked { HasAsked L.opening self.old body.now result self.new }
     {
         self.ask(rt, shared, body).status
     }
 
-    /// Answers a request as `answer` does, and tells how many label sets the head has samples of from then on: those that it had at the start, and
-    /// those of what this seat stored, are among them.
+    /// Answers a request as `answer` does, and tells of how many label sets the head has samples then.
     pub fn ask<R: Wait>(&mut self, rt: &R, shared: &SharedHead<L>, body: &[u8]) -> Asked
         ensures statuses { IsStatus result.status }
-        ensures asked { HasAsked self.old body.now result.status self.new }
-        ensures label_sets { HasLabelSets (shared.now.start + self.new) result.label_sets }
+        ensures asked { HasAsked L.opening self.old body.now result.status self.new }
+        ensures label_sets { result.label_sets
+            ≡ length (label_sets (store_after L.opening self.new.bodies)) }
     {
         shared.ask(rt, self, body)
     }

@@ -1,17 +1,19 @@
 //! A head under a lock.
 
-ghost use Rattle.std.specs.Prelude.{◌≡◌, ◌+◌, ◌<◌, All, IfOk, IfErr, sum, vec_len};
+ghost use Rattle.std.specs.Prelude.{◌≡◌, ◌+◌, ◌<◌, [], All, IfOk, IfErr, length, sum_by, vec_len};
 ghost use Rattle.rw_head.specs.Head.{IsStatus};
-ghost use Rattle.rw_head.specs.Store.{total};
+ghost use Rattle.rw_head.specs.Store.{total, label_sets};
 ghost use Rattle.rw_head.specs.Growth.{EachRises};
-ghost use Rattle.rw_shared_head.specs.Seats.{HasAsked, HasLabelSets};
+ghost use Rattle.rw_shared_head.specs.Seats.{store_after, HasAsked, HasGathered};
 
+use crate::blank::Blank;
 use crate::locked::Locked;
+use crate::naming::Naming;
 use crate::seat::{Asked, Seat};
 use rw_head::Head;
 use std::alloc::{AllocError, Global};
 use std::marker::Model;
-use std::sync::ledger::{Blank, Ledger, Total};
+use std::sync::ledger::Total;
 use std::sync::{Mutex, Wait};
 
 /// A head that threads ask under one lock. Contracts see how many samples it held when it was shared,
@@ -19,12 +21,12 @@ use std::sync::{Mutex, Wait};
 ///
 /// Whenever the lock is free, the timestamps of each list rise strictly, and the head's total is that at the start with what the seats stored.
 #[derive(Drop)]
-pub struct SharedHead<L: Ledger> {
+pub struct SharedHead<L: Naming> {
     locked: Mutex<Locked<L>>,
     all: Total<L>,
 }
 
-impl<L: Ledger> Model for SharedHead<L> {
+impl<L: Naming> Model for SharedHead<L> {
     ghost use Rattle.std.specs.Prelude.{◌-◌, ◌<◌, ◌≤◌};
     ghost use Rattle.rw_shared_head.specs.Seats.{Opening, most};
 
@@ -35,8 +37,8 @@ impl<L: Ledger> Model for SharedHead<L> {
     ghost invariant = { λ s. (s.all.amount ≤ most) × (0 < s.all.parts) };
 }
 
-impl<L: Ledger> SharedHead<L> {
-    /// Shares a head among so many seats, over a ledger of one part for each of them and one for the lock. Where memory runs out, the head comes
+impl<L: Naming> SharedHead<L> {
+    /// Shares a head among so many seats, over a blank of one part for each of them and one for the lock. Where memory runs out, the head comes
     /// back as it was.
     pub fn seats(
         alloc: Global,
@@ -47,47 +49,57 @@ impl<L: Ledger> SharedHead<L> {
         requires seats { 0 < n }
         requires name { blank.name ≡ L.name }
         requires parts { (blank.parts ≡ n + 1) × (L.parts ≡ n + 1) }
+        requires table { blank.table ≡ L.table }
+        requires opening { head ≡ L.opening }
         ensures shared { IfOk result (λ r. r.0 ≡ record { start = total head.store; seats = n }) }
         ensures seats { IfOk result (λ r. vec_len r.1 ≡ n) }
-        ensures nothing { IfOk result (λ r. All (λ stored. stored ≡ 0) r.1.items) }
+        ensures nothing { IfOk result
+            (λ r. All (λ s. s ≡ record { stored = 0; bodies = [] }) r.1.items) }
         ensures refused { IfErr result (λ e. e.0 ≡ head) }
     {
         let mut seats = Vec::new(alloc);
         if seats.reserve(n).is_err() {
             return Err((head, AllocError));
         }
-        let (mut book, mut rest) = blank.open::<L>();
+        let (ledger, mut bodies) = blank.named::<L>();
+        let (mut book, mut rest) = ledger.open::<L>();
         book.add(&mut rest, u64::MAX - head.total());
         let all = book.close();
         for _ in 0..n {
-            seats.push_reserved(Seat::new(rest.split_off(1, 0)));
+            seats.push_reserved(Seat::new(rest.split_off(1, 0), bodies.look()));
         }
-        let locked = Mutex::new(Locked::new(head, rest));
+        let locked = Mutex::new(Locked::new(head, bodies, rest));
         Ok((SharedHead { locked, all }, seats))
     }
 
     /// The answer to a body from a seat, under the lock.
     pub(crate) fn ask<R: Wait>(&self, rt: &R, seat: &mut Seat<L>, body: &[u8]) -> Asked
         ensures statuses { IsStatus result.status }
-        ensures asked { HasAsked seat.old body.now result.status seat.new }
-        ensures label_sets { HasLabelSets (self.now.start + seat.new) result.label_sets }
+        ensures asked { HasAsked L.opening seat.old body.now result.status seat.new }
+        ensures label_sets { result.label_sets
+            ≡ length (label_sets (store_after L.opening seat.new.bodies)) }
     {
         let mut locked = self.locked.lock(rt);
         let status = locked.answer(&self.all, seat, body);
-        let label_sets = locked.label_sets(&self.all, seat);
-        Asked { status, label_sets }
+        Asked {
+            status,
+            label_sets: locked.label_sets(),
+        }
     }
 
-    /// Gives the head back, once all seats are back. This takes no memory and waits for nobody.
+    /// Gives the head back, once all seats are back. It holds what each of them was told is stored. This takes no memory and waits for nobody.
     pub fn gather(self, seats: Vec<Seat<L>>) -> Head
         requires { vec_len seats ≡ self.seats }
-        ensures total { total result.store ≡ self.start + sum seats.items }
+        ensures gathered { HasGathered L.opening seats.items result.store }
+        ensures total { total result.store ≡ self.start + sum_by (λ s. s.stored) seats.items }
         ensures rises { EachRises result.store }
     {
         let SharedHead { locked, all } = self;
-        let (head, mut rest) = locked.into_inner().into_parts();
+        let (head, mut bodies, mut rest) = locked.into_inner().into_parts();
         for seat in seats {
-            rest.merge(seat.into_share());
+            let (share, mut seen) = seat.into_parts();
+            bodies.show(&mut seen);
+            rest.merge(share);
         }
         all.audit(&mut rest);
         head

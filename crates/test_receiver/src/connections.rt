@@ -2,9 +2,8 @@
 
 use crate::bodies::WORD_OF_ONE;
 use crate::messages::{UP, has_samples, standard};
-use crate::seats::{Talk, answered};
+use crate::seats::{Talk, answered, blank};
 use std::marker::Brand;
-use std::sync::ledger::Blank;
 use std::test::Fail;
 
 /// A request of the body `ONE`.
@@ -16,9 +15,10 @@ const REPLY: &[u8] = b"HTTP/1.1 204 No Content\r\nConnection: close\r\n\r\n";
 #[test]
 fn a_seat_answers_a_connection(rt: HostRuntime) -> Result<(), Fail> {
     let alloc = rt.alloc();
+    let blank = blank(alloc, 2)?;
     let head = standard(alloc)?;
     let talk = Talk::Connection(REQUEST, REPLY, 1);
-    let (is_so, head) = answered::<Brand, HostRuntime>(&rt, alloc, Blank::new(2), head, talk);
+    let (is_so, head) = answered::<Brand, HostRuntime>(&rt, alloc, blank, head, talk);
     assert!(rt; is_so == Some(true) && has_samples(alloc, &head, UP, &[(1000, WORD_OF_ONE)]));
     Ok(())
 }

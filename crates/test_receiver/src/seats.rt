@@ -9,14 +9,23 @@ use crate::messages::{Samples, UP, has_samples, standard};
 use crate::store::is_served_by;
 use rw_endpoint::{Answer, ServeEnd};
 use rw_head::Head;
-use rw_shared_head::{Asking, Seat, SharedHead};
+use rw_shared_head::{Asking, Blank, Naming, Seat, SharedHead};
 use std::alloc::{AllocError, Global};
 use std::marker::Brand;
 use std::sync::Wait;
-use std::sync::ledger::{Blank, Ledger};
 use std::test::Fail;
 use std::thread;
 use std::thread::Threads;
+
+/// A blank of so many parts, made again where memory was refused.
+pub(crate) fn blank(alloc: Global, parts: u64) -> Result<Blank, AllocError>
+    ensures { IfOk result (λ b. b.parts ≡ parts) }
+{
+    match Blank::new(alloc, parts) {
+        Ok(blank) => Ok(blank),
+        Err(_) => Blank::new(alloc, parts),
+    }
+}
 
 /// What two seats answered and stored, and the head after them.
 #[derive(Drop)]
@@ -26,7 +35,7 @@ struct Outcome {
     head: Head,
 }
 
-fn asked<L: Ledger, R: Wait>(
+fn asked<L: Naming, R: Wait>(
     rt: &R,
     shared: &SharedHead<L>,
     seat: Seat<L>,
@@ -38,7 +47,7 @@ fn asked<L: Ledger, R: Wait>(
 }
 
 /// Asks with one body from two seats at once.
-fn asked_at_once<L: Ledger + Send + Sync, R: Threads + Wait + Sync>(
+fn asked_at_once<L: Naming + Send + Sync, R: Threads + Wait + Sync>(
     rt: &R,
     alloc: Global,
     blank: Blank,
@@ -47,6 +56,8 @@ fn asked_at_once<L: Ledger + Send + Sync, R: Threads + Wait + Sync>(
 ) -> Result<Outcome, AllocError>
     requires name { blank.name ≡ L.name }
     requires parts { (blank.parts ≡ 3) × (L.parts ≡ 3) }
+    requires table { blank.table ≡ L.table }
+    requires opening { head ≡ L.opening }
     ensures { IfOk result (λ o. total o.head.store ≡ total head.store + o.stored.0 + o.stored.1) }
 {
     let Ok((shared, mut seats)) = SharedHead::<L>::seats(alloc, blank, head, 2) else {
@@ -82,8 +93,9 @@ fn is_stored_once(alloc: Global, outcome: &Outcome) -> bool {
 #[test]
 fn one_body_from_two_seats_is_stored_once(rt: HostRuntime) -> Result<(), Fail> {
     let alloc = rt.alloc();
+    let blank = blank(alloc, 3)?;
     let head = standard(alloc)?;
-    let outcome = asked_at_once::<Brand, HostRuntime>(&rt, alloc, Blank::new(3), head, &ONE)?;
+    let outcome = asked_at_once::<Brand, HostRuntime>(&rt, alloc, blank, head, &ONE)?;
     assert!(rt; is_stored_once(alloc, &outcome));
     Ok(())
 }
@@ -98,7 +110,7 @@ pub(crate) enum Talk<'a> {
 }
 
 /// The status of a body, asked for again where memory was refused and the seat has stored as much as before.
-fn answered_at_last<L: Ledger, R: Wait>(
+fn answered_at_last<L: Naming, R: Wait>(
     asking: &mut Asking<'_, R, L>,
     body: &[u8],
     before: u64,
@@ -112,7 +124,7 @@ fn answered_at_last<L: Ledger, R: Wait>(
 }
 
 /// Whether each body has its status, and the seat then has stored so much.
-fn answers<L: Ledger, R: Wait>(
+fn answers<L: Naming, R: Wait>(
     asking: &mut Asking<'_, R, L>,
     bodies: &[(&[u8], u16, u64)],
 ) -> bool {
@@ -128,7 +140,7 @@ fn answers<L: Ledger, R: Wait>(
 }
 
 /// Whether a seat answers as it is to.
-fn is_answered<L: Ledger, R: Wait>(
+fn is_answered<L: Naming, R: Wait>(
     alloc: Global,
     asking: &mut Asking<'_, R, L>,
     talk: Talk<'_>,
@@ -145,7 +157,7 @@ fn is_answered<L: Ledger, R: Wait>(
 
 /// Asks from the one seat of a head. Gives whether it answers as it is to, and the head. Where no seat could be had there is no answer, and the
 /// head is as it was.
-pub(crate) fn answered<L: Ledger, R: Wait>(
+pub(crate) fn answered<L: Naming, R: Wait>(
     rt: &R,
     alloc: Global,
     blank: Blank,
@@ -154,6 +166,8 @@ pub(crate) fn answered<L: Ledger, R: Wait>(
 ) -> (Option<bool>, Head)
     requires name { blank.name ≡ L.name }
     requires parts { (blank.parts ≡ 2) × (L.parts ≡ 2) }
+    requires table { blank.table ≡ L.table }
+    requires opening { head ≡ L.opening }
 {
     let (shared, mut seats) = match SharedHead::<L>::seats(alloc, blank, head, 1) {
         Ok(shared) => shared,
@@ -201,6 +215,7 @@ fn holds_what_was_stored(alloc: Global, is_answered: Option<bool>, head: &Head) 
 #[test]
 fn a_seat_counts_what_was_stored(rt: HostRuntime) -> Result<(), Fail> {
     let alloc = rt.alloc();
+    let blank = blank(alloc, 2)?;
     let head = begun(alloc)?;
     let bodies: [(&[u8], u16, u64); 4] = [
         (&TWO[..65], 400, 0),
@@ -209,7 +224,7 @@ fn a_seat_counts_what_was_stored(rt: HostRuntime) -> Result<(), Fail> {
         (&ONE, 204, 2),
     ];
     let talk = Talk::Bodies(&bodies);
-    let (is_so, head) = answered::<Brand, HostRuntime>(&rt, alloc, Blank::new(2), head, talk);
+    let (is_so, head) = answered::<Brand, HostRuntime>(&rt, alloc, blank, head, talk);
     assert!(rt; holds_what_was_stored(alloc, is_so, &head));
     Ok(())
 }

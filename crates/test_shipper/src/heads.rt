@@ -9,11 +9,10 @@ use crate::work::{Call, Ending, Stop, Task, Wanted, done};
 use Call::{Feed, Flush, NextSegment, Reshard};
 use rw_head::{Head, Limits};
 use rw_ledger::Reason;
-use rw_shared_head::{Seat, SharedHead};
+use rw_shared_head::{Blank, Naming, Seat, SharedHead};
 use rw_types::{Bounded, LabelFault, LabelSet, Names, Word};
 use std::alloc::{AllocError, Global};
 use std::marker::Brand;
-use std::sync::ledger::{Blank, Ledger};
 use std::sync::{Arc, Wait};
 use std::thread::Threads;
 
@@ -26,7 +25,7 @@ struct Row<'a> {
     samples: &'a [(i64, u64)],
 }
 
-fn put_seats<R: Drop, L: Ledger>(seats: &mut Vec<Seat<L>>, transports: Vec<Seated<R, L>>) {
+fn put_seats<R: Drop, L: Naming>(seats: &mut Vec<Seat<L>>, transports: Vec<Seated<R, L>>) {
     for transport in transports {
         if let Some(seat) = transport.into_seat() {
             let _ = seats.push(seat);
@@ -34,18 +33,20 @@ fn put_seats<R: Drop, L: Ledger>(seats: &mut Vec<Seat<L>>, transports: Vec<Seate
     }
 }
 
-/// A head without samples, and so many seats.
-fn shared_head<L: Ledger>(
+/// The head under a lock, and so many seats.
+fn shared_head<L: Naming>(
     alloc: Global,
     blank: Blank,
+    head: Head,
     count: usize,
 ) -> Result<(Arc<SharedHead<L>>, Vec<Seat<L>>), AllocError>
     requires some { 0 < count }
     requires name { blank.name ≡ L.name }
     requires parts { (blank.parts ≡ count + 1) × (L.parts ≡ count + 1) }
+    requires table { blank.table ≡ L.table }
+    requires opening { head ≡ L.opening }
     ensures { IfOk result (λ r. (arc_value r.0).seats ≡ count) }
 {
-    let head = Head::new(alloc, &Limits::standard(alloc)?);
     match SharedHead::<L>::seats(alloc, blank, head, count) {
         Ok((shared, seats)) => Ok((Arc::new(alloc, shared)?, seats)),
         Err((_, refused)) => Err(refused),
@@ -53,7 +54,7 @@ fn shared_head<L: Ledger>(
 }
 
 /// The head, where all seats are back and nobody else has a part in it.
-fn gathered<L: Ledger>(
+fn gathered<L: Naming>(
     shared: Arc<SharedHead<L>>,
     seats: Vec<Seat<L>>,
     count: usize,
@@ -67,19 +68,22 @@ fn gathered<L: Ledger>(
     Some(shared.gather(seats))
 }
 
-/// Ships to the seats of one head, of which each worker takes one, and gathers them. Gives whether all was done as wanted, and the head.
-fn shipped<R: Threads + Wait + Copy + Send + 'static, L: Ledger + Send + Sync + 'static>(
+/// Ships to the seats of the head, of which each worker takes one, and gathers them. Gives whether all was done as wanted, and the head.
+fn shipped<R: Threads + Wait + Copy + Send + 'static, L: Naming + Send + Sync + 'static>(
     rt: &R,
     alloc: Global,
     blank: Blank,
+    head: Head,
     count: usize,
     row: &Row<'_>,
 ) -> Option<(bool, Head)>
     requires some { 0 < count }
     requires name { blank.name ≡ L.name }
     requires parts { (blank.parts ≡ count + 1) × (L.parts ≡ count + 1) }
+    requires table { blank.table ≡ L.table }
+    requires opening { head ≡ L.opening }
 {
-    let (shared, seats) = shared_head::<L>(alloc, blank, count).ok()?;
+    let (shared, seats) = shared_head::<L>(alloc, blank, head, count).ok()?;
     let connect = Seats {
         rt: *rt,
         alloc,
@@ -101,7 +105,9 @@ fn shipped_to_seats<R: Threads + Wait + Copy + Send + 'static>(
     row: &Row<'_>,
 ) -> Option<(bool, Head)> {
     let count = seats.get();
-    shipped::<R, Brand>(rt, alloc, Blank::new(count + 1), count as usize, row)
+    let blank = Blank::new(alloc, count + 1).ok()?;
+    let head = Head::new(alloc, &Limits::standard(alloc).ok()?);
+    shipped::<R, Brand>(rt, alloc, blank, head, count as usize, row)
 }
 
 fn texts(alloc: Global, name: &str) -> Result<Vec<(String, String)>, AllocError> {

@@ -5,12 +5,11 @@ use http::StatusCode;
 use rw_endpoint::serve;
 use rw_head::Limits;
 use rw_shard_core::{ReplyRead, read_reply};
-use rw_shared_head::{Asking, Seat, SharedHead};
+use rw_shared_head::{Asking, Naming, Seat, SharedHead};
 use rw_shipper::Connect;
 use rw_types::Room;
 use rw_worker::{Lost, Reply, Transport};
 use std::alloc::{AllocError, Global};
-use std::sync::ledger::Ledger;
 use std::sync::{Arc, Wait};
 
 /// The most bytes of a reply.
@@ -29,7 +28,7 @@ fn reply_of(text: &[u8]) -> Result<Reply, Lost> {
 
 /// It lends each request to a receiver's endpoint, and reads the reply.
 #[derive(Drop)]
-pub(crate) struct Seated<R, L: Ledger> {
+pub(crate) struct Seated<R, L: Naming> {
     rt: R,
     alloc: Global,
     limits: Limits,
@@ -38,7 +37,7 @@ pub(crate) struct Seated<R, L: Ledger> {
     seat: Option<Seat<L>>,
 }
 
-impl<R: Drop, L: Ledger> Seated<R, L> {
+impl<R: Drop, L: Naming> Seated<R, L> {
     /// Gives the seat back.
     pub(crate) fn into_seat(self) -> Option<Seat<L>> {
         self.seat
@@ -46,7 +45,7 @@ impl<R: Drop, L: Ledger> Seated<R, L> {
 }
 
 /// Serves a connection with one request. Gives what is replied, and the seat back.
-fn served<R: Wait, L: Ledger>(
+fn served<R: Wait, L: Naming>(
     rt: &R,
     alloc: Global,
     shared: &SharedHead<L>,
@@ -68,7 +67,7 @@ fn served<R: Wait, L: Ledger>(
     (seat, reply_of(writer.as_slice()))
 }
 
-impl<R: Wait, L: Ledger> Transport for Seated<R, L> {
+impl<R: Wait, L: Naming> Transport for Seated<R, L> {
     ghost use Rattle.std.specs.Prelude.{[], ⊤};
 
     ghost is_for = { λ _ _ _. ⊤ };
@@ -96,14 +95,14 @@ impl<R: Wait, L: Ledger> Transport for Seated<R, L> {
 
 /// A seat for each shard, while there are any.
 #[derive(Drop)]
-pub(crate) struct Seats<R, L: Ledger> {
+pub(crate) struct Seats<R, L: Naming> {
     pub(crate) rt: R,
     pub(crate) alloc: Global,
     pub(crate) shared: Arc<SharedHead<L>>,
     pub(crate) seats: Vec<Seat<L>>,
 }
 
-impl<R: Wait + Copy + Send + 'static, L: Ledger + Send + Sync + 'static> Connect for Seats<R, L> {
+impl<R: Wait + Copy + Send + 'static, L: Naming + Send + Sync + 'static> Connect for Seats<R, L> {
     type T = Seated<R, L>;
 
     type P = Quick;

@@ -1,10 +1,9 @@
 //! The receiver: its head, alone and under a lock, and its endpoint.
 
-use rw_recv_head::{Head, LabelSets, Limits, Seat, SharedHead, Verdict};
+use rw_recv_head::{Blank, Head, LabelSets, Limits, Naming, Seat, SharedHead, Verdict};
 use rw_recv_http::{Answer, Asking, ServeEnd, serve};
 use rw_types::{Sink, Source};
 use std::sync::Wait;
-use std::sync::ledger::Ledger;
 
 /// The types of rw_recv_head and rw_recv_http.
 pub type Types<'a, R, L> = (
@@ -19,8 +18,8 @@ pub fn of_heads() {
 }
 
 /// The calls of a head under a lock.
-pub fn of_shared_heads<R: Wait, L: Ledger>() {
-    let _ = (SharedHead::<L>::seats, SharedHead::<L>::gather);
+pub fn of_shared_heads<R: Wait, L: Naming>() {
+    let _ = (Blank::new, SharedHead::<L>::seats, SharedHead::<L>::gather);
     let _ = (Seat::<L>::answer::<R>, Seat::<L>::stored);
 }
 

@@ -1,4 +1,7 @@
 use Rattle.test_receiver.proofs.connections.a_seat_answers_a_connection.Given as goal
 
-abbrev pub ghosts-answered : goal.ghosts-answered
-ghosts-answered g a = record { name = a.blank.name; parts = a.blank.parts }
+abbrev pub ghosts-answered-L-Ledger : goal.ghosts-answered-L-Ledger
+ghosts-answered-L-Ledger g a = record { name = a.blank.name; parts = a.blank.parts }
+
+abbrev pub ghosts-answered-L-Naming : goal.ghosts-answered-L-Naming
+ghosts-answered-L-Naming g a = record { opening = a.head; table = a.blank.table }

@@ -1,4 +1,7 @@
 use Rattle.test_receiver.proofs.seats.one_body_from_two_seats_is_stored_once.Given as goal
 
-abbrev pub ghosts-asked_at_once : goal.ghosts-asked_at_once
-ghosts-asked_at_once g a = record { name = a.blank.name; parts = a.blank.parts }
+abbrev pub ghosts-asked_at_once-L-Ledger : goal.ghosts-asked_at_once-L-Ledger
+ghosts-asked_at_once-L-Ledger g a = record { name = a.blank.name; parts = a.blank.parts }
+
+abbrev pub ghosts-asked_at_once-L-Naming : goal.ghosts-asked_at_once-L-Naming
+ghosts-asked_at_once-L-Naming g a = record { opening = a.head; table = a.blank.table }

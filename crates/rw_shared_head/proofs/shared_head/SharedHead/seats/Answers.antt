@@ -1,5 +1,6 @@
-use Rattle.std.proofs.Common.{◌≡◌, All, rules, subst, sym}
+use Rattle.std.proofs.Common.{◌≡◌, ◌∙◌, [], All, rules, subst, sym, ap}
 use Rattle.std.proofs.lemmas.List.Elements.{All-push}
+use Rattle.rw_shared_head.specs.Seats.{Seated}
 use Rattle.rw_shared_head.proofs.shared_head.SharedHead.seats.Goals as goal
 
 pub loop-preserved : goal.loop-preserved
@@ -8,6 +9,9 @@ loop-preserved g c = record {
   room = search rules;
   parts = search rules;
   amount = search rules;
-  nothing = subst (All (λ stored. stored ≡ 0)) (sym c.push_reserved.ensures.items) (All-push (λ stored. stored ≡ 0) c.loop.seats.items c.new.result c.loop.invariant.nothing c.new.ensures);
+  bodies = c.look.ensures.bodies ∙ c.loop.invariant.bodies;
+  nothing = subst (All (λ (s : Seated). s ≡ record { stored = 0; bodies = [] })) (sym c.push_reserved.ensures.items)
+      (All-push (λ (s : Seated). s ≡ record { stored = 0; bodies = [] }) c.loop.seats.items c.new.result c.loop.invariant.nothing
+      (c.new.ensures ∙ ap (λ b. record { stored = 0; bodies = b }) (c.look.ensures.seen ∙ c.loop.invariant.bodies)));
   below = search rules;
 }

@@ -1,4 +1,5 @@
-use Rattle.std.proofs.Common.{◌≡◌, ◌+◌, ◌≤◌, All, vec_len, vec_capacity}
+use Rattle.std.proofs.Common.{◌≡◌, ◌+◌, ◌≤◌, [], All, vec_len, vec_capacity}
+use Rattle.rw_shared_head.specs.Seats.{Seated}
 use Rattle.rw_shared_head.proofs.shared_head.SharedHead.seats.Given as goal
 
 abbrev pub invariant-loop : goal.invariant-loop
@@ -7,6 +8,7 @@ invariant-loop g l = record {
   room : l.n ≤ vec_capacity l.seats;
   parts : l.rest.parts + l.counter ≡ l.n + 1;
   amount : l.rest.amount ≡ l.initial.rest.amount;
-  nothing : All (λ stored. stored ≡ 0) l.seats.items;
+  bodies : l.bodies ≡ [];
+  nothing : All (λ (s : Seated). s ≡ record { stored = 0; bodies = [] }) l.seats.items;
   below : l.counter ≤ l.n;
 }

@@ -1,0 +1,46 @@
+//! What a shared head is made of, beside the head.
+
+ghost use Rattle.std.specs.Prelude.{◌≡◌, [], IfOk};
+
+use crate::bodies::{Bodies, Unnamed};
+use crate::naming::Naming;
+use std::alloc::{AllocError, Global};
+use std::marker::Model;
+use std::sync::ledger;
+
+/// A ledger of so many parts, and the table by which seats know what their head has taken, both unused. Contracts see which they are.
+#[derive(Drop)]
+pub struct Blank {
+    ledger: ledger::Blank,
+    bodies: Unnamed,
+}
+
+impl Model for Blank {
+    ghost use Rattle.rw_shared_head.specs.Seats.{Unused};
+
+    ghost Value = { Unused };
+
+    ghost view = { λ b. record { name = b.ledger.name; parts = b.ledger.parts; table = b.bodies } };
+}
+
+impl Blank {
+    /// A new one. It takes memory for one word.
+    pub fn new(alloc: Global, parts: u64) -> Result<Blank, AllocError>
+        ensures { IfOk result (λ b. b.parts ≡ parts) }
+    {
+        Ok(Blank {
+            ledger: ledger::Blank::new(parts),
+            bodies: Unnamed::new(alloc)?,
+        })
+    }
+
+    /// The ledger, and no bodies under a name.
+    pub(crate) fn named<L: Naming>(self) -> (ledger::Blank, Bodies<L>)
+        requires { self.table ≡ L.table }
+        ensures ledger { (result.0.name ≡ self.name) × (result.0.parts ≡ self.parts) }
+        ensures bodies { result.1 ≡ [] }
+    {
+        let Blank { ledger, bodies } = self;
+        (ledger, bodies.named())
+    }
+}
