@@ -43,7 +43,7 @@ fn put_text(key: &mut Vec<u8>, text: &str) -> Result<(), AllocError>
     Ok(())
 }
 
-/// The key of a label set. It has fewer bytes than the fields of the labels.
+/// The key of a label set. It has no more bytes than the fields of the labels.
 fn key_of(alloc: Global, labels: &LabelSet) -> Result<Vec<u8>, AllocError>
     ensures { IfOk result (λ k. k.items ≡ labels_key labels.now) }
 {

@@ -19,7 +19,8 @@ impl<R: Wait, L: Naming> Answer for Counting<'_, R, L> {
     ghost use Rattle.std.specs.Prelude.{◌≡◌};
     ghost use Rattle.rw_shared_head.specs.Seats.{HasAsked};
 
-    ghost answers = { λ old body status new. (new.seat.ghost_name ≡ old.seat.ghost_name) × HasAsked L.opening old.seat.now body status new.seat.now };
+    ghost answers = { λ old body status new. (new.seat.ghost_name ≡ old.seat.ghost_name)
+        × HasAsked L.opening old.seat.now body status new.seat.now };
 
     fn answer(&mut self, body: &[u8]) -> u16 {
         let before = self.seat.stored();

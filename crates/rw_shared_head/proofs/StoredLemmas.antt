@@ -113,8 +113,11 @@ module _ (opening head new : State) (body : List ℕ) (status : ℕ) (bodies not
         less_busy = k.less_busy;
         rises = subst EachRises k.holds k.rises;
         status_is = λ h. gives.told h ∙ ap (λ (t : State). (answer t body).status) (same_head opening head bodies k.holds k.limits);
-        no_memory = λ h. ((gives.memory h).1, readable h);
-        taken = λ h. let t = taken h in (sees ∙ gives.taken h, (t.0, t.1, omega (arith, t.2, more, b, a, stores)));
-        refused = λ h. (sees ∙ gives.same h, omega (arith, ap total (gives.refused h), b, a, stores));
+        not_busy = λ h. (gives.memory h).1;
+        readable = readable;
+        taken = λ h. sees ∙ gives.taken h;
+        stored = λ h. let t = taken h in (t.0, t.1, omega (arith, t.2, more, b, a, stores));
+        refused = λ h. sees ∙ gives.same h;
+        nothing = λ h. omega (arith, ap total (gives.refused h), b, a, stores);
         counted = omega (arith, ap (λ l. total (store_after opening l)) sees, ap total holds, ap total k.holds, more, b, a, stores);
       }

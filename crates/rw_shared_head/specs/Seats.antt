@@ -36,9 +36,12 @@ pub record HasAsked (opening : State) (old : Seated) (body : List ℕ) (status :
   pub less_busy : busy ≤ opening.busy
   pub rises : EachRises (store_after opening before)
   pub status_is : status ≢ 503 → status ≡ (answer (head_after opening before busy) body).status
-  pub no_memory : status ≡ 503 → (busy ≡ 0) × SpellsMessage body
-  pub taken : status ≡ 204 → (new.bodies ≡ before ++ body ∷ []) × HasStored body old.stored new.stored
-  pub refused : status ≢ 204 → (new.bodies ≡ before) × (new.stored ≡ old.stored)
+  pub not_busy : status ≡ 503 → busy ≡ 0
+  pub readable : status ≡ 503 → SpellsMessage body
+  pub taken : status ≡ 204 → new.bodies ≡ before ++ body ∷ []
+  pub stored : status ≡ 204 → HasStored body old.stored new.stored
+  pub refused : status ≢ 204 → new.bodies ≡ before
+  pub nothing : status ≢ 204 → new.stored ≡ old.stored
   pub counted : total (store_after opening new.bodies) + old.stored ≡ total (store_after opening before) + new.stored
 
 -- What a head holds once all seats are back: what it takes of the bodies that it was asked for from all of them, in one order. Each seat saw a beginning of these.

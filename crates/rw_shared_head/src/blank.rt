@@ -37,7 +37,8 @@ impl Blank {
     /// The ledger, and no bodies under a name.
     pub(crate) fn named<L: Naming>(self) -> (ledger::Blank, Bodies<L>)
         requires { self.table ≡ L.table }
-        ensures ledger { (result.0.name ≡ self.name) × (result.0.parts ≡ self.parts) }
+        ensures name { result.0.name ≡ self.name }
+        ensures parts { result.0.parts ≡ self.parts }
         ensures bodies { result.1 ≡ [] }
     {
         let Blank { ledger, bodies } = self;

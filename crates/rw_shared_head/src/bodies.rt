@@ -149,7 +149,8 @@ impl<L: Naming> Model for Seen<L> {
 
     ghost view = { λ s. s.pass.me.0.seen };
 
-    ghost invariant = { λ s. (s.pass.table_id ≡ L.table) × (s.pass.me ≡ (seer s.pass.me.0.seen, [])) };
+    ghost invariant = { λ s. (s.pass.table_id ≡ L.table)
+        × (s.pass.me ≡ (seer s.pass.me.0.seen, [])) };
 }
 
 impl<L: Naming> Bodies<L> {

@@ -32,7 +32,8 @@ impl<L: Naming> Model for Locked<L> {
 
     ghost view = { λ l. record { head = l.head; bodies = l.bodies } };
 
-    ghost invariant = { λ l. IsKept L.opening (record { head = l.head; bodies = l.bodies }) l.rest.parts l.rest.amount };
+    ghost invariant = { λ l. IsKept L.opening (record { head = l.head; bodies = l.bodies })
+        l.rest.parts l.rest.amount };
 }
 
 /// Notes a body that the head answered so, where it was taken, and shows the seat all bodies.
