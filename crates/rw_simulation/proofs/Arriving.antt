@@ -582,7 +582,7 @@ module _ (c : Setup) (exs : ℕ → ℕ → List Exchange) (arrivals : List Arri
             shard = get_some w.shards a.shard (subst (λ (i : ℕ). a.shard < i) (sym all.count) (within a.shard a.number x here))
 
             sent : Sent m a.shard a.number x
-            sent = advance-to m a.shard a.number x w all shard.0 shard.1 (λ i y r got answer lt. one.later m a epoch a.shard i y r at got answer (inr (sym same_epoch, refl, lt))) here
+            sent = advance-to m a.shard a.number x w all shard.0 shard.1 (λ i y r got answer lt. one.told.later m a epoch a.shard i y r at got answer (inr (sym same_epoch, refl, lt))) here
 
     -- ---- all arrivals of this epoch and of those before
     abbrev pub HasStop : ℕ → Type 0
@@ -616,8 +616,8 @@ module _ (c : Setup) (exs : ℕ → ℕ → List Exchange) (arrivals : List Arri
 
     -- then all exchanges of the epoch are answered
     known-then : (m : ℕ) → HasStop m → (k bound : ℕ) → AreAnswered m k bound
-    known-then m (inl end) k bound i x r got answer lt = subst (λ (j : ℕ). IsAnsweredBy arrivals j epoch k i r.status) (sym end) (one.all epoch k i x r got answer)
-    known-then m (inr (a, at, later)) k bound i x r got answer lt = one.later m a epoch k i x r at got answer (inl later)
+    known-then m (inl end) k bound i x r got answer lt = subst (λ (j : ℕ). IsAnsweredBy arrivals j epoch k i r.status) (sym end) (one.told.all epoch k i x r got answer)
+    known-then m (inr (a, at, later)) k bound i x r got answer lt = one.told.later m a epoch k i x r at got answer (inl later)
 
     -- ---- each worker makes the steps that are left
     record Finished (j m : ℕ) : Type 0 where

@@ -19,6 +19,7 @@ pub mod Pasts
 pub mod Positions
 pub mod ReshardRuns
 pub mod RisingOrders
+pub mod SharedReceivers
 pub mod StoppedRuns
 pub mod StoppedShards
 pub mod Tallies

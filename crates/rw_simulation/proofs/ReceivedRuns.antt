@@ -105,8 +105,7 @@ one-wide : (c : Setup) (wide : ℕ) (exs : ℕ → ℕ → List Exchange) (arriv
 one-wide c wide exs arrivals heads one = record {
   begins = one.begins;
   receives = λ n a at. let h = one.receives n a at in (h.0, h.1, by_how a.how h.0.request (heads n) a.status (heads (suc n)) h.2);
-  later = one.later;
-  all = one.all;
+  told = one.told;
 }
   where
     by_how : (how : How) (bytes : List ℕ) (head : State) (status : ℕ) (after : State) → Receives c how bytes head status after → Receives (widened c wide) how bytes head status after

@@ -39,10 +39,14 @@ pub record IsAnsweredBy (arrivals : List Arrival) (n epoch shard number status :
   pub number_is : a.number ≡ number
   pub status_is : a.status ≡ status
 
+-- The premises of the network: nothing comes before its exchange began, and a status that a worker was answered is one that the receiver has answered to that exchange.
+pub record AreTold (exchanges : ℕ → ℕ → List Exchange) (arrivals : List Arrival) : Type 0 where
+  pub later : (n : ℕ) (a : Arrival) (e k i : ℕ) (x : Exchange) (r : Reply) → slice_get arrivals n ≡ Some a → slice_get (exchanges e k) i ≡ Some x → x.answer ≡ Ok r → IsBefore e k i a → IsAnsweredBy arrivals n e k i r.status
+  pub all : (e k i : ℕ) (x : Exchange) (r : Reply) → slice_get (exchanges e k) i ≡ Some x → x.answer ≡ Ok r → IsAnsweredBy arrivals (length arrivals) e k i r.status
+
 -- The premises of the network and of one receiver, for workers with these exchanges: the requests that have come are theirs, each once, often or never, and the receiver
--- answers them one after the other, from a head that is empty. Nothing comes before its exchange began, and a status that a worker was answered is one that the receiver has answered to that exchange.
+-- answers them one after the other, from a head that is empty.
 pub record IsOneReceiver (c : Setup) (exchanges : ℕ → ℕ → List Exchange) (arrivals : List Arrival) (heads : ℕ → State) : Type 0 where
   pub begins : heads 0 ≡ record { store = empty; limits = c.limits; busy = c.busy }
   pub receives : (n : ℕ) (a : Arrival) → slice_get arrivals n ≡ Some a → (x : Exchange) × (slice_get (exchanges a.epoch a.shard) a.number ≡ Some x) × Receives c a.how x.request (heads n) a.status (heads (suc n))
-  pub later : (n : ℕ) (a : Arrival) (e k i : ℕ) (x : Exchange) (r : Reply) → slice_get arrivals n ≡ Some a → slice_get (exchanges e k) i ≡ Some x → x.answer ≡ Ok r → IsBefore e k i a → IsAnsweredBy arrivals n e k i r.status
-  pub all : (e k i : ℕ) (x : Exchange) (r : Reply) → slice_get (exchanges e k) i ≡ Some x → x.answer ≡ Ok r → IsAnsweredBy arrivals (length arrivals) e k i r.status
+  pub told : AreTold exchanges arrivals

@@ -9,3 +9,4 @@ pub mod StoppedRuns
 pub mod Accounts
 pub mod Arrivals
 pub mod Received
+pub mod SharedReceivers

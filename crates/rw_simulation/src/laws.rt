@@ -4,6 +4,8 @@ ghost use Rattle.std.specs.Prelude.{ℕ, List};
 ghost use Rattle.rw_fleet.specs.declared.joined.StoppedShard.{StoppedShard};
 ghost use Rattle.rw_shipper.specs.Shipping.{Shipping};
 ghost use Rattle.rw_shipper.specs.declared.report.Report.{Report};
+ghost use Rattle.rw_head.specs.Head.{State};
+ghost use Rattle.rw_worker.specs.Transcript.{Exchange};
 ghost use Rattle.rw_machine.specs.Worlds.{Setup, World};
 ghost use Rattle.rw_simulation.specs.Freely.{Happening};
 ghost use Rattle.rw_simulation.specs.FreeLaws.{KeepsLaws, world_of};
@@ -14,6 +16,7 @@ ghost use Rattle.rw_simulation.specs.StoppedShards.{StopsAsShard};
 ghost use Rattle.rw_simulation.specs.StoppedRuns.{StopsAbandoned, StopsAsRun, StopsInOrder};
 ghost use Rattle.rw_simulation.specs.Accounts.{RunAccounts};
 ghost use Rattle.rw_simulation.specs.Received.{ReceivesAbandoned, ReceivesInOrder};
+ghost use Rattle.rw_simulation.specs.SharedReceivers.{Coming, SharesAsOne};
 
 use rw_worker::Transport;
 
@@ -60,4 +63,11 @@ pub fn one_receiver_holds_the_samples<T: Transport>()
     ensures orderly { (s : Shipping T) (r : Report T) → ReceivesInOrder T.tells T.seen T.is_for s r }
     ensures abandoned { (s : Shipping T) (r : Report T)
         → ReceivesAbandoned T.tells T.seen T.is_for s r }
+{}
+
+/// A head that threads share is such a receiver: whatever its seats were asked, in the order in which its lock let them in, they answered as one head does that
+/// is asked one request after the other. What it holds once all seats are back is what that receiver holds.
+pub fn a_shared_head_is_one_receiver()
+    ensures { (c : Setup) (exchanges : ℕ → ℕ → List Exchange)
+        (opening : State) (comings : List Coming) → SharesAsOne c exchanges opening comings }
 {}

@@ -1,0 +1,142 @@
+-- A head that threads share is one receiver.
+use Rattle.std.proofs.Common.{◌≡◌, ◌≢◌, ℕ, zero, suc, ◌<◌, ◌≤◌, ◌==◌, nat_lt, Bool, true, false, cond, List, [], ◌∷◌, ◌++◌, map, take, length, Option, None, Some, Result, Ok, Err, slice_get, refl, sym, ap, ◌∙◌, subst, append-nil, append_assoc, take_all, arith, ◌⊎◌, inl, inr}
+use Rattle.std.proofs.lemmas.Bool.{le-ltb, lt-ltb}
+use Rattle.std.proofs.lemmas.Bool.Decides.{eqb_tells}
+use Rattle.std.proofs.lemmas.List.{length-map}
+use Rattle.std.proofs.lemmas.Option.{same_Some, none-some}
+use Rattle.rw_plain_queue.specs.Items.{Placed}
+use Rattle.rw_batch.specs.Grouping.{message}
+use Rattle.rw_shard_core.specs.Shard.{labelled, body_of}
+use Rattle.rw_write_request.specs.Message.{WriteRequest}
+use Rattle.rw_write_request.specs.Read.{read}
+use Rattle.rw_worker.specs.Transcript.{Exchange, batch_request}
+use Rattle.rw_head.specs.declared.verdict.Verdict.{Verdict}
+use Rattle.rw_head.specs.Head.{State, Answer, status_of, judged_body, answered, answer_to, answer}
+use Rattle.rw_head.specs.Store.{Store}
+use Rattle.rw_head.specs.Verdicts.{Judged, judged, taken_all, apply}
+use Rattle.rw_shared_head.specs.Seats.{Seated, HasAsked, HasGathered, store_after, head_after}
+use Rattle.rw_machine.specs.Worlds.{Setup}
+use Rattle.rw_machine.specs.Steps.{endpoint_answer}
+use Rattle.rw_machine.specs.declared.event.How.{How}
+use Rattle.rw_machine.specs.declared.event.How.TheVariants.{Plain, Busy, OutOfMemory}
+use Rattle.rw_simulation.specs.Arrivals.{Arrival, Receives, IsOneReceiver}
+use Rattle.rw_simulation.specs.SharedReceivers.{Question, Coming, taken_of, bodies_of, Carries, IsAnswered, how_of, arrival_of, IsSharedReceiver, head_behind, SharesAsOne}
+use Rattle.rw_simulation.proofs.Pasts.{map_get}
+
+store_after-append : (h : State) (xs ys : List (List ℕ)) → store_after h (xs ++ ys) ≡ store_after (record h { store = store_after h xs }) ys
+store_after-append h [] ys = refl
+store_after-append h (x ∷ xs) ys = store_after-append (record h { store = (judged_body h (read x)).store }) xs ys
+
+-- what one more request brings
+bodies-next : (as : List Coming) (n : ℕ) (a : Coming) → slice_get as n ≡ Some a → bodies_of (take (suc n) as) ≡ bodies_of (take n as) ++ taken_of a.status a.question
+bodies-next [] n a e = absurd (none-some a e)
+bodies-next (b ∷ bs) zero a e = append-nil (taken_of b.status b.question) ∙ ap (λ (x : Coming). taken_of x.status x.question) (same_Some b a e)
+bodies-next (b ∷ bs) (suc n) a e =
+    ap (λ l. taken_of b.status b.question ++ l) (bodies-next bs n a e) ∙ sym (append_assoc (taken_of b.status b.question) (bodies_of (take n bs)) (taken_of a.status a.question))
+
+-- ---- how a status came about
+how-busy : (status : ℕ) → status ≡ 429 → how_of status ≡ Busy
+how-busy status e = ap how_of e
+
+how-memory : (status : ℕ) → status ≡ 503 → how_of status ≡ OutOfMemory
+how-memory status e = ap how_of e
+
+how-plain : (status : ℕ) → (status == 503) ≡ false → (status == 429) ≡ false → how_of status ≡ Plain
+how-plain status e f = ap (λ b. cond b OutOfMemory (cond (status == 429) Busy Plain)) e ∙ ap (λ b. cond b Busy Plain) f
+
+-- ---- a message that is not taken changes nothing
+unchanged : (store : Store) (r : Result Store Verdict) → status_of (judged store r).verdict ≢ 204 → (judged store r).store ≡ store
+unchanged store (Ok next) other = absurd (other refl)
+unchanged store (Err v) other = refl
+
+-- a head that answers neither 429 nor 503 judges the message
+judges : (busy : Bool) (h : State) (m : WriteRequest) (status : ℕ) → nat_lt 0 h.busy ≡ busy → (status ≡ 429 → ⊥) → status ≡ (answer_to h (Ok m)).status → status ≡ status_of (apply h.limits h.store m).verdict
+judges true h m status e other is = absurd (other (is ∙ ap (λ (b : Bool). (cond b (record { status = 429; head = record h { busy = h.busy - 1 } }) (answered h (judged_body h (Ok m)))).status) e))
+judges false h m status e other is = is ∙ ap (λ (b : Bool). (cond b (record { status = 429; head = record h { busy = h.busy - 1 } }) (answered h (judged_body h (Ok m)))).status) e
+
+endpoint-short : (c : Setup) (h : State) (batch : List Placed) → length (body_of batch) ≤ c.max_body → endpoint_answer c h batch ≡ answer_to h (Ok (message (map labelled batch)))
+endpoint-short c h batch short = ap (λ (b : Bool). cond b (record { status = 413; head = h }) (answer_to h (Ok (message (map labelled batch))))) (le-ltb c.max_body (length (body_of batch)) short)
+
+endpoint-long : (c : Setup) (h : State) (batch : List Placed) → c.max_body < length (body_of batch) → endpoint_answer c h batch ≡ record { status = 413; head = h }
+endpoint-long c h batch long = ap (λ (b : Bool). cond b (record { status = 413; head = h }) (answer_to h (Ok (message (map labelled batch))))) (lt-ltb c.max_body (length (body_of batch)) long)
+
+module _ (c : Setup) (opening : State) (bodies : List (List ℕ)) (request : List ℕ) (status : ℕ) where
+  abbrev head : State
+  head = head_after opening bodies 0
+
+  abbrev next : Option Question → State
+  next q = head_after opening (bodies ++ taken_of status q) 0
+
+  none-taken : (q : Option Question) → taken_of status q ≡ [] → next q ≡ head
+  none-taken q e = ap (λ l. head_after opening (bodies ++ l) 0) e ∙ ap (λ l. head_after opening l 0) (append-nil bodies)
+
+  not-taken : (q : Question) → (status == 204) ≡ false → taken_of status (Some q) ≡ []
+  not-taken q e = ap (λ (b : Bool). cond b (q.body ∷ []) []) e
+
+  -- the store behind a message that was judged
+  judged-next : (q : Question) (m : WriteRequest) → read q.body ≡ Ok m → status ≡ status_of (apply opening.limits head.store m).verdict → store_after opening (bodies ++ taken_of status (Some q)) ≡ (apply opening.limits head.store m).store
+  judged-next q m reads is = by_status (eqb_tells status 204)
+    where
+      by_status : (((status == 204) ≡ true) × (status ≡ 204)) ⊎ (((status == 204) ≡ false) × (status ≡ 204 → ⊥)) → store_after opening (bodies ++ taken_of status (Some q)) ≡ (apply opening.limits head.store m).store
+      by_status (inl (e, so)) =
+          ap (λ (b : Bool). store_after opening (bodies ++ cond b (q.body ∷ []) [])) e
+          ∙ store_after-append opening bodies (q.body ∷ [])
+          ∙ ap (λ r. (judged_body (record opening { store = store_after opening bodies }) r).store) reads
+      by_status (inr (e, other)) =
+          ap (store_after opening) (ap (λ l. bodies ++ l) (not-taken q e) ∙ append-nil bodies)
+          ∙ sym (unchanged head.store (taken_all opening.limits (Ok head.store) m) (λ h. other (is ∙ h)))
+
+  module _ (q : Question) (asked : HasAsked opening q.old q.body status q.new) (before_is : asked.before ≡ bodies) (carries : (batch : List Placed) → request ≡ batch_request c.target batch → Carries c q.body batch) where
+    seat-judged : (status ≡ 503 → ⊥) → (status ≡ 429 → ⊥) → (batch : List Placed) → request ≡ batch_request c.target batch → endpoint_answer c head batch ≡ record { status = status; head = next (Some q) }
+    seat-judged free calm batch is =
+        endpoint-short c head batch (carries batch is).1
+        ∙ λ i. record { status = told (- i); head = record { store = stored (- i); limits = opening.limits; busy = 0 } }
+      where
+        m : WriteRequest
+        m = message (map labelled batch)
+
+        reads : read q.body ≡ Ok m
+        reads = (carries batch is).0
+
+        from : State
+        from = head_after opening bodies asked.busy
+
+        told : status ≡ status_of (apply opening.limits head.store m).verdict
+        told = judges (nat_lt 0 asked.busy) from m status refl calm
+            (asked.status_is free ∙ ap (λ l. (answer (head_after opening l asked.busy) q.body).status) before_is ∙ ap (λ r. (answer_to from r).status) reads)
+
+        stored : store_after opening (bodies ++ taken_of status (Some q)) ≡ (apply opening.limits head.store m).store
+        stored = judged-next q m reads told
+
+    seat-answers : Receives c (how_of status) request head status (next (Some q))
+    seat-answers = by_status (eqb_tells status 503) (eqb_tells status 429)
+      where
+        by_status : (((status == 503) ≡ true) × (status ≡ 503)) ⊎ (((status == 503) ≡ false) × (status ≡ 503 → ⊥)) → (((status == 429) ≡ true) × (status ≡ 429)) ⊎ (((status == 429) ≡ false) × (status ≡ 429 → ⊥)) → Receives c (how_of status) request head status (next (Some q))
+        by_status (inl (e, so)) any = subst (λ (h : How). Receives c h request head status (next (Some q))) (sym (how-memory status so)) (so, none-taken (Some q) (ap (λ (s : ℕ). taken_of s (Some q)) so))
+        by_status (inr free) (inl (e, so)) = subst (λ (h : How). Receives c h request head status (next (Some q))) (sym (how-busy status so)) (so, none-taken (Some q) (ap (λ (s : ℕ). taken_of s (Some q)) so))
+        by_status (inr (e, free)) (inr (f, calm)) = subst (λ (h : How). Receives c h request head status (next (Some q))) (sym (how-plain status e f)) (seat-judged free calm)
+
+  answers-as-one : (q : Option Question) → IsAnswered c opening bodies request status q → Receives c (how_of status) request head status (next q)
+  answers-as-one (Some q) (asked, before_is, carries) = seat-answers q asked before_is carries
+  answers-as-one None (inl (so, long)) =
+      subst (λ (h : How). Receives c h request head status (next None)) (sym (ap how_of so))
+      (λ batch is. endpoint-long c head batch (long batch is) ∙ λ i. record { status = so (- i); head = none-taken None refl (- i) })
+  answers-as-one None (inr so) = subst (λ (h : How). Receives c h request head status (next None)) (sym (how-memory status so)) (so, none-taken None refl)
+
+pub shares-as-one : (c : Setup) (exchanges : ℕ → ℕ → List Exchange) (opening : State) (comings : List Coming) → SharesAsOne c exchanges opening comings
+shares-as-one c exchanges opening comings calm shared = (one, λ seats store all same. all.holds ∙ ap (store_after opening) (same ∙ sym whole))
+  where
+    one : IsOneReceiver c exchanges (map arrival_of comings) (head_behind opening comings)
+    one = record {
+      begins = λ i. record { store = shared.empty_is i; limits = shared.limits_are i; busy = calm (- i) };
+      receives = λ n b at.
+          let a = map_get arrival_of comings n b at in
+          let h = shared.answers n a.0 a.1 in
+          subst (λ (y : Arrival). (x : Exchange) × (slice_get (exchanges y.epoch y.shard) y.number ≡ Some x) × Receives c y.how x.request (head_behind opening comings n) y.status (head_behind opening comings (suc n))) a.2
+          (h.0, h.1, subst (λ l. Receives c (how_of a.0.status) h.0.request (head_behind opening comings n) a.0.status (head_after opening l 0)) (sym (bodies-next comings n a.0 a.1))
+              (answers-as-one c opening (bodies_of (take n comings)) h.0.request a.0.status a.0.question h.2));
+      told = shared.told;
+    }
+
+    whole : bodies_of (take (length (map arrival_of comings)) comings) ≡ bodies_of comings
+    whole = ap bodies_of (take_all (length (map arrival_of comings)) comings (omega (arith, length-map comings arrival_of)))
