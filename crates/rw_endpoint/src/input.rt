@@ -115,7 +115,7 @@ pub(crate) fn drop_front(pending: &mut Vec<u8>, n: usize)
 }
 
 /// Makes room for more of a body of `n` bytes where there is none: as much as has come, or one read, and never past its end.
-/// So a length that is only announced takes no memory.
+/// So a length that is only announced takes 64 KiB at most.
 fn make_room(body: &mut Vec<u8>, n: usize) -> Result<usize, Stop>
     requires { vec_len body.old < n }
     ensures items { body.new.items ≡ body.old.items }

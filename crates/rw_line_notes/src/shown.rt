@@ -26,7 +26,7 @@ pub fn numbered_line(text: &[u8], number: u64) -> Option<&[u8]>
     None
 }
 
-/// What is shown of a line: its first bytes as text, without control characters.
+/// What is shown of a line: its first bytes as text, without the control characters of ASCII.
 pub fn shown_line(alloc: Global, line: &[u8]) -> Result<String, AllocError> {
     let mut shown = Vec::new(alloc);
     for byte in &line[..line.len().min(MOST_SHOWN)] {

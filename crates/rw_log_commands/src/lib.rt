@@ -1,4 +1,4 @@
-//! The engines of the program `rwship`.
+//! The engines of the commands `body`, `log` and `plan`, over any reader and writer.
 #![tactic(auto)]
 
 mod filling;

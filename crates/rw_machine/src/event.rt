@@ -22,7 +22,7 @@ pub enum Event {
     Feed(Piece),
     /// The next entry of the log is placed: a definition is taken, a sample is put into its shard's queue, named as dropped, or filtered.
     Place,
-    /// A mark is put into this shard's queue: an End where everything was placed or the number of shards changes, else a Flush.
+    /// A mark is put into this shard's queue: an End where all is placed after a `Close` or the number of shards changes, else a Flush.
     Flush(u64),
     /// This shard takes the front of its queue.
     Take(u64),

@@ -6,7 +6,7 @@ ghost use Rattle.rw_metrics.specs.Exposition.{about, by_status, counter, counter
 use rw_text::push_number;
 use std::alloc::AllocError;
 
-/// Adds these texts, one behind the other.
+/// Adds a text.
 pub(crate) fn push_text(out: &mut Vec<u8>, text: &str) -> Result<(), AllocError>
     ensures { OnOk result (out.new.items ≡ out.old.items ++ text.now) }
 {

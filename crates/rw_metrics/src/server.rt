@@ -74,7 +74,7 @@ fn answer<S: Source, W: Sink>(alloc: Global, reader: &mut S, writer: &mut W, cou
     let _ = write_all(writer, refusal);
 }
 
-/// Serves one connection, for some seconds at most where the client is slow.
+/// Serves one connection. A read or a write waits for some seconds at most.
 fn serve_one(alloc: Global, stream: &TcpStream, counters: &Counters) {
     let patience = Some(Duration::from_secs(PATIENCE_SECONDS));
     if stream.set_read_timeout(patience).is_err() || stream.set_write_timeout(patience).is_err() {

@@ -44,7 +44,7 @@ fn print_held<W: Sink>(alloc: Global, head: &Head, writer: &mut W) -> Result<(),
 /// Bounds of a service, and what counts its work.
 #[derive(Clone, Copy, Drop)]
 pub struct Service<'a> {
-    /// How many connections are served at once. One more waits to be accepted.
+    /// How many connections are served at once, and one more waits to be accepted; for `run_receive`, how many are served in all.
     pub most: Bounded<1, 1_000>,
     /// For how many milliseconds a connection may be silent.
     pub idle_ms: Bounded<10, 3_600_000>,
@@ -102,8 +102,8 @@ pub fn run_receive<R: Threads + Wait + Clock + Sync, W: Sink>(
 /// Once an end is wished, the listener is closed. A connection that is in a request finishes it, and each other one is closed; once an end at once is
 /// wished, each is. The sign is looked at five times a second.
 ///
-/// A connection from which no byte comes for `idle_ms` milliseconds is closed. An accept that fails, as for want of descriptors, is made again after a
-/// nap. A listener whose accepts cannot be given a time is `Device`.
+/// A connection from which no byte comes for `idle_ms` milliseconds is closed. An accept that fails is made again, after a nap where it
+/// failed for want of something, as of descriptors. A listener whose accepts cannot be given a time is `Device`.
 pub fn run_receive_until<R: Threads + Wait + Clock + Sync, W: Sink>(
     rt: &R,
     alloc: Global,

@@ -18,7 +18,7 @@ use std::marker::{Model, PhantomData};
 /// Why the next epoch has not begun.
 #[derive(Clone, Copy, Debug, PartialEq, Eq)]
 pub enum NextFault {
-    /// Memory ran out, or there were 2^64 - 1 epochs.
+    /// Memory ran out, or there were 2^64 epochs.
     OutOfMemory,
     /// A shard has not ended, or has a sample that is not resolved.
     NotDrained,

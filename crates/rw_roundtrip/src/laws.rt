@@ -26,7 +26,7 @@ pub fn requests_are_read()
         → length body < 2 ^ 63 → IsRequest path limit (request_of host path body) }
 {}
 
-/// Law: the sender reads each reply of the endpoint as its status.
+/// Law: the sender reads each reply of the endpoint that closes as its status.
 pub fn replies_are_read()
     ensures { (status : ℕ) (read : ReplyRead) → IsTrue (is_verdict status || is_refusal status)
         → Reads 8192 (reply status true) read → read ≡ Status status }

@@ -125,7 +125,7 @@ fn ship_on<
 }
 
 /// Ships a log while it grows, until the watch says that it is to end, then stops and prints the report as the command `send` does. Of what was read the
-/// labels of series, the samples that wait to be answered for and the dropped ones are kept, and nothing else.
+/// labels and last timestamps of series, the samples that wait to be answered for and the dropped ones are kept, and nothing else.
 ///
 /// A segment is over once the next one is there and, read again after that was seen, it gives no more bytes. Between two of them the number of shards
 /// is changed to what is wanted under the load. Told to end, it reads what stands, and waits until the receiver has answered for all of it; told to end at

@@ -17,3 +17,4 @@ pub use Rattle.rw_shipper.specs.Placement
 pub use Rattle.rw_shipper.specs.Spread
 pub use Rattle.rw_shipper.specs.Reports
 pub use Rattle.rw_shipper.specs.Shipping
+pub use Rattle.rw_shipper.specs.Cutting

@@ -26,7 +26,8 @@ fn is_passing(error: &io::Error) -> bool {
     )
 }
 
-/// The next connection, where one comes within a tick. An accept that fails, as for want of descriptors, is counted, and naps for a tick.
+/// The next connection, where one comes within a tick. An accept that fails, as for want of descriptors, is counted, and naps for a
+/// tick; not so one that was interrupted, or whose client has gone.
 pub fn next_connection<C: Clock>(
     clock: &C,
     listener: &TcpListener,

@@ -199,7 +199,7 @@ impl<C: Connect + Drop> Shipper<C> {
     /// refused the workers that were started are stopped and joined.
     ///
     /// `stop` is looked at by all workers. Where another thread sets it they leave what is not sent, so that a call that waits for room, or for them,
-    /// comes back: the next calls answer `Gone`, and a stop then is a hard one.
+    /// comes back: a call that puts something then answers `Gone`, and a stop behind it is a hard one.
     pub fn start_within<R: Threads + Wait + Copy + Send + 'static>(
         rt: &R,
         alloc: Global,

@@ -1,5 +1,5 @@
 -- A head that threads share is one receiver.
-use Rattle.std.proofs.Common.{◌≡◌, ◌≢◌, ℕ, zero, suc, ◌<◌, ◌≤◌, ◌==◌, nat_lt, Bool, true, false, cond, List, [], ◌∷◌, ◌++◌, map, take, length, Option, None, Some, Result, Ok, Err, slice_get, refl, sym, ap, ◌∙◌, subst, append-nil, append_assoc, take_all, arith, ◌⊎◌, inl, inr}
+use Rattle.std.proofs.Common.{◌≡◌, ◌≢◌, ℕ, zero, suc, ◌-◌, ◌<◌, ◌≤◌, ◌==◌, nat_lt, Bool, true, false, cond, List, [], ◌∷◌, ◌++◌, map, take, length, Option, None, Some, Result, Ok, Err, slice_get, refl, sym, ap, ◌∙◌, subst, append-nil, append_assoc, take_all, arith, ◌⊎◌, inl, inr}
 use Rattle.std.proofs.lemmas.Bool.{le-ltb, lt-ltb}
 use Rattle.std.proofs.lemmas.Bool.Decides.{eqb_tells}
 use Rattle.std.proofs.lemmas.List.{length-map}
@@ -28,7 +28,7 @@ store_after-append h [] ys = refl
 store_after-append h (x ∷ xs) ys = store_after-append (record h { store = (judged_body h (read x)).store }) xs ys
 
 -- what one more request brings
-bodies-next : (as : List Coming) (n : ℕ) (a : Coming) → slice_get as n ≡ Some a → bodies_of (take (suc n) as) ≡ bodies_of (take n as) ++ taken_of a.status a.question
+bodies-next : (cs : List Coming) (n : ℕ) (a : Coming) → slice_get cs n ≡ Some a → bodies_of (take (suc n) cs) ≡ bodies_of (take n cs) ++ taken_of a.status a.question
 bodies-next [] n a e = absurd (none-some a e)
 bodies-next (b ∷ bs) zero a e = append-nil (taken_of b.status b.question) ∙ ap (λ (x : Coming). taken_of x.status x.question) (same_Some b a e)
 bodies-next (b ∷ bs) (suc n) a e =
@@ -90,7 +90,8 @@ module _ (c : Setup) (opening : State) (bodies : List (List ℕ)) (request : Lis
     seat-judged : (status ≡ 503 → ⊥) → (status ≡ 429 → ⊥) → (batch : List Placed) → request ≡ batch_request c.target batch → endpoint_answer c head batch ≡ record { status = status; head = next (Some q) }
     seat-judged free calm batch is =
         endpoint-short c head batch (carries batch is).1
-        ∙ λ i. record { status = told (- i); head = record { store = stored (- i); limits = opening.limits; busy = 0 } }
+        ∙ let status_is = sym told in let store_is = sym stored in
+        λ i. record { status = status_is i; head = record { store = store_is i; limits = opening.limits; busy = 0 } }
       where
         m : WriteRequest
         m = message (map labelled batch)
@@ -120,7 +121,7 @@ module _ (c : Setup) (opening : State) (bodies : List (List ℕ)) (request : Lis
   answers-as-one (Some q) (asked, before_is, carries) = seat-answers q asked before_is carries
   answers-as-one None (inl (so, long)) =
       subst (λ (h : How). Receives c h request head status (next None)) (sym (ap how_of so))
-      (λ batch is. endpoint-long c head batch (long batch is) ∙ λ i. record { status = so (- i); head = none-taken None refl (- i) })
+      (λ batch is. endpoint-long c head batch (long batch is) ∙ let status_is = sym so in let head_is = sym (none-taken None refl) in λ i. record { status = status_is i; head = head_is i })
   answers-as-one None (inr so) = subst (λ (h : How). Receives c h request head status (next None)) (sym (how-memory status so)) (so, none-taken None refl)
 
 pub shares-as-one : (c : Setup) (exchanges : ℕ → ℕ → List Exchange) (opening : State) (comings : List Coming) → SharesAsOne c exchanges opening comings
@@ -128,7 +129,7 @@ shares-as-one c exchanges opening comings calm shared = (one, λ seats store all
   where
     one : IsOneReceiver c exchanges (map arrival_of comings) (head_behind opening comings)
     one = record {
-      begins = λ i. record { store = shared.empty_is i; limits = shared.limits_are i; busy = calm (- i) };
+      begins = let busy_is = sym calm in λ i. record { store = shared.empty_is i; limits = shared.limits_are i; busy = busy_is i };
       receives = λ n b at.
           let a = map_get arrival_of comings n b at in
           let h = shared.answers n a.0 a.1 in

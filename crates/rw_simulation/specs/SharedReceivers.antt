@@ -35,7 +35,7 @@ taken_of status (Some q) = if status == 204 then q.body ∷ [] else []
 
 abbrev pub bodies_of : List Coming → List (List ℕ)
 bodies_of [] = []
-bodies_of (a ∷ as) = taken_of a.status a.question ++ bodies_of as
+bodies_of (a ∷ later) = taken_of a.status a.question ++ bodies_of later
 
 -- the body spells the message of these samples, and is one that the endpoint reads
 abbrev pub Carries : Setup → List ℕ → List Placed → Type 0

@@ -65,8 +65,8 @@ pub fn one_receiver_holds_the_samples<T: Transport>()
         → ReceivesAbandoned T.tells T.seen T.is_for s r }
 {}
 
-/// A head that threads share is such a receiver: whatever its seats were asked, in the order in which its lock let them in, they answered as one head does that
-/// is asked one request after the other. What it holds once all seats are back is what that receiver holds.
+/// A head that threads share is such a receiver, of a machine whose receiver is not busy by itself: whatever its seats were asked, in the order in which its lock let
+/// them in, they answered as one head does that is asked one request after the other. What it holds once all seats are back is what that receiver holds.
 pub fn a_shared_head_is_one_receiver()
     ensures { (c : Setup) (exchanges : ℕ → ℕ → List Exchange)
         (opening : State) (comings : List Coming) → SharesAsOne c exchanges opening comings }

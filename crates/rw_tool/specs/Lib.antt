@@ -3,12 +3,10 @@ pub use Rattle.rw_fault.specs.Printed
 pub use Rattle.rw_labelling.specs.Labelled
 pub use Rattle.rw_labelling.specs.Labelling
 pub use Rattle.rw_log_commands.specs.Body
-pub use Rattle.rw_fault.specs.Faults
 pub use Rattle.rw_log_commands.specs.Filling
 pub use Rattle.rw_log_commands.specs.Logging
 pub use Rattle.rw_log_commands.specs.LogText
 pub use Rattle.rw_log_commands.specs.Planning
-pub use Rattle.rw_fault.specs.Printed
 pub use Rattle.rw_log_commands.specs.Running
 pub use Rattle.rw_log_commands.specs.Taking
 pub use Rattle.rw_replay.specs.Played

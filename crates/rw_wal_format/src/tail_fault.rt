@@ -17,7 +17,7 @@ pub enum TailFault {
     BadLength,
     /// The CRC-32C in the header of a fragment is not that of its data.
     BadCrc,
-    /// A fragment is compressed, or other flags are set in its type byte.
+    /// The type byte of a fragment is from 8 to 31: it has a flag of compressed data.
     Compressed,
     /// A byte is not zero in the rest of a page, where only zeros may stand.
     NonzeroPadding,

@@ -93,7 +93,8 @@ impl Worker {
 
     /// Sends what comes out of the queue, batch by batch, until an End, a set stop flag or a lost feeder.
     ///
-    /// It waits between two attempts of a batch, longer each time, and where memory was refused. Once the stop flag is set nothing more is sent.
+    /// It waits between two attempts of a batch, twice as long each time up to the longest pause, and for the least one where memory was refused.
+    /// Once it has read the stop flag as set it sends nothing more.
     pub fn run<T: Transport + Drop, P: Pause, R: Wait>(
         self,
         rt: &R,

@@ -133,7 +133,7 @@ impl Engine {
         self.draining = Some(n);
     }
 
-    /// Whether the shards at hand have nothing left, and not everything was placed.
+    /// Whether the shards at hand have nothing left, and not all that is to be sent was placed.
     fn may_restart(&self) -> bool
         ensures { result ≡ (not (is_finished self.now.world) && all_drained self.now.world) }
     {

@@ -25,12 +25,6 @@ pub record Sending : Type 0 where
   pub next : ℕ
   pub names : FinMap nat_cmp Reason
 
--- the element at a place is changed, if there is one
-abbrev pub change_at : {X : Type 0} → ℕ → (X → X) → List X → List X
-change_at i f [] = []
-change_at zero f (x ∷ xs) = f x ∷ xs
-change_at (suc i) f (x ∷ xs) = x ∷ change_at i f xs
-
 -- new shards of an epoch, from one number on
 abbrev pub new_held : Target → ℕ → ℕ → ℕ → ℕ → ℕ → List Held
 new_held target capacity batch epoch i zero = []
