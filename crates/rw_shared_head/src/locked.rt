@@ -67,6 +67,7 @@ impl<L: Naming> Locked<L> {
         ensures head { result.0 ≡ self.head }
         ensures bodies { result.1 ≡ self.bodies }
         ensures holds { result.0.store ≡ store_after L.opening result.1 }
+        ensures limits { result.0.limits ≡ L.opening.limits }
         ensures one_part { result.2.parts ≡ 1 }
         ensures adds_up { total self.head.store + result.2.amount ≡ most }
         ensures rises { EachRises self.head.store }
