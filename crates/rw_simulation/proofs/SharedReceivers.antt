@@ -11,16 +11,16 @@ use Rattle.rw_write_request.specs.Message.{WriteRequest}
 use Rattle.rw_write_request.specs.Read.{read}
 use Rattle.rw_worker.specs.Transcript.{Exchange, batch_request}
 use Rattle.rw_head.specs.declared.verdict.Verdict.{Verdict}
-use Rattle.rw_head.specs.Head.{State, Answer, status_of, judged_body, answered, answer_to, answer}
+use Rattle.rw_head.specs.Head.{State, status_of, judged_body, answered, answer_to, answer}
 use Rattle.rw_head.specs.Store.{Store}
-use Rattle.rw_head.specs.Verdicts.{Judged, judged, taken_all, apply}
-use Rattle.rw_shared_head.specs.Seats.{Seated, HasAsked, HasGathered, store_after, head_after}
+use Rattle.rw_head.specs.Verdicts.{judged, taken_all, apply}
+use Rattle.rw_shared_head.specs.Seats.{HasAsked, store_after, head_after}
 use Rattle.rw_machine.specs.Worlds.{Setup}
 use Rattle.rw_machine.specs.Steps.{endpoint_answer}
 use Rattle.rw_machine.specs.declared.event.How.{How}
 use Rattle.rw_machine.specs.declared.event.How.TheVariants.{Plain, Busy, OutOfMemory}
 use Rattle.rw_simulation.specs.Arrivals.{Arrival, Receives, IsOneReceiver}
-use Rattle.rw_simulation.specs.SharedReceivers.{Question, Coming, taken_of, bodies_of, Carries, IsAnswered, how_of, arrival_of, IsSharedReceiver, head_behind, SharesAsOne}
+use Rattle.rw_simulation.specs.SharedReceivers.{Question, Coming, taken_of, bodies_of, Carries, IsAnswered, how_of, arrival_of, head_behind, SharesAsOne}
 use Rattle.rw_simulation.proofs.Pasts.{map_get}
 
 store_after-append : (h : State) (xs ys : List (List ℕ)) → store_after h (xs ++ ys) ≡ store_after (record h { store = store_after h xs }) ys
@@ -133,9 +133,12 @@ shares-as-one c exchanges opening comings calm shared = (one, λ seats store all
       receives = λ n b at.
           let a = map_get arrival_of comings n b at in
           let h = shared.answers n a.0 a.1 in
-          subst (λ (y : Arrival). (x : Exchange) × (slice_get (exchanges y.epoch y.shard) y.number ≡ Some x) × Receives c y.how x.request (head_behind opening comings n) y.status (head_behind opening comings (suc n))) a.2
-          (h.0, h.1, subst (λ l. Receives c (how_of a.0.status) h.0.request (head_behind opening comings n) a.0.status (head_after opening l 0)) (sym (bodies-next comings n a.0 a.1))
-              (answers-as-one c opening (bodies_of (take n comings)) h.0.request a.0.status a.0.question h.2));
+          subst (λ (y : Arrival). (x : Exchange) × (slice_get (exchanges y.epoch y.shard) y.number ≡ Some x) × Receives c y.how x.request (head_behind opening comings n) y.status (head_behind opening comings (suc n))) a.2 (
+            h.0,
+            h.1,
+            subst (λ l. Receives c (how_of a.0.status) h.0.request (head_behind opening comings n) a.0.status (head_after opening l 0)) (sym (bodies-next comings n a.0 a.1))
+                (answers-as-one c opening (bodies_of (take n comings)) h.0.request a.0.status a.0.question h.2),
+          );
       told = shared.told;
     }
 

@@ -75,4 +75,4 @@ SharesAsOne c exchanges opening comings =
     c.busy ≡ 0 → IsSharedReceiver c exchanges opening comings
     → IsOneReceiver c exchanges (map arrival_of comings) (head_behind opening comings)
     × ((seats : List Seated) (store : Store) (all : HasGathered opening seats store) → all.bodies ≡ bodies_of comings
-      → store ≡ (head_behind opening comings (length (map arrival_of comings))).store)
+    → store ≡ (head_behind opening comings (length (map arrival_of comings))).store)
