@@ -172,3 +172,45 @@ fn takes_a_long_body(alloc: Global) -> bool {
 fn a_long_body_is_taken(rt: HostRuntime) {
     holds(&rt, takes_a_long_body(rt.alloc()));
 }
+
+/// A series before the rest of its metric's name, and behind it: with the sample 1 at 1.
+const FRONT: [u8; 17] = *b"\x0a\x24\x0a\x15\x0a\x08__name__\x12\x09m";
+
+const BEHIND: [u8; 13] = *b"\x12\x0b\x09\0\0\0\0\0\0\xf0\x3f\x10\x01";
+
+/// Adds a series whose metric has this number, in letters.
+fn push_series(body: &mut Vec<u8>, number: u32) -> Result<(), AllocError> {
+    body.extend_from_slice(&FRONT)?;
+    for byte in number.to_be_bytes() {
+        body.push(b'a'.wrapping_add(byte / 16))?;
+        body.push(b'a'.wrapping_add(byte % 16))?;
+    }
+    body.extend_from_slice(&BEHIND)
+}
+
+/// As many series, the first or the last one first.
+fn many_series(alloc: Global, is_falling: bool) -> Result<Vec<u8>, AllocError> {
+    let mut body = Vec::new(alloc);
+    for i in 0..200_000 {
+        push_series(&mut body, if is_falling { 199_999 - i } else { i })?;
+    }
+    Ok(body)
+}
+
+/// The first that a new head wrongly answers of these bodies: as many series, and the same ones from the last one on.
+fn wrong_of_many(alloc: Global) -> Option<usize> {
+    let (Ok(rising), Ok(falling)) = (many_series(alloc, false), many_series(alloc, true)) else {
+        return Some(0);
+    };
+    let rows: [(&[u8], u16, u64); 2] = [(&rising, 204, 200_000), (&falling, 204, 200_000)];
+    match standard(alloc) {
+        Ok(mut head) => first_wrong(&mut head, &rows),
+        Err(_) => Some(0),
+    }
+}
+
+/// A head that looked at each label set that it has would take many minutes.
+#[test]
+fn many_label_sets_are_found(rt: HostRuntime) {
+    none_is_wrong(&rt, wrong_of_many(rt.alloc()));
+}
