@@ -1,5 +1,5 @@
 -- What a shard did, once its worker's thread has ended.
-use Rattle.std.specs.Prelude.{◌≡◌, ◌⊎◌, ℕ, ◌+◌, ◌≤◌, ◌==◌, ◌&&◌, Bool, true, false, List, [], ◌∷◌, ◌++◌, length, map, drop, Some, None, IsSome, slice_get, ⊤}
+use Rattle.std.specs.Prelude.{◌≡◌, ◌⊎◌, ℕ, ◌+◌, ◌≤◌, ◌==◌, ◌&&◌, Bool, true, false, List, [], ◌∷◌, ◌++◌, length, map, drop, Some, None, IsSome, slice_get, vec_capacity, ⊤}
 use Rattle.rw_types.specs.declared.place.Place.{Place}
 use Rattle.rw_plain_queue.specs.Items.{places_in}
 use Rattle.rw_plain_queue.specs.History.{IsHistory, IsEnded}
@@ -95,7 +95,7 @@ abbrev pub IsEndTaken : TakingEnd → Type 0
 IsEndTaken (taking.Ended kind d) = ⊤
 IsEndTaken (taking.Killed d) = ⊥
 
--- A shard's ends and counts are what a worker of this queue reported, over a transport that was made for it and had told nothing. The samples behind those resolved are abandoned: no more than the queue holds, and a batch. What was put went through the queue in order, and what was left in it fits it; where the ends were compared an End came last.
+-- A shard's ends and counts are what a worker of this queue reported, over a transport that was made for it and had told nothing. The samples behind those resolved are abandoned: no more than the queue holds, and a batch. What was put went through the queue in order, and what was left in it fits it; where the ends were compared an End came last. A shard that left nothing keeps no room for what it might have left.
 pub record IsWorked {T : Type 0} (tells : T → Type 0) (seen : T → List Exchange) (is_for : ℕ → ℕ → T → Type 0) (j : StoppedShard T) : Type 0 where
   pub begun : T
   pub end : TakingEnd
@@ -107,6 +107,7 @@ pub record IsWorked {T : Type 0} (tells : T → Type 0) (seen : T → List Excha
   pub report : IsReport tells seen j.worker.value begun (record { end = end; resolved = j.finished.resolved; stopped = j.finished.stopped; ledger = j.part; transport = j.finished.transport })
   pub abandoned : j.abandoned.items ≡ drop j.finished.resolved (positions_in (put_of j.finished.ends))
   pub few : length j.abandoned.items ≤ j.worker.value.queue.capacity + j.worker.value.batch
+  pub freed : length j.abandoned.items ≡ 0 → vec_capacity j.abandoned ≡ 0
   pub apart : is_compared j.finished.ends ≡ false → IsApart j.finished.ends
   pub within : length (put_of j.finished.ends) ≤ length (taken_of j.finished.ends) + j.worker.value.queue.capacity
   pub history : IsHistory j.worker.value.queue.epoch j.worker.value.queue.shard (put_of j.finished.ends)

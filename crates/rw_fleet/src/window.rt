@@ -1,6 +1,6 @@
 //! The positions of what was put into a queue.
 
-ghost use Rattle.std.specs.Prelude.{◌≡◌, ◌+◌, ◌<◌, ◌≤◌, ◌^◌, [], ◌∷◌, ◌++◌, length, drop, IfOk};
+ghost use Rattle.std.specs.Prelude.{◌≡◌, ◌+◌, ◌<◌, ◌≤◌, ◌^◌, [], ◌∷◌, ◌++◌, length, drop, IfOk, vec_capacity};
 
 use rw_history::History;
 use std::alloc::{AllocError, Global};
@@ -67,9 +67,11 @@ impl Window {
     }
 
     /// The positions behind the first `resolved`, of which no more are left than are kept.
+    /// Where none is left, no room is kept.
     pub(crate) fn behind(self, resolved: u64) -> Vec<u64>
         requires { length self.all ≤ resolved + self.most }
-        ensures { result.items ≡ drop resolved self.all }
+        ensures items { result.items ≡ drop resolved self.all }
+        ensures freed { length result.items ≡ 0 → vec_capacity result ≡ 0 }
     {
         let left = self.count.saturating_sub(resolved) as usize;
         let gone = self.kept.len().saturating_sub(left);

@@ -23,7 +23,7 @@ returns-clause-worked g c =
     let all = c.self.inside.window.all in
     let within = left_within c.self.inside.window.most setup.queue.capacity setup.batch _ _ c.join-end.result.resolved all (put_of c.meet-ends.result) (taken_of c.meet-ends.result) _ (i.0 ∙ ap positions_in (sym m.put)) i.4
     (ap (λ (q : QueueId). q.capacity) i.1) (ap (λ (s : Setup). s.batch) i.2) m.taken m.within c.join-end.ensures.0.few in
-    let left = c.behind-abandoned.ensures ∙ ap (drop c.join-end.result.resolved) (i.0 ∙ ap positions_in (sym m.put)) in
+    let left = c.behind-abandoned.ensures.items ∙ ap (drop c.join-end.result.resolved) (i.0 ∙ ap positions_in (sym m.put)) in
     record {
       begun = c.self.inside.handle.promise.transport.value;
       end = c.join-end.result.end;
@@ -34,7 +34,8 @@ returns-clause-worked g c =
       begins = m.begins;
       report = rw (sym i.2) c.join-end.ensures.0;
       abandoned = left;
-      few = few_left c.self.inside.window.most setup.queue.capacity setup.batch c.join-end.result.resolved all _ i.4 within c.behind-abandoned.ensures;
+      few = few_left c.self.inside.window.most setup.queue.capacity setup.batch c.join-end.result.resolved all _ i.4 within c.behind-abandoned.ensures.items;
+      freed = c.behind-abandoned.ensures.freed;
       apart = m.apart;
       within = subst (λ (q : QueueId). length (put_of c.meet-ends.result) ≤ length (taken_of c.meet-ends.result) + q.capacity) (sym i.1) m.fits;
       history = subst (λ (q : QueueId). IsHistory q.epoch q.shard (put_of c.meet-ends.result)) (sym i.1) m.history;
