@@ -12,9 +12,35 @@ use rw_shard_core::{MAX_HEAD_BYTES, ReplyRead, read_reply};
 use rw_types::{ReadFault, Sink, Source, write_all};
 use rw_worker::Reply;
 use std::alloc::{AllocError, Global};
+use std::marker::Model;
 
 /// How many bytes one read asks for.
 const CHUNK: usize = 1024;
+
+/// A status that a reply brought, and that counts for its request. Nothing outside this module makes one. Contracts see the status.
+#[derive(Drop)]
+pub(crate) struct Heard {
+    status: StatusCode,
+}
+
+impl Model for Heard {
+    ghost use Rattle.std.specs.Prelude.{ℕ};
+
+    ghost Value = { ℕ };
+
+    ghost view = { λ h. h.status };
+}
+
+impl Heard {
+    /// The reply with this status.
+    pub(crate) fn into_reply(self) -> Reply
+        ensures { result.status ≡ self }
+    {
+        Reply {
+            status: self.status,
+        }
+    }
+}
 
 /// Why a request has no reply. The receiver may have taken it or not.
 #[derive(Clone, Copy, Debug, PartialEq, Eq)]
@@ -93,15 +119,15 @@ fn hear<R: Source>(reader: &mut R, text: &mut Vec<u8>) -> Result<ReplyRead, Read
     }
 }
 
-/// The reply with this status to a request, of which not all bytes may have been written.
-fn answer_of(status: StatusCode, sent: bool) -> Result<Reply, NoReply>
-    ensures reply { IfOk result (λ r. r.status ≡ status) }
-    ensures sent { IfOk result (λ r. judgement_of r.status ≡ Judgement.Done → sent ≡ true) }
+/// What this status says to a request, of which not all bytes may have been written.
+fn answer_of(status: StatusCode, sent: bool) -> Result<Heard, NoReply>
+    ensures reply { IfOk result (λ h. h ≡ status) }
+    ensures sent { IfOk result (λ h. judgement_of h ≡ Judgement.Done → sent ≡ true) }
     ensures unsent { IfErr result (λ e. (e ≡ NoReply.Device) × (sent ≡ false)) }
 {
     match judge(status) {
         Judgement::Done if !sent => Err(NoReply::Device),
-        _ => Ok(Reply { status }),
+        _ => Ok(Heard { status }),
     }
 }
 
@@ -110,6 +136,38 @@ fn no_status(fault: NoReply, sent: bool) -> NoReply
     ensures { result ≡ (if sent then fault else NoReply.Device) }
 {
     if sent { fault } else { NoReply::Device }
+}
+
+/// As `ask`. Nothing outside this module can make up its answer.
+pub(crate) fn hear_answer<R: Source, W: Sink>(
+    alloc: Global,
+    reader: &mut R,
+    writer: &mut W,
+    request: &[u8],
+) -> Result<Heard, NoReply>
+    ensures reply { IfOk result
+        (λ h. Hears (R.remaining reader.old) (R.remaining reader.new) (ReplyRead.Status h)) }
+    ensures written { IfOk result (λ h. judgement_of h ≡ Judgement.Done
+        → Appends (W.contents writer.old) (W.contents writer.new) request.now) }
+    ensures device { result ≡ Err NoReply.Device
+        → (R.has_failed reader.new ≡ true) ⊎ (W.has_failed writer.new ≡ true) }
+    ensures ended { result ≡ Err NoReply.Ended
+        → Hears (R.remaining reader.old) (R.remaining reader.new) ReplyRead.Partial
+        × IsAtEnd (R.remaining reader.new) }
+    ensures bad { result ≡ Err NoReply.Bad
+        → Hears (R.remaining reader.old) (R.remaining reader.new) ReplyRead.Bad }
+{
+    let mut text = Vec::with_capacity(alloc, MAX_HEAD_BYTES + CHUNK)?;
+    let sent = write_all(writer, request).is_ok();
+    let said = hear(reader, &mut text)?;
+    match said {
+        ReplyRead::Status(status) => match StatusCode::from_u16(status) {
+            Ok(status) => answer_of(status, sent),
+            Err(_) => unreachable!(),
+        },
+        ReplyRead::Partial => Err(no_status(NoReply::Ended, sent)),
+        ReplyRead::Bad => Err(no_status(NoReply::Bad, sent)),
+    }
 }
 
 /// Writes a request, and reads until the status of its reply has come.
@@ -134,15 +192,8 @@ pub fn ask<R: Source, W: Sink>(
     ensures bad { result ≡ Err NoReply.Bad
         → Hears (R.remaining reader.old) (R.remaining reader.new) ReplyRead.Bad }
 {
-    let mut text = Vec::with_capacity(alloc, MAX_HEAD_BYTES + CHUNK)?;
-    let sent = write_all(writer, request).is_ok();
-    let said = hear(reader, &mut text)?;
-    match said {
-        ReplyRead::Status(status) => match StatusCode::from_u16(status) {
-            Ok(status) => answer_of(status, sent),
-            Err(_) => unreachable!(),
-        },
-        ReplyRead::Partial => Err(no_status(NoReply::Ended, sent)),
-        ReplyRead::Bad => Err(no_status(NoReply::Bad, sent)),
+    match hear_answer(alloc, reader, writer, request) {
+        Ok(heard) => Ok(heard.into_reply()),
+        Err(fault) => Err(fault),
     }
 }

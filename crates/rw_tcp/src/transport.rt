@@ -7,7 +7,7 @@ ghost use Rattle.rw_shard_core.specs.declared.replies.ReplyRead.TheVariants as r
 ghost use Rattle.rw_retry.specs.declared.judgement.Judgement.TheVariants as judgement;
 ghost use Rattle.rw_tcp.specs.Hearing.{Hears};
 
-use crate::reply::{NoReply, ask};
+use crate::reply::{Heard, NoReply, hear_answer};
 use rw_metrics::{Cause, SendCounters};
 use rw_retry::{Judgement, judge};
 use rw_socket::{Deadline, Timely};
@@ -121,14 +121,14 @@ fn exchange_over<R: Source, W: Sink>(
     reader: &mut R,
     writer: &mut W,
     request: &[u8],
-) -> Result<Reply, Cause>
+) -> Result<Heard, Cause>
     ensures reply { IfOk result
-        (λ r. Hears (R.remaining reader.old) (R.remaining reader.new) (read.Status r.status)) }
-    ensures written { IfOk result (λ r. judgement_of r.status ≡ judgement.Done
+        (λ h. Hears (R.remaining reader.old) (R.remaining reader.new) (read.Status h)) }
+    ensures written { IfOk result (λ h. judgement_of h ≡ judgement.Done
         → Appends (W.contents writer.old) (W.contents writer.new) request.now) }
 {
-    match ask(alloc, reader, writer, request) {
-        Ok(reply) => Ok(reply),
+    match hear_answer(alloc, reader, writer, request) {
+        Ok(heard) => Ok(heard),
         Err(fault) => Err(cause_of(fault)),
     }
 }
@@ -139,7 +139,7 @@ fn exchange_through<C: Clock + Copy>(
     stream: Option<TcpStream>,
     deadline: Deadline<C>,
     request: &[u8],
-) -> Result<Reply, Cause>
+) -> Result<Heard, Cause>
     ensures { IsOk result → IsSome stream }
 {
     let Some(stream) = stream else {
@@ -153,16 +153,17 @@ fn exchange_through<C: Clock + Copy>(
     )
 }
 
-/// Counts an attempt that failed: it has no answer, or a status that does not take the batch.
+/// The reply that was heard. Counts an attempt that failed: it has no answer, or a status that does not take the batch.
 fn counted<C: Clock>(
     counters: &SendCounters,
     deadline: &Deadline<C>,
-    answer: Result<Reply, Cause>,
+    answer: Result<Heard, Cause>,
 ) -> Result<Reply, Lost>
-    ensures { IfOk result (λ reply. answer ≡ Ok reply) }
+    ensures { IfOk result (λ reply. answer ≡ Ok reply.status) }
 {
     match answer {
-        Ok(reply) => {
+        Ok(heard) => {
+            let reply = heard.into_reply();
             if judge(reply.status) != Judgement::Done {
                 counters.fail(Cause::Status(reply.status.as_u16()));
             }

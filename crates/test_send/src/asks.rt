@@ -1,9 +1,11 @@
-//! Requests and replies within memory.
+//! Requests and replies within memory, and names that stand for addresses.
 
 use crate::rows::none_is_wrong;
-use rw_tcp::{NoReply, ask};
+use rw_tcp::{NoReply, ask, look_up};
 use rw_types::{Room, Source};
 use std::alloc::{AllocError, Global};
+use std::io;
+use std::net::{Ipv4Addr, Net, SocketAddr, TcpListener, TcpStream};
 use std::test::Fail;
 
 const REQUEST: &[u8] = b"POST / HTTP/1.1\r\n\r\n";
@@ -77,5 +79,49 @@ fn replies(rt: HostRuntime) -> Result<(), Fail> {
 #[test]
 fn replies_to_half_a_request(rt: HostRuntime) -> Result<(), Fail> {
     none_is_wrong(&rt, wrong_reply(rt.alloc(), &HALF, 4, b"")?);
+    Ok(())
+}
+
+/// A net in which each name stands for two addresses, in their order. Nothing can be reached in it.
+#[derive(Drop)]
+struct Names {
+    first: Ipv4Addr,
+    second: Ipv4Addr,
+}
+
+impl Net for Names {
+    type Stream = TcpStream;
+
+    type Listener = TcpListener;
+
+    fn bind(&self, _addr: SocketAddr) -> io::Result<TcpListener> {
+        Err(io::Error::from(io::ErrorKind::Unsupported))
+    }
+
+    fn connect(&self, _addr: SocketAddr) -> io::Result<TcpStream> {
+        Err(io::Error::from(io::ErrorKind::Unsupported))
+    }
+
+    fn lookup_host(&self, _host: &str, port: u16, found: &mut [SocketAddr]) -> io::Result<usize> {
+        if found.len() < 2 {
+            return Ok(0);
+        }
+        found[0] = SocketAddr::from((self.first, port));
+        found[1] = SocketAddr::from((self.second, port));
+        Ok(2)
+    }
+}
+
+#[test]
+fn all_addresses_of_a_name_are_found(rt: HostRuntime) -> Result<(), Fail> {
+    let first = Ipv4Addr::new(192, 0, 2, 9);
+    let second = Ipv4Addr::new(192, 0, 2, 1);
+    let names = Names { first, second };
+    let found = look_up(&names, rt.alloc(), "receiver.example", 9090)?;
+    let wanted = [
+        SocketAddr::from((first, 9090)),
+        SocketAddr::from((second, 9090)),
+    ];
+    assert!(rt; found.as_slice() == wanted.as_slice());
     Ok(())
 }

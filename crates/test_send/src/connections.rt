@@ -376,6 +376,51 @@ fn a_body_over_the_limit_is_refused(rt: HostRuntime) -> Result<(), Fail> {
     Ok(())
 }
 
+/// How many samples a long request has: some 200 KB of them.
+const MANY: u16 = 6_250;
+
+/// A message of `MANY` samples 1 of `{__name__="up"}`, one each millisecond from 1000 on, each in a series field of its own.
+fn long_body(alloc: Global) -> Result<Vec<u8>, AllocError> {
+    let (front, _) = UP_BODY.split_at(30);
+    let mut body = Vec::new(alloc);
+    for t in 1_000..1_000 + MANY {
+        body.extend_from_slice(front)?;
+        body.extend_from_slice(&[0x80 | (t % 0x80) as u8, (t / 0x80) as u8])?;
+    }
+    Ok(body)
+}
+
+/// What is printed of it.
+fn long_text(alloc: Global) -> Result<Vec<u8>, AllocError> {
+    let mut text = Vec::from_slice(alloc, b"received {__name__=\"up\"}")?;
+    for t in 1_000..1_000 + MANY {
+        text.extend_from_slice(format!(in alloc; " {t}=1")?.as_bytes())?;
+    }
+    text.push(b'\n')?;
+    Ok(text)
+}
+
+/// No one read or write takes such a request. All that it brings is held.
+#[test]
+fn a_long_request_arrives_whole(rt: HostRuntime) -> Result<(), Fail> {
+    let body = long_body(rt.alloc())?;
+    let printed = long_text(rt.alloc())?;
+    let row = Row {
+        name: "a long request",
+        settings: b"",
+        connections: 1,
+        room: printed.len(),
+        client: Client::Asks(1),
+        body: &body,
+        read: b" 204",
+        ended: Ok(()),
+        printed: &printed,
+    };
+    let is_so = does(&rt, rt.alloc(), &row)?;
+    assert!(rt; is_so);
+    Ok(())
+}
+
 /// Not less, and not seconds.
 #[test]
 fn a_pause_lasts_so_many_milliseconds(rt: HostRuntime) -> Result<(), Fail> {
@@ -444,6 +489,30 @@ fn are_lost<N: Net<Stream = TcpStream, Listener = TcpListener> + Clock + Copy>(
 #[test]
 fn no_reply_is_lost(rt: HostRuntime) -> Result<(), Fail> {
     assert!(rt; are_lost(&rt, rt.alloc())?);
+    Ok(())
+}
+
+/// Reads the request of one connection whole, and closes it without a word.
+fn hang_up(listener: &TcpListener) -> io::Result<()> {
+    let (mut stream, _) = listener.accept()?;
+    stream.read_exact(&mut [0; 4])
+}
+
+/// Whether a request is lost that a receiver takes whole, and does not answer.
+fn is_lost_in_silence<
+    R: Net<Stream = TcpStream, Listener = TcpListener> + Threads + Clock + Copy + Send + Sync,
+>(rt: &R, alloc: Global) -> io::Result<bool> {
+    let listener = TcpListener::bind(rt, "127.0.0.1:0")?;
+    let address = listener.local_addr()?;
+    let mut transport = transport_to(rt, alloc, address, Bounded::new(60_000))?;
+    let (is_lost, read) = thread::join(rt, || is_lost(&mut transport), || hang_up(&listener));
+    Ok(is_lost && read.is_ok())
+}
+
+/// Not even a request that was written whole and read whole counts as taken where no reply came.
+#[test]
+fn a_connection_that_is_closed_without_a_reply_is_lost(rt: HostRuntime) -> Result<(), Fail> {
+    assert!(rt; is_lost_in_silence(&rt, rt.alloc())?);
     Ok(())
 }
 

@@ -1,6 +1,6 @@
 use Rattle.std.proofs.Common.{arith}
 use Rattle.rw_tcp.proofs.HearingLemmas.{status_is_final}
-use Rattle.rw_tcp.proofs.reply.ask.Goals as goal
+use Rattle.rw_tcp.proofs.reply.hear_answer.Goals as goal
 
 pub unreachable-requires : goal.unreachable-requires
 unreachable-requires g c =
