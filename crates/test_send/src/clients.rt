@@ -24,7 +24,14 @@ pub(crate) enum Clients {
     WritesOneByte,
     /// A third one comes while two keep their connections, and then those two go.
     OneTooMany,
+    /// Two come, and the first one goes. Five come one after the other while the second one keeps its connection.
+    OneStays,
+    /// One has its last reply, and writes on, as long as it may.
+    WritesOn,
 }
+
+/// For how many seconds a client waits for a reply.
+const PATIENCE_SECONDS: u64 = 5;
 
 /// The reply to a request that is taken.
 const TAKEN: &[u8] = b"HTTP/1.1 204 No Content\r\n\r\n";
@@ -49,6 +56,13 @@ fn request(alloc: Global, later: u8) -> Result<Vec<u8>, AllocError> {
     Ok(bytes)
 }
 
+/// A connection whose reads end, so that a test fails where a reply does not come.
+fn connected<N: Net<Stream = TcpStream>>(door: &Door<'_, N>) -> io::Result<TcpStream> {
+    let stream = TcpStream::connect(door.net, door.address)?;
+    stream.set_read_timeout(Some(Duration::from_secs(PATIENCE_SECONDS)))?;
+    Ok(stream)
+}
+
 /// Asks, ends the writing side, and reads to the end.
 fn ask_last(stream: &mut TcpStream, request: &[u8], read: &mut Vec<u8>) -> io::Result<()> {
     stream.write_all(request)?;
@@ -66,9 +80,14 @@ fn ask(stream: &mut TcpStream, request: &[u8], read: &mut Vec<u8>) -> io::Result
     Ok(())
 }
 
-fn in_turn<N: Net<Stream = TcpStream>>(door: &Door<'_, N>, read: &mut Vec<u8>) -> io::Result<()> {
-    for later in 0..5 {
-        let mut stream = TcpStream::connect(door.net, door.address)?;
+/// Five ask, the first of them for a sample so much later.
+fn in_turn<N: Net<Stream = TcpStream>>(
+    door: &Door<'_, N>,
+    first: u8,
+    read: &mut Vec<u8>,
+) -> io::Result<()> {
+    for later in first..first.saturating_add(5) {
+        let mut stream = connected(door)?;
         ask_last(&mut stream, &request(door.alloc, later)?, read)?;
     }
     Ok(())
@@ -78,14 +97,14 @@ fn side_by_side<N: Net<Stream = TcpStream>>(
     door: &Door<'_, N>,
     read: &mut Vec<u8>,
 ) -> io::Result<()> {
-    let mut first = TcpStream::connect(door.net, door.address)?;
-    let mut second = TcpStream::connect(door.net, door.address)?;
+    let mut first = connected(door)?;
+    let mut second = connected(door)?;
     ask_last(&mut second, &request(door.alloc, 0)?, read)?;
     ask_last(&mut first, &request(door.alloc, 1)?, read)
 }
 
 fn stays<N: Net<Stream = TcpStream>>(door: &Door<'_, N>, read: &mut Vec<u8>) -> io::Result<()> {
-    let mut stream = TcpStream::connect(door.net, door.address)?;
+    let mut stream = connected(door)?;
     ask(&mut stream, &request(door.alloc, 0)?, read)?;
     door.sign.end();
     stream.read_to_end(read)?;
@@ -98,7 +117,7 @@ fn is_inside<N: Net<Stream = TcpStream> + Clock>(
     is_hard: bool,
     read: &mut Vec<u8>,
 ) -> io::Result<()> {
-    let mut stream = TcpStream::connect(door.net, door.address)?;
+    let mut stream = connected(door)?;
     ask(&mut stream, &request(door.alloc, 0)?, read)?;
     let second = request(door.alloc, 1)?;
     let (most, last) = second.split_at(second.len().saturating_sub(1));
@@ -119,9 +138,9 @@ fn writes_one_byte<N: Net<Stream = TcpStream>>(
     door: &Door<'_, N>,
     read: &mut Vec<u8>,
 ) -> io::Result<()> {
-    let mut first = TcpStream::connect(door.net, door.address)?;
+    let mut first = connected(door)?;
     first.write_all(b"P")?;
-    let mut second = TcpStream::connect(door.net, door.address)?;
+    let mut second = connected(door)?;
     ask_last(&mut second, &request(door.alloc, 0)?, read)?;
     first.read_to_end(read)?;
     Ok(())
@@ -131,19 +150,50 @@ fn one_too_many<N: Net<Stream = TcpStream>>(
     door: &Door<'_, N>,
     read: &mut Vec<u8>,
 ) -> io::Result<()> {
-    let first = TcpStream::connect(door.net, door.address)?;
-    let second = TcpStream::connect(door.net, door.address)?;
-    let mut third = TcpStream::connect(door.net, door.address)?;
+    let first = connected(door)?;
+    let second = connected(door)?;
+    let mut third = connected(door)?;
     third.write_all(&request(door.alloc, 0)?)?;
     third.set_read_timeout(Some(Duration::from_millis(500)))?;
     if third.read(&mut [0; 1]).is_ok() {
         read.extend_from_slice(b"early ")?;
     }
-    third.set_read_timeout(None)?;
+    third.set_read_timeout(Some(Duration::from_secs(PATIENCE_SECONDS)))?;
     drop(first);
     drop(second);
     third.shutdown(Shutdown::Write)?;
     third.read_to_end(read)?;
+    Ok(())
+}
+
+fn one_stays<N: Net<Stream = TcpStream>>(door: &Door<'_, N>, read: &mut Vec<u8>) -> io::Result<()> {
+    let mut first = connected(door)?;
+    ask(&mut first, &request(door.alloc, 0)?, read)?;
+    let mut second = connected(door)?;
+    ask(&mut second, &request(door.alloc, 1)?, read)?;
+    drop(first);
+    in_turn(door, 2, read)?;
+    second.shutdown(Shutdown::Write)?;
+    second.read_to_end(read)?;
+    Ok(())
+}
+
+/// Has the reply to a request that is refused, and then writes a byte each 300 ms, until its connection is closed or 20 s have passed.
+fn writes_on<N: Net<Stream = TcpStream> + Clock>(
+    door: &Door<'_, N>,
+    read: &mut Vec<u8>,
+) -> io::Result<()> {
+    let mut stream = connected(door)?;
+    ask(&mut stream, &request(door.alloc, 0)?, read)?;
+    stream.write_all(b"GET / HTTP/1.1\r\n\r\n")?;
+    let mut last = Vec::new(door.alloc);
+    stream.read_to_end(&mut last)?;
+    for _ in 0..66 {
+        if stream.write_all(b"G").is_err() {
+            break;
+        }
+        thread::sleep(door.net, Duration::from_millis(300));
+    }
     Ok(())
 }
 
@@ -154,13 +204,15 @@ pub(crate) fn read_by<N: Net<Stream = TcpStream> + Clock>(
 ) -> io::Result<Vec<u8>> {
     let mut read = Vec::new(door.alloc);
     let done = match clients {
-        Clients::InTurn => in_turn(door, &mut read),
+        Clients::InTurn => in_turn(door, 0, &mut read),
         Clients::SideBySide => side_by_side(door, &mut read),
         Clients::Stays => stays(door, &mut read),
         Clients::IsInside => is_inside(door, false, &mut read),
         Clients::IsCutOff => is_inside(door, true, &mut read),
         Clients::WritesOneByte => writes_one_byte(door, &mut read),
         Clients::OneTooMany => one_too_many(door, &mut read),
+        Clients::OneStays => one_stays(door, &mut read),
+        Clients::WritesOn => writes_on(door, &mut read),
     };
     door.sign.end();
     done?;

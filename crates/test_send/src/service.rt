@@ -1,4 +1,4 @@
-//! A receiver that is stopped by a sign, and its clients, in threads of one process.
+//! A receiver, which is stopped by a sign or ends behind its connections, and its clients, in threads of one process.
 
 use crate::clients::{Clients, Door, read_by};
 use crate::counted::holds_as_printed;
@@ -12,12 +12,14 @@ use std::net::{Net, TcpListener, TcpStream};
 use std::sync::Wait;
 use std::test::Fail;
 use std::thread::Threads;
-use std::time::Clock;
+use std::time::{Clock, Duration, Instant};
 use std::{io, thread};
 
 /// The bounds of a service, what clients do, how many replies they have, and what is printed at last.
 #[derive(Drop)]
 struct Row<'a> {
+    /// Whether it serves until it is stopped. Else it serves as many connections as it may at once.
+    has_sign: bool,
     most: u64,
     idle_ms: u64,
     clients: Clients,
@@ -40,7 +42,28 @@ fn are_replies(read: &[u8], count: usize) -> bool {
     left.is_empty()
 }
 
-/// Whether a service and its clients do as a row says, and is counted so.
+/// For how many seconds a service and its clients may run. No row asks for waits of more than two.
+const MOST_SECONDS: u64 = 6;
+
+/// Whether a service and its clients were done in time.
+fn is_quick<K: Clock>(clock: &K, begun: Instant) -> bool {
+    matches!(begun.elapsed(clock), Ok(took) if took < Duration::from_secs(MOST_SECONDS))
+}
+
+/// A service with these bounds.
+fn service_of(
+    most: Bounded<1, 1_000>,
+    idle_ms: Bounded<10, 3_600_000>,
+    counters: &ReceiveCounters,
+) -> Service<'_> {
+    Service {
+        most,
+        idle_ms,
+        counters,
+    }
+}
+
+/// Whether a service and its clients do as a row says, in time, and is counted so.
 fn does_with<R: Net<Stream = TcpStream, Listener = TcpListener> + Threads + Wait + Clock + Sync>(
     rt: &R,
     alloc: Global,
@@ -61,21 +84,24 @@ fn does_with<R: Net<Stream = TcpStream, Listener = TcpListener> + Threads + Wait
         sign: &sign,
     };
     let counters = ReceiveCounters::new(alloc)?;
-    let clients = row.clients;
+    let (clients, has_sign) = (row.clients, row.has_sign);
+    let begun = Instant::now(rt)?;
     let (read, ended) = thread::join(
         rt,
         || read_by(&door, clients),
         || {
-            let service = Service {
-                most,
-                idle_ms,
-                counters: &counters,
-            };
-            run_receive_until(rt, alloc, settings, service, &sign, listener, printed)
+            if has_sign {
+                let service = service_of(most, idle_ms, &counters);
+                run_receive_until(rt, alloc, settings, service, &sign, listener, printed)
+            } else {
+                let service = service_of(most, idle_ms, &counters);
+                run_receive(rt, alloc, settings, service, listener, printed)
+            }
         },
     );
     let is_counted = holds_as_printed(alloc, &counters, row.printed);
-    Ok(ended.is_ok() && are_replies(&read?, row.replies) && is_counted)
+    let is_done = ended.is_ok() && is_quick(rt, begun);
+    Ok(is_done && are_replies(&read?, row.replies) && is_counted)
 }
 
 /// The place of the first row that goes otherwise.
@@ -94,9 +120,10 @@ fn wrong_row<R: Net<Stream = TcpStream, Listener = TcpListener> + Threads + Wait
     Ok(None)
 }
 
-static ROWS: [Row<'static>; 8] = [
+static ROWS: [Row<'static>; 11] = [
     // a seat is used again
     Row {
+        has_sign: true,
         most: 1,
         idle_ms: 60_000,
         clients: Clients::InTurn,
@@ -104,6 +131,7 @@ static ROWS: [Row<'static>; 8] = [
         printed: b"received {__name__=\"up\"} 1000=1 1001=1 1002=1 1003=1 1004=1\n",
     },
     Row {
+        has_sign: true,
         most: 1_000,
         idle_ms: 60_000,
         clients: Clients::InTurn,
@@ -111,6 +139,7 @@ static ROWS: [Row<'static>; 8] = [
         printed: b"received {__name__=\"up\"} 1000=1 1001=1 1002=1 1003=1 1004=1\n",
     },
     Row {
+        has_sign: true,
         most: 2,
         idle_ms: 60_000,
         clients: Clients::SideBySide,
@@ -119,6 +148,7 @@ static ROWS: [Row<'static>; 8] = [
     },
     // whoever is in no request is closed at the stop
     Row {
+        has_sign: true,
         most: 2,
         idle_ms: 60_000,
         clients: Clients::Stays,
@@ -127,6 +157,7 @@ static ROWS: [Row<'static>; 8] = [
     },
     // whoever is in a request has its reply
     Row {
+        has_sign: true,
         most: 2,
         idle_ms: 60_000,
         clients: Clients::IsInside,
@@ -134,6 +165,7 @@ static ROWS: [Row<'static>; 8] = [
         printed: b"received {__name__=\"up\"} 1000=1 1001=1\n",
     },
     Row {
+        has_sign: true,
         most: 2,
         idle_ms: 60_000,
         clients: Clients::IsCutOff,
@@ -142,6 +174,7 @@ static ROWS: [Row<'static>; 8] = [
     },
     // nobody holds the only seat by silence
     Row {
+        has_sign: true,
         most: 1,
         idle_ms: 100,
         clients: Clients::WritesOneByte,
@@ -149,9 +182,36 @@ static ROWS: [Row<'static>; 8] = [
         printed: b"received {__name__=\"up\"} 1000=1\n",
     },
     Row {
+        has_sign: true,
         most: 2,
         idle_ms: 60_000,
         clients: Clients::OneTooMany,
+        replies: 1,
+        printed: b"received {__name__=\"up\"} 1000=1\n",
+    },
+    // a seat is used again while another one is not
+    Row {
+        has_sign: true,
+        most: 2,
+        idle_ms: 60_000,
+        clients: Clients::OneStays,
+        replies: 7,
+        printed: b"received {__name__=\"up\"} 1000=1 1001=1 1002=1 1003=1 1004=1 1005=1 1006=1\n",
+    },
+    // nobody holds the end by silence, nor by writing on behind the last reply
+    Row {
+        has_sign: false,
+        most: 2,
+        idle_ms: 100,
+        clients: Clients::WritesOneByte,
+        replies: 1,
+        printed: b"received {__name__=\"up\"} 1000=1\n",
+    },
+    Row {
+        has_sign: false,
+        most: 1,
+        idle_ms: 60_000,
+        clients: Clients::WritesOn,
         replies: 1,
         printed: b"received {__name__=\"up\"} 1000=1\n",
     },
@@ -161,42 +221,5 @@ static ROWS: [Row<'static>; 8] = [
 fn a_service_serves_until_it_is_stopped(rt: HostRuntime) -> Result<(), Fail> {
     let wrong = wrong_row(&rt, rt.alloc())?;
     assert_eq!(rt; wrong, None);
-    Ok(())
-}
-
-/// Whether a receiver of two connections ends, of which the first one is silent behind a byte.
-fn ends_without_a_sign<
-    R: Net<Stream = TcpStream, Listener = TcpListener> + Threads + Wait + Clock + Sync,
->(rt: &R, alloc: Global, settings: &Settings, printed: &mut Room) -> io::Result<bool> {
-    let listener = TcpListener::bind(rt, "127.0.0.1:0")?;
-    let sign = Sign::new();
-    let door = Door {
-        net: rt,
-        alloc,
-        address: listener.local_addr()?,
-        sign: &sign,
-    };
-    let counters = ReceiveCounters::new(alloc)?;
-    let (read, ended) = thread::join(
-        rt,
-        || read_by(&door, Clients::WritesOneByte),
-        || {
-            let service = Service {
-                most: Bounded::new(2),
-                idle_ms: Bounded::new(100),
-                counters: &counters,
-            };
-            run_receive(rt, alloc, settings, service, listener, printed)
-        },
-    );
-    Ok(ended.is_ok() && are_replies(&read?, 1))
-}
-
-/// A silent connection does not hold the end of a receiver that counts its connections either.
-#[test]
-fn a_silent_connection_is_closed(rt: HostRuntime) -> Result<(), Fail> {
-    let settings = read_settings(rt.alloc(), b"")?;
-    let mut printed = Room::new(rt.alloc(), 4096)?;
-    assert!(rt; ends_without_a_sign(&rt, rt.alloc(), &settings, &mut printed)?);
     Ok(())
 }
