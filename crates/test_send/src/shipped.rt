@@ -147,6 +147,7 @@ fn does<R: Threads + Wait + Clock + Copy + Send + 'static>(
         flushes: false,
         reshards,
         said: Wish::Work,
+        naps: 0,
     };
     let counters = SendCounters::new(alloc)?;
     let line = Counted {
