@@ -1,6 +1,6 @@
 //! What a follower does at each turn.
 
-ghost use Rattle.std.specs.Prelude.{◌≡◌, ◌<◌, ℕ, length, true, Ok, Err, IfErr, IfOk};
+ghost use Rattle.std.specs.Prelude.{◌≡◌, ◌<◌, ℕ, length, suc, true, Ok, Err, IfErr, IfOk};
 ghost use Rattle.rw_follow.specs.Growth.{HadAll, HasGap, IsFollowed, IsGivenAt, Known, Meal};
 ghost use Rattle.rw_follow.specs.Turns.{IsWithin, Moves, given_by, wish_of};
 ghost use Rattle.rw_follow.specs.declared.follower.Broken.TheVariants as Broken;
@@ -87,7 +87,8 @@ impl Follower {
     }
 
     /// Takes a turn. A segment is over once another one was seen to come after it and, read again after that, it gives no more bytes. Told to end, it is at
-    /// its end once nothing is left of what stands; until then it takes no nap.
+    /// its end once nothing is left of what stands; until then it takes no nap. It naps once where nothing is left and no segment comes after the current one,
+    /// and nowhere else.
     pub fn turn<S: Segments, W: Watch>(
         &mut self,
         segments: &mut S,
@@ -106,6 +107,12 @@ impl Follower {
             → Known (S.now segments.new) (HadAll meal) }
         ensures signed { (stop : Stop) → result ≡ Ok (Turn.Stopped stop)
             → W.said watch.new ≡ wish_of stop }
+        ensures told { W.tells watch.new → W.tells watch.old }
+        ensures quiet { W.tells watch.new → result ≡ Ok Turn.Nothing → self.new ≡ false
+            → W.naps watch.new ≡ suc (W.naps watch.old) }
+        ensures busy { W.tells watch.new → (result ≡ Ok Turn.Nothing → self.new ≡ true)
+            → W.naps watch.new ≡ W.naps watch.old }
+        ensures flushed { result ≡ Ok Turn.Flush → W.due watch.new ≡ true }
         ensures missing { (n : ℕ) → result ≡ Err (Broken.Missing n)
             → Known (S.now segments.new) (HasGap n) }
         ensures followed { self.new ≡ true → Known (S.now segments.new) IsFollowed }

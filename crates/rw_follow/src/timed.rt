@@ -22,6 +22,7 @@ pub struct Timed<K, G> {
     /// When it was asked for.
     asked_at: Option<Instant>,
     said: Wish,
+    is_due: bool,
 }
 
 /// Whether so much time has passed since a moment, which is forgotten then. Where there is no moment, it is now. None where the clock cannot be read.
@@ -60,12 +61,19 @@ impl<K: Clock, G: Sign> Timed<K, G> {
             reshard,
             asked_at: None,
             said: Wish::Work,
+            is_due: false,
         }
     }
 }
 
 impl<K: Clock, G: Sign> Watch for Timed<K, G> {
     ghost said = { λ w. w.said };
+
+    ghost due = { λ w. w.is_due };
+
+    ghost tells = { λ _. ⊥ };
+
+    ghost naps = { λ _. 0 };
 
     fn wish(&mut self) -> Wish {
         self.said = self.sign.wish();
@@ -78,7 +86,8 @@ impl<K: Clock, G: Sign> Watch for Timed<K, G> {
 
     /// What cannot be timed is flushed.
     fn is_flush_due(&mut self) -> bool {
-        has_passed(&self.clock, &mut self.waits_since, self.patience).unwrap_or(true)
+        self.is_due = has_passed(&self.clock, &mut self.waits_since, self.patience).unwrap_or(true);
+        self.is_due
     }
 
     /// What cannot be timed is not asked for.

@@ -1,5 +1,7 @@
 //! Watches that say to stop after so many looks.
 
+ghost use Rattle.std.specs.Prelude.{◌≡◌, ◌<◌};
+
 use rw_follow::{Sign, Watch, Wish};
 use rw_metrics::SendCounters;
 use std::alloc::Global;
@@ -12,11 +14,15 @@ pub(crate) struct Countdown {
     pub(crate) flushes: bool,
     pub(crate) reshards: bool,
     pub(crate) said: Wish,
+    /// The naps so far. The greatest number stands for more, too.
+    pub(crate) naps: u32,
 }
 
 impl Countdown {
     /// What is said at this look.
-    fn next(&mut self) -> Wish {
+    fn next(&mut self) -> Wish
+        ensures { self.new.naps ≡ self.old.naps }
+    {
         if self.looks == 0 {
             return self.wish;
         }
@@ -28,12 +34,20 @@ impl Countdown {
 impl Watch for Countdown {
     ghost said = { λ c. c.said };
 
+    ghost due = { λ c. c.flushes };
+
+    ghost tells = { λ c. c.naps < 4_294_967_295 };
+
+    ghost naps = { λ c. c.naps };
+
     fn wish(&mut self) -> Wish {
         self.said = self.next();
         self.said
     }
 
-    fn nap(&mut self) {}
+    fn nap(&mut self) {
+        self.naps = self.naps.saturating_add(1);
+    }
 
     fn is_flush_due(&mut self) -> bool {
         self.flushes

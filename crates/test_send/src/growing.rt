@@ -74,6 +74,7 @@ fn followed<R: Wait>(
         flushes: true,
         reshards: false,
         said: Wish::Work,
+        naps: 0,
     };
     Ok(match follow_into(rt, kept, log, &mut watch, buf)? {
         Ok(stop) => Ok(stop),

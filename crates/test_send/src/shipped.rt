@@ -147,6 +147,7 @@ fn does<R: Threads + Wait + Clock + Copy + Send + 'static>(
         flushes: false,
         reshards,
         said: Wish::Work,
+        naps: 0,
     };
     let counters = SendCounters::new(alloc)?;
     let line = Counted {
@@ -275,7 +276,8 @@ fn flushed<R: Threads + Wait + Clock + Copy + Send + 'static>(
     };
     let poll = Duration::from_millis(5);
     let patience = Duration::from_millis(20);
-    let mut watch = Timed::new(*rt, sign, poll, patience, patience);
+    let reshard = Duration::from_secs(3600);
+    let mut watch = Timed::new(*rt, sign, poll, patience, reshard);
     let line = Counted {
         connect: receivers_of(rt, StatusCode::BAD_REQUEST),
         counters: &counters,

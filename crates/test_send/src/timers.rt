@@ -5,19 +5,35 @@ use std::io;
 use std::sync::atomic::{AtomicU64, Ordering};
 use std::time::{Clock, Duration};
 
-/// A clock on which a second passes from each reading to the next.
+/// A clock on which half a second passes from each reading to the next.
 #[derive(Drop)]
 struct Ticks {
-    seconds: AtomicU64,
+    milliseconds: AtomicU64,
+    /// The seconds of each sleep, which the clock does not show.
+    slept: AtomicU64,
+}
+
+impl Ticks {
+    fn new() -> Ticks {
+        Ticks {
+            milliseconds: AtomicU64::new(7000),
+            slept: AtomicU64::new(0),
+        }
+    }
 }
 
 impl Clock for Ticks {
     fn monotonic(&self) -> io::Result<Duration> {
-        Ok(Duration::from_secs(self.seconds.fetch_add(1, Ordering::Relaxed)))
+        let now = self.milliseconds.fetch_add(500, Ordering::Relaxed);
+        Ok(Duration::from_millis(now))
     }
 
     fn since_1970(&self) -> io::Result<Duration> {
         self.monotonic()
+    }
+
+    fn sleep(&self, time: Duration) {
+        self.slept.fetch_add(time.as_secs(), Ordering::Relaxed);
     }
 }
 
@@ -31,31 +47,48 @@ impl Sign for Unset {
     }
 }
 
-/// What is due when it is asked for second by second, where it may wait for three.
-static DUE: [bool; 9] = [false, false, false, true, false, false, false, true, false];
+/// A watch of five seconds between two looks, where something may wait for three, and the number of shards is asked for behind two.
+fn watch_by(ticks: &Ticks) -> Timed<&Ticks, Unset> {
+    let poll = Duration::from_secs(5);
+    let patience = Duration::from_secs(3);
+    let reshard = Duration::from_secs(2);
+    Timed::new(ticks, Unset, poll, patience, reshard)
+}
 
-/// The first question, of a flush or of the number of shards, that is answered otherwise.
-fn wrong_answer(reshards: bool) -> Option<usize> {
-    let ticks = Ticks {
-        seconds: AtomicU64::new(7),
-    };
-    let three = Duration::from_secs(3);
-    let mut watch = Timed::new(ticks, Unset, three, three, three);
+/// Whether a flush is due when it is asked for at 0, 1, 2 s and so on, and the number of shards at 0.5, 1.5, 2.5 s.
+static DUE: [(bool, bool); 9] = [
+    (false, false),
+    (false, false),
+    (false, true),
+    (true, false),
+    (false, false),
+    (false, true),
+    (false, false),
+    (true, false),
+    (false, true),
+];
+
+/// The first two questions of which one is answered otherwise.
+fn wrong_answer(watch: &mut impl Watch) -> Option<usize> {
     for (i, due) in DUE.iter().enumerate() {
-        let answer = if reshards {
-            watch.is_reshard_due()
-        } else {
-            watch.is_flush_due()
-        };
-        if answer != *due {
+        let answers = (watch.is_flush_due(), watch.is_reshard_due());
+        if answers != *due {
             return Some(i);
         }
     }
     None
 }
 
-/// A timer begins anew once it is due.
+/// A timer begins anew once it is due, and each goes by its own time.
 #[test]
 fn timers_begin_anew(rt: HostRuntime) {
-    assert!(rt; wrong_answer(false).is_none() && wrong_answer(true).is_none());
+    assert_eq!(rt; wrong_answer(&mut watch_by(&Ticks::new())), None);
+}
+
+/// A nap is as long as it is from one look to the next.
+#[test]
+fn a_nap_lasts_until_the_next_look(rt: HostRuntime) {
+    let ticks = Ticks::new();
+    watch_by(&ticks).nap();
+    assert_eq!(rt; ticks.slept.load(Ordering::Relaxed), 5);
 }
