@@ -57,6 +57,12 @@ IsFaultOfAny pages text SegmentFull = (recs : List (List ℕ)) × AreRecords (li
 IsFaultOfAny pages text OutOfMemory = Unit {0}
 IsFaultOfAny pages text e = ⊥
 
+-- log text for segments one after the other: each line is good, and each record has room in an empty segment
+pub record IsForSegments (pages : ℕ) (text : List ℕ) : Type 0 where
+  pub records : List (List ℕ)
+  pub good : AreRecords (lines text) records
+  pub fits : longest_of records ≤ pages * (page_size - 7)
+
 -- log text was read to the end, and it has this fault
 pub record ReadsAnyFault (pages : ℕ) (left_before left_after : Option (List ℕ)) (e : ToolFault) : Type 0 where
   pub text : List ℕ

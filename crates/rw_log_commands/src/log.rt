@@ -4,7 +4,7 @@ ghost use Rattle.std.specs.Prelude.{◌≡◌, ◌≢◌, ◌⊎◌, ◌≤◌, 
 ghost use Rattle.std.specs.Io.KnownBytes.{Consumes, IsAtEnd};
 ghost use Rattle.rw_text.specs.RecordLines.{lines};
 ghost use Rattle.rw_log_commands.specs.LogText.{have_room, segment_of, AreRecords};
-ghost use Rattle.rw_log_commands.specs.Logging.{IsFaultOfAny, IsFaultOfLog, ReadsAnyFault, ReadsRecords, ReadsFaulty, StopsLog, WritesLog, WritesLogPart};
+ghost use Rattle.rw_log_commands.specs.Logging.{IsFaultOfAny, IsFaultOfLog, IsForSegments, ReadsAnyFault, ReadsRecords, ReadsFaulty, StopsLog, WritesLog, WritesLogPart};
 ghost use Rattle.rw_wal_format.specs.declared.tail_fault.TailFault.{TailFault};
 ghost use Rattle.rw_fault.specs.declared.tool_fault.ToolFault.TheVariants.{OutOfMemory, Log, Line, SegmentFull, Device};
 
@@ -103,7 +103,7 @@ pub fn run_log<R: Source, W: Sink>(
 /// Judges the lines of log text, and whether each record has room in an empty segment.
 fn judge_for_segments(alloc: Global, text: &[u8], pages: usize) -> Result<(), ToolFault>
     requires most { pages ≤ 4096 }
-    ensures ok { OnOk result ((recs : List (List ℕ)) × AreRecords (lines text.now) recs) }
+    ensures ok { OnOk result (IsForSegments pages text.now) }
     ensures err { IfErr result (IsFaultOfAny pages text.now) }
 {
     let longest = judge(alloc, text)?;
@@ -141,7 +141,7 @@ fn put_segments(
 ) -> Result<(), ToolFault>
     requires some { 1 ≤ pages }
     requires most { pages ≤ 4096 }
-    requires good { (recs : List (List ℕ)) × AreRecords (lines text.now) recs }
+    requires good { IsForSegments pages text.now }
     ensures { IfErr result (λ e. (e ≡ OutOfMemory) ⊎ (e ≡ Device)) }
 {
     let mut rest = text;

@@ -51,7 +51,11 @@ impl<R: Files> SegmentFile<R> {
 }
 
 impl<R: Files<File = File>> Open for SegmentFile<R> {
+    ghost use Rattle.std.specs.Prelude.{None};
+
     type S = Std<File>;
+
+    ghost text = { λ _. None };
 
     fn open(&self) -> Result<Std<File>, Failed> {
         match fs::open(&self.rt, self.path.as_path()) {

@@ -1,6 +1,6 @@
 //! What is opened when it is first read.
 
-ghost use Rattle.std.specs.Prelude.{◌≡◌};
+ghost use Rattle.std.specs.Prelude.{◌≡◌, ℕ, List, Option, IfOk};
 ghost use Rattle.std.specs.Io.{ReadsAtMost};
 ghost use Rattle.std.specs.Io.KnownBytes.{ReadConsumes};
 ghost use Rattle.rw_send.specs.Opening.{left_of};
@@ -11,11 +11,15 @@ use rw_types::{Failed, Source};
 pub trait Open {
     type S: Source + Drop;
 
+    /// What a source that it opens has left, where that is known.
+    ghost text: { Self → Option (List ℕ) };
+
     /// Opens it at its first byte.
-    fn open(&self) -> Result<Self::S, Failed>;
+    fn open(&self) -> Result<Self::S, Failed>
+        ensures { IfOk result (λ s. Self.S.remaining s ≡ text self.now) };
 }
 
-/// Reads what it opens when it is first read. Contracts see the bytes that are left of what was opened.
+/// Reads what it opens when it is first read. Contracts see the bytes that are left of what was opened, and before that those that it will open.
 #[derive(Drop)]
 pub struct Opened<O: Open> {
     place: O,
@@ -51,8 +55,9 @@ impl<O: Open> Opened<O> {
 
     fn read_on(&mut self, buf: &mut [u8]) -> Result<usize, Failed>
         ensures bound { ReadsAtMost result buf.new }
-        ensures bytes { ReadConsumes (left_of O.S.remaining self.old.source)
-            (left_of O.S.remaining self.new.source) result buf.new }
+        ensures bytes { ReadConsumes
+            (left_of (O.text self.old.place) O.S.remaining self.old.source)
+            (left_of (O.text self.new.place) O.S.remaining self.new.source) result buf.new }
     {
         if self.source.is_none() {
             self.source = Some(self.place.open()?);
@@ -68,7 +73,7 @@ impl<O: Open> Source for Opened<O> {
     ghost use Rattle.std.specs.Prelude.{false};
     ghost use Rattle.rw_send.specs.Opening.{left_of};
 
-    ghost remaining = { λ o. left_of O.S.remaining o.source };
+    ghost remaining = { λ o. left_of (O.text o.place) O.S.remaining o.source };
 
     ghost has_failed = { λ o. o.failed };
 

@@ -1,12 +1,24 @@
 //! The segments of a folder.
 
-use rw_send::{Opened, SegmentFile, segment_files};
-use rw_types::{Source, read_to_end};
+use crate::growing_folder::Change::{self, Dir, Goes};
+use crate::growing_folder::has_changed;
+use crate::logs::segment;
+use crate::receivers::Receivers;
+use crate::rows::none_is_wrong;
+use http::StatusCode;
+use rw_fault::ToolFault;
+use rw_metrics::SendCounters;
+use rw_send::{Counted, Opened, SegmentFile, StopFlag, run_send, segment_files};
+use rw_settings::{Settings, read_settings};
+use rw_types::{Room, Source, read_to_end};
 use std::alloc::{AllocError, Global};
 use std::fs::File;
 use std::path::{Path, PathBuf};
 use std::rt::Files;
+use std::sync::Wait;
 use std::test::Fail;
+use std::thread::Threads;
+use std::time::{Clock, Duration};
 use std::{env, fs};
 
 /// Adds what the segments hold, one after the other. No, where one cannot be read.
@@ -110,5 +122,110 @@ fn a_missing_folder_cannot_be_read(rt: HostRuntime) -> Result<(), Fail> {
     let is_one = segments.len() == 1;
     let mut text = Vec::new(rt.alloc());
     assert!(rt; !are_read(rt.alloc(), segments, &mut text) && is_one);
+    Ok(())
+}
+
+/// Receivers that take each request at once.
+pub(crate) fn ready<R: Copy>(clock: &R) -> Receivers<R> {
+    Receivers {
+        clock: *clock,
+        status: StatusCode::NO_CONTENT,
+        takes: Duration::ZERO,
+        requests: u64::MAX,
+        epochs: 1,
+    }
+}
+
+pub(crate) fn default_settings(alloc: Global) -> Result<Settings, AllocError> {
+    match read_settings(alloc, b"") {
+        Ok(settings) => Ok(settings),
+        Err(_) => Err(AllocError),
+    }
+}
+
+/// Writes two segments of one entry each, which is a series.
+fn write_two(rt: &HostRuntime, dir: &str) -> Result<(), Fail> {
+    let bytes = segment(rt.alloc(), b"series 1 {__name__=\"up\"}\n")?;
+    for name in ["00000000", "00000001"] {
+        fs::write(rt, Path::new(dir).join(rt.alloc(), name)?, bytes.as_slice())?;
+    }
+    Ok(())
+}
+
+fn have_changed(rt: &HostRuntime, dir: Path<'_>, changes: &[Change]) {
+    for change in changes {
+        has_changed(rt, dir, *change);
+    }
+}
+
+/// Lists the segments of a folder, lets this happen to it, and sends what was listed.
+fn send_listed<R: Threads + Wait + Clock + Copy + Send + 'static>(
+    rt: &HostRuntime,
+    threads: &R,
+    dir: Path<'_>,
+    changes: &[Change],
+    printed: &mut Room,
+) -> Result<Result<(), ToolFault>, AllocError> {
+    let alloc = rt.alloc();
+    let counters = SendCounters::new(alloc)?;
+    let stop = StopFlag::new(alloc)?;
+    let settings = default_settings(alloc)?;
+    let segments = segment_files(rt, dir.as_str(), None)?;
+    have_changed(rt, dir, changes);
+    let line = Counted {
+        connect: ready(threads),
+        counters: &counters,
+        max_batch_bytes: None,
+        stop,
+    };
+    Ok(run_send(threads, alloc, settings, segments, line, printed))
+}
+
+/// What happens to a folder of two segments once they are listed, the answer, and what is printed.
+type Row<'a> = (&'a [Change], Result<(), ToolFault>, &'a [u8]);
+
+fn does<R: Threads + Wait + Clock + Copy + Send + 'static>(
+    rt: &HostRuntime,
+    threads: &R,
+    row: &Row<'_>,
+) -> Result<bool, Fail> {
+    let dir = new_folder(rt, "rwship-what-is-gone-is-no-end")?;
+    write_two(rt, dir.as_str())?;
+    let mut printed = Room::new(rt.alloc(), 4096)?;
+    let answer = send_listed(rt, threads, dir.as_path(), row.0, &mut printed)?;
+    Ok(answer == row.1 && printed.as_slice() == row.2)
+}
+
+fn wrong_row<R: Threads + Wait + Clock + Copy + Send + 'static>(
+    rt: &HostRuntime,
+    threads: &R,
+    rows: &[Row<'_>],
+) -> Result<Option<usize>, Fail> {
+    for (i, row) in rows.iter().enumerate() {
+        if !does(rt, threads, row)? {
+            return Ok(Some(i));
+        }
+    }
+    Ok(None)
+}
+
+static LISTED: [Row<'static>; 3] = [
+    (&[], Ok(()), b"filtered 0\nreport complete 2\n"),
+    (
+        &[Goes("00000001")],
+        Err(ToolFault::Device),
+        b"filtered 0\nreport abandoned 1\n",
+    ),
+    (
+        &[Goes("00000001"), Dir("00000001")],
+        Err(ToolFault::Device),
+        b"filtered 0\nreport abandoned 1\n",
+    ),
+];
+
+/// The second segment is gone, or a folder stands in its place.
+#[test]
+fn what_is_gone_is_no_end(rt: HostRuntime) -> Result<(), Fail> {
+    none_is_wrong(&rt, wrong_row(&rt, &rt, &LISTED)?);
     Ok(())
 }

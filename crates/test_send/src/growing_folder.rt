@@ -1,11 +1,14 @@
 //! A folder that is followed while files come and grow.
 
-use crate::folder::{new_folder, write_name};
+use crate::countdown::Countdown;
+use crate::folder::{default_settings, new_folder, ready, write_name};
 use crate::kept::{Kept, follow_into};
-use Change::{Goes, Grows, Nothing};
+use Change::{Dir, Goes, Grows, Nothing};
+use rw_fault::ToolFault;
 use rw_follow::{Broken, Sign, Timed, Wish};
 use rw_metrics::SendCounters;
-use rw_send::Folder;
+use rw_send::{Counted, Folder, FollowFault, StopFlag, run_follow};
+use rw_types::Room;
 use std::alloc::{AllocError, Global};
 use std::fs;
 use std::fs::{File, OpenOptions};
@@ -14,15 +17,19 @@ use std::path::{Path, PathBuf};
 use std::rt::Files;
 use std::sync::{Arc, Wait};
 use std::test::Fail;
-use std::time::Duration;
+use std::thread::Threads;
+use std::time::{Clock, Duration};
 
 /// What happens to a folder.
 #[derive(Clone, Copy)]
-enum Change {
+pub(crate) enum Change {
     Nothing,
     /// A file has these bytes more. It comes where it is not there.
     Grows(&'static str, &'static [u8]),
+    /// A file goes.
     Goes(&'static str),
+    /// A folder comes.
+    Dir(&'static str),
 }
 
 /// The text of a file that goes on.
@@ -35,7 +42,11 @@ fn has_grown<R: Files<File = File>>(rt: &R, path: Path<'_>, bytes: &[u8]) -> boo
     }
 }
 
-fn has_changed<R: Files<File = File> + AllocGlobal>(rt: &R, dir: Path<'_>, change: Change) -> bool {
+pub(crate) fn has_changed<R: Files<File = File> + AllocGlobal>(
+    rt: &R,
+    dir: Path<'_>,
+    change: Change,
+) -> bool {
     match change {
         Nothing => true,
         Grows(name, bytes) => match dir.join(rt.alloc(), name) {
@@ -44,6 +55,10 @@ fn has_changed<R: Files<File = File> + AllocGlobal>(rt: &R, dir: Path<'_>, chang
         },
         Goes(name) => match dir.join(rt.alloc(), name) {
             Ok(path) => fs::remove_file(rt, path.as_path()).is_ok(),
+            Err(_) => false,
+        },
+        Dir(name) => match dir.join(rt.alloc(), name) {
+            Ok(path) => fs::create_dir(rt, path.as_path()).is_ok(),
             Err(_) => false,
         },
     }
@@ -155,5 +170,71 @@ fn a_missing_file_is_told(rt: HostRuntime) -> Result<(), Fail> {
     let dir = new_folder(&rt, "rwship-a-missing-file-is-told")?;
     let text = followed(&rt, &rt, dir, &GOES)?;
     assert_eq!(rt; text.as_str(), "a 2");
+    Ok(())
+}
+
+/// Follows a folder by the command `send`, and says to end behind some looks.
+fn follow_sending<R: Threads + Wait + Clock + Copy + Send + 'static>(
+    rt: &HostRuntime,
+    threads: &R,
+    dir: &str,
+    printed: &mut Room,
+) -> Result<Result<(), FollowFault>, AllocError> {
+    let alloc = rt.alloc();
+    let counters = SendCounters::new(alloc)?;
+    let opened = Arc::new(alloc, SendCounters::new(alloc)?)?;
+    let dir = String::from_str(alloc, dir)?;
+    let stop = StopFlag::new(alloc)?;
+    let settings = default_settings(alloc)?;
+    let mut folder = Folder::new(*rt, dir, opened);
+    let mut watch = Countdown {
+        looks: 5,
+        wish: Wish::End,
+        flushes: false,
+        reshards: false,
+        said: Wish::Work,
+    };
+    let line = Counted {
+        connect: ready(threads),
+        counters: &counters,
+        max_batch_bytes: None,
+        stop,
+    };
+    Ok(run_follow(
+        threads,
+        alloc,
+        settings,
+        &mut folder,
+        line,
+        &mut watch,
+        printed,
+    ))
+}
+
+/// Whether a folder that is followed is told as one that cannot be read.
+fn is_unreadable<R: Threads + Wait + Clock + Copy + Send + 'static>(
+    rt: &HostRuntime,
+    threads: &R,
+    dir: &str,
+) -> Result<bool, AllocError> {
+    let mut printed = Room::new(rt.alloc(), 4096)?;
+    let answer = follow_sending(rt, threads, dir, &mut printed)?;
+    let is_printed = printed.as_slice() == b"filtered 0\nreport abandoned 0\n".as_slice();
+    Ok(is_printed && answer == Err(FollowFault::Tool(ToolFault::Device)))
+}
+
+/// A folder can be opened as a file is, and cannot be read so.
+#[test]
+fn what_cannot_be_read_is_no_quiet_log(rt: HostRuntime) -> Result<(), Fail> {
+    let dir = new_folder(&rt, "rwship-what-cannot-be-read-is-no-quiet-log")?;
+    let is_made = has_changed(&rt, dir.as_path(), Dir("00000001"));
+    assert!(rt;
+        is_made && is_unreadable(&rt, &rt, dir.as_str())?,
+        "a segment is a folder"
+    );
+    assert!(rt;
+        is_unreadable(&rt, &rt, "/no such folder")?,
+        "the folder is not there"
+    );
     Ok(())
 }
