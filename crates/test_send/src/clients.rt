@@ -31,7 +31,7 @@ pub(crate) enum Clients {
 }
 
 /// For how many seconds a client waits for a reply.
-const PATIENCE_SECONDS: u64 = 5;
+const PATIENCE_SECONDS: u64 = 10;
 
 /// The reply to a request that is taken.
 const TAKEN: &[u8] = b"HTTP/1.1 204 No Content\r\n\r\n";

@@ -193,6 +193,7 @@ fn follow_sending<R: Threads + Wait + Clock + Copy + Send + 'static>(
         flushes: false,
         reshards: false,
         said: Wish::Work,
+        naps: 0,
     };
     let line = Counted {
         connect: ready(threads),
