@@ -1,6 +1,6 @@
 //! What a shipper places and sends, and what its report says.
 
-use crate::logs::{FOUR, LONG, ONE, TWO, UP, segment};
+use crate::logs::{FOUR, LONG, ONE, Samples, TWO, UP, segment};
 use crate::peers::{Peer, Peers, TURNS};
 use crate::work::{Call, Ending, Stop, Task, Wanted, Work, config_of, done, ends_so};
 use Call::{Feed, Flush, NextSegment, Reshard};
@@ -162,6 +162,12 @@ const ONE_OF_ONE: Load = Load {
 const TWO_OF_TWO: Load = Load {
     placed: 2,
     resolved: 2,
+    backlog: 0,
+};
+
+const THREE_OF_THREE: Load = Load {
+    placed: 3,
+    resolved: 3,
     backlog: 0,
 };
 
@@ -454,18 +460,22 @@ fn comes_to(shipper: &Shipper<Peers>, load: Load) -> bool {
     false
 }
 
-/// Whether a sample of each of two shards is resolved in time with no call behind the one that fed them.
+/// How many shards there are, how many samples a batch has, what is fed at once, and which load is to be told in time then.
+type Fed<'a> = (u64, u64, Samples<'a>, Load);
+
+/// Whether it is, with no call behind the one that fed.
 fn resolves_in_time<R: Threads + Wait + Copy + Send + 'static>(
     rt: &R,
     alloc: Global,
+    fed: &Fed<'_>,
 ) -> Result<bool, AllocError> {
-    let log = segment(alloc, &FOUR, &[(1, 10, ONE), (2, 20, TWO)])?;
+    let log = segment(alloc, &FOUR, fed.2)?;
     let peers = peers_of(alloc, 204, u64::MAX, None)?;
-    let Some(config) = config_of(alloc, 2, 1) else {
+    let Some(config) = config_of(alloc, fed.0, fed.1) else {
         return Ok(false);
     };
     let mut shipper = Shipper::start(rt, alloc, config, peers)?;
-    let is_so = shipper.feed(rt, Piece::Bytes(log)).is_ok() && comes_to(&shipper, TWO_OF_TWO);
+    let is_so = shipper.feed(rt, Piece::Bytes(log)).is_ok() && comes_to(&shipper, fed.3);
     shipper.stop_hard(rt);
     Ok(is_so)
 }
@@ -473,7 +483,20 @@ fn resolves_in_time<R: Threads + Wait + Copy + Send + 'static>(
 /// What was fed is with the workers, and they tell what they have done.
 #[test]
 fn a_fed_sample_is_resolved_without_a_flush(rt: HostRuntime) {
-    assert_eq!(rt; resolves_in_time(&rt, rt.alloc()), Ok(true));
+    let fed = (2, 1, [(1, 10, ONE), (2, 20, TWO)].as_slice(), TWO_OF_TWO);
+    assert_eq!(rt; resolves_in_time(&rt, rt.alloc(), &fed), Ok(true));
+}
+
+/// The last sample waits for another one to be sent with, behind a batch that is answered for.
+#[test]
+fn a_sample_that_waits_for_a_full_batch_is_no_backlog(rt: HostRuntime) {
+    let fed = (
+        1,
+        2,
+        [(1, 10, ONE), (1, 20, TWO), (1, 30, ONE)].as_slice(),
+        THREE_OF_THREE,
+    );
+    assert_eq!(rt; resolves_in_time(&rt, rt.alloc(), &fed), Ok(true));
 }
 
 /// Whether a sample that a flush cut off is told as waiting, where its receiver is busy.
