@@ -1,6 +1,6 @@
 //! The bytes that each shard may still be put before a mark.
 
-ghost use Rattle.std.specs.Prelude.{◌≡◌, ◌+◌, ◌-◌, ◌<◌, ◌≤◌, length, ◌^◌, IfOk, IfSome, IfNone, None, Some, slice_index, EachIndex};
+ghost use Rattle.std.specs.Prelude.{◌≡◌, ◌+◌, ◌-◌, ◌<◌, ◌≤◌, ◌^◌, IfOk, IfSome, IfNone, None, Some, slice_index, EachIndex};
 ghost use Rattle.rw_batch_bytes.specs.Sizes.{bytes_of};
 ghost use Rattle.rw_batch_bytes.specs.Rooms.{AreFull, Counts};
 

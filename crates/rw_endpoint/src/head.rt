@@ -1,7 +1,6 @@
 //! The head of a request, read.
 
-ghost use Rattle.std.specs.Prelude.{◌≡◌, ◌≤◌, length, map, All};
-ghost use Rattle.httparse.specs.Spans.{IsHeaderWithin, header_bytes};
+ghost use Rattle.std.specs.Prelude.{◌≤◌, length};
 ghost use Rattle.rw_endpoint.specs.Reading.{Judges};
 
 use crate::fields::has_field;

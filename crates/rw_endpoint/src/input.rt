@@ -1,6 +1,6 @@
 //! Heads and bodies, read from a connection.
 
-ghost use Rattle.std.specs.Prelude.{true, ◌≡◌, ◌≢◌, ℕ, ◌+◌, ◌*◌, ◌<◌, ◌≤◌, max, length, drop, Some, Err, IfOk, OnOk, vec_len, vec_capacity, option_map};
+ghost use Rattle.std.specs.Prelude.{true, ◌≡◌, ◌≢◌, ◌+◌, ◌*◌, ◌<◌, ◌≤◌, max, length, drop, Some, Err, IfOk, OnOk, vec_len, vec_capacity, option_map};
 ghost use Rattle.std.specs.Io.KnownBytes.{Keeps, IsAtEnd, prepend_known};
 ghost use Rattle.rw_endpoint.specs.Reading.{HasRead, HasBody};
 

@@ -1,6 +1,6 @@
 //! The shards of all epochs.
 
-ghost use Rattle.std.specs.Prelude.{◌≡◌, ◌+◌, ◌<◌, ◌≤◌, ◌^◌, ℕ, List, [], ◌∷◌, ◌++◌, length, map, MatchResult, IfOk, IfErr, OnOk, OnErr, Some, Err, false, slice_get};
+ghost use Rattle.std.specs.Prelude.{◌≡◌, ◌+◌, ◌<◌, ◌≤◌, ◌^◌, ℕ, [], length, map, OnOk, OnErr, Some, Err, false, slice_get};
 ghost use Rattle.rw_types.specs.declared.place.Place.{Place};
 ghost use Rattle.rw_plain_queue.specs.Items.{places_in};
 ghost use Rattle.rw_fleet.specs.ShardHistories.{ShardHistory, AreFresh, AreSame, AreSetUp, IsMarked, IsPut, IsUsedUp, marked};

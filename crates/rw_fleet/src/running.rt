@@ -1,6 +1,6 @@
 //! A shard at work, and one that is to end.
 
-ghost use Rattle.std.specs.Prelude.{◌≡◌, ◌<◌, ◌≤◌, ◌^◌, ℕ, List, [], ◌∷◌, ◌++◌, length, IfOk, OnOk, MatchResult, Err, Some, slice_get};
+ghost use Rattle.std.specs.Prelude.{◌≡◌, ◌<◌, ◌≤◌, ◌^◌, ℕ, [], ◌∷◌, ◌++◌, length, IfOk, OnOk, MatchResult, Err, Some, slice_get};
 ghost use Rattle.rw_types.specs.declared.place.Place.{Place};
 ghost use Rattle.rw_plain_queue.specs.Items.{samples_in, places_in};
 ghost use Rattle.rw_fleet.specs.ShardHistories.{IsSetUp, put_as, item_as, marks_in};

@@ -1,7 +1,5 @@
 //! A watch by the clock.
 
-ghost use Rattle.std.specs.Prelude.{◌≡◌};
-
 use crate::watch::{Sign, Watch, Wish};
 use std::thread;
 use std::time::{Clock, Duration, Instant};

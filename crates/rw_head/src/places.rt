@@ -1,6 +1,6 @@
 //! The places of label sets.
 
-ghost use Rattle.std.specs.Prelude.{◌≡◌, ◌≢◌, ◌+◌, min, map, ◌<◌, ◌≤◌, length, [], ◌^◌, ◌++◌, ◌∷◌, None, Some, IfOk, IfErr, IfSome, OnOk, OnErr, vec_len, vec_capacity};
+ghost use Rattle.std.specs.Prelude.{◌≡◌, ◌≢◌, ◌+◌, min, map, ◌<◌, length, [], ◌^◌, ◌++◌, ◌∷◌, None, Some, IfOk, IfErr, IfSome, OnOk, OnErr, vec_len, vec_capacity};
 ghost use Rattle.std.specs.List.{All};
 ghost use Rattle.std.specs.BTreeMap.{get, Updates, IsOrdered};
 ghost use Rattle.rw_types.specs.Labels.{Labels, text_label};

@@ -1,6 +1,6 @@
 //! Laws of hexadecimal text. Each function has an empty body: its contract is the law.
 
-ghost use Rattle.std.specs.Prelude.{◌≡◌, ◌<◌, List, ℕ, Ok, Some};
+ghost use Rattle.std.specs.Prelude.{◌≡◌, List, ℕ, Ok, Some};
 ghost use Rattle.rw_hex.specs.HexText.{hex_text, read_text, read_digits};
 ghost use Rattle.hex.specs.Hex.{IsBytes};
 

@@ -1,6 +1,6 @@
 //! Hexadecimal text read as bytes.
 
-ghost use Rattle.std.specs.Prelude.{◌≡◌, ◌+◌, ◌^◌, ◌<◌, ℕ, Ok, true, false, not, length, slice_index, EachIndex, MatchOption, IfOk, IfErr};
+ghost use Rattle.std.specs.Prelude.{◌≡◌, ◌+◌, ◌^◌, ◌<◌, ℕ, Ok, true, false, length, slice_index, EachIndex, MatchOption, IfOk, IfErr};
 ghost use Rattle.std.specs.List.{list_all, before_last};
 ghost use Rattle.std.specs.Option.{option_map};
 ghost use Rattle.rw_hex.specs.HexText.{is_digit, is_foreign, line_after, read_text, read_digits};

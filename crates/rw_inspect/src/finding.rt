@@ -1,6 +1,6 @@
 //! The entries of a log at given positions.
 
-ghost use Rattle.std.specs.Prelude.{◌≡◌, ◌++◌, ◌∷◌, [], ℕ, List, map, flat_map, count_by, length, not, true, None, Some, Err, IfOk, OnOk, OnErr, MatchOption, ◌<◌, vec_len, vec_capacity};
+ghost use Rattle.std.specs.Prelude.{◌≡◌, ◌++◌, ◌∷◌, [], List, map, flat_map, count_by, length, not, true, None, Some, Err, IfOk, OnOk, OnErr, MatchOption, ◌<◌, vec_len, vec_capacity};
 ghost use Rattle.rw_types.specs.declared.entry.Entry.{Entry};
 ghost use Rattle.rw_types.specs.declared.transfer.ReadFault.TheVariants.{Failed};
 ghost use Rattle.rw_series_cache.specs.Known.{definitions_of};

@@ -1,9 +1,8 @@
 //! The plan of a log that stands in several segments.
 
-ghost use Rattle.std.specs.Prelude.{◌≡◌, ◌⊎◌, ◌++◌, [], map, true, false, Ok, Err, None, Some, IfOk, OnOk};
+ghost use Rattle.std.specs.Prelude.{◌≡◌, ◌⊎◌, [], map, true, false, Ok, Err, None, Some, IfOk, OnOk};
 ghost use Rattle.rw_types.specs.declared.transfer.ReadFault.TheVariants.{OutOfMemory, Failed};
 ghost use Rattle.rw_wal_format.specs.declared.tail_fault.TailFault.{TailFault};
-ghost use Rattle.rw_plan.specs.Plan.{plan_text};
 ghost use Rattle.rw_inspect.specs.Inspecting.{AllSure, ReadsToFault, fault_in, source_of};
 ghost use Rattle.rw_inspect.specs.Planning.{IsPlanOf, WritesPlan, WritesPlanPart};
 

@@ -1,6 +1,6 @@
 //! Segments of records in memory.
 
-ghost use Rattle.std.specs.Prelude.{◌≡◌, ◌<◌, ◌≤◌, ℕ, List, [], ◌∷◌, length, true, false, IfOk, MatchBool};
+ghost use Rattle.std.specs.Prelude.{◌≡◌, ◌<◌, ◌≤◌, ℕ, List, [], ◌∷◌, true, false, IfOk, MatchBool};
 ghost use Rattle.rw_log_commands.specs.Filling.{HasMemory, TakesRecords};
 ghost use Rattle.rw_text.specs.RecordLines.{lines};
 ghost use Rattle.rw_log_commands.specs.LogText.{have_room, AreRecords, Fills};

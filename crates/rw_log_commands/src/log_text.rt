@@ -1,6 +1,6 @@
 //! Log text and its records.
 
-ghost use Rattle.std.specs.Prelude.{◌≡◌, ◌<◌, ◌≤◌, ℕ, List, [], ◌∷◌, length, Err, IfOk, IfErr};
+ghost use Rattle.std.specs.Prelude.{◌≡◌, ◌<◌, ℕ, List, [], ◌∷◌, length, Err, IfOk, IfErr};
 ghost use Rattle.rw_text.specs.RecordLines.{lines, IsRecordOf};
 ghost use Rattle.rw_log_commands.specs.LogText.{longest_of, AreRecords, IsFaultOfText};
 

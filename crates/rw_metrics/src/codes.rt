@@ -1,7 +1,5 @@
 //! How often each status came.
 
-ghost use Rattle.std.specs.Prelude.{◌≡◌, vec_len, IfOk};
-
 use std::alloc::{AllocError, Global};
 use std::sync::atomic::{AtomicU64, Ordering};
 

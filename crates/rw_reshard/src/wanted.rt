@@ -1,7 +1,7 @@
 //! How many shards to run.
 
 ghost use Rattle.std.specs.Prelude.{◌≡◌, ◌≤◌};
-ghost use Rattle.rw_reshard.specs.Wanted.{within, desired, if_far, wanted};
+ghost use Rattle.rw_reshard.specs.Wanted.{within, desired, wanted};
 
 /// A number, brought into a range.
 fn bring_within(n: u128, min: u32, max: u32) -> u32

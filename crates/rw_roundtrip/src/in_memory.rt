@@ -1,6 +1,6 @@
 //! A request and its reply in memory.
 
-ghost use Rattle.std.specs.Prelude.{◌≡◌, ℕ, List};
+ghost use Rattle.std.specs.Prelude.{ℕ, List};
 ghost use Rattle.rw_endpoint.specs.Alone.{IsOneRequest, IsOneRefusal};
 ghost use Rattle.rw_roundtrip.specs.Exchanges.{IsRequest, IsAnswered, IsRefused};
 

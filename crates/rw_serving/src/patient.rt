@@ -1,6 +1,6 @@
 //! A connection that may be silent for so long, and that ends once a stop is wished.
 
-ghost use Rattle.std.specs.Prelude.{◌≡◌, ◌+◌, ◌*◌, ◌<◌, ◌≤◌};
+ghost use Rattle.std.specs.Prelude.{◌+◌, ◌*◌, ◌<◌, ◌≤◌};
 
 use rw_stop::{Sign, Wish};
 use rw_types::Bounded;

@@ -1,15 +1,15 @@
 //! Reads the settings of a text.
 
-ghost use Rattle.std.specs.Prelude.{◌≡◌, ◌⊎◌, All, Any, Some, None, Ok, Err, codes, map, is_some, IfOk, IfErr, IfSome};
+ghost use Rattle.std.specs.Prelude.{◌≡◌, ◌⊎◌, All, Some, None, Ok, Err, map, is_some, IfOk, IfErr, IfSome};
 ghost use Rattle.std.specs.Str.{is_utf8};
 ghost use Rattle.toml.specs.Parse.{parse_document};
-ghost use Rattle.toml.specs.Data.{get_member, no_members};
+ghost use Rattle.toml.specs.Data.{no_members};
 ghost use Rattle.toml.specs.View.{table_view};
 ghost use Rattle.rw_relabel.specs.Patterns.{HasReadablePattern};
 ghost use Rattle.rw_settings.specs.RuleTables.{written_rule};
 ghost use Rattle.rw_settings.specs.Sending.{send_fields, order_fault};
 ghost use Rattle.rw_settings.specs.Settings.{document_fault, settings_if, settings_of, settings_in, IsFaultOf};
-ghost use Rattle.rw_settings.specs.declared.fault.SettingsFault.TheVariants.{OutOfMemory, NotToml, BadRule};
+ghost use Rattle.rw_settings.specs.declared.fault.SettingsFault.TheVariants.{OutOfMemory, NotToml};
 
 use crate::fault::{SettingsFault, least};
 use crate::receiving::{receive_fault, receive_limits};

@@ -1,12 +1,11 @@
 //! The tables `[[rule]]`.
 
-ghost use Rattle.std.specs.Prelude.{◌≡◌, ◌⊎◌, All, Any, Contains, map, string_bytes, Some, None, codes, [], ◌∷◌, ◌++◌, IfOk, IfErr, OnOk};
-ghost use Rattle.toml.specs.Data.{get_member, no_items, no_members, as_table};
+ghost use Rattle.std.specs.Prelude.{◌≡◌, ◌⊎◌, All, Any, map, string_bytes, Some, None, codes, [], ◌∷◌, ◌++◌, IfOk, IfErr, OnOk};
+ghost use Rattle.toml.specs.Data.{get_member, no_members, as_table};
 ghost use Rattle.toml.specs.View.{view, items_view, table_view};
 ghost use Rattle.rw_relabel.specs.Patterns.{HasReadablePattern};
-ghost use Rattle.rw_settings.specs.RuleTables.{action_text_fault, action_fault, are_texts, labels_fault, source_fault, rule_table_fault, rule_fault_of, with_rules_fault, action_of, texts_of, rule_config, rules_of, written_rule};
+ghost use Rattle.rw_settings.specs.RuleTables.{action_fault, are_texts, labels_fault, source_fault, rule_table_fault, rule_fault_of, with_rules_fault, action_of, texts_of, rule_config, rules_of, written_rule};
 ghost use Rattle.rw_settings.specs.Settings.{IsRefusedRule};
-ghost use Rattle.rw_settings.specs.Values.{list_at, part_or};
 ghost use Rattle.rw_settings.specs.declared.fault.SettingsFault.TheVariants.{OutOfMemory, BadRule};
 
 use crate::fault::{SettingsFault, least, lesser};

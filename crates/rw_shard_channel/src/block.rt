@@ -1,6 +1,6 @@
 //! The blocks of items that go through the channel of a queue.
 
-ghost use Rattle.std.specs.Prelude.{◌≡◌, ◌++◌, ◌∷◌, [], List, length, IfOk, IfNone, ◌≤◌, ◌<◌, MatchOption};
+ghost use Rattle.std.specs.Prelude.{◌≡◌, ◌++◌, ◌∷◌, [], length, IfOk, IfNone, ◌≤◌, ◌<◌, MatchOption};
 
 use rw_plain_queue::Item;
 use std::alloc::{AllocError, Global};

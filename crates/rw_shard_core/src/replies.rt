@@ -1,8 +1,7 @@
 //! Reads the status of the reply to a request.
 
 ghost use Rattle.std.specs.Prelude.{◌≡◌, ◌≤◌, length, drop};
-ghost use Rattle.httparse.specs.Grammar.{ResponseHead, print_response};
-ghost use Rattle.rw_shard_core.specs.Replies.{BeginsWith, IsInformational, Reads, Found};
+ghost use Rattle.rw_shard_core.specs.Replies.{Reads, Found};
 
 use httparse::Status;
 use httparse::spans::{EMPTY_HEADER_SPAN, parse_response};

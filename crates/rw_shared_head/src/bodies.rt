@@ -1,6 +1,6 @@
 //! The bodies that a head has taken, as its lock and each seat know them. All of it is for contracts: no body is kept.
 
-ghost use Rattle.std.specs.Prelude.{◌≡◌, ◌++◌, [], ◌∷◌, IfOk};
+ghost use Rattle.std.specs.Prelude.{◌≡◌, ◌++◌, [], ◌∷◌};
 ghost use Rattle.rw_types.specs.Beginnings.{Begins};
 
 use crate::naming::Naming;

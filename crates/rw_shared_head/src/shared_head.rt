@@ -87,7 +87,8 @@ impl<L: Naming> SharedHead<L> {
         }
     }
 
-    /// Gives the head back, once all seats are back. It holds what each of them was told is stored, and takes label sets by the limits that it had. This takes no memory and waits for nobody.
+    /// Gives the head back, once all seats are back. It holds what each of them was told is stored, and takes label sets by the
+    /// limits that it had. This takes no memory and waits for nobody.
     pub fn gather(self, seats: Vec<Seat<L>>) -> Head
         requires { vec_len seats ≡ self.seats }
         ensures gathered { HasGathered L.opening seats.items result.store }

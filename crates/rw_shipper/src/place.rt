@@ -1,7 +1,7 @@
 //! The entries of the log are placed.
 
-ghost use Rattle.std.specs.Prelude.{◌≡◌, ◌<◌, ◌≤◌, ◌∷◌, [], length, IfOk, OnOk, OnErr, None};
-ghost use Rattle.rw_feeder.specs.Feeders.{HasPlaced, HasRead};
+ghost use Rattle.std.specs.Prelude.{◌≡◌, ◌<◌, ◌∷◌, [], length, IfOk, OnOk, None};
+ghost use Rattle.rw_feeder.specs.Feeders.{HasRead};
 ghost use Rattle.rw_batch_bytes.specs.Sizes.{bytes_of};
 ghost use Rattle.std.specs.Arc.{arc_value};
 ghost use Rattle.rw_fleet.specs.ShardHistories.{AreSame};

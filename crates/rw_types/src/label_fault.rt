@@ -1,8 +1,6 @@
 //! Why labels are not a label set.
 
-ghost use Rattle.std.specs.Prelude.{◌≡◌, ◌+◌, ◌<◌, length, map, codes, not, ◌||◌, nat_lt};
-ghost use Rattle.std.specs.List.{list_all};
-ghost use Rattle.std.specs.Str.{is_utf8};
+ghost use Rattle.std.specs.Prelude.{◌≡◌, ◌<◌, not};
 ghost use Rattle.rw_types.specs.Labels.{label_fault_number};
 
 use std::alloc::AllocError;

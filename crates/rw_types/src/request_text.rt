@@ -1,6 +1,6 @@
 //! The host and the path that HTTP requests name.
 
-ghost use Rattle.std.specs.Prelude.{◌≡◌, ◌==◌, ◌&&◌, nat_le, length, Some, None, true, codes, IfOk, string_bytes, if◌then◌else◌};
+ghost use Rattle.std.specs.Prelude.{◌≡◌, ◌==◌, ◌&&◌, Some, None, true, codes, IfOk, string_bytes, if◌then◌else◌};
 ghost use Rattle.std.specs.List.{list_all};
 ghost use Rattle.rw_types.specs.Labels.{is_word_of};
 ghost use Rattle.rw_types.specs.Requests.{is_host_byte, is_path_byte, is_host_name, is_request_path};

@@ -1,6 +1,6 @@
 //! One shard of the world.
 
-ghost use Rattle.std.specs.Prelude.{◌≡◌, ◌<◌, ◌≤◌, ◌^◌, ◌==◌, [], ◌∷◌, ◌++◌, true, false, length, Some, None, IfOk, IfSome, OnOk, OnErr, if◌then◌else◌};
+ghost use Rattle.std.specs.Prelude.{◌≡◌, ◌<◌, ◌≤◌, ◌^◌, ◌==◌, [], ◌∷◌, ◌++◌, true, false, length, Some, None, IfOk, IfSome, OnOk, OnErr};
 ghost use Rattle.rw_shard_core.specs.Shard.{HasRoomFor, IsReadAgain, new_core, freeze_room, last_of, reply_names, places_of, positions_of};
 ghost use Rattle.rw_shard_core.specs.Shard as core;
 ghost use Rattle.rw_machine.specs.Shards.{new_shard, has_room, shard_put, shard_flush, shard_end, with_core, shard_take, shard_freeze, shard_send, shard_lost, is_drained, pending};

@@ -1,6 +1,6 @@
 //! Messages, read from their bytes.
 
-ghost use Rattle.std.specs.Prelude.{◌≡◌, ℕ, ◌+◌, ◌*◌, ◌^◌, ◌<◌, ◌≤◌, List, [], ◌∷◌, length, vec_capacity, IfOk, IfErr, MatchResult, ◌≢◌, Ok, Err};
+ghost use Rattle.std.specs.Prelude.{◌≡◌, ◌+◌, ◌<◌, ◌≤◌, List, [], length, vec_capacity, IfOk, IfErr, MatchResult, ◌≢◌, Ok, Err};
 ghost use Rattle.rw_write_request.specs.Message.{WriteRequest};
 ghost use Rattle.rw_types.specs.Labels.{text_label};
 ghost use Rattle.rw_write_request.specs.Texts.{series_of};

@@ -5,11 +5,11 @@ use crate::growing_folder::has_changed;
 use crate::logs::segment;
 use crate::receivers::Receivers;
 use crate::rows::none_is_wrong;
+use crate::shipped::settings_of;
 use http::StatusCode;
 use rw_fault::ToolFault;
 use rw_metrics::SendCounters;
 use rw_send::{Counted, Opened, SegmentFile, StopFlag, run_send, segment_files};
-use rw_settings::{Settings, read_settings};
 use rw_types::{Room, Source, read_to_end};
 use std::alloc::{AllocError, Global};
 use std::fs::File;
@@ -136,13 +136,6 @@ pub(crate) fn ready<R: Copy>(clock: &R) -> Receivers<R> {
     }
 }
 
-pub(crate) fn default_settings(alloc: Global) -> Result<Settings, AllocError> {
-    match read_settings(alloc, b"") {
-        Ok(settings) => Ok(settings),
-        Err(_) => Err(AllocError),
-    }
-}
-
 /// Writes two segments of one entry each, which is a series.
 fn write_two(rt: &HostRuntime, dir: &str) -> Result<(), Fail> {
     let bytes = segment(rt.alloc(), b"series 1 {__name__=\"up\"}\n")?;
@@ -169,7 +162,7 @@ fn send_listed<R: Threads + Wait + Clock + Copy + Send + 'static>(
     let alloc = rt.alloc();
     let counters = SendCounters::new(alloc)?;
     let stop = StopFlag::new(alloc)?;
-    let settings = default_settings(alloc)?;
+    let settings = settings_of(alloc, b"")?;
     let segments = segment_files(rt, dir.as_str(), None)?;
     have_changed(rt, dir, changes);
     let line = Counted {

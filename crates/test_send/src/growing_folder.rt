@@ -1,8 +1,9 @@
 //! A folder that is followed while files come and grow.
 
 use crate::countdown::Countdown;
-use crate::folder::{default_settings, new_folder, ready, write_name};
+use crate::folder::{new_folder, ready, write_name};
 use crate::kept::{Kept, follow_into};
+use crate::shipped::settings_of;
 use Change::{Dir, Goes, Grows, Nothing};
 use rw_fault::ToolFault;
 use rw_follow::{Broken, Sign, Timed, Wish};
@@ -185,7 +186,7 @@ fn follow_sending<R: Threads + Wait + Clock + Copy + Send + 'static>(
     let opened = Arc::new(alloc, SendCounters::new(alloc)?)?;
     let dir = String::from_str(alloc, dir)?;
     let stop = StopFlag::new(alloc)?;
-    let settings = default_settings(alloc)?;
+    let settings = settings_of(alloc, b"")?;
     let mut folder = Folder::new(*rt, dir, opened);
     let mut watch = Countdown {
         looks: 5,

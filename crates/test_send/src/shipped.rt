@@ -97,7 +97,7 @@ fn log_of(alloc: Global, parts: &[Part<'_>]) -> Result<Listed, AllocError>
     Ok(Listed::new(alloc, events))
 }
 
-fn settings_of(alloc: Global, text: &[u8]) -> Result<Settings, AllocError> {
+pub(crate) fn settings_of(alloc: Global, text: &[u8]) -> Result<Settings, AllocError> {
     match read_settings(alloc, text) {
         Ok(settings) => Ok(settings),
         Err(_) => Err(AllocError),
