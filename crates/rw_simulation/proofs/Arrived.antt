@@ -4,6 +4,7 @@ use Rattle.std.specs.List.{AllByRecursion}
 use Rattle.std.proofs.lemmas.Bool.Decides.{eqb_tells}
 use Rattle.std.proofs.lemmas.List.Elements.{filter-append}
 use Rattle.std.proofs.lemmas.Option.{same_Some, none-some}
+use Rattle.rw_shard_core.specs.Shard.{IsReadAgain}
 use Rattle.rw_worker.specs.Transcript.{Exchange, batch_request}
 use Rattle.rw_head.specs.Head.{State}
 use Rattle.rw_machine.specs.Worlds.{Setup, Request, World, start}
@@ -38,6 +39,22 @@ find-in p (x ∷ xs) i r e = by_test (p x) i e (λ j f. find-in p xs j r f)
     by_test true zero e go = (0, e)
     by_test true (suc i) e go = let h = go i e in (suc h.0, h.1)
     by_test false i e go = let h = go i e in (suc h.0, h.1)
+
+-- ---- what reads again
+-- the body of each of these requests reads again as the message of its batch
+abbrev pub AreRead : List Request → Type 0
+AreRead requests = (i : ℕ) (r : Request) → slice_get requests i ≡ Some r → IsReadAgain r.batch
+
+pub none-read : AreRead []
+none-read i r e = absurd (none-some r e)
+
+pub one-read : (r : Request) → IsReadAgain r.batch → AreRead (r ∷ [])
+one-read r read zero q e = subst (λ (x : Request). IsReadAgain x.batch) (same_Some _ _ e) read
+one-read r read (suc i) q e = absurd (none-some q e)
+
+-- the i-th of these requests has the bytes of the exchange, and its body reads again
+abbrev pub IsSentAs : List Request → ℕ → Exchange → Type 0
+IsSentAs requests i x = (r : Request) × (slice_get requests i ≡ Some r) × (r.bytes ≡ x.request) × IsReadAgain r.batch
 
 pub below_it : (k m : ℕ) → k < suc m → (k ≡ m → ⊥) → k < m
 below_it k m lt differ = omega arith
@@ -84,9 +101,9 @@ module _ (c : Setup) (exs : ℕ → ℕ → List Exchange) (arrivals : List Arri
   abbrev pub came : ℕ → World → Arrival → Request → World
   came m w a r = record w { replies = w.replies ++ record { id = r.id; status = a.status } ∷ []; head = heads (suc m) }
 
-  pub comes : (m : ℕ) (w : World) (a : Arrival) (r : Request) (x : Exchange) → w.head ≡ heads m → slice_get arrivals m ≡ Some a → slice_get (requests_of a.epoch a.shard w.requests) a.number ≡ Some r → slice_get (exs a.epoch a.shard) a.number ≡ Some x → r.bytes ≡ x.request → CarriesItsBatch c r
+  pub comes : (m : ℕ) (w : World) (a : Arrival) (r : Request) (x : Exchange) → w.head ≡ heads m → slice_get arrivals m ≡ Some a → slice_get (requests_of a.epoch a.shard w.requests) a.number ≡ Some r → slice_get (exs a.epoch a.shard) a.number ≡ Some x → r.bytes ≡ x.request → CarriesItsBatch c r → IsReadAgain r.batch
       → (j : ℕ) × (happens c w (event.Arrive j a.how) ≡ came m w a r)
-  comes m w a r x head at sent is bytes carries = (found.0, ap (arrive c w a.how) found.1 ∙ by_how a.how received.2)
+  comes m w a r x head at sent is bytes carries read = (found.0, ap (arrive c w a.how) found.1 ∙ by_how a.how received.2)
     where
       found : (j : ℕ) × (slice_get w.requests j ≡ Some r)
       found = find-in (is_of a.epoch a.shard) w.requests a.number r sent
@@ -98,7 +115,7 @@ module _ (c : Setup) (exs : ℕ → ℕ → List Exchange) (arrivals : List Arri
       carried = ap (λ (y : Exchange). y.request) (same_Some _ _ (sym received.1 ∙ is)) ∙ sym bytes ∙ carries
 
       by_how : (how : How) → Receives c how received.0.request (heads m) a.status (heads (suc m)) → arrive c w how (Some r) ≡ came m w a r
-      by_how Plain h = ap (λ (s : State). answered w r.id (endpoint_answer c s r.batch)) head ∙ ap (answered w r.id) (h r.batch carried)
+      by_how Plain h = ap (λ (s : State). answered w r.id (endpoint_answer c s r.batch)) head ∙ ap (answered w r.id) (h r.batch read carried)
       by_how Busy h = let status = sym h.0 in let next = head ∙ sym h.1 in λ i. answered w r.id (record { status = status i; head = next i })
       by_how OutOfMemory h = let status = sym h.0 in let next = head ∙ sym h.1 in λ i. answered w r.id (record { status = status i; head = next i })
 

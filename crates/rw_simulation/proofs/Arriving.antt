@@ -3,12 +3,13 @@ use Rattle.std.proofs.Common.{◌≡◌, ℕ, zero, suc, ◌+◌, ◌-◌, ◌<�
 use Rattle.std.specs.List.{AllByRecursion}
 use Rattle.std.proofs.lemmas.Bool.Decides.{eqb_tells}
 use Rattle.std.proofs.lemmas.List.{length-map, map-append}
+use Rattle.std.proofs.lemmas.List.Elements.{filter-append}
 use Rattle.std.proofs.lemmas.Option.{same_Some, slice_get_within}
 use Rattle.rw_types.specs.declared.entry.Entry.{Entry}
 use Rattle.rw_ledger.specs.Names.{Named}
 use Rattle.rw_retry.specs.Judgements.{judgement_of}
 use Rattle.rw_plain_queue.specs.declared.item.Item.{Item}
-use Rattle.rw_shard_core.specs.Shard.{Core, settle, lose, batch_id, freeze}
+use Rattle.rw_shard_core.specs.Shard.{Core, IsReadAgain, settle, lose, batch_id, freeze}
 use Rattle.rw_worker.specs.declared.transport.Reply.{Reply}
 use Rattle.rw_worker.specs.declared.transport.Lost.{Lost}
 use Rattle.rw_worker.specs.Transcript.{Exchange, exchange_of}
@@ -33,8 +34,8 @@ use Rattle.rw_simulation.proofs.WorkerLists.{core_after, after-is, numbered-afte
 use Rattle.rw_simulation.proofs.Tallies.{Names, GrowAlike, alike-self, alike-by, own-requests, other-requests, with_part, part-own, part-other, tallied-shard, tallied-still}
 use Rattle.rw_simulation.proofs.EpochRuns.{each-update}
 use Rattle.rw_simulation.proofs.EndRuns.{HasCome, IsOver, come-still}
-use Rattle.rw_simulation.proofs.Pasts.{get-first, get_map, map_get}
-use Rattle.rw_simulation.proofs.Arrived.{is_of, still-at, find-in, below_it, IsAnsweredAs, HasArrived, arrived-own, came, comes, arrived-next}
+use Rattle.rw_simulation.proofs.Pasts.{get-first, get-either, get_map, map_get}
+use Rattle.rw_simulation.proofs.Arrived.{is_of, still-at, find-in, AreRead, none-read, one-read, IsSentAs, below_it, IsAnsweredAs, HasArrived, arrived-own, came, comes, arrived-next}
 
 module _ (c : Setup) (exs : ℕ → ℕ → List Exchange) (arrivals : List Arrival) (heads : ℕ → State) (one : IsOneReceiver c exs arrivals heads) where
   -- ---- one epoch, from a world on in which each shard has been put all that it will be put
@@ -85,7 +86,8 @@ module _ (c : Setup) (exs : ℕ → ℕ → List Exchange) (arrivals : List Arri
       pub each : (k : ℕ) (s : Shard) → slice_get w.shards k ≡ Some s → AnyWork k (requests_of epoch k w.requests) (parts k) s
       pub done : (k : ℕ) (s : Shard) → slice_get w.shards k ≡ Some s → k < j → HasCome epoch k w.requests (parts k) s (fates k)
       pub arrived : HasArrived c exs arrivals heads one m w
-      pub earlier : (e k i : ℕ) (x : Exchange) → e < epoch → slice_get (exs e k) i ≡ Some x → (r : Request) × (slice_get (requests_of e k w.requests) i ≡ Some r) × (r.bytes ≡ x.request)
+      pub read : (k : ℕ) → k < n → AreRead (requests_of epoch k w.requests)
+      pub earlier : (e k i : ℕ) (x : Exchange) → e < epoch → slice_get (exs e k) i ≡ Some x → IsSentAs (requests_of e k w.requests) i x
 
     -- and shard k stands so
     pub record Stands (j m k : ℕ) (held : Option Exchange) (steps : List Step) (sent : List Exchange) (w : World) : Type 0 where
@@ -98,10 +100,10 @@ module _ (c : Setup) (exs : ℕ → ℕ → List Exchange) (arrivals : List Arri
     not_itself j k lt le = omega arith
 
     -- a shard has moved on
-    moves : (j m k : ℕ) (w : World) (all : AtWorks j m w) (s t : Shard) → slice_get w.shards k ≡ Some s → j ≤ k → (was now names : Names) (requests more : List Request) → was ≡ all.parts k → requests ≡ w.requests ++ more → AllByRecursion (IsIdOf epoch k) more
+    moves : (j m k : ℕ) (w : World) (all : AtWorks j m w) (s t : Shard) → slice_get w.shards k ≡ Some s → j ≤ k → (was now names : Names) (requests more : List Request) → was ≡ all.parts k → requests ≡ w.requests ++ more → AllByRecursion (IsIdOf epoch k) more → AreRead more
         → GrowAlike w.names names was now → (hs : List Happening) → AllByRecursion IsOwn hs → run_freely c hs w ≡ moved w k t names requests w.replies → (held : Option Exchange) (steps : List Step) (sent : List Exchange) → AtWork k held steps sent (requests_of epoch k requests) now t
         → Stands j m k held steps sent (moved w k t names requests w.replies)
-    moves j m k w all s t at le was now names requests more part requests_are ids grow hs own is held steps sent work = record {
+    moves j m k w all s t at le was now names requests more part requests_are ids reads grow hs own is held steps sent work = record {
       all = record {
         same = ap (λ (x : World). record x { shards = later.shards; names = later.names; requests = later.requests; replies = later.replies; head = later.head }) all.same;
         count = length_change k (λ _. t) w.shards ∙ all.count;
@@ -114,7 +116,8 @@ module _ (c : Setup) (exs : ℕ → ℕ → List Exchange) (arrivals : List Arri
             (λ i v e differ lt. subst (λ (rs : List Request). HasCome epoch i rs (with_part k now all.parts i) v (fates i)) (sym requests_are) (come-still epoch i k w.requests more now all.parts v (fates i) differ ids (all.done i v e lt)))
             (λ lt. absurd (not_itself j k lt le));
         arrived = arrived-own c exs arrivals heads one m w later hs all.arrived own is;
-        earlier = λ e i number x lt got. let h = all.earlier e i number x lt got in (h.0, ap (λ (rs : List Request). slice_get (requests_of e i rs) number) requests_are ∙ still-at e i number w.requests more h.0 h.1, h.2);
+        read = λ i lt number r e. by_place i number r (get-either (requests_of epoch i w.requests) (requests_of epoch i more) number r (ap (λ (rs : List Request). slice_get rs number) (sym (filter-append (is_of epoch i) w.requests more) ∙ ap (requests_of epoch i) (sym requests_are)) ∙ e)) (λ b. all.read i lt number r b);
+        earlier = λ e i number x lt got. let h = all.earlier e i number x lt got in (h.0, ap (λ (rs : List Request). slice_get (requests_of e i rs) number) requests_are ∙ still-at e i number w.requests more h.0 h.1, h.2, h.3);
       };
       s = t;
       at = change-get t k w.shards s at;
@@ -123,6 +126,10 @@ module _ (c : Setup) (exs : ℕ → ℕ → List Exchange) (arrivals : List Arri
       where
         later : World
         later = moved w k t names requests w.replies
+
+        by_place : (i number : ℕ) (r : Request) → (slice_get (requests_of epoch i w.requests) number ≡ Some r) ⊎ ((d : ℕ) × (slice_get (requests_of epoch i more) d ≡ Some r)) → (slice_get (requests_of epoch i w.requests) number ≡ Some r → IsReadAgain r.batch) → IsReadAgain r.batch
+        by_place i number r (inl b) before = before b
+        by_place i number r (inr (d, b)) before = let f = find-in (is_of epoch i) more d r b in reads f.0 r f.1
 
         own_work : AtWork k held steps sent (requests_of epoch k requests) (with_part k now all.parts k) t
         own_work = subst (λ (p : Names). AtWork k held steps sent (requests_of epoch k requests) p t) (sym (part-own k now all.parts)) work
@@ -178,7 +185,7 @@ module _ (c : Setup) (exs : ℕ → ℕ → List Exchange) (arrivals : List Arri
     take-it : (j m k : ℕ) (x : Item) (ss : List Step) (sent : List Exchange) (w : World) → j ≤ k → Stands j m k None (Takes x ∷ ss) sent w → Went j m k None ss sent
     take-it j m k x ss sent w le h = record {
       world = moved w k t w.names w.requests w.replies;
-      stands = moves j m k w h.all r t at le wk.ledger.names wk.ledger.names w.names w.requests [] wk.part_is (no_more w) tt (alike-self w.names wk.ledger.names) (Of (event.Take k) ∷ []) (tt, tt) taken None ss sent
+      stands = moves j m k w h.all r t at le wk.ledger.names wk.ledger.names w.names w.requests [] wk.part_is (no_more w) tt none-read (alike-self w.names wk.ledger.names) (Of (event.Take k) ∷ []) (tt, tt) taken None ss sent
           (after-one k (Takes x) ss sent (requests_of epoch k w.requests) r wk.ledger wk.allowed wk.numbered wk.epoch_is wk.queue wk.put wk.worker wk.bytes wk.exchanges wk.can_end);
     }
       where
@@ -202,7 +209,7 @@ module _ (c : Setup) (exs : ℕ → ℕ → List Exchange) (arrivals : List Arri
     freeze-it : (j m k : ℕ) (ss : List Step) (sent : List Exchange) (w : World) → j ≤ k → Stands j m k None (Freezes ∷ ss) sent w → Went j m k None ss sent
     freeze-it j m k ss sent w le h = record {
       world = moved w k t w.names w.requests w.replies;
-      stands = moves j m k w h.all r t at le wk.ledger.names (after_step Freezes (working r.core wk.ledger)).ledger.names w.names w.requests [] wk.part_is (no_more w) tt
+      stands = moves j m k w h.all r t at le wk.ledger.names (after_step Freezes (working r.core wk.ledger)).ledger.names w.names w.requests [] wk.part_is (no_more w) tt none-read
           (subst (λ (l : Names). GrowAlike w.names w.names wk.ledger.names l) (sym (ledger-step Freezes (working r.core wk.ledger) wk.allowed.0)) (alike-self w.names wk.ledger.names)) (Of (event.Freeze k) ∷ []) (tt, tt) frozen None ss sent
           (after-one k Freezes ss sent (requests_of epoch k w.requests) r wk.ledger wk.allowed wk.numbered wk.epoch_is wk.queue wk.put wk.worker wk.bytes wk.exchanges wk.can_end);
     }
@@ -252,7 +259,7 @@ module _ (c : Setup) (exs : ℕ → ℕ → List Exchange) (arrivals : List Arri
     send-it : (j m k : ℕ) (e : Exchange) (ss : List Step) (sent : List Exchange) (w : World) → j ≤ k → Stands j m k None (Sends e ∷ ss) sent w → Went j m k (Some e) ss (sent ++ e ∷ [])
     send-it j m k e ss sent w le h = record {
       world = moved w k (sent_shard r) w.names (w.requests ++ request_by r ∷ []) w.replies;
-      stands = moves j m k w h.all r (sent_shard r) at le wk.ledger.names wk.ledger.names w.names (w.requests ++ request_by r ∷ []) (request_by r ∷ []) wk.part_is refl ids (alike-self w.names wk.ledger.names) (Of (event.Send k) ∷ []) (tt, tt)
+      stands = moves j m k w h.all r (sent_shard r) at le wk.ledger.names wk.ledger.names w.names (w.requests ++ request_by r ∷ []) (request_by r ∷ []) wk.part_is refl ids (one-read (request_by r) wk.allowed.0.2) (alike-self w.names wk.ledger.names) (Of (event.Send k) ∷ []) (tt, tt)
           (out_is c w k r at goes wk.numbered wk.allowed.0.0) (Some e) ss (sent ++ e ∷ []) (record {
             rest = r;
             ledger = wk.ledger;
@@ -321,7 +328,7 @@ module _ (c : Setup) (exs : ℕ → ℕ → List Exchange) (arrivals : List Arri
     settle-it : (j m k bound : ℕ) (bytes : List ℕ) (a : Result Reply Lost) (ss : List Step) (sent : List Exchange) (w : World) → j ≤ k → AreAnswered m k bound → length sent ≤ bound → Stands j m k (Some (exchange_of bytes a)) ss sent w → Went j m k None ss sent
     settle-it j m k bound bytes (Ok r) ss sent w le known few h = record {
       world = moved w k t (names_after r.status q.core.batch w.names) w.requests w.replies;
-      stands = moves j m k w h.all (sent_shard q) t at le wk.ledger.names (after_step st (working q.core wk.ledger)).ledger.names (names_after r.status q.core.batch w.names) w.requests [] wk.part_is (no_more w) tt
+      stands = moves j m k w h.all (sent_shard q) t at le wk.ledger.names (after_step st (working q.core wk.ledger)).ledger.names (names_after r.status q.core.batch w.names) w.requests [] wk.part_is (no_more w) tt none-read
           (subst (λ (l : Names). GrowAlike w.names (names_after r.status q.core.batch w.names) wk.ledger.names l) (sym (ledger-step st (working q.core wk.ledger) wk.allowed.0)) (alike-by (st ∷ []) (working q.core wk.ledger) w.names wk.ledger.names)) (Of (event.Reply answer.at) ∷ []) (tt, tt) replied None ss sent
           (after-one k st ss sent (requests_of epoch k w.requests) q wk.ledger wk.allowed wk.numbered wk.epoch_is wk.queue wk.put wk.worker wk.bytes wk.exchanges wk.can_end);
     }
@@ -376,7 +383,7 @@ module _ (c : Setup) (exs : ℕ → ℕ → List Exchange) (arrivals : List Arri
             (change-is (with_core (settle (judgement_of r.status))) k w.shards (sent_shard q) at ∙ (λ i. change k (λ _. record q { queue = wk.queue i; core = core_is i }) w.shards))
     settle-it j m k bound bytes (Err lost) ss sent w le known few h = record {
       world = moved w k t w.names w.requests w.replies;
-      stands = moves j m k w h.all (sent_shard q) t at le wk.ledger.names wk.ledger.names w.names w.requests [] wk.part_is (no_more w) tt (alike-self w.names wk.ledger.names) (Of (event.Lost k) ∷ []) (tt, tt) gone None ss sent
+      stands = moves j m k w h.all (sent_shard q) t at le wk.ledger.names wk.ledger.names w.names w.requests [] wk.part_is (no_more w) tt none-read (alike-self w.names wk.ledger.names) (Of (event.Lost k) ∷ []) (tt, tt) gone None ss sent
           (after-one k st ss sent (requests_of epoch k w.requests) q wk.ledger wk.allowed wk.numbered wk.epoch_is wk.queue wk.put wk.worker wk.bytes wk.exchanges wk.can_end);
     }
       where
@@ -457,11 +464,8 @@ module _ (c : Setup) (exs : ℕ → ℕ → List Exchange) (arrivals : List Arri
         less : (a b : ℕ) → suc a < suc b → a < b
         less a b l = omega arith
 
-    abbrev IsOut : ℕ → List Request → Exchange → Type 0
-    IsOut i own x = (r : Request) × (slice_get own i ≡ Some r) × (r.bytes ≡ x.request)
-
-    out-at : (k : ℕ) (held : Option Exchange) (steps : List Step) (sent : List Exchange) (own : List Request) (part : Names) (s : Shard) (i : ℕ) (x : Exchange) → AtWork k held steps sent own part s → i < length sent → slice_get (exs epoch k) i ≡ Some x → IsOut i own x
-    out-at k held steps sent own part s i x wk lt e = (h.0, h.1, h.2 ∙ ap (λ (y : Exchange). y.request) same_exchange)
+    out-at : (k : ℕ) (held : Option Exchange) (steps : List Step) (sent : List Exchange) (own : List Request) (part : Names) (s : Shard) (i : ℕ) (x : Exchange) → AtWork k held steps sent own part s → AreRead own → i < length sent → slice_get (exs epoch k) i ≡ Some x → IsSentAs own i x
+    out-at k held steps sent own part s i x wk read lt e = (h.0, h.1, h.2 ∙ ap (λ (y : Exchange). y.request) same_exchange, read i h.0 h.1)
       where
         got : (y : Exchange) × (slice_get sent i ≡ Some y)
         got = get_some sent i lt
@@ -475,7 +479,7 @@ module _ (c : Setup) (exs : ℕ → ℕ → List Exchange) (arrivals : List Arri
     record Sent (m k i : ℕ) (x : Exchange) : Type 0 where
       world : World
       all : AtWorks 0 m world
-      out : IsOut i (requests_of epoch k world.requests) x
+      out : IsSentAs (requests_of epoch k world.requests) i x
 
     lt_or_le : (a b : ℕ) → (a < b) ⊎ (b ≤ a)
     lt_or_le a zero = inr (omega arith)
@@ -511,7 +515,7 @@ module _ (c : Setup) (exs : ℕ → ℕ → List Exchange) (arrivals : List Arri
         plus_one xs y i lt = let l = length-append xs (y ∷ []) in omega arith
 
         by_count : (i < length any.sent) ⊎ (length any.sent ≤ i) → Sent m k i x
-        by_count (inl lt) = record { world = w; all = all; out = out-at k any.held any.steps any.sent (requests_of epoch k w.requests) (all.parts k) s i x any.work lt e }
+        by_count (inl lt) = record { world = w; all = all; out = out-at k any.held any.steps any.sent (requests_of epoch k w.requests) (all.parts k) s i x any.work (all.read k (within k i x e)) lt e }
         by_count (inr le) =
             let g = rest-now 0 m k i w all s at least known any.held any.steps any.sent le any.work in
             let sp = split-at any.steps (i - length any.sent) (left (length any.sent) (length (exchanges_of any.steps)) (length (exs epoch k)) i sum_is (slice_get_within (exs epoch k) i x e) le) in
@@ -520,7 +524,7 @@ module _ (c : Setup) (exs : ℕ → ℕ → List Exchange) (arrivals : List Arri
             record {
               world = f.world;
               all = f.stands.all;
-              out = out-at k (Some sp.e) sp.rest (p.sent ++ sp.e ∷ []) (requests_of epoch k f.world.requests) (f.stands.all.parts k) f.stands.s i x f.stands.work
+              out = out-at k (Some sp.e) sp.rest (p.sent ++ sp.e ∷ []) (requests_of epoch k f.world.requests) (f.stands.all.parts k) f.stands.s i x f.stands.work (f.stands.all.read k (within k i x e))
                   (plus_one p.sent sp.e i (reach (length any.sent) (length (exchanges_of sp.first)) (length p.sent) i p.total_is sp.count le)) e;
             }
 
@@ -532,7 +536,7 @@ module _ (c : Setup) (exs : ℕ → ℕ → List Exchange) (arrivals : List Arri
     carries : (w : World) (j : ℕ) (r : Request) → (hs : List Happening) × (world_of c hs ≡ w) → slice_get w.requests j ≡ Some r → CarriesItsBatch c r
     carries w j r reached e = subst (CarriesEachBatch c) reached.1 (keeps-laws c reached.0).bytes j r e
 
-    arrives : (m : ℕ) (w : World) (a : Arrival) (x : Exchange) → AtWorks 0 m w → slice_get arrivals m ≡ Some a → slice_get (exs a.epoch a.shard) a.number ≡ Some x → IsOut a.number (requests_of a.epoch a.shard w.requests) x → Next (suc m)
+    arrives : (m : ℕ) (w : World) (a : Arrival) (x : Exchange) → AtWorks 0 m w → slice_get arrivals m ≡ Some a → slice_get (exs a.epoch a.shard) a.number ≡ Some x → IsSentAs (requests_of a.epoch a.shard w.requests) a.number x → Next (suc m)
     arrives m w a x all at e out = record {
       world = v;
       all = record {
@@ -543,6 +547,7 @@ module _ (c : Setup) (exs : ℕ → ℕ → List Exchange) (arrivals : List Arri
         each = all.each;
         done = all.done;
         arrived = arrived-next c exs arrivals heads one m w a out.0 all.arrived at out.1 event_is.0 event_is.1;
+        read = all.read;
         earlier = all.earlier;
       };
     }
@@ -554,7 +559,7 @@ module _ (c : Setup) (exs : ℕ → ℕ → List Exchange) (arrivals : List Arri
         found = find-in (is_of a.epoch a.shard) w.requests a.number out.0 out.1
 
         event_is : (j : ℕ) × (happens c w (event.Arrive j a.how) ≡ came c exs arrivals heads one m w a out.0)
-        event_is = comes c exs arrivals heads one m w a out.0 x all.arrived.head at out.1 e out.2 (carries w found.0 out.0 all.tallied.reached found.1)
+        event_is = comes c exs arrivals heads one m w a out.0 x all.arrived.head at out.1 e out.2 (carries w found.0 out.0 all.tallied.reached found.1) out.3
 
     arrive-one : (m : ℕ) (w : World) (a : Arrival) → AtWorks 0 m w → slice_get arrivals m ≡ Some a → a.epoch ≤ epoch → Next (suc m)
     arrive-one m w a all at le = by_epoch (lt_or_le a.epoch epoch)
@@ -570,7 +575,7 @@ module _ (c : Setup) (exs : ℕ → ℕ → List Exchange) (arrivals : List Arri
 
         by_epoch : (a.epoch < epoch) ⊎ (epoch ≤ a.epoch) → Next (suc m)
         by_epoch (inl lt) = arrives m w a x all at e (all.earlier a.epoch a.shard a.number x lt e)
-        by_epoch (inr ge) = arrives m sent.world a x sent.all at e (subst (λ (i : ℕ). IsOut a.number (requests_of i a.shard sent.world.requests) x) (sym same_epoch) sent.out)
+        by_epoch (inr ge) = arrives m sent.world a x sent.all at e (subst (λ (i : ℕ). IsSentAs (requests_of i a.shard sent.world.requests) a.number x) (sym same_epoch) sent.out)
           where
             same_epoch : a.epoch ≡ epoch
             same_epoch = equal a.epoch epoch le ge
@@ -644,6 +649,7 @@ module _ (c : Setup) (exs : ℕ → ℕ → List Exchange) (arrivals : List Arri
         each = now.each;
         done = λ k s e le. by_shard k s e le (eqb_tells k j);
         arrived = now.arrived;
+        read = now.read;
         earlier = now.earlier;
       };
     }
@@ -698,7 +704,7 @@ module _ (c : Setup) (exs : ℕ → ℕ → List Exchange) (arrivals : List Arri
     -- ---- the whole epoch
     -- what each exchange of the epochs below this one has sent
     abbrev pub HasSentBelow : ℕ → World → Type 0
-    HasSentBelow end w = (e k i : ℕ) (x : Exchange) → e < end → slice_get (exs e k) i ≡ Some x → (r : Request) × (slice_get (requests_of e k w.requests) i ≡ Some r) × (r.bytes ≡ x.request)
+    HasSentBelow end w = (e k i : ℕ) (x : Exchange) → e < end → slice_get (exs e k) i ≡ Some x → IsSentAs (requests_of e k w.requests) i x
 
     -- All arrivals of the epoch have been made, and its shards have come to their fates.
     pub record HasGone : Type 0 where
@@ -740,8 +746,8 @@ module _ (c : Setup) (exs : ℕ → ℕ → List Exchange) (arrivals : List Arri
         not_above : (e : ℕ) → epoch < e → e < suc epoch → ⊥
         not_above e gt lt = omega arith
 
-        own : (k i : ℕ) (x : Exchange) → slice_get (exs epoch k) i ≡ Some x → (r : Request) × (slice_get (requests_of epoch k f.world.requests) i ≡ Some r) × (r.bytes ≡ x.request)
-        own k i x got = map_get sent_bytes (requests_of epoch k f.world.requests) i x.request (ap (λ (bs : List (List ℕ)). slice_get bs i) ((done k shard.0 shard.1).requests_are ∙ tells k lt) ∙ get_map request_in (exs epoch k) i x got)
+        own : (k i : ℕ) (x : Exchange) → slice_get (exs epoch k) i ≡ Some x → IsSentAs (requests_of epoch k f.world.requests) i x
+        own k i x got = (h.0, h.1, h.2, f.all.read k lt i h.0 h.1)
           where
             lt : k < n
             lt = within k i x got
@@ -749,9 +755,12 @@ module _ (c : Setup) (exs : ℕ → ℕ → List Exchange) (arrivals : List Arri
             shard : (s : Shard) × (slice_get f.world.shards k ≡ Some s)
             shard = get_some f.world.shards k (subst (λ (i : ℕ). k < i) (sym f.all.count) lt)
 
-        by_epoch : (e k i : ℕ) (x : Exchange) → slice_get (exs e k) i ≡ Some x → (e < epoch) ⊎ (epoch ≤ e) → (epoch < e) ⊎ (e ≤ epoch) → e < suc epoch → (r : Request) × (slice_get (requests_of e k f.world.requests) i ≡ Some r) × (r.bytes ≡ x.request)
+            h : (r : Request) × (slice_get (requests_of epoch k f.world.requests) i ≡ Some r) × (sent_bytes r ≡ x.request)
+            h = map_get sent_bytes (requests_of epoch k f.world.requests) i x.request (ap (λ (bs : List (List ℕ)). slice_get bs i) ((done k shard.0 shard.1).requests_are ∙ tells k lt) ∙ get_map request_in (exs epoch k) i x got)
+
+        by_epoch : (e k i : ℕ) (x : Exchange) → slice_get (exs e k) i ≡ Some x → (e < epoch) ⊎ (epoch ≤ e) → (epoch < e) ⊎ (e ≤ epoch) → e < suc epoch → IsSentAs (requests_of e k f.world.requests) i x
         by_epoch e k i x got (inl lt) other all_lt = f.all.earlier e k i x lt got
         by_epoch e k i x got (inr ge) (inl gt) all_lt = absurd (not_above e gt all_lt)
         by_epoch e k i x got (inr ge) (inr le) all_lt =
             let same = equal e ge all_lt in
-            subst (λ (j : ℕ). (r : Request) × (slice_get (requests_of j k f.world.requests) i ≡ Some r) × (r.bytes ≡ x.request)) (sym same) (own k i x (ap (λ (j : ℕ). slice_get (exs j k) i) (sym same) ∙ got))
+            subst (λ (j : ℕ). IsSentAs (requests_of j k f.world.requests) i x) (sym same) (own k i x (ap (λ (j : ℕ). slice_get (exs j k) i) (sym same) ∙ got))

@@ -24,7 +24,7 @@ use Rattle.rw_machine.specs.Worlds.{Setup, Request, World}
 use Rattle.rw_machine.proofs.Lists.{Lists}
 use Rattle.rw_machine.proofs.Places.{get_some}
 use Rattle.rw_simulation.specs.Freely.{Happening, IsOwn, run_freely}
-use Rattle.rw_simulation.specs.WorkerRuns.{queued, IsShardNumbered, request_in}
+use Rattle.rw_simulation.specs.WorkerRuns.{queued, IsShardNumbered, sent_bytes, request_in}
 use Rattle.rw_simulation.specs.Tallies.{Past, requests_of}
 use Rattle.rw_simulation.specs.EpochRuns.{ShardFate, AreUnsent, IsAllPut, Reaches}
 use Rattle.rw_simulation.specs.FleetRuns.{IsShardRun, fate_of, fate_by, fate_at}
@@ -34,7 +34,7 @@ use Rattle.rw_simulation.proofs.FleetRuns.{fleet-run}
 use Rattle.rw_simulation.proofs.ReshardRuns.{BeginsEpoch}
 use Rattle.rw_simulation.proofs.EndRuns.{HasCome, IsOver, counted}
 use Rattle.rw_simulation.proofs.OwnRuns.{OwnRun, own-run}
-use Rattle.rw_simulation.proofs.Arrived.{HasArrived, still-at}
+use Rattle.rw_simulation.proofs.Arrived.{AreRead, none-read, IsSentAs, HasArrived, still-at}
 use Rattle.rw_simulation.proofs.Arriving.{AnyWork, AtWorks, HasGone, epoch-goes}
 
 -- all that a shard is put
@@ -52,6 +52,11 @@ unsent lanes k = by_lane (slice_get lanes k)
     by_lane : (o : Option ShardHistory) → (fate_by o [] (put_by o)).requests ≡ []
     by_lane None = refl
     by_lane (Some l) = refl
+
+-- where nothing is sent, all that is sent is read again
+none-sent : (rs : List Request) → map sent_bytes rs ≡ [] → AreRead rs
+none-sent [] e = none-read
+none-sent (r ∷ rs) e = let no : ⊥ = cc in absurd no
 
 -- by which End it was ended its worker does not change
 pub same-end : (lanes : List ShardHistory) (steps : ℕ → List Step) (left : ℕ → List Item) (k : ℕ) → (first_at lanes k).end ≡ (fate_at lanes steps left k).end
@@ -81,9 +86,9 @@ module _ (c : Setup) (exs : ℕ → ℕ → List Exchange) (arrivals : List Arri
   Arrived m w = HasArrived c exs arrivals heads one m w
 
   -- what was sent stays sent
-  pub sent-own : (past : Past) (epoch n : ℕ) (w v : World) (hs : List Happening) → ((e k i : ℕ) (x : Exchange) → e < epoch → slice_get (exs e k) i ≡ Some x → (r : Request) × (slice_get (requests_of e k w.requests) i ≡ Some r) × (r.bytes ≡ x.request)) → AllByRecursion IsOwn hs → run_freely c hs w ≡ v
-      → (e k i : ℕ) (x : Exchange) → e < epoch → slice_get (exs e k) i ≡ Some x → (r : Request) × (slice_get (requests_of e k v.requests) i ≡ Some r) × (r.bytes ≡ x.request)
-  sent-own past epoch n w v hs sent own is e k i x lt got = let h = sent e k i x lt got in (h.0, ap (λ (rs : List Request). slice_get (requests_of e k rs) i) requests ∙ still-at e k i w.requests r.grows.more h.0 h.1, h.2)
+  pub sent-own : (past : Past) (epoch n : ℕ) (w v : World) (hs : List Happening) → ((e k i : ℕ) (x : Exchange) → e < epoch → slice_get (exs e k) i ≡ Some x → IsSentAs (requests_of e k w.requests) i x) → AllByRecursion IsOwn hs → run_freely c hs w ≡ v
+      → (e k i : ℕ) (x : Exchange) → e < epoch → slice_get (exs e k) i ≡ Some x → IsSentAs (requests_of e k v.requests) i x
+  sent-own past epoch n w v hs sent own is e k i x lt got = let h = sent e k i x lt got in (h.0, ap (λ (rs : List Request). slice_get (requests_of e k rs) i) requests ∙ still-at e k i w.requests r.grows.more h.0 h.1, h.2, h.3)
     where
       r : OwnRun c hs w
       r = own-run c hs w own
@@ -169,7 +174,7 @@ module _ (c : Setup) (exs : ℕ → ℕ → List Exchange) (arrivals : List Arri
     none_below k lt = omega arith
 
     pub goes : (m : ℕ) (w : World) → m ≤ length arrivals → IsOver c past epoch n (first_at lanes) placed u w → Arrived m w
-        → ((e k i : ℕ) (x : Exchange) → e < epoch → slice_get (exs e k) i ≡ Some x → (r : Request) × (slice_get (requests_of e k w.requests) i ≡ Some r) × (r.bytes ≡ x.request)) → Gone
+        → ((e k i : ℕ) (x : Exchange) → e < epoch → slice_get (exs e k) i ≡ Some x → IsSentAs (requests_of e k w.requests) i x) → Gone
     goes m w few over arrived earlier = epoch-goes c exs arrivals heads one past epoch n fates placed u alive within tells m w few (record {
       same = over.same;
       count = over.count;
@@ -180,5 +185,9 @@ module _ (c : Setup) (exs : ℕ → ℕ → List Exchange) (arrivals : List Arri
           begins-work k w over.parts s l.0 l.1 (lists-at c w over.tallied.reached k s at) (subst (λ (o : Option ShardHistory). HasCome epoch k w.requests (over.parts k) s (fate_by o [] (put_by o))) l.1 (over.done k s at));
       done = λ k s at lt. absurd (none_below k lt);
       arrived = arrived;
+      read = read;
       earlier = earlier;
     })
+      where
+        read : (k : ℕ) → k < n → AreRead (requests_of epoch k w.requests)
+        read k lt = let s = get_some w.shards k (subst (λ (i : ℕ). k < i) (sym over.count) lt) in none-sent (requests_of epoch k w.requests) ((over.done k s.0 s.1).requests_are ∙ unsent lanes k)

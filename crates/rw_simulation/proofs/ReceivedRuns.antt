@@ -44,7 +44,7 @@ use Rattle.rw_shipper.specs.declared.report.Report.{Report}
 use Rattle.rw_shipper.proofs.PlacementLemmas.{whole_is, whole_placed}
 use Rattle.rw_shipper.proofs.ShippingLemmas.{all_is, ends_last}
 use Rattle.rw_machine.specs.Shards.{Shard, is_drained, pending, shard_end, shard_flush}
-use Rattle.rw_machine.specs.Worlds.{Setup, Request, World, Complete, Damaged, start, log, ended_as, is_pending, report}
+use Rattle.rw_machine.specs.Worlds.{Setup, World, Complete, Damaged, start, log, ended_as, is_pending, report}
 use Rattle.rw_machine.specs.Steps.{happens, mark, run, unless_over}
 use Rattle.rw_machine.specs.declared.event.Event.{Event}
 use Rattle.rw_machine.specs.declared.event.Event.TheVariants as event
@@ -71,7 +71,7 @@ use Rattle.rw_simulation.proofs.AbandonedRuns as soft
 use Rattle.rw_simulation.proofs.AbandonedRuns.{KnownOf, FoundAt, find-at, come, soft_lane, put-split, left-by-last}
 use Rattle.rw_simulation.proofs.RisingOrders.{is_in}
 use Rattle.rw_simulation.proofs.FlushedShards.{flushed, exchanges_of-flushed}
-use Rattle.rw_simulation.proofs.Arrived.{HasArrived, arrived-own}
+use Rattle.rw_simulation.proofs.Arrived.{IsSentAs, HasArrived, arrived-own}
 use Rattle.rw_simulation.proofs.EpochArrivals.{put_by, first_at, same-end, sent-own, put-first, put-quiet, Gone, goes}
 
 -- ---- a queue that holds all
@@ -179,7 +179,7 @@ module _ {T : Type 0} (tells : T → Type 0) (seen : T → List Exchange) (is_fo
   Arrived m w = HasArrived c exs arrivals heads one m w
 
   abbrev pub SentBelow : ℕ → World → Type 0
-  SentBelow end w = (e k i : ℕ) (x : Exchange) → e < end → slice_get (exs e k) i ≡ Some x → (r : Request) × (slice_get (requests_of e k w.requests) i ≡ Some r) × (r.bytes ≡ x.request)
+  SentBelow end w = (e k i : ℕ) (x : Exchange) → e < end → slice_get (exs e k) i ≡ Some x → IsSentAs (requests_of e k w.requests) i x
 
   -- a world on the way, with these arrivals made
   pub record IsReached (m epoch : ℕ) (w : World) : Type 0 where

@@ -6,7 +6,7 @@ use Rattle.std.proofs.lemmas.List.{length-map}
 use Rattle.std.proofs.lemmas.Option.{same_Some, none-some}
 use Rattle.rw_plain_queue.specs.Items.{Placed}
 use Rattle.rw_batch.specs.Grouping.{message}
-use Rattle.rw_shard_core.specs.Shard.{labelled, body_of}
+use Rattle.rw_shard_core.specs.Shard.{labelled, body_of, IsReadAgain}
 use Rattle.rw_write_request.specs.Message.{WriteRequest}
 use Rattle.rw_write_request.specs.Read.{read}
 use Rattle.rw_worker.specs.Transcript.{Exchange, batch_request}
@@ -87,9 +87,9 @@ module _ (c : Setup) (opening : State) (bodies : List (List ℕ)) (request : Lis
           ∙ sym (unchanged head.store (taken_all opening.limits (Ok head.store) m) (λ h. other (is ∙ h)))
 
   module _ (q : Question) (asked : HasAsked opening q.old q.body status q.new) (before_is : asked.before ≡ bodies) (carries : (batch : List Placed) → request ≡ batch_request c.target batch → Carries c q.body batch) where
-    seat-judged : (status ≡ 503 → ⊥) → (status ≡ 429 → ⊥) → (batch : List Placed) → request ≡ batch_request c.target batch → endpoint_answer c head batch ≡ record { status = status; head = next (Some q) }
-    seat-judged free calm batch is =
-        endpoint-short c head batch (carries batch is).1
+    seat-judged : (status ≡ 503 → ⊥) → (status ≡ 429 → ⊥) → (batch : List Placed) → IsReadAgain batch → request ≡ batch_request c.target batch → endpoint_answer c head batch ≡ record { status = status; head = next (Some q) }
+    seat-judged free calm batch again is =
+        endpoint-short c head batch (subst (λ (xs : List ℕ). length xs ≤ c.max_body) (carries batch is).0 (carries batch is).1)
         ∙ let status_is = sym told in let store_is = sym stored in
         λ i. record { status = status_is i; head = record { store = store_is i; limits = opening.limits; busy = 0 } }
       where
@@ -97,7 +97,7 @@ module _ (c : Setup) (opening : State) (bodies : List (List ℕ)) (request : Lis
         m = message (map labelled batch)
 
         reads : read q.body ≡ Ok m
-        reads = (carries batch is).0
+        reads = ap read (carries batch is).0 ∙ again
 
         from : State
         from = head_after opening bodies asked.busy
@@ -121,7 +121,7 @@ module _ (c : Setup) (opening : State) (bodies : List (List ℕ)) (request : Lis
   answers-as-one (Some q) (asked, before_is, carries) = seat-answers q asked before_is carries
   answers-as-one None (inl (so, long)) =
       subst (λ (h : How). Receives c h request head status (next None)) (sym (ap how_of so))
-      (λ batch is. endpoint-long c head batch (long batch is) ∙ let status_is = sym so in let head_is = sym (none-taken None refl) in λ i. record { status = status_is i; head = head_is i })
+      (λ batch again is. endpoint-long c head batch (long batch is) ∙ let status_is = sym so in let head_is = sym (none-taken None refl) in λ i. record { status = status_is i; head = head_is i })
   answers-as-one None (inr so) = subst (λ (h : How). Receives c h request head status (next None)) (sym (how-memory status so)) (so, none-taken None refl)
 
 pub shares-as-one : (c : Setup) (exchanges : ℕ → ℕ → List Exchange) (opening : State) (comings : List Coming) → SharesAsOne c exchanges opening comings

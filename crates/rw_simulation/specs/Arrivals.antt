@@ -2,6 +2,7 @@
 use Rattle.std.specs.Prelude.{◌≡◌, ◌⊎◌, ℕ, suc, ◌<◌, List, length, Some, Ok, slice_get}
 use Rattle.std.specs.FinMap.{empty}
 use Rattle.rw_plain_queue.specs.Items.{Placed}
+use Rattle.rw_shard_core.specs.Shard.{IsReadAgain}
 use Rattle.rw_worker.specs.declared.transport.Reply.{Reply}
 use Rattle.rw_worker.specs.Transcript.{Exchange, batch_request}
 use Rattle.rw_head.specs.Head.{State}
@@ -18,9 +19,12 @@ pub record Arrival : Type 0 where
   pub how : How
   pub status : ℕ
 
--- the receiver answers these bytes so, from one head to the next one: as its endpoint answers the batch that they carry, or without a look at them
+-- The receiver answers these bytes so, from one head to the next one: without a look at them, or as its endpoint
+-- answers the batch that they carry, of which the body reads again as its message.
 abbrev pub Receives : Setup → How → List ℕ → State → ℕ → State → Type 0
-Receives c Plain bytes head status next = (batch : List Placed) → bytes ≡ batch_request c.target batch → endpoint_answer c head batch ≡ record { status = status; head = next }
+Receives c Plain bytes head status next =
+    (batch : List Placed) → IsReadAgain batch → bytes ≡ batch_request c.target batch
+    → endpoint_answer c head batch ≡ record { status = status; head = next }
 Receives c Busy bytes head status next = (status ≡ 429) × (next ≡ head)
 Receives c OutOfMemory bytes head status next = (status ≡ 503) × (next ≡ head)
 

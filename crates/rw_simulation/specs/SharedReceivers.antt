@@ -1,11 +1,9 @@
 -- A head that threads share, as the one receiver of a shipper's requests.
-use Rattle.std.specs.Prelude.{◌≡◌, ◌⊎◌, ℕ, ◌<◌, ◌≤◌, ◌==◌, if◌then◌else◌, List, [], ◌∷◌, ◌++◌, map, take, length, Option, Some, None, Ok, slice_get}
+use Rattle.std.specs.Prelude.{◌≡◌, ◌⊎◌, ℕ, ◌<◌, ◌≤◌, ◌==◌, if◌then◌else◌, List, [], ◌∷◌, ◌++◌, map, take, length, Option, Some, None, slice_get}
 use Rattle.std.specs.FinMap.{empty}
 use Rattle.rw_plain_queue.specs.Items.{Placed}
-use Rattle.rw_batch.specs.Grouping.{message}
-use Rattle.rw_shard_core.specs.Shard.{labelled, body_of}
+use Rattle.rw_shard_core.specs.Shard.{body_of}
 use Rattle.rw_worker.specs.Transcript.{Exchange, batch_request}
-use Rattle.rw_write_request.specs.Read.{read}
 use Rattle.rw_head.specs.Head.{State}
 use Rattle.rw_head.specs.Store.{Store}
 use Rattle.rw_shared_head.specs.Seats.{Seated, HasAsked, HasGathered, head_after}
@@ -37,9 +35,9 @@ abbrev pub bodies_of : List Coming → List (List ℕ)
 bodies_of [] = []
 bodies_of (a ∷ later) = taken_of a.status a.question ++ bodies_of later
 
--- the body spells the message of these samples, and is one that the endpoint reads
+-- the body is the one that carries these samples, and is within the endpoint's limit
 abbrev pub Carries : Setup → List ℕ → List Placed → Type 0
-Carries c body batch = (read body ≡ Ok (message (map labelled batch))) × (length (body_of batch) ≤ c.max_body)
+Carries c body batch = (body ≡ body_of batch) × (length body ≤ c.max_body)
 
 -- A request is answered so by a head that was `opening` and has taken these bodies: a seat was asked for the body that it carries;
 -- or none was, for the body is too long, or there was no memory for it.

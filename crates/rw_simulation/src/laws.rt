@@ -56,9 +56,9 @@ pub fn a_stopped_shipper_is_a_run<T: Transport>()
 
 /// What one receiver holds of the samples of a shipper that was stopped. The requests of its workers come to the receiver in whatever order, each once, often, late
 /// or never; nothing comes before its exchange began, a status that a worker read is one that the receiver gave to that exchange, and the receiver is one head that
-/// began empty. Then it holds of each label set that the rules keep a beginning of its samples, in log order, each once, less exactly those that the report names,
-/// and of other label sets none. Where the shipper left nothing it holds all of them, and else each that the report neither lists as left nor names.
-/// `orderly` and `abandoned` ask of the shipper what those of `a_stopped_shipper_is_a_run` ask.
+/// began empty, and answers a request as the endpoint answers its batch, whose body reads again. Then it holds of each label set that the rules keep a beginning of its
+/// samples, in log order, each once, less exactly those that the report names, and of other label sets none. Where the shipper left nothing it holds all of them, and
+/// else each that the report neither lists as left nor names. `orderly` and `abandoned` ask of the shipper what those of `a_stopped_shipper_is_a_run` ask.
 pub fn one_receiver_holds_the_samples<T: Transport>()
     ensures orderly { (s : Shipping T) (r : Report T) → ReceivesInOrder T.tells T.seen T.is_for s r }
     ensures abandoned { (s : Shipping T) (r : Report T)
@@ -66,7 +66,8 @@ pub fn one_receiver_holds_the_samples<T: Transport>()
 {}
 
 /// A head that threads share is such a receiver, of a machine whose receiver is not busy by itself: whatever its seats were asked, in the order in which its lock let
-/// them in, they answered as one head does that is asked one request after the other. What it holds once all seats are back is what that receiver holds.
+/// them in, they answered as one head does that is asked one request after the other. What a seat was asked is
+/// the very body that the request carries, within the limit. What it holds once all seats are back is what that receiver holds.
 pub fn a_shared_head_is_one_receiver()
     ensures { (c : Setup) (exchanges : ℕ → ℕ → List Exchange)
         (opening : State) (comings : List Coming) → SharesAsOne c exchanges opening comings }

@@ -268,7 +268,7 @@ module _ {T P : Type 0} (tells : T → Type 0) (seen : T → List Exchange) (wai
       → Stepped s v p q
   steps-sent i s v p q settled h some sent counts backoff waited = record {
     step = Sends (exchange_of (request_for s.core) sent.answer);
-    allowed = (state-can_send (intake_drain i) s p h.sending some, refl);
+    allowed = (state-can_send (intake_drain i) s p h.sending some, refl, sent.read);
     becomes = sent.becomes;
     told = sent.told;
     waited = subst (λ (again : Bool). Adds (waits p) (waits q) (paused p) (paused q) (cond again (delay_of s.backoff.0 s.backoff.1 s.retries ∷ []) [])) (sym sent.again) waited;

@@ -6,7 +6,7 @@ use Rattle.rw_ledger.specs.declared.ledger.Reason.{Reason}
 use Rattle.rw_ledger.specs.Names.{Named}
 use Rattle.rw_plain_queue.specs.Items.{Placed}
 use Rattle.rw_plain_queue.specs.declared.item.Item.{Item}
-use Rattle.rw_shard_core.specs.Shard.{Core, new_core, is_empty, can_take, MayTake, take_item, is_due, can_freeze, freeze, freeze_room, can_send, send, request_for, batch_id, reply, reply_names, lose}
+use Rattle.rw_shard_core.specs.Shard.{Core, new_core, is_empty, can_take, MayTake, take_item, is_due, can_freeze, freeze, freeze_room, can_send, send, request_for, IsReadAgain, batch_id, reply, reply_names, lose}
 use Rattle.rw_shard_core.specs.declared.config.Target.{Target}
 use Rattle.rw_worker.specs.declared.transport.Reply.{Reply}
 use Rattle.rw_worker.specs.declared.transport.Lost.{Lost}
@@ -31,11 +31,12 @@ pub data Step : Type 0 where
   Sends : Exchange → Step
   Waits : Step  -- memory was refused
 
--- when a step may be made: only a builder that is due is frozen, what is sent is the request of the open batch, and memory is asked for where one of both is to be done
+-- When a step may be made: only a builder that is due is frozen, and memory is asked for where something is to be
+-- frozen or sent. What is sent is the request of the open batch, whose body reads again as its message.
 abbrev pub MayStep : Step → Core → Type 0
 MayStep (Takes x) c = (can_take c ≡ true) × MayTake x c
 MayStep Freezes c = (is_due c ≡ true) × (can_freeze c ≡ true)
-MayStep (Sends e) c = (can_send c ≡ true) × (e.request ≡ request_for c)
+MayStep (Sends e) c = (can_send c ≡ true) × (e.request ≡ request_for c) × IsReadAgain c.batch
 MayStep Waits c = can_take c ≡ false
 
 -- an attempt ends with a reply, or is lost
@@ -101,10 +102,11 @@ abbrev pub resolved_after : Bool → Core → List Placed
 resolved_after true c = c.resolved ++ c.batch
 resolved_after false c = c.resolved
 
--- The request of the open batch was sent and answered.
+-- The request of the open batch, whose body reads again as its message, was sent and answered.
 pub record WasSent (before now : Type 0) (old new : List Exchange) (w v : Working) (settled : Bool) : Type 0 where
   pub answer : Result Reply Lost
   pub told : Adds before now old new (exchange_of (request_for w.core) answer ∷ [])
   pub becomes : v ≡ after_step (Sends (exchange_of (request_for w.core) answer)) w
   pub resolved : v.core.resolved ≡ resolved_after settled w.core
   pub again : is_again answer ≡ not settled
+  pub read : IsReadAgain w.core.batch
