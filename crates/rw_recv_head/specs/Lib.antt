@@ -8,4 +8,4 @@ pub use Rattle.rw_head.specs.Order
 pub use Rattle.rw_head.specs.Store
 pub use Rattle.rw_head.specs.Verdicts
 pub use Rattle.rw_shared_head.specs.Seats
-pub use Rattle.rw_shared_head.specs.Bodies
+pub use Rattle.rw_shared_head.specs.Questions

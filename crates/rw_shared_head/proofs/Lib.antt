@@ -1,4 +1,5 @@
-mod BodyMoves
+mod GatheringLemmas
 mod HoldingLemmas
+mod QuestionMoves
 mod StayingLemmas
 mod StoredLemmas

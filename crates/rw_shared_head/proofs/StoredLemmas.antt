@@ -1,18 +1,33 @@
 -- What a head holds that has taken one body more.
-use Rattle.std.proofs.Common.{◌≡◌, ◌≢◌, ℕ, ◌+◌, ◌-◌, ◌≤◌, nat_lt, nat_eq, eqb-true, eq-eqb, List, [], ◌∷◌, ◌++◌, Bool, true, false, true≢false, Result, refl, sym, ap, ◌∙◌, subst, arith}
+use Rattle.std.proofs.Common.{◌≡◌, ◌≢◌, ℕ, ◌+◌, ◌-◌, ◌<◌, ◌≤◌, nat_lt, nat_eq, eqb-true, eq-eqb, ne_eqb, if◌then◌else◌, List, [], ◌∷◌, ◌++◌, append_assoc, append-nil, length, slice_get, Some, Bool, true, false, true≢false, Result, refl, sym, ap, ◌∙◌, subst, ⊎_elim, arith}
 use Rattle.rw_write_request.specs.Message.{WriteRequest}
 use Rattle.rw_write_request.specs.Read.{read}
 use Rattle.rw_write_request.specs.declared.fault.WireFault.{WireFault}
-use Rattle.rw_types.specs.Beginnings.{Begins}
 use Rattle.rw_head.specs.Head.{State, SpellsMessage, judged_body, answer_to, answer}
 use Rattle.rw_head.specs.Store.{total}
 use Rattle.rw_head.specs.Growth.{EachRises, HasTaken}
-use Rattle.rw_shared_head.specs.Seats.{most, store_after, head_after, Seated, HasAsked, IsKept}
+use Rattle.rw_shared_head.specs.declared.question.Question.{Question}
+use Rattle.rw_shared_head.specs.declared.questions.Known.{Known}
+use Rattle.rw_shared_head.specs.Seats.{most, store_after, head_after, taken_of, bodies_of, Seated, HasAsked, IsKept}
+use Rattle.rw_shared_head.specs.Questions.{IsSeat}
+use Rattle.rw_shared_head.proofs.GatheringLemmas.{at_push}
 
 pub store_after-push : (head : State) (bodies : List (List ℕ)) (body : List ℕ)
     → store_after head (bodies ++ body ∷ []) ≡ (judged_body (record head { store = store_after head bodies }) (read body)).store
 store_after-push head [] body = refl
 store_after-push head (b ∷ bodies) body = store_after-push (record head { store = (judged_body head (read b)).store }) bodies body
+
+bodies-push : (qs : List Question) (q : Question) → bodies_of (qs ++ q ∷ []) ≡ bodies_of qs ++ taken_of q.status q.body
+bodies-push [] q = append-nil (taken_of q.status q.body)
+bodies-push (p ∷ qs) q =
+    ap (λ l. taken_of p.status p.body ++ l) (bodies-push qs q) ∙ sym (append_assoc (taken_of p.status p.body) (bodies_of qs) (taken_of q.status q.body))
+
+more_taken : (qs : List Question) (q : Question) → q.status ≡ 204 → bodies_of (qs ++ q ∷ []) ≡ bodies_of qs ++ q.body ∷ []
+more_taken qs q is = bodies-push qs q ∙ ap (λ (b : Bool). bodies_of qs ++ (if b then q.body ∷ [] else [])) (eq-eqb q.status 204 is)
+
+none_taken : (qs : List Question) (q : Question) → q.status ≢ 204 → bodies_of (qs ++ q ∷ []) ≡ bodies_of qs
+none_taken qs q other =
+    bodies-push qs q ∙ ap (λ (b : Bool). bodies_of qs ++ (if b then q.body ∷ [] else [])) (ne_eqb q.status 204 other) ∙ append-nil (bodies_of qs)
 
 -- a head is what its store, its limits and its count say
 pub same_head : (opening head : State) (bodies : List (List ℕ)) → head.store ≡ store_after opening bodies → head.limits ≡ opening.limits
@@ -63,61 +78,84 @@ pub stays : (head new : State) (body : List ℕ) (status : ℕ) → (status ≢ 
 stays head new body status = by_status head new body status (nat_eq status 503) refl
 
 -- ---- one request
--- what a head answered, and what was noted of it
-pub record Gives (head new : State) (body : List ℕ) (status : ℕ) (bodies noted : List (List ℕ)) : Type 0 where
+-- what a head answered
+pub record Gives (head new : State) (body : List ℕ) (status : ℕ) : Type 0 where
   pub told : status ≢ 503 → status ≡ (answer head body).status
   pub is : status ≢ 503 → new ≡ (answer head body).head
   pub memory : status ≡ 503 → (new ≡ head) × (head.busy ≡ 0)
   pub refused : status ≢ 204 → new.store ≡ head.store
-  pub taken : status ≡ 204 → noted ≡ bodies ++ body ∷ []
-  pub same : status ≢ 204 → noted ≡ bodies
 
 no_503 : (status : ℕ) → status ≡ 204 → status ≢ 503
 no_503 status e q = absurd (omega (arith, e, q))
 
-module _ (opening head new : State) (body : List ℕ) (status : ℕ) (bodies noted : List (List ℕ)) (gives : Gives head new body status bodies noted) where
-  noted_holds : (b : Bool) → nat_eq status 204 ≡ b → head.store ≡ store_after opening bodies → head.limits ≡ opening.limits → new.store ≡ store_after opening noted
+-- what is known once it is noted
+abbrev noted : Known → ℕ → List ℕ → ℕ → Known
+noted known seat body status = record known { asked = known.asked ++ record { seat = seat; body = body; status = status } ∷ [] }
+
+module _ (opening head new : State) (body : List ℕ) (status : ℕ) (known now : Known) (seat : ℕ) (gives : Gives head new body status) (is_noted : now ≡ noted known seat body status) where
+  abbrev one : Question
+  one = record { seat = seat; body = body; status = status }
+
+  bodies_now : bodies_of now.asked ≡ bodies_of (known.asked ++ one ∷ [])
+  bodies_now = ap (λ (k : Known). bodies_of k.asked) is_noted
+
+  noted_holds : (b : Bool) → nat_eq status 204 ≡ b → head.store ≡ store_after opening (bodies_of known.asked) → head.limits ≡ opening.limits
+      → new.store ≡ store_after opening (bodies_of now.asked)
   noted_holds true e holds limits =
       let is = eqb-true status 204 e in
       let other = no_503 status is in
-      ap (λ (t : State). t.store) (gives.is other) ∙ taken_store opening head bodies body holds limits (sym (gives.told other) ∙ is) ∙ sym (ap (store_after opening) (gives.taken is))
+      ap (λ (t : State). t.store) (gives.is other) ∙ taken_store opening head (bodies_of known.asked) body holds limits (sym (gives.told other) ∙ is)
+      ∙ sym (ap (store_after opening) (bodies_now ∙ more_taken known.asked one is))
   noted_holds false e holds limits =
       let other : status ≢ 204 = λ q. true≢false (sym (eq-eqb status 204 q) ∙ e) in
-      gives.refused other ∙ holds ∙ sym (ap (store_after opening) (gives.same other))
+      gives.refused other ∙ holds ∙ sym (ap (store_after opening) (bodies_now ∙ none_taken known.asked one other))
 
-  pub holds_noted : head.store ≡ store_after opening bodies → head.limits ≡ opening.limits → new.store ≡ store_after opening noted
+  pub holds_noted : head.store ≡ store_after opening (bodies_of known.asked) → head.limits ≡ opening.limits → new.store ≡ store_after opening (bodies_of now.asked)
   holds_noted = noted_holds (nat_eq status 204) refl
 
-  pub kept_again : (parts rest parts' rest' : ℕ) → IsKept opening (record { head = head; bodies = bodies }) parts rest → EachRises new.store → parts' ≡ 1 → total new.store + rest' ≡ most
-      → IsKept opening (record { head = new; bodies = noted }) parts' rest'
-  kept_again parts rest parts' rest' k rises one adds =
+  each_given : ((n : ℕ) (q : Question) → slice_get known.asked n ≡ Some q → q.seat < known.given) → seat < known.given
+      → (n : ℕ) (q : Question) → slice_get now.asked n ≡ Some q → q.seat < now.given
+  each_given each given n q e =
+      subst (λ (k : Known). q.seat < k.given) (sym is_noted)
+      (⊎_elim (each n q) (λ (t : (n ≡ length known.asked) × (one ≡ q)). subst (λ (p : Question). p.seat < known.given) t.1 given)
+      (at_push known.asked one q n (subst (λ (k : Known). slice_get k.asked n ≡ Some q) is_noted e)))
+
+  pub kept_again : (all parts rest parts' rest' : ℕ) → IsKept opening all (record { head = head; questions = known }) parts rest → seat < known.given
+      → EachRises new.store → parts' ≡ 1 → total new.store + rest' ≡ most → IsKept opening all (record { head = new; questions = now }) parts' rest'
+  kept_again all parts rest parts' rest' k given rises one_part adds =
       let s = stays head new body status gives.is (λ h. (gives.memory h).0) in record {
         rises = rises;
         holds = holds_noted k.holds k.limits;
         limits = s.0 ∙ k.limits;
         less_busy = omega (arith, s.1, k.less_busy);
-        one_part = one;
+        each = each_given k.each given;
+        all_given = k.all_given ∙ ap (λ (x : Known). x.given + 1) (sym is_noted);
+        none_back = ap (λ (x : Known). x.back) is_noted ∙ k.none_back;
+        one_part = one_part;
         adds_up = adds;
       }
 
-  pub asked : (parts rest before after : ℕ) (old now : Seated) → IsKept opening (record { head = head; bodies = bodies }) parts rest → Begins old.bodies bodies
+  pub asked : (all parts rest before after : ℕ) (old later : Seated) → IsKept opening all (record { head = head; questions = known }) parts rest
+      → IsSeat known old.number old.asked → old.number ≡ seat
       → (status ≡ 503 → SpellsMessage body) → (status ≡ 204 → HasTaken body head.store new.store) → total head.store ≤ total new.store
-      → before ≡ total head.store → after ≡ total new.store → now.bodies ≡ noted → now.stored ≡ old.stored + (after - before)
-      → HasAsked opening old body status now
-  asked parts rest before after old now k later readable taken more b a sees stores =
+      → before ≡ total head.store → after ≡ total new.store → later.number ≡ old.number → later.asked ≡ now.asked → later.stored ≡ old.stored + (after - before)
+      → HasAsked opening old body status later
+  asked all parts rest before after old later k knew is_seat readable taken more b a same sees stores =
       let holds = holds_noted k.holds k.limits in record {
-        before = bodies;
+        before = known.asked;
         busy = head.busy;
-        later = later;
+        later = knew.begins;
+        alone = knew.alone;
         never_falls = omega (arith, stores);
         less_busy = k.less_busy;
         rises = subst EachRises k.holds k.rises;
-        status_is = λ h. gives.told h ∙ ap (λ (t : State). (answer t body).status) (same_head opening head bodies k.holds k.limits);
+        status_is = λ h. gives.told h ∙ ap (λ (t : State). (answer t body).status) (same_head opening head (bodies_of known.asked) k.holds k.limits);
         not_busy = λ h. (gives.memory h).1;
         readable = readable;
-        taken = λ h. sees ∙ gives.taken h;
+        number = same;
+        asked = sees ∙ ap (λ (x : Known). x.asked) is_noted
+            ∙ ap (λ n. known.asked ++ record { seat = n; body = body; status = status } ∷ []) (sym is_seat);
         stored = λ h. let t = taken h in (t.0, t.1, omega (arith, t.2, more, b, a, stores));
-        refused = λ h. sees ∙ gives.same h;
         nothing = λ h. omega (arith, ap total (gives.refused h), b, a, stores);
-        counted = omega (arith, ap (λ l. total (store_after opening l)) sees, ap total holds, ap total k.holds, more, b, a, stores);
+        counted = omega (arith, ap (λ l. total (store_after opening (bodies_of l))) sees, ap total holds, ap total k.holds, more, b, a, stores);
       }

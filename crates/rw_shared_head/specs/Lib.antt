@@ -1,2 +1,2 @@
 pub mod Seats
-pub mod Bodies
+pub mod Questions

@@ -1,18 +1,19 @@
 //! What a shared head is made of, beside the head.
 
-ghost use Rattle.std.specs.Prelude.{◌≡◌, [], IfOk};
+ghost use Rattle.std.specs.Prelude.{◌≡◌, IfOk};
+ghost use Rattle.rw_shared_head.specs.Questions.{nothing_known};
 
-use crate::bodies::{Bodies, Unnamed};
 use crate::naming::Naming;
+use crate::questions::{Questions, Unnamed};
 use std::alloc::{AllocError, Global};
 use std::marker::Model;
 use std::sync::ledger;
 
-/// A ledger of so many parts, and the table by which seats know what their head has taken, both unused. Contracts see which they are.
+/// A ledger of so many parts, and the table by which seats know what their head was asked, both unused. Contracts see which they are.
 #[derive(Drop)]
 pub struct Blank {
     ledger: ledger::Blank,
-    bodies: Unnamed,
+    questions: Unnamed,
 }
 
 impl Model for Blank {
@@ -20,7 +21,7 @@ impl Model for Blank {
 
     ghost Value = { Unused };
 
-    ghost view = { λ b. record { name = b.ledger.name; parts = b.ledger.parts; table = b.bodies } };
+    ghost view = { λ b. record { name = b.ledger.name; parts = b.ledger.parts; table = b.questions } };
 }
 
 impl Blank {
@@ -30,18 +31,18 @@ impl Blank {
     {
         Ok(Blank {
             ledger: ledger::Blank::new(parts),
-            bodies: Unnamed::new(alloc)?,
+            questions: Unnamed::new(alloc)?,
         })
     }
 
-    /// The ledger, and no bodies under a name.
-    pub(crate) fn named<L: Naming>(self) -> (ledger::Blank, Bodies<L>)
+    /// The ledger, and no questions under a name.
+    pub(crate) fn named<L: Naming>(self) -> (ledger::Blank, Questions<L>)
         requires { self.table ≡ L.table }
         ensures name { result.0.name ≡ self.name }
         ensures parts { result.0.parts ≡ self.parts }
-        ensures bodies { result.1 ≡ [] }
+        ensures questions { result.1 ≡ nothing_known }
     {
-        let Blank { ledger, bodies } = self;
-        (ledger, bodies.named())
+        let Blank { ledger, questions } = self;
+        (ledger, questions.named())
     }
 }

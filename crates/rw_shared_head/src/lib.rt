@@ -3,10 +3,11 @@
 
 mod asking;
 mod blank;
-mod bodies;
 mod laws;
 mod locked;
 mod naming;
+mod question;
+mod questions;
 mod seat;
 mod shared_head;
 
@@ -14,5 +15,6 @@ pub use asking::Asking;
 pub use blank::Blank;
 pub use laws::{what_is_answered_204_is_held, what_is_stored_stays};
 pub use naming::Naming;
+pub use question::Question;
 pub use seat::{Asked, Seat};
 pub use shared_head::SharedHead;

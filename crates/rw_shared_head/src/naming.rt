@@ -3,7 +3,7 @@
 use std::marker::Brand;
 use std::sync::ledger::Ledger;
 
-/// Which shared head it is: its ledger, the head that it began as, and the table by which its seats know what it has taken. Each call of a
+/// Which shared head it is: its ledger, the head that it began as, and the table by which its seats know what it was asked. Each call of a
 /// program picks it.
 pub trait Naming: Ledger {
     ghost use Rattle.atomic_table.specs.Seated.{TableId};
@@ -15,7 +15,7 @@ pub trait Naming: Ledger {
 }
 
 impl Naming for Brand {
-    ghost use Rattle.rw_shared_head.specs.Bodies.{no_head, no_table};
+    ghost use Rattle.rw_shared_head.specs.Questions.{no_head, no_table};
 
     ghost opening = { no_head };
 

@@ -1,13 +1,13 @@
 //! The right of one thread to ask.
 
-ghost use Rattle.std.specs.Prelude.{◌≡◌, ◌+◌, ◌≤◌, ◌<◌, [], length};
-ghost use Rattle.rw_types.specs.Beginnings.{Begins};
+ghost use Rattle.std.specs.Prelude.{◌≡◌, ◌+◌, ◌≤◌, ◌<◌, [], ◌∷◌, ◌++◌, length};
 ghost use Rattle.rw_head.specs.Head.{IsStatus};
 ghost use Rattle.rw_head.specs.Store.{label_sets};
-ghost use Rattle.rw_shared_head.specs.Seats.{most, store_after, HasAsked};
+ghost use Rattle.rw_shared_head.specs.Questions.{IsSeat};
+ghost use Rattle.rw_shared_head.specs.Seats.{most, bodies_of, store_after, HasAsked};
 
-use crate::bodies::{Bodies, Seen};
 use crate::naming::Naming;
+use crate::questions::{Questions, Seen};
 use crate::shared_head::SharedHead;
 use std::marker::Model;
 use std::sync::Wait;
@@ -22,8 +22,8 @@ pub struct Asked {
     pub label_sets: usize,
 }
 
-/// The right of one thread to ask a shared head. Contracts see how many samples its requests stored, and the bodies that the head had taken
-/// from all seats when this one asked last.
+/// The right of one thread to ask a shared head. Contracts see its number, how many samples its requests stored, and what the head had been
+/// asked from all seats when this one asked last.
 #[derive(Drop)]
 pub struct Seat<L: Naming> {
     stored: u64,
@@ -37,7 +37,7 @@ impl<L: Naming> Model for Seat<L> {
 
     ghost Value = { Seated };
 
-    ghost view = { λ s. record { stored = s.stored; bodies = s.seen } };
+    ghost view = { λ s. record { number = s.seen.number; stored = s.stored; asked = s.seen.asked } };
 
     ghost invariant = { λ s. (s.share.parts ≡ 1) × (s.share.amount ≡ s.stored) };
 }
@@ -47,7 +47,7 @@ impl<L: Naming> Seat<L> {
     pub(crate) fn new(share: Share<L>, seen: Seen<L>) -> Seat<L>
         requires one_part { share.parts ≡ 1 }
         requires nothing { share.amount ≡ 0 }
-        ensures { result ≡ record { stored = 0; bodies = seen } }
+        ensures { result ≡ record { number = seen.number; stored = 0; asked = seen.asked } }
     {
         Seat {
             stored: 0,
@@ -70,20 +70,23 @@ impl<L: Naming> Seat<L> {
         self.stored += count;
     }
 
-    /// Sees all bodies.
-    pub(crate) fn see(&mut self, bodies: &mut Bodies<L>)
-        ensures seen { self.new ≡ record self.old { bodies = bodies.old } }
-        ensures later { Begins self.old.bodies bodies.old }
-        ensures bodies { bodies.new ≡ bodies.old }
+    /// Notes what this seat was asked and how it was answered, and sees all questions.
+    pub(crate) fn note(&mut self, questions: &mut Questions<L>, status: u16, body: &[u8])
+        ensures questions { questions.new ≡ record questions.old {
+          asked = questions.old.asked
+              ++ record { seat = self.old.number; body = body.now; status = status } ∷ [];
+        } }
+        ensures seat { self.new ≡ record self.old { asked = questions.new.asked } }
+        ensures is_seat { IsSeat questions.old self.old.number self.old.asked }
     {
-        bodies.show(&mut self.seen);
+        questions.push(&mut self.seen, status, body);
     }
 
     /// The share of the ledger, and what was seen.
     pub(crate) fn into_parts(self) -> (Share<L>, Seen<L>)
         ensures parts { result.0.parts ≡ 1 }
         ensures amount { result.0.amount ≡ self.stored }
-        ensures seen { result.1 ≡ self.bodies }
+        ensures seen { result.1 ≡ record { number = self.number; asked = self.asked } }
     {
         (self.share, self.seen)
     }
@@ -108,7 +111,7 @@ impl<L: Naming> Seat<L> {
         ensures statuses { IsStatus result.status }
         ensures asked { HasAsked L.opening self.old body.now result.status self.new }
         ensures label_sets { result.label_sets
-            ≡ length (label_sets (store_after L.opening self.new.bodies)) }
+            ≡ length (label_sets (store_after L.opening (bodies_of self.new.asked))) }
     {
         shared.ask(rt, self, body)
     }

@@ -15,11 +15,14 @@ pub mod FreeLaws
 pub mod MarkRuns
 pub mod OwnRuns
 pub mod ReceivedRuns
+pub mod Passed
 pub mod Pasts
 pub mod Positions
 pub mod ReshardRuns
 pub mod RisingOrders
+pub mod Seatings
 pub mod SharedReceivers
+pub mod Spans
 pub mod StoppedRuns
 pub mod StoppedShards
 pub mod Tallies

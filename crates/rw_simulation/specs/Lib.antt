@@ -10,3 +10,4 @@ pub mod Accounts
 pub mod Arrivals
 pub mod Received
 pub mod SharedReceivers
+pub mod Seatings

@@ -6,17 +6,12 @@ use Rattle.rw_shard_core.specs.Shard.{body_of}
 use Rattle.rw_worker.specs.Transcript.{Exchange, batch_request}
 use Rattle.rw_head.specs.Head.{State}
 use Rattle.rw_head.specs.Store.{Store}
-use Rattle.rw_shared_head.specs.Seats.{Seated, HasAsked, HasGathered, head_after}
+use Rattle.rw_shared_head.specs.declared.question.Question.{Question}
+use Rattle.rw_shared_head.specs.Seats.{Seated, HasAsked, HasGathered, bodies_of, head_after}
 use Rattle.rw_machine.specs.Worlds.{Setup}
 use Rattle.rw_machine.specs.declared.event.How.{How}
 use Rattle.rw_machine.specs.declared.event.How.TheVariants.{Plain, Busy, OutOfMemory}
 use Rattle.rw_simulation.specs.Arrivals.{Arrival, AreTold, IsOneReceiver}
-
--- what a seat was asked, and what it had stored and seen before and after
-pub record Question : Type 0 where
-  pub body : List ℕ
-  pub old : Seated
-  pub new : Seated
 
 -- A request that has come: of which exchange of which worker it was, the status that was answered, and what a seat was asked for it, if one was.
 pub record Coming : Type 0 where
@@ -26,25 +21,31 @@ pub record Coming : Type 0 where
   pub status : ℕ
   pub question : Option Question
 
--- the bodies that the head takes of these
-abbrev pub taken_of : ℕ → Option Question → List (List ℕ)
-taken_of status None = []
-taken_of status (Some q) = if status == 204 then q.body ∷ [] else []
+abbrev pub questions_of : Option Question → List Question
+questions_of None = []
+questions_of (Some q) = q ∷ []
 
-abbrev pub bodies_of : List Coming → List (List ℕ)
-bodies_of [] = []
-bodies_of (a ∷ later) = taken_of a.status a.question ++ bodies_of later
+-- what the seats were asked for these
+abbrev pub questions_in : List Coming → List Question
+questions_in [] = []
+questions_in (a ∷ later) = questions_of a.question ++ questions_in later
 
--- the body is the one that carries these samples, and is within the endpoint's limit
+-- the body is the one that carries these samples, and is one that the endpoint reads
 abbrev pub Carries : Setup → List ℕ → List Placed → Type 0
 Carries c body batch = (body ≡ body_of batch) × (length body ≤ c.max_body)
 
--- A request is answered so by a head that was `opening` and has taken these bodies: a seat was asked for the body that it carries;
--- or none was, for the body is too long, or there was no memory for it.
-abbrev pub IsAnswered : Setup → State → List (List ℕ) → List ℕ → ℕ → Option Question → Type 0
+-- A head that was `opening` and was asked `before` answers this question so.
+pub record IsAnsweredAt (opening : State) (before : List Question) (q : Question) : Type 0 where
+  pub old : Seated
+  pub new : Seated
+  pub asked : HasAsked opening old q.body q.status new
+  pub before_is : asked.before ≡ before
+
+-- A request is answered so by a head that had been asked `before`: a seat was asked for the body that it carries; or none was, for the body
+-- is too long, or there was no memory for it.
+abbrev pub IsAnswered : Setup → State → List Question → List ℕ → ℕ → Option Question → Type 0
 IsAnswered c opening before request status (Some q) =
-    (asked : HasAsked opening q.old q.body status q.new) × (asked.before ≡ before)
-    × ((batch : List Placed) → request ≡ batch_request c.target batch → Carries c q.body batch)
+    IsAnsweredAt opening before q × (q.status ≡ status) × ((batch : List Placed) → request ≡ batch_request c.target batch → Carries c q.body batch)
 IsAnswered c opening before request status None =
     ((status ≡ 413) × ((batch : List Placed) → request ≡ batch_request c.target batch → c.max_body < length (body_of batch))) ⊎ (status ≡ 503)
 
@@ -55,22 +56,22 @@ how_of status = if status == 503 then OutOfMemory else (if status == 429 then Bu
 abbrev pub arrival_of : Coming → Arrival
 arrival_of a = record { epoch = a.epoch; shard = a.shard; number = a.number; how = how_of a.status; status = a.status }
 
--- The requests that have come to a head, as its lock let them in: it was empty when it was shared, each is of an exchange of a worker, and no other body was taken.
+-- The requests that have come to a head, as its lock let them in: it was empty when it was shared, each is of an exchange of a worker, and nothing else was asked.
 pub record IsSharedReceiver (c : Setup) (exchanges : ℕ → ℕ → List Exchange) (opening : State) (comings : List Coming) : Type 0 where
   pub empty_is : opening.store ≡ empty
   pub limits_are : opening.limits ≡ c.limits
   pub answers : (n : ℕ) (a : Coming) → slice_get comings n ≡ Some a → (x : Exchange) × (slice_get (exchanges a.epoch a.shard) a.number ≡ Some x)
-      × IsAnswered c opening (bodies_of (take n comings)) x.request a.status a.question
+      × IsAnswered c opening (questions_in (take n comings)) x.request a.status a.question
   pub told : AreTold exchanges (map arrival_of comings)
 
 -- the head behind the first n of them
 abbrev pub head_behind : State → List Coming → ℕ → State
-head_behind opening comings n = head_after opening (bodies_of (take n comings)) 0
+head_behind opening comings n = head_after opening (bodies_of (questions_in (take n comings))) 0
 
 -- It is one receiver, of a machine whose receiver is not busy by itself; and what it holds, once all seats are back, is what that holds behind the last request.
 abbrev pub SharesAsOne : Setup → (ℕ → ℕ → List Exchange) → State → List Coming → Type 0
 SharesAsOne c exchanges opening comings =
     c.busy ≡ 0 → IsSharedReceiver c exchanges opening comings
     → IsOneReceiver c exchanges (map arrival_of comings) (head_behind opening comings)
-    × ((seats : List Seated) (store : Store) (all : HasGathered opening seats store) → all.bodies ≡ bodies_of comings
+    × ((seats : List Seated) (store : Store) (all : HasGathered opening seats store) → all.asked ≡ questions_in comings
     → store ≡ (head_behind opening comings (length (map arrival_of comings))).store)

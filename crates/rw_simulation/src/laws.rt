@@ -16,7 +16,10 @@ ghost use Rattle.rw_simulation.specs.StoppedShards.{StopsAsShard};
 ghost use Rattle.rw_simulation.specs.StoppedRuns.{StopsAbandoned, StopsAsRun, StopsInOrder};
 ghost use Rattle.rw_simulation.specs.Accounts.{RunAccounts};
 ghost use Rattle.rw_simulation.specs.Received.{ReceivesAbandoned, ReceivesInOrder};
+ghost use Rattle.rw_head.specs.Store.{Store};
+ghost use Rattle.rw_shared_head.specs.Seats.{Seated};
 ghost use Rattle.rw_simulation.specs.SharedReceivers.{Coming, SharesAsOne};
+ghost use Rattle.rw_simulation.specs.Seatings.{SeatsAsOne};
 
 use rw_worker::Transport;
 
@@ -71,4 +74,11 @@ pub fn one_receiver_holds_the_samples<T: Transport>()
 pub fn a_shared_head_is_one_receiver()
     ensures { (c : Setup) (exchanges : ℕ → ℕ → List Exchange)
         (opening : State) (comings : List Coming) → SharesAsOne c exchanges opening comings }
+{}
+
+/// Workers of one epoch that ask the seats of such a head, each from a seat of its own, have one receiver, and what is gathered is what that holds: nothing of the
+/// network is asked. What each seat was asked for which exchange its transport has to tell (`IsSeatOf`).
+pub fn seats_of_one_head_are_one_receiver()
+    ensures { (c : Setup) (exchanges : ℕ → ℕ → List Exchange) (opening : State)
+        (seats : List Seated) (store : Store) → SeatsAsOne c exchanges opening seats store }
 {}

@@ -1,14 +1,14 @@
-use Rattle.std.proofs.Common.{◌≡◌, ◌+◌, ◌≤◌, [], All, vec_len, vec_capacity}
+use Rattle.std.proofs.Common.{◌≡◌, ℕ, ◌+◌, ◌≤◌, [], Some, slice_get, vec_len, vec_capacity}
 use Rattle.rw_shared_head.specs.Seats.{Seated}
 use Rattle.rw_shared_head.proofs.shared_head.SharedHead.seats.Given as goal
 
-abbrev pub invariant-loop : goal.invariant-loop
-invariant-loop g l = record {
-  len : vec_len l.seats ≡ l.counter;
+abbrev pub invariant-loop-k : goal.invariant-loop-k
+invariant-loop-k g l = record {
+  len : vec_len l.seats ≡ l.k;
   room : l.n ≤ vec_capacity l.seats;
-  parts : l.rest.parts + l.counter ≡ l.n + 1;
+  parts : l.rest.parts + l.k ≡ l.n + 1;
   amount : l.rest.amount ≡ l.initial.rest.amount;
-  bodies : l.bodies ≡ [];
-  nothing : All (λ (s : Seated). s ≡ record { stored = 0; bodies = [] }) l.seats.items;
-  below : l.counter ≤ l.n;
+  questions : l.questions ≡ record { asked = []; given = l.k; back = [] };
+  numbered : (k : ℕ) (s : Seated) → slice_get l.seats.items k ≡ Some s → s ≡ record { number = k; stored = 0; asked = [] };
+  below : l.k ≤ l.n;
 }

@@ -1,0 +1,5 @@
+use Rattle.rw_simulation.proofs.Seatings.{seats-as-one}
+use Rattle.rw_simulation.proofs.laws.seats_of_one_head_are_one_receiver.Goals as goal
+
+pub returns : goal.returns
+returns c = seats-as-one
