@@ -102,6 +102,7 @@ impl Follower {
         ensures stays { IfErr result
             (λ _. Moves (S.now segments.old) (S.now segments.new) (λ meal. meal)) }
         ensures piece { IfOk result (λ turn. IsWithin turn (length buf.new)) }
+        ensures some { (n : ℕ) → result ≡ Ok (Turn.Piece n) → 0 < n }
         ensures orderly { result ≡ Ok (Turn.Stopped Stop.Orderly) → (meal : Meal)
             → Known (S.now segments.old) (λ m. IsGivenAt meal m)
             → Known (S.now segments.new) (HadAll meal) }

@@ -8,5 +8,5 @@ mod telling;
 
 pub use halt::Halt;
 pub use sharding::{Sharding, resharded, retuned};
-pub use shipping::{PIECE_BYTES, begin_segment, ship_all, zeros};
+pub use shipping::{begin_segment, ship_all, zeros};
 pub use telling::{Means, tell};
