@@ -1,16 +1,18 @@
 //! What a head has of the samples that a shipper sent it.
 
-ghost use Rattle.std.specs.Prelude.{◌≡◌, ◌<◌, ◌+◌, IfOk};
+ghost use Rattle.std.specs.Prelude.{◌≡◌, ◌<◌, ◌+◌, [], All, IfOk};
 ghost use Rattle.std.specs.Arc.{arc_value};
 
-use crate::logs::{FOUR, ONE, TWO, UP};
-use crate::seated::{Seated, Seats};
-use crate::work::{Call, Ending, Stop, Task, Wanted, done};
+use crate::logs::{FOUR, ONE, TWO, UP, segment};
+use crate::peers::Quick;
+use crate::work::{Call, Ending, Stop, Task, Wanted, config_of, done, ends_so};
 use Call::{Feed, Flush, NextSegment, Reshard};
 use rw_head::{Head, Limits};
+use rw_in_memory::{Endpoint, Line, Lines, Receiver, Shipped, ship};
 use rw_ledger::Reason;
-use rw_shared_head::{Blank, Naming, Seat, SharedHead};
+use rw_shared_head::{Blank, Seat};
 use rw_types::{Bounded, LabelFault, LabelSet, Names, Word};
+use rw_wal_tail::Piece;
 use std::alloc::{AllocError, Global};
 use std::marker::Brand;
 use std::sync::{Arc, Wait};
@@ -25,53 +27,54 @@ struct Row<'a> {
     samples: &'a [(i64, u64)],
 }
 
-fn put_seats<R: Drop, L: Naming>(seats: &mut Vec<Seat<L>>, transports: Vec<Seated<R, L>>) {
-    for transport in transports {
-        if let Some(seat) = transport.into_seat() {
-            let _ = seats.push(seat);
-        }
+fn put_seats<R: Drop, L: Endpoint>(seats: &mut Vec<Seat<L>>, lines: Vec<Line<R, L>>) {
+    for line in lines {
+        let _ = seats.push(line.into_seat());
     }
 }
 
-/// The head under a lock, and so many seats.
-fn shared_head<L: Naming>(
+/// A receiver over the head, and so many seats of it.
+fn opened<L: Endpoint>(
     alloc: Global,
+    limits: Limits,
     blank: Blank,
     head: Head,
     count: usize,
-) -> Result<(Arc<SharedHead<L>>, Vec<Seat<L>>), AllocError>
+) -> Result<(Arc<Receiver<L>>, Vec<Seat<L>>), AllocError>
     requires some { 0 < count }
     requires name { blank.name ≡ L.name }
     requires parts { (blank.parts ≡ count + 1) × (L.parts ≡ count + 1) }
     requires table { blank.table ≡ L.table }
     requires opening { head ≡ L.opening }
-    ensures { IfOk result (λ r. (arc_value r.0).seats ≡ count) }
+    requires path { limits.path ≡ L.path }
+    requires limit { limits.max_body_bytes ≡ L.limit }
+    ensures seats { IfOk result (λ r. (arc_value r.0).seats ≡ count) }
+    ensures unasked { IfOk result (λ r. All (λ s. s.asked ≡ []) r.1.items) }
 {
-    match SharedHead::<L>::seats(alloc, blank, head, count) {
-        Ok((shared, seats)) => Ok((Arc::new(alloc, shared)?, seats)),
-        Err((_, refused)) => Err(refused),
-    }
+    let (receiver, seats) = Receiver::open(alloc, limits, blank, head, count)?;
+    Ok((Arc::new(alloc, receiver)?, seats))
 }
 
 /// The head, where all seats are back and nobody else has a part in it.
-fn gathered<L: Naming>(
-    shared: Arc<SharedHead<L>>,
+fn gathered<L: Endpoint>(
+    receiver: Arc<Receiver<L>>,
     seats: Vec<Seat<L>>,
     count: usize,
 ) -> Option<Head>
-    requires { (arc_value shared).seats ≡ count }
+    requires { (arc_value receiver).seats ≡ count }
 {
-    let shared = Arc::into_inner(shared)?;
+    let receiver = Arc::into_inner(receiver)?;
     if seats.len() != count {
         return None;
     }
-    Some(shared.gather(seats))
+    Some(receiver.into_shared().gather(seats))
 }
 
 /// Ships to the seats of the head, of which each worker takes one, and gathers them. Gives whether all was done as wanted, and the head.
-fn shipped<R: Threads + Wait + Copy + Send + 'static, L: Naming + Send + Sync + 'static>(
+fn shipped<R: Threads + Wait + Copy + Send + 'static, L: Endpoint + Send + Sync + 'static>(
     rt: &R,
     alloc: Global,
+    limits: Limits,
     blank: Blank,
     head: Head,
     count: usize,
@@ -82,19 +85,18 @@ fn shipped<R: Threads + Wait + Copy + Send + 'static, L: Naming + Send + Sync + 
     requires parts { (blank.parts ≡ count + 1) × (L.parts ≡ count + 1) }
     requires table { blank.table ≡ L.table }
     requires opening { head ≡ L.opening }
+    requires path { limits.path ≡ L.path }
+    requires limit { limits.max_body_bytes ≡ L.limit }
 {
-    let (shared, seats) = shared_head::<L>(alloc, blank, head, count).ok()?;
-    let connect = Seats {
-        rt: *rt,
-        alloc,
-        shared: shared.clone().ok()?,
-        seats,
+    let Ok((receiver, seats)) = opened::<L>(alloc, limits, blank, head, count) else {
+        return None;
     };
-    let (work, transports) = done(rt, alloc, &row.task, connect)?;
+    let connect = Lines::new(*rt, alloc, receiver.clone().ok()?, seats, Quick);
+    let (work, lines) = done(rt, alloc, &row.task, connect)?;
     let is_so = work.is(&row.wanted);
     let mut seats = Vec::new(alloc);
-    put_seats(&mut seats, transports);
-    Some((is_so, gathered(shared, seats, count)?))
+    put_seats(&mut seats, lines);
+    Some((is_so, gathered(receiver, seats, count)?))
 }
 
 /// The same for so many seats.
@@ -106,8 +108,9 @@ fn shipped_to_seats<R: Threads + Wait + Copy + Send + 'static>(
 ) -> Option<(bool, Head)> {
     let count = seats.get();
     let blank = Blank::new(alloc, count + 1).ok()?;
-    let head = Head::new(alloc, &Limits::standard(alloc).ok()?);
-    shipped::<R, Brand>(rt, alloc, blank, head, count as usize, row)
+    let limits = Limits::standard(alloc).ok()?;
+    let head = Head::new(alloc, &limits);
+    shipped::<R, Brand>(rt, alloc, limits, blank, head, count as usize, row)
 }
 
 fn texts(alloc: Global, name: &str) -> Result<Vec<(String, String)>, AllocError> {
@@ -247,4 +250,48 @@ static THAT_RISE: Row<'static> = Row {
 #[test]
 fn the_head_has_the_samples_that_rise(rt: HostRuntime) {
     assert_eq!(rt; has_all(&rt, rt.alloc(), &THAT_RISE), Ok(true));
+}
+
+/// Ships two segments, of which the second one has a sample at the time of the first one's, over three shards.
+fn shipped_whole<R: Threads + Wait + Copy + Send + 'static>(
+    rt: &R,
+    alloc: Global,
+) -> Result<Option<Shipped>, AllocError> {
+    let mut log = Vec::new(alloc);
+    log.push(Piece::Bytes(segment(alloc, &FOUR, &[(3, 10, ONE)])?))?;
+    log.push(Piece::NextSegment)?;
+    log.push(Piece::Bytes(segment(alloc, &[], &[(4, 10, TWO), (4, 20, TWO)])?))?;
+    let Some(config) = config_of(alloc, 3, 2_000) else {
+        return Ok(None);
+    };
+    let mut limits = Limits::standard(alloc)?;
+    limits.max_body_bytes = Bounded::new(1);
+    Ok(Some(ship(rt, alloc, config, log, limits, Quick)?))
+}
+
+/// Whether it is complete, names the sample that does not rise, and the head has the others.
+fn is_whole(alloc: Global, shipped: &Shipped) -> Result<bool, LabelFault> {
+    let holds = holds(alloc, &shipped.head, "c", &[(10, ONE), (20, TWO)])?;
+    Ok(
+        holds
+            && ends_so(&shipped.outcome, Ending::Complete(7))
+            && shipped.parts.len() == 4
+            && shipped.filtered == 0,
+    )
+}
+
+fn is_shipped_whole<R: Threads + Wait + Copy + Send + 'static>(
+    rt: &R,
+    alloc: Global,
+) -> Result<bool, LabelFault> {
+    match shipped_whole(rt, alloc)? {
+        Some(shipped) => is_whole(alloc, &shipped),
+        None => Ok(false),
+    }
+}
+
+/// The third and the fourth reference are one series. The limit on bodies does not count.
+#[test]
+fn a_log_is_shipped_to_a_head_in_this_process(rt: HostRuntime) {
+    assert_eq!(rt; is_shipped_whole(&rt, rt.alloc()), Ok(true));
 }

@@ -8,7 +8,6 @@ mod logs;
 #[cfg(test)]
 mod peers;
 #[cfg(test)]
-mod seated;
 #[cfg(test)]
 mod shippers;
 #[cfg(test)]

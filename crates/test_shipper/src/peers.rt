@@ -12,7 +12,7 @@ use std::thread;
 pub(crate) const TURNS: u32 = 10_000_000;
 
 /// Takes no time, so that a sender tries again at once.
-#[derive(Drop)]
+#[derive(Clone, Copy)]
 pub(crate) struct Quick;
 
 impl Pause for Quick {

@@ -5,3 +5,6 @@ ghosts-shipped-L-Ledger g a = record { name = a.blank.name; parts = a.blank.part
 
 abbrev pub ghosts-shipped-L-Naming : goal.ghosts-shipped-L-Naming
 ghosts-shipped-L-Naming g a = record { opening = a.head; table = a.blank.table }
+
+abbrev pub ghosts-shipped-L-Endpoint : goal.ghosts-shipped-L-Endpoint
+ghosts-shipped-L-Endpoint g a = record { path = a.limits.path; limit = a.limits.max_body_bytes }

@@ -1,0 +1,169 @@
+-- A shipper over lines, from its start to where the head is back.
+use Rattle.std.proofs.Common.{◌≡◌, ◌⊎◌, inl, inr, ℕ, ◌≤◌, List, [], ◌∷◌, ◌++◌, All, map, take, length, Option, None, Some, Result, Ok, Err, IfOk, IfSome, slice_get, get_or, refl, sym, ap, ◌∙◌, subst, arith}
+use Rattle.std.specs.Prelude.{IsSome, is_some, OnOk, OnErr}
+use Rattle.std.specs.FinMap.{empty}
+use Rattle.std.proofs.lemmas.List.{length-map}
+use Rattle.std.proofs.lemmas.Option.{none-some, slice_get_within, get_or_from_slice_get, slice_get-get_or}
+use Rattle.rw_wal_tail.specs.Fed.{piece_of}
+use Rattle.rw_wal_tail.specs.declared.piece.Piece.{Piece}
+use Rattle.rw_wal_format.specs.Pieces.{entries}
+use Rattle.rw_wal_format.specs.declared.tail_fault.TailFault.{TailFault}
+use Rattle.rw_shard_core.specs.Configs.{choice_of}
+use Rattle.rw_shard_core.specs.declared.config.ConfigFields.{ConfigFields}
+use Rattle.rw_shard_core.specs.declared.outcome.Outcome.{Outcome}
+use Rattle.rw_shard_core.specs.declared.outcome.Outcome.TheVariants.{Complete, Damaged}
+use Rattle.rw_head.specs.Head.{State}
+use Rattle.rw_feeder.specs.Feeders.{Sorting, HasRead}
+use Rattle.rw_fleet.specs.ShardHistories.{ShardHistory, AreFresh, AreSame}
+use Rattle.rw_fleet.specs.Work.{lane_of, finished_of}
+use Rattle.rw_fleet.specs.Fleets.{Shards, EndBy}
+use Rattle.rw_fleet.specs.declared.joined.StoppedShard.{StoppedShard}
+use Rattle.rw_fleet.specs.declared.running.Fault.{Fault}
+use Rattle.rw_shipper.specs.Reports.{IsAbandoned, kind_of}
+use Rattle.rw_shipper.specs.Shipping.{Shipping, HasStopped, Ends}
+use Rattle.rw_shipper.specs.declared.report.Report.{Report}
+use Rattle.rw_shipper.specs.declared.shipper.FeedFault.{FeedFault}
+use Rattle.rw_machine.specs.Worlds.{Setup}
+use Rattle.rw_machine.specs.Promises.{CanWork}
+use Rattle.rw_simulation.specs.StoppedRuns.{IsMachineOf}
+use Rattle.rw_simulation.specs.Received.{IsHeld}
+use Rattle.rw_in_memory.specs.Lines.{Line}
+use Rattle.rw_in_memory.specs.Held.{seen_by, IsAnyones, AreLines, IsFirst, HasEnded}
+use Rattle.rw_in_memory.specs.Shipped.{IsSound, HasFed, IsGathered, IsShipped}
+use Rattle.rw_in_memory.specs.declared.shipping.Shipped.{Shipped}
+use Rattle.rw_in_memory.proofs.Held.{holds-in-memory}
+
+-- ---- as many workers as shards
+same_count : (ls ms : List ShardHistory) → AreSame ls ms → length ms ≡ length ls
+same_count [] [] s = refl
+same_count [] (m ∷ ms) s = absurd s
+same_count (l ∷ ls) [] s = absurd s
+same_count (l ∷ ls) (m ∷ ms) s = let h = same_count ls ms s.2 in omega arith
+
+pub workers_count : (tells : Line → Type 0) (s : Shipping Line) (r : Report Line) → HasStopped tells seen_by IsAnyones s r → s.fleet.ended ≡ [] → length r.workers.items ≡ length s.fleet.current
+workers_count tells s r h none =
+    ap length h.workers
+    ∙ length-map h.joined finished_of
+    ∙ ap length (h.all.1 ∙ ap (λ (js : List (StoppedShard Line)). js ++ h.all.0) none)
+    ∙ sym (length-map h.all.0 lane_of)
+    ∙ same_count s.fleet.current (map lane_of h.all.0) h.all.2
+
+-- ---- how it was stopped
+pub ended_so : (fault : Option Fault) (s : Shipping Line) (r : Report Line) → EndBy (kind_of (is_some fault)) s.fleet r.workers.items → IfSome fault (λ f. IsAbandoned r.outcome) → HasEnded s r
+ended_so None s r by failed = inl by
+ended_so (Some f) s r by failed = inr failed
+
+pub failed_so : (fault : Option Fault) (o : Outcome) → IfSome fault (λ f. IsAbandoned o) → IsSome fault → IsAbandoned o
+failed_so None o failed some = absurd (cc)
+failed_so (Some f) o failed some = failed
+
+-- ---- each of a list
+pub each_of : {X : Type 0} (P : X → Type 0) (xs : List X) → All P xs → (k : ℕ) (x : X) → slice_get xs k ≡ Some x → P x
+each_of P xs all k x at = subst P (get_or_from_slice_get xs k x x at) (all k x (slice_get_within xs k x at))
+
+pub all_of : {X : Type 0} (P : X → Type 0) (xs : List X) → ((k : ℕ) (x : X) → slice_get xs k ≡ Some x → P x) → All P xs
+all_of P xs each k d lt = each k (get_or xs k d) (slice_get-get_or xs k d lt)
+
+pub if_ok : {X E : Type 0} (P Q : X → Type 0) (r : Result X E) → IfOk r P → ((x : X) → P x → Q x) → IfOk r Q
+if_ok P Q (Ok x) h f = f x h
+if_ok P Q (Err e) h f = tt
+
+-- ---- from the start to the end
+module _ (opening : State) (path : List ℕ) (limit : ℕ) (config : ConfigFields) (log : List Piece) (was now : Shipping Line) (answer : Result (Unit {0}) FeedFault) (v : Shipped)
+    (log_is : was.log ≡ record { choice = choice_of config; pieces = []; placed = []; hand = [] }) (config_is : was.fleet.config ≡ record config { rules = [] })
+    (opened : (was.fleet.epoch ≡ 0) × (was.fleet.ended ≡ []) × (length was.fleet.current ≡ config.shards) × AreFresh 0 was.fleet.current)
+    (fed : HasFed was now log answer) (g : IsGathered opening path limit now v) (empty_is : opening.store ≡ empty) (path_is : path ≡ config.target.path) (sound : IsSound config) where
+  setup : Setup
+  setup = record {
+    target = config.target;
+    shards = config.shards;
+    capacity = config.capacity;
+    batch = config.batch;
+    choice = choice_of config;
+    limits = opening.limits;
+    max_body = limit;
+    busy = 0;
+  }
+
+  choice_is : now.log.choice ≡ choice_of config
+  choice_is = fed.choice ∙ ap (λ (l : Sorting). l.choice) log_is
+
+  pieces_are : now.log.pieces ≡ map piece_of (take fed.fed log)
+  pieces_are = fed.pieces ∙ ap (λ (l : Sorting). l.pieces ++ map piece_of (take fed.fed log)) log_is
+
+  config_now : now.fleet.config ≡ record config { rules = [] }
+  config_now = ap (λ (f : Shards Line). f.config) fed.fleet ∙ config_is
+
+  machine : IsMachineOf setup now
+  unfolding setup
+  machine = (
+    record {
+      target = sym (ap (λ (c : ConfigFields). c.target) config_now);
+      capacity = sym (ap (λ (c : ConfigFields). c.capacity) config_now);
+      batch = sym (ap (λ (c : ConfigFields). c.batch) config_now);
+    },
+    sym choice_is,
+  )
+
+  work : CanWork setup
+  unfolding setup
+  work = record { capacity = sound.capacity; batch = sound.batch; shards = sound.shards.0 }
+
+  count : length now.fleet.current ≡ config.shards
+  count = fed.len ∙ opened.2
+
+  first : IsFirst setup now
+  unfolding setup
+  first = record {
+    epoch_is = ap (λ (f : Shards Line). f.epoch) fed.fleet ∙ opened.0;
+    none_ended = ap (λ (f : Shards Line). f.ended) fed.fleet ∙ opened.1;
+    number = subst (λ (n : ℕ). (1 ≤ n) × (n ≤ 1000)) (sym count) sound.shards;
+    shards = count;
+  }
+
+  lines : AreLines setup opening path limit g.r.workers.items v.head.store
+  unfolding setup
+  lines = record {
+    host = sound.host;
+    calm = refl;
+    empty_is = empty_is;
+    limits_are = refl;
+    path_is = path_is;
+    limit_is = refl;
+    each = g.each;
+    gathered = g.gathered;
+  }
+
+  held : IsHeld now g.r v.head.store
+  held = holds-in-memory opening path limit now g.r v.head.store setup (take fed.fed log) g.stopped g.placed machine work pieces_are first lines g.ended
+
+  -- nothing is left where the outcome says complete
+  whole : (end : ℕ) → g.r.outcome ≡ Complete end → (length log ≤ fed.fed) × (end ≡ length now.log.placed) × (now.log.placed ≡ entries now.log.pieces)
+  whole end is = (by_answer answer fed.whole fed.part, ends.0, ends.1.all)
+    where
+      ends : Ends now g.stopped.joined (Complete end)
+      ends = subst (Ends now g.stopped.joined) is g.stopped.ends
+
+      by_answer : (a : Result (Unit {0}) FeedFault) → OnOk a (length log ≤ fed.fed) → OnErr a (IsSome now.fault ⊎ ((f : TailFault) × HasRead now.log.pieces now.log.placed (Some f))) → length log ≤ fed.fed
+      by_answer (Ok u) ok err = ok
+      by_answer (Err e) ok (inl failed) = absurd (subst IsAbandoned is (g.failed failed))
+      by_answer (Err e) ok (inr (f, read)) = absurd (none-some f (sym ends.1.fault_is ∙ read.fault_is))
+
+  fault_read : (f : TailFault) → g.r.outcome ≡ Damaged f → HasRead now.log.pieces now.log.placed (Some f)
+  fault_read f is = (subst (Ends now g.stopped.joined) is g.stopped.ends).0
+
+  pub shipped_so : IsShipped (choice_of config) log v
+  shipped_so = record {
+    fed = fed.fed;
+    s = now;
+    r = g.r;
+    choice_is = choice_is;
+    pieces_are = pieces_are;
+    read = g.stopped.read;
+    outcome_is = g.outcome_is;
+    parts_are = g.parts_are;
+    filter_count = g.filter_count ∙ g.stopped.filter_count;
+    complete = λ end is. whole end (sym g.outcome_is ∙ is);
+    damaged = λ f is. fault_read f (sym g.outcome_is ∙ is);
+    held = held;
+  }

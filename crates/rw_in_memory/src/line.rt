@@ -1,0 +1,158 @@
+//! A transport in memory.
+
+ghost use Rattle.std.specs.Prelude.{◌≡◌, ℕ, List, true, [], ◌∷◌, ◌++◌, None, Some, IfOk};
+ghost use Rattle.rw_types.specs.Requests.{is_host_name};
+ghost use Rattle.rw_shard_core.specs.SentRequest.{request_of};
+ghost use Rattle.rw_in_memory.specs.Lines.{IsAskedOnce, IsLine};
+
+use crate::asker::Asker;
+use crate::receiver::{Endpoint, Receiver};
+use http::StatusCode;
+use rw_endpoint::serve;
+use rw_history::History;
+use rw_shared_head::Seat;
+use rw_types::Room;
+use rw_worker::{Lost, Reply, Transport};
+use std::alloc::Global;
+use std::marker::Model;
+use std::sync::{Arc, Wait};
+
+/// The most bytes of a reply.
+const REPLY_ROOM: usize = 86;
+
+/// A request and its answer, for contracts alone.
+#[derive(Drop)]
+pub struct Exchanged {
+    pub request: History<u8>,
+    pub answer: Result<Reply, Lost>,
+}
+
+/// Serves a connection with one request. Gives what the seat answered, where it was asked.
+fn ask<R: Wait, L: Endpoint>(
+    alloc: Global,
+    receiver: &Receiver<L>,
+    asker: &mut Asker<R, L>,
+    request: &[u8],
+) -> Option<u16>
+    ensures { (host body : List ℕ) → is_host_name host ≡ true
+        → request.now ≡ request_of host L.path body
+        → IsAskedOnce L.opening L.limit asker.old.seat body result asker.new.seat }
+{
+    let Ok(mut writer) = Room::new(alloc, REPLY_ROOM) else {
+        return None;
+    };
+    let limits = receiver.limits();
+    // Its type says that it is one.
+    let _ = limits.path.as_str();
+    let mut reader = request;
+    asker.status = None;
+    let _ = serve(alloc, &mut reader, &mut writer, asker, limits);
+    asker.status
+}
+
+/// The answer that a sender has: what was not asked is lost.
+fn answer_of(status: Option<u16>) -> Result<Reply, Lost>
+    ensures { IfOk result (λ r. status ≡ Some r.status) }
+{
+    let Some(number) = status else {
+        return Err(Lost);
+    };
+    match StatusCode::from_u16(number) {
+        Ok(status) => Ok(Reply { status }),
+        Err(_) => Err(Lost),
+    }
+}
+
+/// Notes one exchange more.
+fn note(seen: &mut History<Exchanged>, request: &[u8], answer: &Result<Reply, Lost>)
+    ensures { seen.new ≡ seen.old ++ record { request = request.now; answer = answer.now } ∷ [] }
+{
+    let request = History::of(request);
+    let answer = *answer;
+    seen.push(&Exchanged { request, answer });
+}
+
+/// A transport in memory: it lends each request to a receiver's endpoint, which asks a seat of a shared head. Contracts see
+/// the seat, and the exchanges so far.
+///
+/// What the endpoint refuses without asking is told as lost.
+#[derive(Drop)]
+pub struct Line<R, L: Endpoint> {
+    alloc: Global,
+    receiver: Arc<Receiver<L>>,
+    asker: Asker<R, L>,
+    seen: History<Exchanged>,
+}
+
+impl<R, L: Endpoint> Model for Line<R, L> {
+    ghost use Rattle.std.specs.Prelude.{map};
+    ghost use Rattle.rw_in_memory.specs.Lines.{Line, IsLine, exchange_in};
+
+    ghost Value = { Line };
+
+    ghost view = { λ l. record { seat = l.asker.seat; seen = map exchange_in l.seen } };
+
+    ghost invariant = { λ l. IsLine L.opening L.path L.limit
+        (record { seat = l.asker.seat; seen = map exchange_in l.seen }) };
+}
+
+impl<R, L: Endpoint> Line<R, L> {
+    /// One whose seat has not been asked yet. It takes two shares of one receiver, since the seat asks while its limits are lent.
+    pub fn new(
+        rt: R,
+        alloc: Global,
+        ours: Arc<Receiver<L>>,
+        theirs: Arc<Receiver<L>>,
+        seat: Seat<L>,
+    ) -> Line<R, L>
+        requires { seat.asked ≡ [] }
+        ensures { result ≡ record { seat = seat; seen = [] } }
+    {
+        let asker = Asker {
+            rt,
+            receiver: theirs,
+            seat,
+            status: None,
+        };
+        Line {
+            alloc,
+            receiver: ours,
+            asker,
+            seen: History::new(),
+        }
+    }
+}
+
+impl<R: Drop, L: Endpoint> Line<R, L> {
+    /// Gives the seat back.
+    pub fn into_seat(self) -> Seat<L>
+        ensures seat { result ≡ self.seat }
+        ensures line { IsLine L.opening L.path L.limit self }
+    {
+        let Line {
+            alloc: _,
+            receiver: _,
+            asker,
+            seen: _,
+        } = self;
+        asker.into_seat()
+    }
+}
+
+impl<R: Wait, L: Endpoint> Transport for Line<R, L> {
+    ghost use Rattle.std.specs.Prelude.{⊤};
+    ghost use Rattle.rw_in_memory.specs.Lines.{IsLine};
+
+    ghost is_for = { λ _ _ _. ⊤ };
+
+    ghost tells = { λ line. IsLine L.opening L.path L.limit line };
+
+    ghost seen = { λ line. line.seen };
+
+    fn exchange(&mut self, request: &[u8]) -> Result<Reply, Lost> {
+        let status = ask(self.alloc, &self.receiver, &mut self.asker, request);
+        let answer = answer_of(status);
+        note(&mut self.seen, request, &answer);
+        answer
+    }
+}

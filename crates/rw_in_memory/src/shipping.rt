@@ -1,0 +1,242 @@
+//! A log that is shipped to a head in the same process.
+
+ghost use Rattle.std.specs.Prelude.{◌≡◌, ◌+◌, [], None, map, All, length, IfOk};
+ghost use Rattle.std.specs.Arc.{arc_value};
+ghost use Rattle.std.specs.FinMap.{empty};
+ghost use Rattle.rw_shard_core.specs.Configs.{choice_of};
+ghost use Rattle.rw_in_memory.specs.Lines.{IsLine};
+ghost use Rattle.rw_in_memory.specs.Held.{seat_of};
+ghost use Rattle.rw_in_memory.specs.Shipped.{HasFed, IsGathered, IsShipped, IsSound};
+
+use crate::line::Line;
+use crate::lines::Lines;
+use crate::receiver::{Endpoint, Receiver};
+use rw_head::{Head, Limits};
+use rw_ledger::Ledger;
+use rw_shard_core::{Config, Target};
+use rw_shared_head::{Blank, Seat};
+use rw_shipper::{Connect, FeedFault, Finished, Outcome, Report, Shipper};
+use rw_types::{Bounded, RequestPath};
+use rw_wal_tail::Piece;
+use rw_worker::{Pause, StopFlag};
+use std::alloc::{AllocError, Global};
+use std::marker::Brand;
+use std::sync::{Arc, Wait};
+use std::thread::Threads;
+
+/// What was shipped, and what the head holds then.
+#[derive(Drop)]
+pub struct Shipped {
+    pub outcome: Outcome,
+    /// The samples that were not sent, or were refused: as in the report of a shipper.
+    pub parts: Vec<Ledger>,
+    /// How many samples were placed whose series the rules drop.
+    pub filtered: u64,
+    pub head: Head,
+}
+
+/// Feeds the pieces of a log, up to its fault or to what fails.
+fn feed_all<R: Wait, C: Connect + Drop>(
+    rt: &R,
+    shipper: &mut Shipper<C>,
+    log: Vec<Piece>,
+) -> Result<(), FeedFault>
+    requires { shipper.old.fault ≡ None }
+    ensures { HasFed shipper.old shipper.new log.items result }
+{
+    for piece in log {
+        match shipper.feed(rt, piece) {
+            Ok(()) => {}
+            Err(fault) => return Err(fault),
+        }
+    }
+    Ok(())
+}
+
+/// The seat of a worker's transport.
+fn seat_in<R: Drop, L: Endpoint>(finished: Finished<Line<R, L>>) -> Seat<L>
+    ensures seat { result ≡ seat_of finished }
+    ensures line { IsLine L.opening L.path L.limit finished.transport }
+{
+    finished.transport.into_seat()
+}
+
+/// The seats of the workers' transports.
+fn seats_of<R: Drop, L: Endpoint>(
+    alloc: Global,
+    workers: Vec<Finished<Line<R, L>>>,
+) -> Result<Vec<Seat<L>>, AllocError>
+    ensures seats { IfOk result (λ seats. seats.items ≡ map seat_of workers.items) }
+    ensures lines { IfOk result
+        (λ _. All (λ f. IsLine L.opening L.path L.limit f.transport) workers.items) }
+{
+    let mut seats = Vec::new(alloc);
+    seats.reserve(workers.len())?;
+    for finished in workers {
+        seats.push_reserved(seat_in(finished));
+    }
+    Ok(seats)
+}
+
+/// Stops a shipper, and gathers the seats of its workers.
+fn gathered<
+    R: Threads + Wait + Copy + Send + 'static,
+    L: Endpoint + Send + Sync + 'static,
+    P: Pause + Copy + Send + Drop + 'static,
+>(
+    rt: &R,
+    alloc: Global,
+    shipper: Shipper<Lines<R, L, P>>,
+    receiver: Arc<Receiver<L>>,
+) -> Result<Shipped, AllocError>
+    requires first { shipper.fleet.ended ≡ [] }
+    requires seats { length shipper.fleet.current ≡ (arc_value receiver).seats }
+    ensures { IfOk result (IsGathered L.opening L.path L.limit shipper) }
+{
+    // By its contract the shards have what was placed.
+    let _ = shipper.load();
+    let end = shipper.entries_read();
+    let Report {
+        outcome,
+        parts,
+        filtered,
+        workers,
+    } = shipper.stop_orderly(rt, end);
+    let seats = seats_of(alloc, workers)?;
+    let Some(receiver) = Arc::into_inner(receiver) else {
+        return Err(AllocError);
+    };
+    let head = receiver.into_shared().gather(seats);
+    Ok(Shipped {
+        outcome,
+        parts,
+        filtered,
+        head,
+    })
+}
+
+/// Lines to a receiver, beside a share of it, and a stop flag.
+fn lined<R: Copy, L: Endpoint, P: Copy>(
+    rt: R,
+    alloc: Global,
+    receiver: Receiver<L>,
+    seats: Vec<Seat<L>>,
+    pause: P,
+) -> Result<(Arc<Receiver<L>>, Lines<R, L, P>, StopFlag), AllocError>
+    requires { All (λ s. s.asked ≡ []) seats.items }
+    ensures { IfOk result (λ r. arc_value r.0 ≡ receiver) }
+{
+    let stop = StopFlag::new(alloc)?;
+    let receiver = Arc::new(alloc, receiver)?;
+    let theirs = receiver.clone()?;
+    Ok((receiver, Lines::new(rt, alloc, theirs, seats, pause), stop))
+}
+
+/// Ships a log to a receiver, each shard from a seat of its own.
+fn ship_to<
+    R: Threads + Wait + Copy + Send + 'static,
+    L: Endpoint + Send + Sync + 'static,
+    P: Pause + Copy + Send + Drop + 'static,
+>(
+    rt: &R,
+    alloc: Global,
+    config: Config,
+    log: Vec<Piece>,
+    receiver: Receiver<L>,
+    seats: Vec<Seat<L>>,
+    pause: P,
+) -> Result<Shipped, AllocError>
+    requires unasked { All (λ s. s.asked ≡ []) seats.items }
+    requires seats { receiver.seats ≡ config.shards }
+    requires sound { IsSound config }
+    requires empty { L.opening.store ≡ empty }
+    requires path { L.path ≡ config.target.path }
+    ensures { IfOk result (IsShipped (choice_of config) log.items) }
+{
+    let limit = receiver.limits().max_body_bytes.get();
+    let (receiver, lines, stop) = lined(*rt, alloc, receiver, seats, pause)?;
+    let mut shipper = Shipper::start_within(rt, alloc, config, lines, Some(limit), stop)?;
+    let _ = feed_all(rt, &mut shipper, log);
+    gathered(rt, alloc, shipper, receiver)
+}
+
+/// Shares a head among as many seats as there are shards, and ships a log to it.
+fn ship_shared<
+    R: Threads + Wait + Copy + Send + 'static,
+    L: Endpoint + Send + Sync + 'static,
+    P: Pause + Copy + Send + Drop + 'static,
+>(
+    rt: &R,
+    alloc: Global,
+    config: Config,
+    log: Vec<Piece>,
+    limits: Limits,
+    blank: Blank,
+    head: Head,
+    count: usize,
+    pause: P,
+) -> Result<Shipped, AllocError>
+    requires seats { count ≡ config.shards }
+    requires sound { IsSound config }
+    requires name { blank.name ≡ L.name }
+    requires parts { (blank.parts ≡ count + 1) × (L.parts ≡ count + 1) }
+    requires table { blank.table ≡ L.table }
+    requires opening { head ≡ L.opening }
+    requires empty { head.store ≡ empty }
+    requires path { limits.path ≡ L.path }
+    requires limit { limits.max_body_bytes ≡ L.limit }
+    requires target { limits.path ≡ config.target.path }
+    ensures { IfOk result (IsShipped (choice_of config) log.items) }
+{
+    let (receiver, seats) = Receiver::<L>::open(alloc, limits, blank, head, count)?;
+    ship_to(rt, alloc, config, log, receiver, seats, pause)
+}
+
+/// The path of a target, as that of an endpoint.
+fn path_of(alloc: Global, target: &Target) -> Result<RequestPath, AllocError>
+    ensures { IfOk result (λ path. path ≡ target.now.path) }
+{
+    let text = String::from_str(alloc, target.path.as_str())?;
+    match RequestPath::check(text) {
+        Some(path) => Ok(path),
+        None => unreachable!(),
+    }
+}
+
+/// How many shards a configuration has. The other fields are read for what their types say of them.
+fn count_of(config: &Config) -> u64
+    ensures count { result ≡ config.now.shards }
+    ensures sound { IsSound config.now }
+{
+    let fields = config.fields();
+    let _ = fields.target.host.as_str();
+    let _ = (fields.capacity.get(), fields.batch.get());
+    fields.shards.get()
+}
+
+/// Ships a log to a new head in this process, by the threads of a sender, and gives what it did and the head.
+///
+/// Each shard asks a seat of the head, over the receiver's endpoint, which has the path of the configured target and reads bodies
+/// of up to 64 MiB, whatever `limits` says of these two; no batch takes more. The pieces are fed one after the other, up to the fault of the log. What is left where a queue was cut, or memory
+/// was refused, the outcome lists.
+///
+/// An `Err` means that memory or a thread was refused at the beginning, or memory for the report.
+pub fn ship<R: Threads + Wait + Copy + Send + 'static, P: Pause + Copy + Send + Drop + 'static>(
+    rt: &R,
+    alloc: Global,
+    config: Config,
+    log: Vec<Piece>,
+    limits: Limits,
+    pause: P,
+) -> Result<Shipped, AllocError>
+    ensures { IfOk result (IsShipped (choice_of config) log.items) }
+{
+    let count = count_of(&config);
+    let mut limits = limits;
+    limits.path = path_of(alloc, &config.fields().target)?;
+    limits.max_body_bytes = Bounded::new(67_108_864);
+    let blank = Blank::new(alloc, count + 1)?;
+    let head = Head::new(alloc, &limits);
+    let count = count as usize;
+    ship_shared::<R, Brand, P>(rt, alloc, config, log, limits, blank, head, count, pause)
+}
