@@ -1,5 +1,4 @@
 //! A caller of `rw_head`: a head that has taken one message.
-#![tactic(auto)]
 
 ghost use Rattle.std.specs.Prelude.{IfOk};
 ghost use Rattle.rw_head.specs.Growth.{EachRises};

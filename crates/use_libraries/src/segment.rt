@@ -1,5 +1,4 @@
 //! A caller of `rw_wal_tail`: the first entry of a segment.
-#![tactic(auto)]
 
 ghost use Rattle.std.specs.Prelude.{◌≡◌, ◌⊎◌, ◌∷◌, [], Err};
 ghost use Rattle.rw_wal_format.specs.Pieces.{bytes};

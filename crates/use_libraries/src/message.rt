@@ -1,5 +1,4 @@
 //! A caller of `rw_write_request`: a message, written and read again.
-#![tactic(auto)]
 
 ghost use Rattle.std.specs.Prelude.{◌≡◌, IfOk};
 
