@@ -4,6 +4,7 @@
 mod ending;
 mod engines;
 mod explaining;
+mod input;
 mod inspecting;
 mod receiving;
 mod reporting;
