@@ -1,0 +1,121 @@
+-- What is at a place of a segment (wal.md, "Segment encoding"): a fragment, the zeros to the end of
+-- its page, or a fault. `left` is the number of bytes of the page from that place on. A text is what
+-- has come so far, so it may end inside an item.
+use Rattle.std.specs.Prelude.{◌≡◌, ◌≢◌, ◌⊎◌, ℕ, ◌+◌, ◌<◌, ◌≤◌, List, ◌∷◌, ◌++◌, length, replicate}
+use Rattle.byteorder.specs.Endian.{big_number}
+use Rattle.rw_codes.specs.Crc.{crc32c_of}
+use Rattle.rw_wal_format.specs.Segments.{Kind, Item, nothing, begun, zeros, fragment, wrong}
+use Rattle.rw_wal_format.specs.Writing.{type_byte}
+use Rattle.rw_wal_format.specs.declared.tail_fault.TailFault.{TailFault}
+use Rattle.rw_wal_format.specs.declared.tail_fault.TailFault.TheVariants.{BadType, BadLength, BadCrc, Compressed, NonzeroPadding}
+
+-- a fragment: its type and its data
+abbrev pub Fragment : Type 0
+Fragment = Kind × List ℕ
+
+-- The header of a fragment, and the bytes after it: a byte for the type, 2 bytes for the length of
+-- the data and 4 bytes for their CRC-32C, both with the high byte first.
+pub record HasHeader (text : List ℕ) (kind : Kind) (len crc : ℕ) (rest : List ℕ) : Type 0 where
+  pub len_bytes : List ℕ
+  pub crc_bytes : List ℕ
+  pub parts : text ≡ type_byte kind ∷ len_bytes ++ crc_bytes ++ rest
+  pub len_size : length len_bytes ≡ 2
+  pub len_is : big_number 2 len_bytes ≡ len
+  pub crc_size : length crc_bytes ≡ 4
+  pub crc_is : big_number 4 crc_bytes ≡ crc
+
+-- the bytes of a fragment: the header gives the length and the CRC of its data, and the data follow
+abbrev pub IsFragment : List ℕ → Fragment → Type 0
+IsFragment bytes f = HasHeader bytes f.0 (length f.1) (crc32c_of f.1) f.1
+
+-- the text begins with a fragment, which ends within its page
+pub record StartsWithFragment (left : ℕ) (text : List ℕ) (f : Fragment) : Type 0 where
+  pub bytes : List ℕ
+  pub after : List ℕ
+  pub parts : text ≡ bytes ++ after
+  pub is : IsFragment bytes f
+  pub within : length bytes ≤ left
+
+-- the text ends inside a header
+pub record EndsInHeader (text : List ℕ) : Type 0 where
+  pub kind : Kind
+  pub more : List ℕ
+  pub parts : text ≡ type_byte kind ∷ more
+  pub short : length text < 7
+
+-- the text ends inside the data of a fragment that ends within its page
+pub record EndsInData (left : ℕ) (text : List ℕ) : Type 0 where
+  pub kind : Kind
+  pub len : ℕ
+  pub crc : ℕ
+  pub data_so_far : List ℕ
+  pub header : HasHeader text kind len crc data_so_far
+  pub within : 7 + len ≤ left
+  pub short : length data_so_far < len
+
+-- ---- faults
+
+-- a type byte that no fragment has, with the flags of compressed data (8 to 31) or without
+abbrev pub IsWrongType : ℕ → TailFault → Type 0
+IsWrongType b Compressed = (8 ≤ b) × (b < 32)
+IsWrongType b BadType = ((4 < b) × (b < 8)) ⊎ (32 ≤ b)
+IsWrongType b _ = ⊥
+
+pub record HasWrongType (text : List ℕ) (fault : TailFault) : Type 0 where
+  pub type : ℕ
+  pub after : List ℕ
+  pub parts : text ≡ type ∷ after
+  pub is_wrong : IsWrongType type fault
+
+-- the header gives a length with which the fragment would cross the end of its page
+pub record HasWrongLength (left : ℕ) (text : List ℕ) : Type 0 where
+  pub kind : Kind
+  pub len : ℕ
+  pub crc : ℕ
+  pub rest : List ℕ
+  pub header : HasHeader text kind len crc rest
+  pub beyond : left < 7 + len
+
+-- the data are whole, and the header gives another CRC
+pub record HasWrongCrc (left : ℕ) (text : List ℕ) : Type 0 where
+  pub kind : Kind
+  pub crc : ℕ
+  pub data_of : List ℕ
+  pub after : List ℕ
+  pub header : HasHeader text kind (length data_of) crc (data_of ++ after)
+  pub within : 7 + length data_of ≤ left
+  pub differs : crc32c_of data_of ≢ crc
+
+-- the rest of the page is empty: there is no room for a header, or the type byte is 0
+abbrev pub IsEmptyRest : ℕ → List ℕ → Type 0
+IsEmptyRest left text = (left < 7) ⊎ ((after : List ℕ) × (text ≡ 0 ∷ after))
+
+-- a byte of an empty rest of a page is not zero
+pub record HasWrongPadding (left : ℕ) (text : List ℕ) : Type 0 where
+  pub empty : IsEmptyRest left text
+  pub before : List ℕ
+  pub byte : ℕ
+  pub after : List ℕ
+  pub parts : text ≡ before ++ byte ∷ after
+  pub within : length before < left
+  pub nonzero : byte ≢ 0
+
+-- the fault of what is at a place
+abbrev pub ItemFault : ℕ → List ℕ → TailFault → Type 0
+ItemFault left text BadType = (7 ≤ left) × HasWrongType text BadType
+ItemFault left text Compressed = (7 ≤ left) × HasWrongType text Compressed
+ItemFault left text BadLength = (7 ≤ left) × HasWrongLength left text
+ItemFault left text BadCrc = HasWrongCrc left text
+ItemFault left text NonzeroPadding = HasWrongPadding left text
+ItemFault left text _ = ⊥
+
+-- ---- an item
+
+-- what is at a place with `left` bytes of its page
+abbrev pub IsItem : ℕ → List ℕ → Item → Type 0
+-- the text ends here, or among zeros that do not yet reach the page's end
+IsItem left text nothing = (n : ℕ) × (n < left) × (text ≡ replicate n 0)
+IsItem left text begun = (7 ≤ left) × (EndsInHeader text ⊎ EndsInData left text)
+IsItem left text zeros = (after : List ℕ) × (text ≡ replicate left 0 ++ after)
+IsItem left text (fragment kind d) = StartsWithFragment left text (kind, d)
+IsItem left text (wrong f) = ItemFault left text f

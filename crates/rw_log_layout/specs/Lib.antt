@@ -1,0 +1,5 @@
+pub mod Items
+pub mod Fragments
+pub mod Segment
+pub mod Log
+pub mod Examples
