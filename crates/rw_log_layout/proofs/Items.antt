@@ -16,7 +16,8 @@ use Rattle.rw_log_layout.specs.Items.{Fragment, HasHeader, IsFragment, EndsInHea
 
 -- ---- what the reader finds is there
 
-cond_is : (left : ℕ) (bs : List ℕ) (b : Bool) (x y : Item) → (b ≡ true → IsItem left bs x) → (b ≡ false → IsItem left bs y) → IsItem left bs (cond b x y)
+cond_is : (left : ℕ) (bs : List ℕ) (b : Bool) (x y : Item) → (b ≡ true → IsItem left bs x)
+    → (b ≡ false → IsItem left bs y) → IsItem left bs (cond b x y)
 cond_is left bs true x y s t = s refl
 cond_is left bs false x y s t = t refl
 
@@ -61,10 +62,12 @@ zeros_are left bs empty =
     (length bs, less, all_zeros bs t'))
     (λ g. let more = ltb-false (length bs) left g in
     let n : length (take left bs) ≡ left = omega (arith, length-take left bs, more) in
-    let z : take left bs ≡ replicate left 0 = all_zeros (take left bs) t ∙ ap (λ (k : ℕ). replicate k 0) n in
+    let z : take left bs ≡ replicate left 0 =
+    all_zeros (take left bs) t ∙ ap (λ (k : ℕ). replicate k 0) n in
     (drop left bs, sym (take-append-drop left bs) ∙ ap (λ (l : List ℕ). l ++ drop left bs) z)))
 
-data_are : (left : ℕ) (text : List ℕ) (kind : Kind) (n crc : ℕ) (rest : List ℕ) → 7 ≤ left → HasHeader text kind n crc rest → IsItem left text (data_at kind left n crc rest)
+data_are : (left : ℕ) (text : List ℕ) (kind : Kind) (n crc : ℕ) (rest : List ℕ) → 7 ≤ left
+    → HasHeader text kind n crc rest → IsItem left text (data_at kind left n crc rest)
 data_are left text kind n crc rest room h =
     cond_is left text (nat_lt left (7 + n)) _ _
     (λ e. (room, record { kind = kind; len = n; crc = crc; rest = rest; header = h; beyond = ltb-true left (7 + n) e }))
@@ -72,7 +75,6 @@ data_are left text kind n crc rest room h =
     cond_is left text (nat_lt (length rest) n) _ _
     (λ l. (room, inr (record { kind = kind; len = n; crc = crc; data_so_far = rest; header = h; within = within; short = ltb-true (length rest) n l })))
     (λ g. let enough = ltb-false (length rest) n g in
-    let d = take n rest in
     let size : length (take n rest) ≡ n = omega (arith, length-take n rest, enough) in
     let split : rest ≡ take n rest ++ drop n rest = sym (take-append-drop n rest) in
     cond_is left text (eqb (crc32c_of (take n rest)) crc) _ _
@@ -100,7 +102,8 @@ data_are left text kind n crc rest room h =
       header = record {
         len_bytes = h.len_bytes;
         crc_bytes = h.crc_bytes;
-        parts = h.parts ∙ ap (λ (l : List ℕ). type_byte kind ∷ h.len_bytes ++ h.crc_bytes ++ l) split;
+        parts = h.parts
+            ∙ ap (λ (l : List ℕ). type_byte kind ∷ h.len_bytes ++ h.crc_bytes ++ l) split;
         len_size = h.len_size;
         len_is = h.len_is ∙ sym size;
         crc_size = h.crc_size;
@@ -111,12 +114,14 @@ data_are left text kind n crc rest room h =
     })))
 
 -- a header that is not whole
-in_header : (left : ℕ) (kind : Kind) (bs : List ℕ) → 7 ≤ left → length bs < 6 → IsItem left (type_byte kind ∷ bs) (fragment_at kind left bs)
+in_header : (left : ℕ) (kind : Kind) (bs : List ℕ) → 7 ≤ left → length bs < 6
+    → IsItem left (type_byte kind ∷ bs) (fragment_at kind left bs)
 in_header left kind bs room short =
     let t : ltb (length bs) 6 ≡ true = lt-ltb (length bs) 6 short in
     rw t (room, inl (record { kind = kind; more = bs; parts = refl; short = omega arith }))
 
-fragment_are : (left : ℕ) (kind : Kind) (bs : List ℕ) → 7 ≤ left → IsItem left (type_byte kind ∷ bs) (fragment_at kind left bs)
+fragment_are : (left : ℕ) (kind : Kind) (bs : List ℕ) → 7 ≤ left
+    → IsItem left (type_byte kind ∷ bs) (fragment_at kind left bs)
 fragment_are left kind [] room = in_header left kind [] room (omega arith)
 fragment_are left kind (a ∷ []) room = in_header left kind (a ∷ []) room (omega arith)
 fragment_are left kind (a ∷ b ∷ []) room = in_header left kind (a ∷ b ∷ []) room (omega arith)
@@ -124,18 +129,21 @@ fragment_are left kind (a ∷ b ∷ c ∷ []) room = in_header left kind (a ∷ 
 fragment_are left kind (a ∷ b ∷ c ∷ d ∷ []) room = in_header left kind (a ∷ b ∷ c ∷ d ∷ []) room (omega arith)
 fragment_are left kind (a ∷ b ∷ c ∷ d ∷ e ∷ []) room = in_header left kind (a ∷ b ∷ c ∷ d ∷ e ∷ []) room (omega arith)
 fragment_are left kind (a ∷ b ∷ c ∷ d ∷ e ∷ f ∷ rest) room =
-    let t : ltb (length (a ∷ b ∷ c ∷ d ∷ e ∷ f ∷ rest)) 6 ≡ false = le-ltb (length (a ∷ b ∷ c ∷ d ∷ e ∷ f ∷ rest)) 6 (omega arith) in
+    let t : ltb (length (a ∷ b ∷ c ∷ d ∷ e ∷ f ∷ rest)) 6 ≡ false =
+    le-ltb (length (a ∷ b ∷ c ∷ d ∷ e ∷ f ∷ rest)) 6 (omega arith) in
     rw t (data_are left (type_byte kind ∷ a ∷ b ∷ c ∷ d ∷ e ∷ f ∷ rest) kind (big_number 2 (a ∷ b ∷ c ∷ d ∷ e ∷ f ∷ rest)) (big_number 4 (c ∷ d ∷ e ∷ f ∷ rest)) rest room
     (record { len_bytes = a ∷ b ∷ []; crc_bytes = c ∷ d ∷ e ∷ f ∷ []; parts = refl; len_size = refl; len_is = refl; crc_size = refl; crc_is = refl }))
 
-typed_are : (left b : ℕ) (kind : Kind) (bs : List ℕ) → 7 ≤ left → b ≡ type_byte kind → IsItem left (b ∷ bs) (fragment_at kind left bs)
+typed_are : (left b : ℕ) (kind : Kind) (bs : List ℕ) → 7 ≤ left → b ≡ type_byte kind
+    → IsItem left (b ∷ bs) (fragment_at kind left bs)
 typed_are left b kind bs room e = subst (λ (c : ℕ). IsItem left (c ∷ bs) (fragment_at kind left bs)) (sym e) (fragment_are left kind bs room)
 
 or_true : (x y : Bool) → (x || y) ≡ true → (x ≡ true) ⊎ (y ≡ true)
 or_true true y h = inl refl
 or_true false y h = inr h
 
-wrong_are : (left b : ℕ) (bs : List ℕ) → 7 ≤ left → 4 < b → IsItem left (b ∷ bs) (cond (nat_le 8 b) (cond (nat_lt b 32) (wrong Compressed) (wrong BadType)) (wrong BadType))
+wrong_are : (left b : ℕ) (bs : List ℕ) → 7 ≤ left → 4 < b
+    → IsItem left (b ∷ bs) (cond (nat_le 8 b) (cond (nat_lt b 32) (wrong Compressed) (wrong BadType)) (wrong BadType))
 wrong_are left b bs room h =
     cond_is left (b ∷ bs) (nat_le 8 b) _ _
     (λ e. cond_is left (b ∷ bs) (nat_lt b 32) _ _
@@ -167,26 +175,36 @@ item_is left (b ∷ bs) l =
 -- ---- what is there is found by the reader
 
 module _ (left : ℕ) (room : 7 ≤ left) where
-  type_read : (kind : Kind) (bs : List ℕ) → item_at left (type_byte kind ∷ bs) ≡ fragment_at kind left bs
+  type_read : (kind : Kind) (bs : List ℕ)
+      → item_at left (type_byte kind ∷ bs) ≡ fragment_at kind left bs
   unfolding item_at
   type_read full bs = let t : ltb left 7 ≡ false = le-ltb left 7 room in rw t refl
   type_read first bs = let t : ltb left 7 ≡ false = le-ltb left 7 room in rw t refl
   type_read middle bs = let t : ltb left 7 ≡ false = le-ltb left 7 room in rw t refl
   type_read last bs = let t : ltb left 7 ≡ false = le-ltb left 7 room in rw t refl
 
-  header_read : (text : List ℕ) (kind : Kind) (n crc : ℕ) (rest : List ℕ) → HasHeader text kind n crc rest → item_at left text ≡ data_at kind left n crc rest
+  header_read : (text : List ℕ) (kind : Kind) (n crc : ℕ) (rest : List ℕ)
+      → HasHeader text kind n crc rest → item_at left text ≡ data_at kind left n crc rest
   header_read text kind n crc rest h =
-      let lens = h.len_bytes in
-      let crcs = h.crc_bytes in
       let bs = h.len_bytes ++ (h.crc_bytes ++ rest) in
-      let whole : text ≡ type_byte kind ∷ bs = h.parts ∙ ap (λ (l : List ℕ). type_byte kind ∷ l) (append_assoc h.len_bytes h.crc_bytes rest) in
-      let six : ltb (length bs) 6 ≡ false = le-ltb (length bs) 6 (omega (arith, length-append h.len_bytes (h.crc_bytes ++ rest), length-append h.crc_bytes rest, h.len_size, h.crc_size)) in
-      let d2 : drop 2 bs ≡ h.crc_bytes ++ rest = subst (λ (k : ℕ). drop k bs ≡ h.crc_bytes ++ rest) h.len_size (drop-append_seam h.len_bytes (h.crc_bytes ++ rest)) in
-      let size6 : length (h.len_bytes ++ h.crc_bytes) ≡ 6 = omega (arith, length-append h.len_bytes h.crc_bytes, h.len_size, h.crc_size) in
+      let whole : text ≡ type_byte kind ∷ bs =
+      h.parts
+      ∙ ap (λ (l : List ℕ). type_byte kind ∷ l) (append_assoc h.len_bytes h.crc_bytes rest) in
+      let six : ltb (length bs) 6 ≡ false =
+      le-ltb (length bs) 6 (omega (arith, length-append h.len_bytes (h.crc_bytes ++ rest), length-append h.crc_bytes rest, h.len_size, h.crc_size)) in
+      let d2 : drop 2 bs ≡ h.crc_bytes ++ rest =
+      subst (λ (k : ℕ). drop k bs ≡ h.crc_bytes ++ rest) h.len_size (drop-append_seam h.len_bytes (h.crc_bytes ++ rest)) in
+      let size6 : length (h.len_bytes ++ h.crc_bytes) ≡ 6 =
+      omega (arith, length-append h.len_bytes h.crc_bytes, h.len_size, h.crc_size) in
       let d6' : drop (length (h.len_bytes ++ h.crc_bytes)) ((h.len_bytes ++ h.crc_bytes) ++ rest) ≡ rest = drop-append_seam (h.len_bytes ++ h.crc_bytes) rest in
-      let d6 : drop 6 bs ≡ rest = ap (drop 6) (sym (append_assoc h.len_bytes h.crc_bytes rest)) ∙ subst (λ (k : ℕ). drop k ((h.len_bytes ++ h.crc_bytes) ++ rest) ≡ rest) size6 d6' in
-      let n2 : big_number 2 bs ≡ n = big_from-append 2 h.len_bytes (h.crc_bytes ++ rest) (omega (arith, h.len_size)) ∙ h.len_is in
-      let n4 : big_number 4 (h.crc_bytes ++ rest) ≡ crc = big_from-append 4 h.crc_bytes rest (omega (arith, h.crc_size)) ∙ h.crc_is in
+      let d6 : drop 6 bs ≡ rest =
+      ap (drop 6) (sym (append_assoc h.len_bytes h.crc_bytes rest))
+      ∙ subst (λ (k : ℕ). drop k ((h.len_bytes ++ h.crc_bytes) ++ rest) ≡ rest) size6 d6' in
+      let n2 : big_number 2 bs ≡ n =
+      big_from-append 2 h.len_bytes (h.crc_bytes ++ rest) (omega (arith, h.len_size))
+      ∙ h.len_is in
+      let n4 : big_number 4 (h.crc_bytes ++ rest) ≡ crc =
+      big_from-append 4 h.crc_bytes rest (omega (arith, h.crc_size)) ∙ h.crc_is in
       let f : fragment_at kind left bs ≡ data_at kind left (big_number 2 bs) (big_number 4 (drop 2 bs)) (drop 6 bs) = rw six refl in
       ap (item_at left) whole ∙ type_read kind bs ∙ f
       ∙ ap (λ (m : ℕ). data_at kind left m (big_number 4 (drop 2 bs)) (drop 6 bs)) n2
@@ -199,37 +217,31 @@ module _ (left : ℕ) (room : 7 ≤ left) where
       let t : ltb left (7 + h.len) ≡ true = lt-ltb left (7 + h.len) h.beyond in
       header_read text h.kind h.len h.crc h.rest h.header ∙ rw t refl
 
-  type_wrong : (b : ℕ) (bs : List ℕ) (f : TailFault) → IsWrongType b f → item_at left (b ∷ bs) ≡ wrong f
+  unknown_type : (b : ℕ) (bs : List ℕ) → 4 < b
+      → item_at left (b ∷ bs) ≡ cond (nat_le 8 b) (cond (nat_lt b 32) (wrong Compressed) (wrong BadType)) (wrong BadType)
   unfolding item_at
-  type_wrong b bs Compressed h =
-      let t : ltb left 7 ≡ false = le-ltb left 7 room in
-      let e0 : eqb b 0 ≡ false = ne_eqb b 0 (omega (arith, h.0)) in
-      let e1 : eqb b 1 ≡ false = ne_eqb b 1 (omega (arith, h.0)) in
-      let e2 : eqb b 2 ≡ false = ne_eqb b 2 (omega (arith, h.0)) in
-      let e3 : eqb b 3 ≡ false = ne_eqb b 3 (omega (arith, h.0)) in
-      let e4 : eqb b 4 ≡ false = ne_eqb b 4 (omega (arith, h.0)) in
-      let e8 : leb 8 b ≡ true = le-leb 8 b h.0 in
-      let e32 : ltb b 32 ≡ true = lt-ltb b 32 h.1 in
-      rw (t, e0, e1, e2, e3, e4, e8, e32) refl
-  type_wrong b bs BadType (inl h) =
-      let t : ltb left 7 ≡ false = le-ltb left 7 room in
-      let e0 : eqb b 0 ≡ false = ne_eqb b 0 (omega (arith, h.0)) in
-      let e1 : eqb b 1 ≡ false = ne_eqb b 1 (omega (arith, h.0)) in
-      let e2 : eqb b 2 ≡ false = ne_eqb b 2 (omega (arith, h.0)) in
-      let e3 : eqb b 3 ≡ false = ne_eqb b 3 (omega (arith, h.0)) in
-      let e4 : eqb b 4 ≡ false = ne_eqb b 4 (omega (arith, h.0)) in
-      let e8 : leb 8 b ≡ false = lt-leb 8 b h.1 in
-      rw (t, e0, e1, e2, e3, e4, e8) refl
-  type_wrong b bs BadType (inr h) =
+  unknown_type b bs h =
       let t : ltb left 7 ≡ false = le-ltb left 7 room in
       let e0 : eqb b 0 ≡ false = ne_eqb b 0 (omega (arith, h)) in
       let e1 : eqb b 1 ≡ false = ne_eqb b 1 (omega (arith, h)) in
       let e2 : eqb b 2 ≡ false = ne_eqb b 2 (omega (arith, h)) in
       let e3 : eqb b 3 ≡ false = ne_eqb b 3 (omega (arith, h)) in
       let e4 : eqb b 4 ≡ false = ne_eqb b 4 (omega (arith, h)) in
+      rw (t, e0, e1, e2, e3, e4) refl
+
+  type_wrong : (b : ℕ) (bs : List ℕ) (f : TailFault) → IsWrongType b f
+      → item_at left (b ∷ bs) ≡ wrong f
+  type_wrong b bs Compressed h =
+      let e8 : leb 8 b ≡ true = le-leb 8 b h.0 in
+      let e32 : ltb b 32 ≡ true = lt-ltb b 32 h.1 in
+      unknown_type b bs (omega (arith, h.0)) ∙ rw (e8, e32) refl
+  type_wrong b bs BadType (inl h) =
+      let e8 : leb 8 b ≡ false = lt-leb 8 b h.1 in
+      unknown_type b bs h.0 ∙ rw e8 refl
+  type_wrong b bs BadType (inr h) =
       let e8 : leb 8 b ≡ true = le-leb 8 b (omega (arith, h)) in
       let e32 : ltb b 32 ≡ false = le-ltb b 32 h in
-      rw (t, e0, e1, e2, e3, e4, e8, e32) refl
+      unknown_type b bs (omega (arith, h)) ∙ rw (e8, e32) refl
   type_wrong b bs BadLength h = absurd h
   type_wrong b bs BadCrc h = absurd h
   type_wrong b bs NonzeroPadding h = absurd h
@@ -238,7 +250,8 @@ module _ (left : ℕ) (room : 7 ≤ left) where
   type_wrong b bs TornSegment h = absurd h
   type_wrong b bs OutOfMemory h = absurd h
 
-  wrong_type_read : (text : List ℕ) (f : TailFault) → HasWrongType text f → item_at left text ≡ wrong f
+  wrong_type_read : (text : List ℕ) (f : TailFault) → HasWrongType text f
+      → item_at left text ≡ wrong f
   wrong_type_read text f h = ap (item_at left) h.parts ∙ type_wrong h.type h.after f h.is_wrong
 
   header_end_read : (text : List ℕ) → EndsInHeader text → item_at left text ≡ begun
@@ -250,7 +263,8 @@ module _ (left : ℕ) (room : 7 ≤ left) where
   data_end_read : (text : List ℕ) → EndsInData left text → item_at left text ≡ begun
   data_end_read text h =
       let t : ltb left (7 + h.len) ≡ false = le-ltb left (7 + h.len) h.within in
-      let u : ltb (length h.data_so_far) h.len ≡ true = lt-ltb (length h.data_so_far) h.len h.short in
+      let u : ltb (length h.data_so_far) h.len ≡ true =
+      lt-ltb (length h.data_so_far) h.len h.short in
       header_read text h.kind h.len h.crc h.data_so_far h.header ∙ rw (t, u) refl
 
 -- the data of a fragment, whole
@@ -258,35 +272,42 @@ data_read : (kind : Kind) (left crc : ℕ) (d after : List ℕ) → 7 + length d
     → data_at kind left (length d) crc (d ++ after) ≡ (cond (eqb (crc32c_of d) crc) (fragment kind d) (wrong BadCrc))
 data_read kind left crc d after within =
     let t : ltb left (7 + length d) ≡ false = le-ltb left (7 + length d) within in
-    let u : ltb (length (d ++ after)) (length d) ≡ false = le-ltb (length (d ++ after)) (length d) (omega (arith, length-append d after)) in
+    let u : ltb (length (d ++ after)) (length d) ≡ false =
+    le-ltb (length (d ++ after)) (length d) (omega (arith, length-append d after)) in
     let a : take (length d) (d ++ after) ≡ d = take-append_seam d after in
     rw (t, u, a) refl
 
 crc_read : (left : ℕ) (text : List ℕ) → HasWrongCrc left text → item_at left text ≡ wrong BadCrc
 crc_read left text h =
-    let d = h.data_of in
-    let t : eqb (crc32c_of h.data_of) h.crc ≡ false = ne_eqb (crc32c_of h.data_of) h.crc h.differs in
+    let t : eqb (crc32c_of h.data_of) h.crc ≡ false =
+    ne_eqb (crc32c_of h.data_of) h.crc h.differs in
     header_read left (omega (arith, h.within)) text h.kind (length h.data_of) h.crc (h.data_of ++ h.after) h.header
     ∙ data_read h.kind left h.crc h.data_of h.after h.within ∙ rw t refl
 
 -- a fragment takes 7 bytes and its data
-pub length_fragment : (bytes : List ℕ) (f : Fragment) → IsFragment bytes f → length bytes ≡ 7 + length f.1
+pub length_fragment : (bytes : List ℕ) (f : Fragment) → IsFragment bytes f
+    → length bytes ≡ 7 + length f.1
 length_fragment bytes f h =
-    ap length h.parts ∙ omega (arith, length-append (h.len_bytes ++ h.crc_bytes) f.1, length-append h.len_bytes h.crc_bytes, h.len_size, h.crc_size)
+    ap length h.parts
+    ∙ omega (arith, length-append (h.len_bytes ++ h.crc_bytes) f.1, length-append h.len_bytes h.crc_bytes, h.len_size, h.crc_size)
 
-pub fragment_read : (left : ℕ) (bytes after : List ℕ) (f : Fragment) → IsFragment bytes f → length bytes ≤ left → item_at left (bytes ++ after) ≡ fragment f.0 f.1
+pub fragment_read : (left : ℕ) (bytes after : List ℕ) (f : Fragment) → IsFragment bytes f
+    → length bytes ≤ left → item_at left (bytes ++ after) ≡ fragment f.0 f.1
 fragment_read left bytes after f h within =
     let n = length_fragment bytes f h in
-    let longer : HasHeader (bytes ++ after) f.0 (length f.1) (crc32c_of f.1) (f.1 ++ after) = record {
+    let longer : HasHeader (bytes ++ after) f.0 (length f.1) (crc32c_of f.1) (f.1 ++ after) =
+    record {
       len_bytes = h.len_bytes;
       crc_bytes = h.crc_bytes;
-      parts = ap (λ (l : List ℕ). l ++ after) h.parts ∙ append_assoc (type_byte f.0 ∷ h.len_bytes ++ h.crc_bytes) f.1 after;
+      parts = ap (λ (l : List ℕ). l ++ after) h.parts
+          ∙ append_assoc (type_byte f.0 ∷ h.len_bytes ++ h.crc_bytes) f.1 after;
       len_size = h.len_size;
       len_is = h.len_is;
       crc_size = h.crc_size;
       crc_is = h.crc_is;
     } in
-    let t : eqb (crc32c_of f.1) (crc32c_of f.1) ≡ true = eq-eqb (crc32c_of f.1) (crc32c_of f.1) refl in
+    let t : eqb (crc32c_of f.1) (crc32c_of f.1) ≡ true =
+    eq-eqb (crc32c_of f.1) (crc32c_of f.1) refl in
     header_read left (omega (arith, n, within)) (bytes ++ after) f.0 (length f.1) (crc32c_of f.1) (f.1 ++ after) longer
     ∙ data_read f.0 left (crc32c_of f.1) f.1 after (omega (arith, n, within)) ∙ rw t refl
 
@@ -296,7 +317,8 @@ zeros_pass zero = refl
 zeros_pass (suc n) = zeros_pass n
 
 -- where the rest of a page is empty, its zeros are judged
-empty_read : (left b : ℕ) (bs : List ℕ) → IsEmptyRest left (b ∷ bs) → item_at left (b ∷ bs) ≡ zeros_at left (b ∷ bs)
+empty_read : (left b : ℕ) (bs : List ℕ) → IsEmptyRest left (b ∷ bs)
+    → item_at left (b ∷ bs) ≡ zeros_at left (b ∷ bs)
 unfolding item_at
 empty_read left b bs (inl few) = let t : ltb left 7 ≡ true = lt-ltb left 7 few in rw t refl
 empty_read left b bs (inr z) =
@@ -309,12 +331,15 @@ empty_read left b bs (inr z) =
 zeros_whole : (n : ℕ) (after : List ℕ) → zeros_at n (replicate n 0 ++ after) ≡ zeros
 zeros_whole n after =
     let size : length (replicate n 0) ≡ n = length-replicate {A = ℕ} n 0 in
-    let a : take n (replicate n 0 ++ after) ≡ replicate n 0 = subst (λ (k : ℕ). take k (replicate n 0 ++ after) ≡ replicate n 0) size (take-append_seam (replicate n 0) after) in
+    let a : take n (replicate n 0 ++ after) ≡ replicate n 0 =
+    subst (λ (k : ℕ). take k (replicate n 0 ++ after) ≡ replicate n 0) size (take-append_seam (replicate n 0) after) in
     let t : list_all (λ b. eqb b 0) (replicate n 0) ≡ true = zeros_pass n in
-    let u : ltb (length (replicate n 0 ++ after)) n ≡ false = le-ltb (length (replicate n 0 ++ after)) n (omega (arith, length-append (replicate n 0) after, size)) in
+    let u : ltb (length (replicate n 0 ++ after)) n ≡ false =
+    le-ltb (length (replicate n 0 ++ after)) n (omega (arith, length-append (replicate n 0) after, size)) in
     rw (a, t, u) refl
 
-zeros_end : (left : ℕ) (bs : List ℕ) → length bs < left → list_all (λ b. eqb b 0) bs ≡ true → zeros_at left bs ≡ nothing
+zeros_end : (left : ℕ) (bs : List ℕ) → length bs < left → list_all (λ b. eqb b 0) bs ≡ true
+    → zeros_at left bs ≡ nothing
 zeros_end left bs l t =
     let a : take left bs ≡ bs = take_all left bs (omega (arith, l)) in
     let u : ltb (length bs) left ≡ true = lt-ltb (length bs) left l in
@@ -323,7 +348,8 @@ zeros_end left bs l t =
 zeros_short : (left n : ℕ) → n < left → zeros_at left (replicate n 0) ≡ nothing
 zeros_short left n l = zeros_end left (replicate n 0) (omega (arith, length-replicate {A = ℕ} n 0, l)) (zeros_pass n)
 
-pub zeros_read : (left : ℕ) (after : List ℕ) → 0 < left → item_at left (replicate left 0 ++ after) ≡ zeros
+pub zeros_read : (left : ℕ) (after : List ℕ) → 0 < left
+    → item_at left (replicate left 0 ++ after) ≡ zeros
 zeros_read zero after l = absurd (omega arith)
 zeros_read (suc n) after l = empty_read (suc n) 0 (replicate n 0 ++ after) (inr (replicate n 0 ++ after, refl)) ∙ zeros_whole (suc n) after
 
@@ -333,10 +359,12 @@ nil_read left = refl
 
 nothing_read : (left n : ℕ) → n < left → item_at left (replicate n 0) ≡ nothing
 nothing_read left zero l = nil_read left
-nothing_read left (suc n) l = empty_read left 0 (replicate n 0) (inr (replicate n 0, refl)) ∙ zeros_short left (suc n) l
+nothing_read left (suc n) l = empty_read left 0 (replicate n 0) (inr (replicate n 0, refl))
+    ∙ zeros_short left (suc n) l
 
 -- a byte that is not zero, among the first n
-found_nonzero : (n : ℕ) (before : List ℕ) (byte : ℕ) (after : List ℕ) → length before < n → byte ≢ 0 → list_all (λ b. eqb b 0) (take n (before ++ byte ∷ after)) ≡ false
+found_nonzero : (n : ℕ) (before : List ℕ) (byte : ℕ) (after : List ℕ) → length before < n
+    → byte ≢ 0 → list_all (λ b. eqb b 0) (take n (before ++ byte ∷ after)) ≡ false
 found_nonzero zero before byte after l h = absurd (omega arith)
 found_nonzero (suc n) [] byte after l h = let t : eqb byte 0 ≡ false = ne_eqb byte 0 h in rw t refl
 found_nonzero (suc n) (b ∷ before) byte after l h = elim (eqb_tells b 0) [
@@ -344,19 +372,24 @@ found_nonzero (suc n) (b ∷ before) byte after l h = elim (eqb_tells b 0) [
   | inr m ↦ (rw m.0 refl)
 ]
 
-padding_at : (left : ℕ) (before : List ℕ) (byte : ℕ) (after : List ℕ) → IsEmptyRest left (before ++ byte ∷ after) → item_at left (before ++ byte ∷ after) ≡ zeros_at left (before ++ byte ∷ after)
+padding_at : (left : ℕ) (before : List ℕ) (byte : ℕ) (after : List ℕ)
+    → IsEmptyRest left (before ++ byte ∷ after)
+    → item_at left (before ++ byte ∷ after) ≡ zeros_at left (before ++ byte ∷ after)
 padding_at left [] byte after e = empty_read left byte after e
 padding_at left (b ∷ before) byte after e = empty_read left b (before ++ byte ∷ after) e
 
-padding_read : (left : ℕ) (text : List ℕ) → HasWrongPadding left text → item_at left text ≡ wrong NonzeroPadding
+padding_read : (left : ℕ) (text : List ℕ) → HasWrongPadding left text
+    → item_at left text ≡ wrong NonzeroPadding
 padding_read left text h =
-    let whole = h.before ++ h.byte ∷ h.after in
-    let empty : IsEmptyRest left (h.before ++ h.byte ∷ h.after) = subst (λ (l : List ℕ). IsEmptyRest left l) h.parts h.empty in
-    let t : list_all (λ b. eqb b 0) (take left (h.before ++ h.byte ∷ h.after)) ≡ false = found_nonzero left h.before h.byte h.after h.within h.nonzero in
+    let empty : IsEmptyRest left (h.before ++ h.byte ∷ h.after) =
+    subst (λ (l : List ℕ). IsEmptyRest left l) h.parts h.empty in
+    let t : list_all (λ b. eqb b 0) (take left (h.before ++ h.byte ∷ h.after)) ≡ false =
+    found_nonzero left h.before h.byte h.after h.within h.nonzero in
     let z : zeros_at left (h.before ++ h.byte ∷ h.after) ≡ wrong NonzeroPadding = rw t refl in
     ap (item_at left) h.parts ∙ padding_at left h.before h.byte h.after empty ∙ z
 
-fault_read : (left : ℕ) (text : List ℕ) (f : TailFault) → ItemFault left text f → item_at left text ≡ wrong f
+fault_read : (left : ℕ) (text : List ℕ) (f : TailFault) → ItemFault left text f
+    → item_at left text ≡ wrong f
 fault_read left text BadType h = wrong_type_read left h.0 text BadType h.1
 fault_read left text Compressed h = wrong_type_read left h.0 text Compressed h.1
 fault_read left text BadLength h = length_read left h.0 text h.1
@@ -367,10 +400,12 @@ fault_read left text Sequence h = absurd h
 fault_read left text BadRecord h = absurd h
 fault_read left text TornSegment h = absurd h
 
-pub item_read : (left : ℕ) (text : List ℕ) (x : Item) → 0 < left → IsItem left text x → item_at left text ≡ x
+pub item_read : (left : ℕ) (text : List ℕ) (x : Item) → 0 < left → IsItem left text x
+    → item_at left text ≡ x
 item_read left text nothing l h = ap (item_at left) h.2 ∙ nothing_read left h.0 h.1
 item_read left text begun l (room, inl h) = header_end_read left room text h
 item_read left text begun l (room, inr h) = data_end_read left room text h
 item_read left text zeros l h = ap (item_at left) h.1 ∙ zeros_read left h.0 l
-item_read left text (fragment kind d) l h = ap (item_at left) h.parts ∙ fragment_read left h.bytes h.after (kind, d) h.is h.within
+item_read left text (fragment kind d) l h = ap (item_at left) h.parts
+    ∙ fragment_read left h.bytes h.after (kind, d) h.is h.within
 item_read left text (wrong f) l h = fault_read left text f h

@@ -18,15 +18,33 @@ use Rattle.rw_log_layout.proofs.Reading.{entries_first, segment_read}
 use Rattle.rw_wal_tail.specs.Places.{stop_offset}
 
 -- one more part at the end
-in_turn_push : {A X : Type 0} (Is : List A → X → Type 0) (all : List A) (xs : List X) (b : List A) (x : X) → InTurn Is all xs → Is b x → InTurn Is (all ++ b) (xs ++ x ∷ [])
-in_turn_push Is all [] b x h is = (b, [], ap (λ (l : List _). l ++ b) h ∙ sym (append-nil b), is, refl)
-in_turn_push Is all (y ∷ ys) b x h is = (h.0, h.1 ++ b, ap (λ (l : List _). l ++ b) h.2 ∙ append_assoc h.0 h.1 b, h.3, in_turn_push Is h.1 ys b x h.4 is)
+in_turn_push : {A X : Type 0} (Is : List A → X
+    → Type 0) (all : List A) (xs : List X) (b : List A) (x : X) → InTurn Is all xs → Is b x
+    → InTurn Is (all ++ b) (xs ++ x ∷ [])
+in_turn_push Is all [] b x h is = (
+  b,
+  [],
+  ap (λ (l : List _). l ++ b) h
+      ∙ sym (append-nil b),
+  is,
+  refl,
+)
+in_turn_push Is all (y ∷ ys) b x h is = (
+  h.0,
+  h.1 ++ b,
+  ap (λ (l : List _). l ++ b) h.2
+      ∙ append_assoc h.0 h.1 b,
+  h.3,
+  in_turn_push Is h.1 ys b x h.4 is,
+)
 
 -- ---- one more item in pages
 
 -- what is begun of a page is whole
-page_whole : (page : ℕ) (bs : List ℕ) (left : ℕ) (fs : List Fragment) (end : List ℕ) (empty : ℕ) (more : List Fragment) (is : IsPaged page bs left fs) → 0 < page
-    → InTurn IsFragment (is.begun ++ end) (is.after_pages ++ more) → length end + empty ≡ left → IsPaged page (bs ++ (end ++ replicate empty 0)) page (fs ++ more)
+page_whole : (page : ℕ) (bs : List ℕ) (left : ℕ) (fs : List Fragment) (end : List ℕ) (empty : ℕ)
+    (more : List Fragment) (is : IsPaged page bs left fs) → 0 < page
+    → InTurn IsFragment (is.begun ++ end) (is.after_pages ++ more) → length end + empty ≡ left
+    → IsPaged page (bs ++ (end ++ replicate empty 0)) page (fs ++ more)
 page_whole page bs left fs end empty more is p are size = record {
   whole = is.whole ++ ((is.begun ++ end) ++ replicate empty 0);
   begun = [];
@@ -51,14 +69,17 @@ page_whole page bs left fs end empty more is p are size = record {
 }
 
 -- the zeros to the page's end
-paged_zeros : (page : ℕ) (bs : List ℕ) (left : ℕ) (fs : List Fragment) → 0 < page → IsPaged page bs left fs → IsPaged page (bs ++ replicate left 0) page fs
+paged_zeros : (page : ℕ) (bs : List ℕ) (left : ℕ) (fs : List Fragment) → 0 < page
+    → IsPaged page bs left fs → IsPaged page (bs ++ replicate left 0) page fs
 paged_zeros page bs left fs p is =
-    let are = subst (λ (l : List Fragment). InTurn IsFragment (is.begun ++ []) l) (sym (append-nil is.after_pages)) (subst (λ (l : List ℕ). InTurn IsFragment l is.after_pages) (sym (append-nil is.begun)) is.are) in
+    let are =
+    subst (λ (l : List Fragment). InTurn IsFragment (is.begun ++ []) l) (sym (append-nil is.after_pages)) (subst (λ (l : List ℕ). InTurn IsFragment l is.after_pages) (sym (append-nil is.begun)) is.are) in
     let x = page_whole page bs left fs [] left [] is p are (omega arith) in
     subst (λ (l : List Fragment). IsPaged page (bs ++ replicate left 0) page l) (append-nil fs) x
 
 -- a fragment
-paged_fragment : (page : ℕ) (bs : List ℕ) (left : ℕ) (fs : List Fragment) (b : List ℕ) (f : Fragment) → 0 < page → IsPaged page bs left fs → IsFragment b f → length b ≤ left
+paged_fragment : (page : ℕ) (bs : List ℕ) (left : ℕ) (fs : List Fragment) (b : List ℕ)
+    (f : Fragment) → 0 < page → IsPaged page bs left fs → IsFragment b f → length b ≤ left
     → IsPaged page (bs ++ b) (left_after page left (length b)) (fs ++ f ∷ [])
 paged_fragment page bs left fs b f p is frag within =
     let are = in_turn_push IsFragment is.begun is.after_pages b f is.are frag in
@@ -72,7 +93,8 @@ paged_fragment page bs left fs b f p is frag within =
             parts = ap (λ (l : List ℕ). l ++ b) is.parts ∙ append_assoc is.whole is.begun b;
             in_pages = is.in_pages;
             after_pages = is.after_pages ++ f ∷ [];
-            all = ap (λ (l : List Fragment). l ++ f ∷ []) is.all ∙ append_assoc (flat_map (λ fs. fs) is.in_pages) is.after_pages (f ∷ []);
+            all = ap (λ (l : List Fragment). l ++ f ∷ []) is.all
+                ∙ append_assoc (flat_map (λ fs. fs) is.in_pages) is.after_pages (f ∷ []);
             pages = is.pages;
             are = are;
             size = omega (arith, length-append is.begun b, is.size, l);
@@ -82,14 +104,17 @@ paged_fragment page bs left fs b f p is frag within =
       | inr g ↦
           (let t : ltb (length b) left ≡ false = le-ltb (length b) left g in
           let n : left_after page left (length b) ≡ page = rw t refl in
-          let x : IsPaged page (bs ++ (b ++ [])) page (fs ++ f ∷ []) = page_whole page bs left fs b 0 (f ∷ []) is p are (omega arith) in
-          let y = subst (λ (l : List ℕ). IsPaged page (bs ++ l) page (fs ++ f ∷ [])) (append-nil b) x in
+          let x : IsPaged page (bs ++ (b ++ [])) page (fs ++ f ∷ []) =
+          page_whole page bs left fs b 0 (f ∷ []) is p are (omega arith) in
+          let y =
+          subst (λ (l : List ℕ). IsPaged page (bs ++ l) page (fs ++ f ∷ [])) (append-nil b) x in
           subst (λ (m : ℕ). IsPaged page (bs ++ b) m (fs ++ f ∷ [])) (sym n) y)
     ]
 
 -- ---- one more fragment of a record
 
-open_middle : (fs : List Fragment) (o d : List ℕ) → IsOpenRecord fs o → IsOpenRecord (fs ++ (middle, d) ∷ []) (o ++ d)
+open_middle : (fs : List Fragment) (o d : List ℕ) → IsOpenRecord fs o
+    → IsOpenRecord (fs ++ (middle, d) ∷ []) (o ++ d)
 open_middle fs o d h = record {
   start = h.start;
   middles = h.middles ++ d ∷ [];
@@ -105,10 +130,13 @@ open_middle fs o d h = record {
 
 module _ (page left : ℕ) (bs b : List ℕ) (records : List (List ℕ)) (d : List ℕ) (p : 0 < page) (within : length b ≤ left) where
   -- an open record goes on
-  front_opens : (o : Option (List ℕ)) (kind : Kind) (o' : List ℕ) (is : IsFront page bs left records o) → IsFragment b (kind, d) → IsOpenRecord (is.opened ++ (kind, d) ∷ []) o'
+  front_opens : (o : Option (List ℕ)) (kind : Kind) (o' : List ℕ)
+      (is : IsFront page bs left records o) → IsFragment b (kind, d) → IsOpenRecord
+      (is.opened ++ (kind, d) ∷ []) o'
       → IsFront page (bs ++ b) (left_after page left (length b)) records (Some o')
   front_opens o kind o' is frag opened =
-      let paged = paged_fragment page bs left (is.closed ++ is.opened) b (kind, d) p is.paged frag within in
+      let paged =
+      paged_fragment page bs left (is.closed ++ is.opened) b (kind, d) p is.paged frag within in
       record {
         closed = is.closed;
         opened = is.opened ++ (kind, d) ∷ [];
@@ -118,10 +146,13 @@ module _ (page left : ℕ) (bs b : List ℕ) (records : List (List ℕ)) (d : Li
       }
 
   -- a record is whole
-  front_closes : (o : Option (List ℕ)) (kind : Kind) (r : List ℕ) (is : IsFront page bs left records o) → IsFragment b (kind, d) → IsRecord (is.opened ++ (kind, d) ∷ []) r
+  front_closes : (o : Option (List ℕ)) (kind : Kind) (r : List ℕ)
+      (is : IsFront page bs left records o) → IsFragment b (kind, d) → IsRecord
+      (is.opened ++ (kind, d) ∷ []) r
       → IsFront page (bs ++ b) (left_after page left (length b)) (records ++ r ∷ []) None
   front_closes o kind r is frag whole =
-      let paged = paged_fragment page bs left (is.closed ++ is.opened) b (kind, d) p is.paged frag within in
+      let paged =
+      paged_fragment page bs left (is.closed ++ is.opened) b (kind, d) p is.paged frag within in
       record {
         closed = is.closed ++ (is.opened ++ (kind, d) ∷ []);
         opened = [];
@@ -130,14 +161,19 @@ module _ (page left : ℕ) (bs b : List ℕ) (records : List (List ℕ)) (d : Li
         may_be_open = refl;
       }
 
-front_zeros : (page left : ℕ) (bs : List ℕ) (records : List (List ℕ)) (o : Option (List ℕ)) → 0 < page → IsFront page bs left records o → IsFront page (bs ++ replicate left 0) page records o
+front_zeros : (page left : ℕ) (bs : List ℕ) (records : List (List ℕ)) (o : Option (List ℕ))
+    → 0 < page → IsFront page bs left records o
+    → IsFront page (bs ++ replicate left 0) page records o
 front_zeros page left bs records o p is = record { closed = is.closed; opened = is.opened; paged = paged_zeros page bs left (is.closed ++ is.opened) p is.paged; are = is.are; may_be_open = is.may_be_open }
 
 -- one more record's entries
-entries_push : (ds : List (List ℕ)) (d : List ℕ) (es e : List Entry) → entries_of_records ds ≡ Some es → record_entries d ≡ Some e → entries_of_records (ds ++ d ∷ []) ≡ Some (es ++ e)
+entries_push : (ds : List (List ℕ)) (d : List ℕ) (es e : List Entry)
+    → entries_of_records ds ≡ Some es → record_entries d ≡ Some e
+    → entries_of_records (ds ++ d ∷ []) ≡ Some (es ++ e)
 entries_push [] d es e h g =
     let n : [] ≡ es = cc in
-    ap (λ (o : Option (List Entry)). o then λ own. Some (own ++ [])) g ∙ ap Some (append-nil e) ∙ ap (λ (l : List Entry). Some (l ++ e)) n
+    ap (λ (o : Option (List Entry)). o then λ own. Some (own ++ [])) g ∙ ap Some (append-nil e)
+    ∙ ap (λ (l : List Entry). Some (l ++ e)) n
 entries_push (x ∷ ds) d es e h g =
     let f = entries_first x ds es h in
     let ih = entries_push ds d f.more e f.rest_is g in
@@ -166,7 +202,8 @@ pub record Cut (page : ℕ) (text rest : List ℕ) : Type 0 where
   pub are : entries_of_records records ≡ Some entries
 
 module _ (page : ℕ) (text : List ℕ) (p : 0 < page) where
-  stops_with : (rest : List ℕ) (c : Cut page text rest) (s : Stop) → StopsFor c.left c.so_far rest s → IsLaidOut page text
+  stops_with : (rest : List ℕ) (c : Cut page text rest) (s : Stop)
+      → StopsFor c.left c.so_far rest s → IsLaidOut page text
   stops_with rest c s h = record {
     reading = record { entries = c.entries; skipped = count_by is_skipped c.records; stop = s };
     offset = length c.front;
@@ -186,15 +223,19 @@ module _ (page : ℕ) (text : List ℕ) (p : 0 < page) where
   }
 
   -- the text ends
-  ends_with : (rest : List ℕ) (c : Cut page text rest) (o : Option (List ℕ)) → c.so_far ≡ o → IsItem c.left rest nothing → IsLaidOut page text
+  ends_with : (rest : List ℕ) (c : Cut page text rest) (o : Option (List ℕ)) → c.so_far ≡ o
+      → IsItem c.left rest nothing → IsLaidOut page text
   ends_with rest c None e h = stops_with rest c between (h, e)
   ends_with rest c (Some d) e h = stops_with rest c inside (inl (h, (d, e)))
 
   -- the parts after one more item
-  moved : (rest b after : List ℕ) (c : Cut page text rest) → rest ≡ b ++ after → text ≡ (c.front ++ b) ++ after
-  moved rest b after c e = c.parts ∙ ap (λ (l : List ℕ). c.front ++ l) e ∙ sym (append_assoc c.front b after)
+  moved : (rest b after : List ℕ) (c : Cut page text rest) → rest ≡ b ++ after
+      → text ≡ (c.front ++ b) ++ after
+  moved rest b after c e = c.parts ∙ ap (λ (l : List ℕ). c.front ++ l) e
+      ∙ sym (append_assoc c.front b after)
 
-  cut_zeros : (rest after : List ℕ) (c : Cut page text rest) → rest ≡ replicate c.left 0 ++ after → Cut page text after
+  cut_zeros : (rest after : List ℕ) (c : Cut page text rest) → rest ≡ replicate c.left 0 ++ after
+      → Cut page text after
   cut_zeros rest after c e = record {
     front = c.front ++ replicate c.left 0;
     parts = moved rest (replicate c.left 0) after c e;
@@ -206,16 +247,20 @@ module _ (page : ℕ) (text : List ℕ) (p : 0 < page) where
     are = c.are;
   }
 
-  module _ (rest : List ℕ) (next : (after : List ℕ) → length after < length rest → Cut page text after → IsLaidOut page text) where
+  module _ (rest : List ℕ) (next : (after : List ℕ) → length after < length rest
+      → Cut page text after → IsLaidOut page text) where
     short : (b after : List ℕ) → rest ≡ b ++ after → 0 < length b → length after < length rest
-    short b after e n = let l : length rest ≡ length b + length after = ap length e ∙ length-append b after in omega (arith, l, n)
+    short b after e n = let l : length rest ≡ length b + length after = ap length e
+        ∙ length-append b after in omega (arith, l, n)
 
-    short_fragment : (left : ℕ) (f : Fragment) (s : StartsWithFragment left rest f) → length s.after < length rest
+    short_fragment : (left : ℕ) (f : Fragment) (s : StartsWithFragment left rest f)
+        → length s.after < length rest
     short_fragment left f s = short s.bytes s.after s.parts (omega (arith, length_fragment s.bytes f s.is))
 
     module _ (c : Cut page text rest) where
       -- a fragment by which a record is open
-      goes_on : (kind : Kind) (d o' : List ℕ) → StartsWithFragment c.left rest (kind, d) → IsOpenRecord (c.is_front.opened ++ (kind, d) ∷ []) o' → IsLaidOut page text
+      goes_on : (kind : Kind) (d o' : List ℕ) → StartsWithFragment c.left rest (kind, d)
+          → IsOpenRecord (c.is_front.opened ++ (kind, d) ∷ []) o' → IsLaidOut page text
       goes_on kind d o' s opened = next s.after (short_fragment c.left (kind, d) s) (record {
         front = c.front ++ s.bytes;
         parts = moved rest s.bytes s.after c s.parts;
@@ -228,8 +273,11 @@ module _ (page : ℕ) (text : List ℕ) (p : 0 < page) where
       })
 
       -- a fragment that completes a record
-      completes : (kind : Kind) (d r : List ℕ) (found : Option (List Entry)) → record_entries r ≡ found → StartsWithFragment c.left rest (kind, d) → IsRecord (c.is_front.opened ++ (kind, d) ∷ []) r
-          → (record_entries r ≡ None → FragmentFault c.so_far (kind, d) BadRecord) → IsLaidOut page text
+      completes : (kind : Kind) (d r : List ℕ) (found : Option (List Entry))
+          → record_entries r ≡ found → StartsWithFragment c.left rest (kind, d)
+          → IsRecord (c.is_front.opened ++ (kind, d) ∷ []) r
+          → (record_entries r ≡ None → FragmentFault c.so_far (kind, d) BadRecord)
+          → IsLaidOut page text
       completes kind d r None e s whole bad = stops_with rest c (at_fault BadRecord) (inr ((kind, d), s, bad e))
       completes kind d r (Some es) e s whole bad = next s.after (short_fragment c.left (kind, d) s) (record {
         front = c.front ++ s.bytes;
@@ -242,11 +290,14 @@ module _ (page : ℕ) (text : List ℕ) (p : 0 < page) where
         are = entries_push c.records r c.entries es c.are e;
       })
 
-      out : (kind : Kind) (d : List ℕ) → StartsWithFragment c.left rest (kind, d) → FragmentFault c.so_far (kind, d) Sequence → IsLaidOut page text
+      out : (kind : Kind) (d : List ℕ) → StartsWithFragment c.left rest (kind, d)
+          → FragmentFault c.so_far (kind, d) Sequence → IsLaidOut page text
       out kind d s h = stops_with rest c (at_fault Sequence) (inr ((kind, d), s, h))
 
       -- a whole fragment after these fragments of an open record, or none
-      by_fragment : (o : Option (List ℕ)) (kind : Kind) (d : List ℕ) → c.so_far ≡ o → MayBeOpen c.is_front.opened o → StartsWithFragment c.left rest (kind, d) → IsLaidOut page text
+      by_fragment : (o : Option (List ℕ)) (kind : Kind) (d : List ℕ) → c.so_far ≡ o
+          → MayBeOpen c.is_front.opened o → StartsWithFragment c.left rest (kind, d)
+          → IsLaidOut page text
       by_fragment None full d e m s =
           completes full d d (record_entries d) refl s (inl (ap (λ (l : List Fragment). l ++ (full, d) ∷ []) m))
           (λ bad. subst (λ (x : Option (List ℕ)). FragmentFault x (full, d) BadRecord) (sym e) (d, (refl, refl), bad))
@@ -298,7 +349,8 @@ pub segment_both_ways : (page : ℕ) (text : List ℕ) (r : Reading) (offset : �
     → ((segment page text ≡ r) × (stop_offset page text ≡ offset)) ↔ IsSegment page text r offset
 segment_both_ways page text r offset p = (there, back)
   where
-    there : (segment page text ≡ r) × (stop_offset page text ≡ offset) → IsSegment page text r offset
+    there : (segment page text ≡ r) × (stop_offset page text ≡ offset)
+        → IsSegment page text r offset
     there h =
         let x = segment_is_laid_out page text p in
         let read = segment_read page text x.reading x.offset p x.is in

@@ -40,21 +40,28 @@ append_cons [] t ts = (t, ts, refl)
 append_cons (w ∷ ws) t ts = (w, ws ++ t ∷ ts, refl)
 
 module _ (page : ℕ) where
-  next_reads : (t : List ℕ) (l : List (List ℕ)) → IsCons l → log_reading page (t ∷ l) ≡ then_next (segment page t) (log_reading page l)
+  next_reads : (t : List ℕ) (l : List (List ℕ)) → IsCons l
+      → log_reading page (t ∷ l) ≡ then_next (segment page t) (log_reading page l)
   unfolding log_reading
-  next_reads t l c = ap (λ (x : List (List ℕ)). log_reading page (t ∷ x)) c.2 ∙ ap (λ (x : List (List ℕ)). then_next (segment page t) (log_reading page x)) (sym c.2)
+  next_reads t l c = ap (λ (x : List (List ℕ)). log_reading page (t ∷ x)) c.2
+      ∙ ap (λ (x : List (List ℕ)). then_next (segment page t) (log_reading page x)) (sym c.2)
 
-  next_stops : (n : ℕ) (t : List ℕ) (l : List (List ℕ)) → IsCons l → log_stop page n (t ∷ l) ≡ place_then (segment page t).stop n (stop_offset page t) (log_stop page (n + 1) l)
+  next_stops : (n : ℕ) (t : List ℕ) (l : List (List ℕ)) → IsCons l
+      → log_stop page n (t ∷ l) ≡ place_then (segment page t).stop n (stop_offset page t) (log_stop page (n + 1) l)
   unfolding log_stop
-  next_stops n t l c = ap (λ (x : List (List ℕ)). log_stop page n (t ∷ x)) c.2 ∙ ap (λ (x : List (List ℕ)). place_then (segment page t).stop n (stop_offset page t) (log_stop page (n + 1) x)) (sym c.2)
+  next_stops n t l c = ap (λ (x : List (List ℕ)). log_stop page n (t ∷ x)) c.2
+      ∙ ap (λ (x : List (List ℕ)). place_then (segment page t).stop n (stop_offset page t) (log_stop page (n + 1) x)) (sym c.2)
 
-  after_reads : (text : List ℕ) (ps : List Piece) → reading_after page text ps ≡ log_reading page (segments_after text ps)
+  after_reads : (text : List ℕ) (ps : List Piece)
+      → reading_after page text ps ≡ log_reading page (segments_after text ps)
   unfolding log_reading
   after_reads text [] = refl
   after_reads text (bytes b ∷ ps) = after_reads (text ++ b) ps
-  after_reads text (next_segment ∷ ps) = ap (then_next (segment page text)) (after_reads [] ps) ∙ sym (next_reads text (segments_after [] ps) (after_cons [] ps))
+  after_reads text (next_segment ∷ ps) = ap (then_next (segment page text)) (after_reads [] ps)
+      ∙ sym (next_reads text (segments_after [] ps) (after_cons [] ps))
 
-  after_stops : (n : ℕ) (text : List ℕ) (ps : List Piece) → stop_after page n text ps ≡ log_stop page n (segments_after text ps)
+  after_stops : (n : ℕ) (text : List ℕ) (ps : List Piece)
+      → stop_after page n text ps ≡ log_stop page n (segments_after text ps)
   unfolding log_stop
   after_stops n text [] = refl
   after_stops n text (bytes b ∷ ps) = after_stops n (text ++ b) ps
@@ -65,7 +72,8 @@ module _ (page : ℕ) where
 abbrev after_whole : List Entry → ℕ → Reading → Reading
 after_whole es n r = record { entries = es ++ r.entries; skipped = n + r.skipped; stop = r.stop }
 
-after_whole-add : (es fs : List Entry) (a b : ℕ) (r : Reading) → after_whole es a (after_whole fs b r) ≡ after_whole (es ++ fs) (a + b) r
+after_whole-add : (es fs : List Entry) (a b : ℕ) (r : Reading)
+    → after_whole es a (after_whole fs b r) ≡ after_whole (es ++ fs) (a + b) r
 after_whole-add es fs a b r =
     ap (λ (l : List Entry). record { entries = l; skipped = a + (b + r.skipped); stop = r.stop }) (sym (append_assoc es fs r.entries))
     ∙ ap (λ (k : ℕ). record { entries = (es ++ fs) ++ r.entries; skipped = k; stop = r.stop }) (sym (add_assoc a b r.skipped))
@@ -74,38 +82,54 @@ after_whole-add es fs a b r =
 abbrev after_all : List Reading → Reading → Reading
 after_all rs r = after_whole (flat_map (λ x. x.entries) rs) (sum_by (λ x. x.skipped) rs) r
 
-after_all-cons : (x : Reading) (rs : List Reading) (r : Reading) → after_whole x.entries x.skipped (after_all rs r) ≡ after_all (x ∷ rs) r
+after_all-cons : (x : Reading) (rs : List Reading) (r : Reading)
+    → after_whole x.entries x.skipped (after_all rs r) ≡ after_all (x ∷ rs) r
 after_all-cons x rs r =
-    let a = after_whole-add x.entries (flat_map (λ y. y.entries) rs) x.skipped (sum_by (λ y. y.skipped) rs) r in
-    let b = ap (λ (l : List Entry). after_whole l (x.skipped + sum_by (λ y. y.skipped) rs) r) (sym (flat_map-cons (λ y. y.entries) x rs)) in
-    let c = ap (λ (k : ℕ). after_whole (flat_map (λ y. y.entries) (x ∷ rs)) k r) (sym (sum_by-cons (λ y. y.skipped) x rs)) in
+    let a =
+    after_whole-add x.entries (flat_map (λ y. y.entries) rs) x.skipped (sum_by (λ y. y.skipped) rs) r in
+    let b =
+    ap (λ (l : List Entry). after_whole l (x.skipped + sum_by (λ y. y.skipped) rs) r) (sym (flat_map-cons (λ y. y.entries) x rs)) in
+    let c =
+    ap (λ (k : ℕ). after_whole (flat_map (λ y. y.entries) (x ∷ rs)) k r) (sym (sum_by-cons (λ y. y.skipped) x rs)) in
     a ∙ b ∙ c
 
 -- the reader's definitions give this reading and this place, from segment n on
-record AreReadAs (page n : ℕ) (texts : List (List ℕ)) (r : Reading) (place : FaultPlace) : Type 0 where
+record AreReadAs (page n : ℕ) (texts : List (List ℕ)) (r : Reading) (place : FaultPlace)
+    : Type 0 where
   reads : log_reading page texts ≡ r
   stops_at : log_stop page n texts ≡ place
 
 module _ (page : ℕ) (p : 0 < page) where
   -- a segment that ends between records, and then others
-  whole_read : (n : ℕ) (t : List ℕ) (l : List (List ℕ)) (own r : Reading) (offset : ℕ) (place : FaultPlace) → IsCons l → IsSegment page t own offset → own.stop ≡ between
-      → AreReadAs page (n + 1) l r place → AreReadAs page n (t ∷ l) (after_whole own.entries own.skipped r) place
+  whole_read : (n : ℕ) (t : List ℕ) (l : List (List ℕ)) (own r : Reading) (offset : ℕ)
+      (place : FaultPlace) → IsCons l → IsSegment page t own offset → own.stop ≡ between
+      → AreReadAs page (n + 1) l r place
+      → AreReadAs page n (t ∷ l) (after_whole own.entries own.skipped r) place
   whole_read n t l own r offset place c is ends later =
       let own_read = segment_read page t own offset p is in
-      let s : (segment page t).stop ≡ between = ap (λ (x : Reading). x.stop) own_read.reads ∙ ends in
+      let s : (segment page t).stop ≡ between =
+      ap (λ (x : Reading). x.stop) own_read.reads ∙ ends in
       record {
-        reads = next_reads page t l c ∙ ap (λ (x : Reading). then_next x (log_reading page l)) own_read.reads ∙ ap (λ (x : Stop). then_after x own (log_reading page l)) ends ∙ ap (after_whole own.entries own.skipped) later.reads;
-        stops_at = next_stops page n t l c ∙ ap (λ (x : Stop). place_then x n (stop_offset page t) (log_stop page (n + 1) l)) s ∙ later.stops_at;
+        reads = next_reads page t l c
+            ∙ ap (λ (x : Reading). then_next x (log_reading page l)) own_read.reads
+            ∙ ap (λ (x : Stop). then_after x own (log_reading page l)) ends
+            ∙ ap (after_whole own.entries own.skipped) later.reads;
+        stops_at = next_stops page n t l c
+            ∙ ap (λ (x : Stop). place_then x n (stop_offset page t) (log_stop page (n + 1) l)) s
+            ∙ later.stops_at;
       }
 
   -- the segment in which the reading stops
-  last_read : (n : ℕ) (t : List ℕ) (later : List (List ℕ)) (own : Reading) (offset : ℕ) (own_stop stop : Stop) → own.stop ≡ own_stop → IsSegment page t own offset → LogStops later own_stop stop
+  last_read : (n : ℕ) (t : List ℕ) (later : List (List ℕ)) (own : Reading) (offset : ℕ)
+      (own_stop stop : Stop) → own.stop ≡ own_stop → IsSegment page t own offset
+      → LogStops later own_stop stop
       → AreReadAs page n (t ∷ later) (record { entries = own.entries; skipped = own.skipped; stop = stop }) (record { segment = n; offset = offset })
   unfolding log_reading log_stop
   last_read n t [] own offset own_stop stop e is h =
       let own_read = segment_read page t own offset p is in
       record {
-        reads = own_read.reads ∙ ap (λ (s : Stop). record { entries = own.entries; skipped = own.skipped; stop = s }) (e ∙ sym h);
+        reads = own_read.reads
+            ∙ ap (λ (s : Stop). record { entries = own.entries; skipped = own.skipped; stop = s }) (e ∙ sym h);
         stops_at = ap (λ (k : ℕ). record { segment = n; offset = k }) own_read.stops_at;
       }
   last_read n t (u ∷ us) own offset between stop e is h = absurd h
@@ -123,7 +147,8 @@ module _ (page : ℕ) (p : 0 < page) where
       }
   last_read n t (u ∷ us) own offset (at_fault f) stop e is h =
       let own_read = segment_read page t own offset p is in
-      let s : (segment page t).stop ≡ at_fault f = ap (λ (x : Reading). x.stop) own_read.reads ∙ e in
+      let s : (segment page t).stop ≡ at_fault f =
+      ap (λ (x : Reading). x.stop) own_read.reads ∙ e in
       record {
         reads =
             ap (λ (x : Reading). then_next x (log_reading page (u ∷ us))) own_read.reads
@@ -134,35 +159,44 @@ module _ (page : ℕ) (p : 0 < page) where
             ∙ ap (λ (k : ℕ). record { segment = n; offset = k }) own_read.stops_at;
       }
 
-  wholes_read : (n : ℕ) (whole : List (List ℕ)) (rs : List Reading) (t : List ℕ) (later : List (List ℕ)) (r : Reading) (offset : ℕ) → AllEndBetween page whole rs
+  wholes_read : (n : ℕ) (whole : List (List ℕ)) (rs : List Reading) (t : List ℕ)
+      (later : List (List ℕ)) (r : Reading) (offset : ℕ) → AllEndBetween page whole rs
       → AreReadAs page (n + length whole) (t ∷ later) r (record { segment = n + length whole; offset = offset })
       → AreReadAs page n (whole ++ t ∷ later) (after_all rs r) (record { segment = n + length whole; offset = offset })
   wholes_read n [] [] t later r offset is h =
       let z : n + 0 ≡ n = omega arith in
-      let h1 = subst (λ (m : ℕ). AreReadAs page m (t ∷ later) r (record { segment = n + 0; offset = offset })) z h in
+      let h1 =
+      subst (λ (m : ℕ). AreReadAs page m (t ∷ later) r (record { segment = n + 0; offset = offset })) z h in
       let k : r.skipped ≡ 0 + r.skipped = omega arith in
       subst (λ (m : ℕ). AreReadAs page n (t ∷ later) (record { entries = r.entries; skipped = m; stop = r.stop }) (record { segment = n + 0; offset = offset })) k h1
   wholes_read n [] (x ∷ rs) t later r offset is h = absurd is
   wholes_read n (w ∷ ws) [] t later r offset is h = absurd is
   wholes_read n (w ∷ ws) (x ∷ rs) t later r offset is h =
       let m : n + length (w ∷ ws) ≡ (n + 1) + length ws = omega arith in
-      let h1 = subst (λ (k : ℕ). AreReadAs page k (t ∷ later) r (record { segment = k; offset = offset })) m h in
+      let h1 =
+      subst (λ (k : ℕ). AreReadAs page k (t ∷ later) r (record { segment = k; offset = offset })) m h in
       let ih = wholes_read (n + 1) ws rs t later r offset is.1 h1 in
-      let y = whole_read n w (ws ++ t ∷ later) x (after_all rs r) is.0.0 (record { segment = (n + 1) + length ws; offset = offset }) (append_cons ws t later) is.0.1 is.0.2 ih in
-      let z = subst (λ (q : Reading). AreReadAs page n (w ∷ (ws ++ t ∷ later)) q (record { segment = (n + 1) + length ws; offset = offset })) (after_all-cons x rs r) y in
+      let y =
+      whole_read n w (ws ++ t ∷ later) x (after_all rs r) is.0.0 (record { segment = (n + 1) + length ws; offset = offset }) (append_cons ws t later) is.0.1 is.0.2 ih in
+      let z =
+      subst (λ (q : Reading). AreReadAs page n (w ∷ (ws ++ t ∷ later)) q (record { segment = (n + 1) + length ws; offset = offset })) (after_all-cons x rs r) y in
       subst (λ (k : ℕ). AreReadAs page n (w ∷ (ws ++ t ∷ later)) (after_all (x ∷ rs) r) (record { segment = k; offset = offset })) (sym m) z
 
-  texts_read : (texts : List (List ℕ)) (r : Reading) (place : FaultPlace) → IsLog page texts r place → AreReadAs page 0 texts r place
+  texts_read : (texts : List (List ℕ)) (r : Reading) (place : FaultPlace)
+      → IsLog page texts r place → AreReadAs page 0 texts r place
   texts_read texts r place is =
       let n : 0 + length is.whole ≡ place.segment = omega (arith, is.number) in
-      let own = last_read (0 + length is.whole) is.text is.later is.own place.offset is.own.stop r.stop refl is.is_segment is.stops in
-      let all = wholes_read 0 is.whole is.readings is.text is.later (record { entries = is.own.entries; skipped = is.own.skipped; stop = r.stop }) place.offset is.are_whole own in
+      let own =
+      last_read (0 + length is.whole) is.text is.later is.own place.offset is.own.stop r.stop refl is.is_segment is.stops in
+      let all =
+      wholes_read 0 is.whole is.readings is.text is.later (record { entries = is.own.entries; skipped = is.own.skipped; stop = r.stop }) place.offset is.are_whole own in
       let e : after_all is.readings (record { entries = is.own.entries; skipped = is.own.skipped; stop = r.stop }) ≡ r =
       ap (λ (l : List Entry). record { entries = l; skipped = sum_by (λ x. x.skipped) is.readings + is.own.skipped; stop = r.stop }) (sym is.entries)
       ∙ ap (λ (k : ℕ). record { entries = r.entries; skipped = k; stop = r.stop }) (sym is.skipped) in
       record {
         reads = ap (log_reading page) is.parts ∙ all.reads ∙ e;
-        stops_at = ap (log_stop page 0) is.parts ∙ all.stops_at ∙ ap (λ (k : ℕ). record { segment = k; offset = place.offset }) n;
+        stops_at = ap (log_stop page 0) is.parts ∙ all.stops_at
+            ∙ ap (λ (k : ℕ). record { segment = k; offset = place.offset }) n;
       }
 
   -- ---- each log is laid out
@@ -172,7 +206,8 @@ module _ (page : ℕ) (p : 0 < page) where
     place : FaultPlace
     is : IsLog page texts reading place
 
-  stops_in : (t : List ℕ) (later : List (List ℕ)) (own : IsLaidOut page t) (stop : Stop) → LogStops later own.reading.stop stop → LogIsLaidOut (t ∷ later)
+  stops_in : (t : List ℕ) (later : List (List ℕ)) (own : IsLaidOut page t) (stop : Stop)
+      → LogStops later own.reading.stop stop → LogIsLaidOut (t ∷ later)
   stops_in t later own stop h = record {
     reading = record { entries = own.reading.entries; skipped = own.reading.skipped; stop = stop };
     place = record { segment = 0; offset = own.offset };
@@ -192,7 +227,8 @@ module _ (page : ℕ) (p : 0 < page) where
     };
   }
 
-  goes_on : (t : List ℕ) (l : List (List ℕ)) (own : IsLaidOut page t) → own.reading.stop ≡ between → LogIsLaidOut l → LogIsLaidOut (t ∷ l)
+  goes_on : (t : List ℕ) (l : List (List ℕ)) (own : IsLaidOut page t) → own.reading.stop ≡ between
+      → LogIsLaidOut l → LogIsLaidOut (t ∷ l)
   goes_on t l own e rest = record {
     reading = after_whole own.reading.entries own.reading.skipped rest.reading;
     place = record { segment = rest.place.segment + 1; offset = rest.place.offset };
@@ -215,7 +251,8 @@ module _ (page : ℕ) (p : 0 < page) where
     };
   }
 
-  by_stop : (t u : List ℕ) (us : List (List ℕ)) (own : IsLaidOut page t) (stop : Stop) → own.reading.stop ≡ stop → LogIsLaidOut (u ∷ us) → LogIsLaidOut (t ∷ u ∷ us)
+  by_stop : (t u : List ℕ) (us : List (List ℕ)) (own : IsLaidOut page t) (stop : Stop)
+      → own.reading.stop ≡ stop → LogIsLaidOut (u ∷ us) → LogIsLaidOut (t ∷ u ∷ us)
   by_stop t u us own between e rest = goes_on t (u ∷ us) own e rest
   by_stop t u us own inside e rest = stops_in t (u ∷ us) own (at_fault TornSegment) (subst (λ (s : Stop). LogStops (u ∷ us) s (at_fault TornSegment)) (sym e) refl)
   by_stop t u us own (at_fault f) e rest = stops_in t (u ∷ us) own (at_fault f) (subst (λ (s : Stop). LogStops (u ∷ us) s (at_fault f)) (sym e) refl)
@@ -230,12 +267,14 @@ module _ (page : ℕ) (p : 0 < page) where
 abbrev pub LogReads : ℕ → List Piece → Reading → FaultPlace → Type 0
 LogReads page ps r place = (reading_after page [] ps ≡ r) × (stop_after page 0 [] ps ≡ place)
 
-pub log_read : (page : ℕ) (ps : List Piece) (r : Reading) (place : FaultPlace) → 0 < page → IsLog page (segments_after [] ps) r place → LogReads page ps r place
+pub log_read : (page : ℕ) (ps : List Piece) (r : Reading) (place : FaultPlace) → 0 < page
+    → IsLog page (segments_after [] ps) r place → LogReads page ps r place
 log_read page ps r place p is =
     let x = texts_read page p (segments_after [] ps) r place is in
     (after_reads page [] ps ∙ x.reads, after_stops page 0 [] ps ∙ x.stops_at)
 
-pub log_laid_out : (page : ℕ) (ps : List Piece) (r : Reading) (place : FaultPlace) → 0 < page → LogReads page ps r place → IsLog page (segments_after [] ps) r place
+pub log_laid_out : (page : ℕ) (ps : List Piece) (r : Reading) (place : FaultPlace) → 0 < page
+    → LogReads page ps r place → IsLog page (segments_after [] ps) r place
 log_laid_out page ps r place p h =
     let c = after_cons [] ps in
     let x = texts_are_laid_out page p c.0 c.1 in
@@ -253,18 +292,21 @@ fault_stop between f e = absurd cc
 fault_stop inside f e = absurd cc
 fault_stop (at_fault g) f e = let h : g ≡ f = cc in ap at_fault h
 
-pub first_fault : (ps : List Piece) (f : TailFault) (place : FaultPlace) → ((fault ps ≡ Some f) × (fault_place ps ≡ Some place)) ↔ HasFirstFault ps f place
+pub first_fault : (ps : List Piece) (f : TailFault) (place : FaultPlace)
+    → ((fault ps ≡ Some f) × (fault_place ps ≡ Some place)) ↔ HasFirstFault ps f place
 unfolding reading fault_place
 first_fault ps f place = (there, back)
   where
     there : (fault ps ≡ Some f) × (fault_place ps ≡ Some place) → HasFirstFault ps f place
     there h =
-        let at : Some (stop_after page_size 0 [] ps) ≡ Some place = ap (λ (o : Option TailFault). place_of o ps) (sym h.0) ∙ h.1 in
+        let at : Some (stop_after page_size 0 [] ps) ≡ Some place =
+        ap (λ (o : Option TailFault). place_of o ps) (sym h.0) ∙ h.1 in
         let at' : stop_after page_size 0 [] ps ≡ place = cc in
         (reading_after page_size [] ps, log_laid_out page_size ps (reading_after page_size [] ps) place (omega arith) (refl, at'), fault_stop (reading_after page_size [] ps).stop f h.0)
 
     back : HasFirstFault ps f place → (fault ps ≡ Some f) × (fault_place ps ≡ Some place)
     back h =
         let read = log_read page_size ps h.0 place (omega arith) h.1 in
-        let e : fault ps ≡ Some f = ap (λ (r : Reading). fault_at r.stop) read.0 ∙ ap fault_at h.2 in
+        let e : fault ps ≡ Some f =
+        ap (λ (r : Reading). fault_at r.stop) read.0 ∙ ap fault_at h.2 in
         (e, ap (λ (o : Option TailFault). place_of o ps) e ∙ ap Some read.1)

@@ -17,14 +17,18 @@ use Rattle.rw_log_layout.proofs.Items.{length_fragment, fragment_read, zeros_rea
 
 -- ---- how many bytes are read, an item at a time
 
-same_after : (page left n : ℕ) (bs : List ℕ) (next next' : ℕ → Option (List ℕ) → List ℕ → ℕ) (opened : Option (Option (List ℕ)))
-    → ((o : Option (List ℕ)) → next (left_after page left n) o (drop n bs) ≡ next' (left_after page left n) o (drop n bs))
+same_after : (page left n : ℕ) (bs : List ℕ) (next next' : ℕ → Option (List ℕ) → List ℕ
+    → ℕ) (opened : Option (Option (List ℕ)))
+    → ((o : Option (List ℕ))
+    → next (left_after page left n) o (drop n bs) ≡ next' (left_after page left n) o (drop n bs))
     → count_after page left n bs next opened ≡ count_after page left n bs next' opened
 same_after page left n bs next next' None ih = refl
 same_after page left n bs next next' (Some o) ih = ap (λ (m : ℕ). n + m) (ih o)
 
-same_count : (page left : ℕ) (o : Option (List ℕ)) (bs : List ℕ) (next next' : ℕ → Option (List ℕ) → List ℕ → ℕ) (x : Item) → 0 < page → 0 < left → 0 < length bs
-    → ((l : ℕ) (o : Option (List ℕ)) (rest : List ℕ) → 0 < l → length rest < length bs → next l o rest ≡ next' l o rest)
+same_count : (page left : ℕ) (o : Option (List ℕ)) (bs : List ℕ) (next next' : ℕ → Option (List ℕ)
+    → List ℕ → ℕ) (x : Item) → 0 < page → 0 < left → 0 < length bs
+    → ((l : ℕ) (o : Option (List ℕ)) (rest : List ℕ) → 0 < l → length rest < length bs
+    → next l o rest ≡ next' l o rest)
     → count_from page left o bs next x ≡ count_from page left o bs next' x
 same_count page left o bs next next' nothing p l n ih = refl
 same_count page left o bs next next' begun p l n ih = refl
@@ -39,8 +43,10 @@ unfolding item_at
 empty_count page zero left o = refl
 empty_count page (suc k) left o = refl
 
-count_enough : (page k k' left : ℕ) (o : Option (List ℕ)) (bs : List ℕ) → 0 < page → 0 < left → length bs ≤ k → length bs ≤ k' → count_of page k left o bs ≡ count_of page k' left o bs
-count_enough page k k' left o [] p l h h' = empty_count page k left o ∙ sym (empty_count page k' left o)
+count_enough : (page k k' left : ℕ) (o : Option (List ℕ)) (bs : List ℕ) → 0 < page → 0 < left
+    → length bs ≤ k → length bs ≤ k' → count_of page k left o bs ≡ count_of page k' left o bs
+count_enough page k k' left o [] p l h h' = empty_count page k left o
+    ∙ sym (empty_count page k' left o)
 count_enough page zero k' left o (b ∷ bs) p l h h' = absurd (omega arith)
 count_enough page (suc k) zero left o (b ∷ bs) p l h h' = absurd (omega arith)
 count_enough page (suc k) (suc k') left o (b ∷ bs) p l h h' =
@@ -55,15 +61,18 @@ count_step page left o (b ∷ bs) p l =
     same_count page left o (b ∷ bs) (λ m r rest. count_of page (length bs) m r rest) (λ m r rest. read_count page m r rest) (item_at left (b ∷ bs)) p l (omega arith)
     (λ m r rest pos short. count_enough page (length bs) (length rest) m r rest p pos (omega arith) (le_refl (length rest)))
 
-pub count_item : (page left : ℕ) (o : Option (List ℕ)) (bs : List ℕ) (x : Item) → 0 < page → 0 < left → item_at left bs ≡ x
+pub count_item : (page left : ℕ) (o : Option (List ℕ)) (bs : List ℕ) (x : Item) → 0 < page
+    → 0 < left → item_at left bs ≡ x
     → read_count page left o bs ≡ count_from page left o bs (λ m r rest. read_count page m r rest) x
-count_item page left o bs x p l e = count_step page left o bs p l ∙ ap (count_from page left o bs (λ m r rest. read_count page m r rest)) e
+count_item page left o bs x p l e = count_step page left o bs p l
+    ∙ ap (count_from page left o bs (λ m r rest. read_count page m r rest)) e
 
 -- ---- what one fragment adds
 
 -- it completes this record, which is of its type's form
 abbrev pub Closes : List ℕ → List (List ℕ) → Option (List ℕ) → Type 0
-Closes d own next = (own ≡ d ∷ []) × (next ≡ None) × ((es : List Entry) × (record_entries d ≡ Some es))
+Closes d own next = (own ≡ d ∷ []) × (next ≡ None)
+    × ((es : List Entry) × (record_entries d ≡ Some es))
 
 -- after an open record or none: the records that a fragment completes, and the record that is open after it
 abbrev pub Adds : Option (List ℕ) → Kind → List ℕ → List (List ℕ) → Option (List ℕ) → Type 0
@@ -77,10 +86,12 @@ Adds _ _ d own next = ⊥
 abbrev pub Gathers : Option (List ℕ) → List Fragment → List (List ℕ) → Option (List ℕ) → Type 0
 Gathers o [] ds o' = (ds ≡ []) × (o ≡ o')
 Gathers o (f ∷ fs) ds o' =
-    (own : List (List ℕ)) × (next : Option (List ℕ)) × (more : List (List ℕ)) × Adds o f.0 f.1 own next × Gathers next fs more o' × (ds ≡ own ++ more)
+    (own : List (List ℕ)) × (next : Option (List ℕ)) × (more : List (List ℕ))
+    × Adds o f.0 f.1 own next × Gathers next fs more o' × (ds ≡ own ++ more)
 
 -- what the fragments of a list and then those of another one add
-pub record Joins (o : Option (List ℕ)) (fs gs : List Fragment) (ds : List (List ℕ)) (o' : Option (List ℕ)) : Type 0 where
+pub record Joins (o : Option (List ℕ)) (fs gs : List Fragment) (ds : List (List ℕ))
+    (o' : Option (List ℕ)) : Type 0 where
   pub between : Option (List ℕ)
   pub front : List (List ℕ)
   pub back : List (List ℕ)
@@ -88,7 +99,8 @@ pub record Joins (o : Option (List ℕ)) (fs gs : List Fragment) (ds : List (Lis
   pub backs : Gathers between gs back o'
   pub all : ds ≡ front ++ back
 
-pub gathers_split : (o : Option (List ℕ)) (fs gs : List Fragment) (ds : List (List ℕ)) (o' : Option (List ℕ)) → Gathers o (fs ++ gs) ds o' → Joins o fs gs ds o'
+pub gathers_split : (o : Option (List ℕ)) (fs gs : List Fragment) (ds : List (List ℕ))
+    (o' : Option (List ℕ)) → Gathers o (fs ++ gs) ds o' → Joins o fs gs ds o'
 gathers_split o [] gs ds o' h = record { between = o; front = []; back = ds; fronts = (refl, refl); backs = h; all = refl }
 gathers_split o (f ∷ fs) gs ds o' h =
     let ih = gathers_split h.1 fs gs h.2 o' h.4 in
@@ -98,20 +110,25 @@ gathers_split o (f ∷ fs) gs ds o' h =
       back = ih.back;
       fronts = (h.0, h.1, ih.front, h.3, ih.fronts, refl);
       backs = ih.backs;
-      all = h.5 ∙ ap (λ (l : List (List ℕ)). h.0 ++ l) ih.all ∙ sym (append_assoc h.0 ih.front ih.back);
+      all = h.5 ∙ ap (λ (l : List (List ℕ)). h.0 ++ l) ih.all
+          ∙ sym (append_assoc h.0 ih.front ih.back);
     }
 
-pub gathers_join : (o : Option (List ℕ)) (fs gs : List Fragment) (front : List (List ℕ)) (between : Option (List ℕ)) (back : List (List ℕ)) (o' : Option (List ℕ))
-    → Gathers o fs front between → Gathers between gs back o' → Gathers o (fs ++ gs) (front ++ back) o'
+pub gathers_join : (o : Option (List ℕ)) (fs gs : List Fragment) (front : List (List ℕ))
+    (between : Option (List ℕ)) (back : List (List ℕ)) (o' : Option (List ℕ))
+    → Gathers o fs front between → Gathers between gs back o'
+    → Gathers o (fs ++ gs) (front ++ back) o'
 gathers_join o [] gs front between back o' f b =
-    let g : Gathers o gs back o' = subst (λ (x : Option (List ℕ)). Gathers x gs back o') (sym f.1) b in
+    let g : Gathers o gs back o' =
+    subst (λ (x : Option (List ℕ)). Gathers x gs back o') (sym f.1) b in
     subst (λ (l : List (List ℕ)). Gathers o gs (l ++ back) o') (sym f.0) g
 gathers_join o (x ∷ fs) gs front between back o' f b =
     (f.0, f.1, f.2 ++ back, f.3, gathers_join f.1 fs gs f.2 between back o' f.4 b, ap (λ (l : List (List ℕ)). l ++ back) f.5 ∙ append_assoc f.0 f.2 back)
 
 -- ---- records and their fragments
 
-middles_gather : (o : List ℕ) (ms : List (List ℕ)) → Gathers (Some o) (map (λ d. (middle, d)) ms) [] (Some (o ++ concat ms))
+middles_gather : (o : List ℕ) (ms : List (List ℕ))
+    → Gathers (Some o) (map (λ d. (middle, d)) ms) [] (Some (o ++ concat ms))
 middles_gather o [] = (refl, ap Some (sym (append-nil o)))
 middles_gather o (m ∷ ms) =
     ([], Some (o ++ m), [], (refl, refl), subst (λ (l : List ℕ). Gathers (Some (o ++ m)) (map (λ d. (middle, d)) ms) [] (Some l)) (append_assoc o m (concat ms)) (middles_gather (o ++ m) ms), refl)
@@ -120,22 +137,29 @@ open_gathers : (fs : List Fragment) (d : List ℕ) → IsOpenRecord fs d → Gat
 open_gathers fs d h =
     let g : Gathers None ((first, h.start) ∷ map (λ m. (middle, m)) h.middles) [] (Some (h.start ++ concat h.middles)) =
     ([], Some h.start, [], (refl, refl), middles_gather h.start h.middles, refl) in
-    let g' = subst (λ (l : List Fragment). Gathers None l [] (Some (h.start ++ concat h.middles))) (sym h.parts) g in
+    let g' =
+    subst (λ (l : List Fragment). Gathers None l [] (Some (h.start ++ concat h.middles))) (sym h.parts) g in
     subst (λ (l : List ℕ). Gathers None fs [] (Some l)) (sym h.joined) g'
 
-pub may_be_open_gathers : (fs : List Fragment) (o : Option (List ℕ)) → MayBeOpen fs o → Gathers None fs [] o
+pub may_be_open_gathers : (fs : List Fragment) (o : Option (List ℕ)) → MayBeOpen fs o
+    → Gathers None fs [] o
 may_be_open_gathers fs None h = subst (λ (l : List Fragment). Gathers None l [] None) (sym h) (refl, refl)
 may_be_open_gathers fs (Some d) h = open_gathers fs d h
 
-record_gathers : (fs : List Fragment) (d : List ℕ) (es : List Entry) → record_entries d ≡ Some es → IsRecord fs d → Gathers None fs (d ∷ []) None
+record_gathers : (fs : List Fragment) (d : List ℕ) (es : List Entry) → record_entries d ≡ Some es
+    → IsRecord fs d → Gathers None fs (d ∷ []) None
 record_gathers fs d es e (inl h) =
-    let g : Gathers None ((full, d) ∷ []) (d ∷ []) None = (d ∷ [], None, [], (refl, refl, (es, e)), (refl, refl), refl) in
+    let g : Gathers None ((full, d) ∷ []) (d ∷ []) None =
+    (d ∷ [], None, [], (refl, refl, (es, e)), (refl, refl), refl) in
     subst (λ (l : List Fragment). Gathers None l (d ∷ []) None) (sym h) g
 record_gathers fs d es e (inr h) =
     let e' : record_entries (h.so_far ++ h.end) ≡ Some es = ap record_entries (sym h.joined) ∙ e in
-    let g : Gathers (Some h.so_far) ((last, h.end) ∷ []) ((h.so_far ++ h.end) ∷ []) None = ((h.so_far ++ h.end) ∷ [], None, [], (refl, refl, (es, e')), (refl, refl), refl) in
-    let g' : Gathers None (h.front ++ (last, h.end) ∷ []) ((h.so_far ++ h.end) ∷ []) None = gathers_join None h.front ((last, h.end) ∷ []) [] (Some h.so_far) ((h.so_far ++ h.end) ∷ []) None (open_gathers h.front h.so_far h.is_open) g in
-    let g'' = subst (λ (l : List Fragment). Gathers None l ((h.so_far ++ h.end) ∷ []) None) (sym h.parts) g' in
+    let g : Gathers (Some h.so_far) ((last, h.end) ∷ []) ((h.so_far ++ h.end) ∷ []) None =
+    ((h.so_far ++ h.end) ∷ [], None, [], (refl, refl, (es, e')), (refl, refl), refl) in
+    let g' : Gathers None (h.front ++ (last, h.end) ∷ []) ((h.so_far ++ h.end) ∷ []) None =
+    gathers_join None h.front ((last, h.end) ∷ []) [] (Some h.so_far) ((h.so_far ++ h.end) ∷ []) None (open_gathers h.front h.so_far h.is_open) g in
+    let g'' =
+    subst (λ (l : List Fragment). Gathers None l ((h.so_far ++ h.end) ∷ []) None) (sym h.parts) g' in
     subst (λ (l : List ℕ). Gathers None fs (l ∷ []) None) (sym h.joined) g''
 
 -- each is of its type's form
@@ -143,7 +167,8 @@ abbrev pub HaveForms : List (List ℕ) → Type 0
 HaveForms [] = Unit {0}
 HaveForms (d ∷ ds) = ((es : List Entry) × (record_entries d ≡ Some es)) × HaveForms ds
 
-pub records_gather : (fs : List Fragment) (ds : List (List ℕ)) → HaveForms ds → InTurn IsRecord fs ds → Gathers None fs ds None
+pub records_gather : (fs : List Fragment) (ds : List (List ℕ)) → HaveForms ds
+    → InTurn IsRecord fs ds → Gathers None fs ds None
 records_gather fs [] forms h = subst (λ (l : List Fragment). Gathers None l [] None) (sym h) (refl, refl)
 records_gather fs (d ∷ ds) forms h =
     let a = record_gathers h.0 d forms.0.0 forms.0.1 h.3 in
@@ -157,44 +182,56 @@ abbrev pub with_records : List (List ℕ) → Reading → Reading
 with_records [] r = r
 with_records (d ∷ ds) r = with_record d (with_records ds r)
 
-with_records-append : (ds es : List (List ℕ)) (r : Reading) → with_records (ds ++ es) r ≡ with_records ds (with_records es r)
+with_records-append : (ds es : List (List ℕ)) (r : Reading)
+    → with_records (ds ++ es) r ≡ with_records ds (with_records es r)
 with_records-append [] es r = refl
 with_records-append (d ∷ ds) es r = ap (with_record d) (with_records-append ds es r)
 
 -- from a place with `left` bytes of its page the reader comes over these bytes to one with left', and meets these records
-pub record Passes (page left : ℕ) (o : Option (List ℕ)) (bs : List ℕ) (left' : ℕ) (o' : Option (List ℕ)) (ds : List (List ℕ)) : Type 0 where
-  pub reads : (rest : List ℕ) → read_from page left o (bs ++ rest) ≡ with_records ds (read_from page left' o' rest)
-  pub counts : (rest : List ℕ) → read_count page left o (bs ++ rest) ≡ length bs + read_count page left' o' rest
+pub record Passes (page left : ℕ) (o : Option (List ℕ)) (bs : List ℕ) (left' : ℕ)
+    (o' : Option (List ℕ)) (ds : List (List ℕ)) : Type 0 where
+  pub reads : (rest : List ℕ)
+      → read_from page left o (bs ++ rest) ≡ with_records ds (read_from page left' o' rest)
+  pub counts : (rest : List ℕ)
+      → read_count page left o (bs ++ rest) ≡ length bs + read_count page left' o' rest
 
 passes_none : (page left : ℕ) (o : Option (List ℕ)) → Passes page left o [] left o []
 passes_none page left o = record { reads = λ rest. refl; counts = λ rest. omega arith }
 
-passes_on : (page l l' l'' : ℕ) (o o' o'' : Option (List ℕ)) (a b : List ℕ) (ds es : List (List ℕ)) → Passes page l o a l' o' ds → Passes page l' o' b l'' o'' es → Passes page l o (a ++ b) l'' o'' (ds ++ es)
+passes_on : (page l l' l'' : ℕ) (o o' o'' : Option (List ℕ)) (a b : List ℕ)
+    (ds es : List (List ℕ)) → Passes page l o a l' o' ds → Passes page l' o' b l'' o'' es
+    → Passes page l o (a ++ b) l'' o'' (ds ++ es)
 passes_on page l l' l'' o o' o'' a b ds es x y = record {
-  reads = λ rest. ap (read_from page l o) (append_assoc a b rest) ∙ x.reads (b ++ rest) ∙ ap (with_records ds) (y.reads rest) ∙ sym (with_records-append ds es (read_from page l'' o'' rest));
+  reads = λ rest. ap (read_from page l o) (append_assoc a b rest) ∙ x.reads (b ++ rest)
+      ∙ ap (with_records ds) (y.reads rest)
+      ∙ sym (with_records-append ds es (read_from page l'' o'' rest));
   counts = λ rest.
       let e : read_count page l o ((a ++ b) ++ rest) ≡ length a + (length b + read_count page l'' o'' rest) =
-      ap (λ (t : List ℕ). read_count page l o t) (append_assoc a b rest) ∙ x.counts (b ++ rest) ∙ ap (λ (n : ℕ). length a + n) (y.counts rest) in
+      ap (λ (t : List ℕ). read_count page l o t) (append_assoc a b rest) ∙ x.counts (b ++ rest)
+      ∙ ap (λ (n : ℕ). length a + n) (y.counts rest) in
       let s : length a + (length b + read_count page l'' o'' rest) ≡ length (a ++ b) + read_count page l'' o'' rest = omega (arith, length-append a b) in
       e ∙ s;
 }
 
 module _ (page left : ℕ) (bs : List ℕ) (p : 0 < page) (l : 0 < left) where
-  closing : (d r : List ℕ) (own : List (List ℕ)) (next : Option (List ℕ)) (x : Reading) → Closes r own next
+  closing : (d r : List ℕ) (own : List (List ℕ)) (next : Option (List ℕ)) (x : Reading)
+      → Closes r own next
       → x ≡ with_record r (read_from page (left_after page left (7 + length d)) None (drop (7 + length d) bs))
       → x ≡ with_records own (read_from page (left_after page left (7 + length d)) next (drop (7 + length d) bs))
   closing d r own next x h e =
       e ∙ ap (λ (o : Option (List ℕ)). with_record r (read_from page (left_after page left (7 + length d)) o (drop (7 + length d) bs))) (sym h.1)
       ∙ ap (λ (ds : List (List ℕ)). with_records ds (read_from page (left_after page left (7 + length d)) next (drop (7 + length d) bs))) (sym h.0)
 
-  going : (d : List ℕ) (o : List ℕ) (own : List (List ℕ)) (next : Option (List ℕ)) (x : Reading) → (own ≡ []) × (next ≡ Some o)
+  going : (d : List ℕ) (o : List ℕ) (own : List (List ℕ)) (next : Option (List ℕ)) (x : Reading)
+      → (own ≡ []) × (next ≡ Some o)
       → x ≡ read_from page (left_after page left (7 + length d)) (Some o) (drop (7 + length d) bs)
       → x ≡ with_records own (read_from page (left_after page left (7 + length d)) next (drop (7 + length d) bs))
   going d o own next x h e =
       e ∙ ap (λ (o : Option (List ℕ)). read_from page (left_after page left (7 + length d)) o (drop (7 + length d) bs)) (sym h.1)
       ∙ ap (λ (ds : List (List ℕ)). with_records ds (read_from page (left_after page left (7 + length d)) next (drop (7 + length d) bs))) (sym h.0)
 
-  adds_reads : (o : Option (List ℕ)) (kind : Kind) (d : List ℕ) (own : List (List ℕ)) (next : Option (List ℕ)) → Adds o kind d own next → item_at left bs ≡ fragment kind d
+  adds_reads : (o : Option (List ℕ)) (kind : Kind) (d : List ℕ) (own : List (List ℕ))
+      (next : Option (List ℕ)) → Adds o kind d own next → item_at left bs ≡ fragment kind d
       → read_from page left o bs ≡ with_records own (read_from page (left_after page left (7 + length d)) next (drop (7 + length d) bs))
   adds_reads None full d own next h e = closing d d own next _ h (read_full page left bs p l d e)
   adds_reads None first d own next h e = going d d own next _ h (read_first page left bs p l d e)
@@ -205,10 +242,12 @@ module _ (page left : ℕ) (bs : List ℕ) (p : 0 < page) (l : 0 < left) where
   adds_reads (Some r) middle d own next h e = going d (r ++ d) own next _ h (read_middle page left bs p l r d e)
   adds_reads (Some r) last d own next h e = closing d (r ++ d) own next _ h (read_last page left bs p l r d e)
 
-closes_opens : (d : List ℕ) (own : List (List ℕ)) (next : Option (List ℕ)) → Closes d own next → closes (record_entries d) ≡ Some next
+closes_opens : (d : List ℕ) (own : List (List ℕ)) (next : Option (List ℕ)) → Closes d own next
+    → closes (record_entries d) ≡ Some next
 closes_opens d own next h = ap closes h.2.1 ∙ ap Some (sym h.1)
 
-adds_opens : (o : Option (List ℕ)) (kind : Kind) (d : List ℕ) (own : List (List ℕ)) (next : Option (List ℕ)) → Adds o kind d own next → opens o kind d ≡ Some next
+adds_opens : (o : Option (List ℕ)) (kind : Kind) (d : List ℕ) (own : List (List ℕ))
+    (next : Option (List ℕ)) → Adds o kind d own next → opens o kind d ≡ Some next
 adds_opens None full d own next h = closes_opens d own next h
 adds_opens None first d own next h = ap Some (sym h.1)
 adds_opens None middle d own next h = absurd h
@@ -218,11 +257,14 @@ adds_opens (Some r) first d own next h = absurd h
 adds_opens (Some r) middle d own next h = ap Some (sym h.1)
 adds_opens (Some r) last d own next h = closes_opens (r ++ d) own next h
 
-passes_fragment : (page left : ℕ) (o : Option (List ℕ)) (b : List ℕ) (f : Fragment) (own : List (List ℕ)) (next : Option (List ℕ)) → 0 < page → 0 < left → IsFragment b f → length b ≤ left
+passes_fragment : (page left : ℕ) (o : Option (List ℕ)) (b : List ℕ) (f : Fragment)
+    (own : List (List ℕ)) (next : Option (List ℕ)) → 0 < page → 0 < left → IsFragment b f
+    → length b ≤ left
     → Adds o f.0 f.1 own next → Passes page left o b (left_after page left (length b)) next own
 passes_fragment page left o b f own next p l is within adds =
     let size : 7 + length f.1 ≡ length b = sym (length_fragment b f is) in
-    let seam : (rest : List ℕ) → drop (length b) (b ++ rest) ≡ rest = λ rest. drop-append_seam b rest in
+    let seam : (rest : List ℕ) → drop (length b) (b ++ rest) ≡ rest =
+    λ rest. drop-append_seam b rest in
     record {
       reads = λ rest.
           adds_reads page left (b ++ rest) p l o f.0 f.1 own next adds (fragment_read left b rest f is within)
@@ -238,7 +280,8 @@ passes_fragment page left o b f own next p l is within adds =
 left_after-zero : (page left : ℕ) → 0 < left → left_after page left 0 ≡ left
 left_after-zero page left l = let t : ltb 0 left ≡ true = lt-ltb 0 left l in rw t (omega arith)
 
-left_after-add : (page left a b : ℕ) → 0 < page → a + b ≤ left → left_after page (left_after page left a) b ≡ left_after page left (a + b)
+left_after-add : (page left a b : ℕ) → 0 < page → a + b ≤ left
+    → left_after page (left_after page left a) b ≡ left_after page left (a + b)
 left_after-add page left a b p h = elim (cases_lt a left) [
   | inl l ↦
       (let t : ltb a left ≡ true = lt-ltb a left l in
@@ -259,28 +302,33 @@ left_after-add page left a b p h = elim (cases_lt a left) [
       rw (t, u) (ap (left_after page page) z ∙ left_after-zero page page p))
 ]
 
-passes_fragments : (page left : ℕ) (o : Option (List ℕ)) (bs : List ℕ) (fs : List Fragment) (ds : List (List ℕ)) (o' : Option (List ℕ)) → 0 < page → 0 < left → InTurn IsFragment bs fs → length bs ≤ left
+passes_fragments : (page left : ℕ) (o : Option (List ℕ)) (bs : List ℕ) (fs : List Fragment)
+    (ds : List (List ℕ)) (o' : Option (List ℕ)) → 0 < page → 0 < left → InTurn IsFragment bs fs
+    → length bs ≤ left
     → Gathers o fs ds o' → Passes page left o bs (left_after page left (length bs)) o' ds
 passes_fragments page left o bs [] ds o' p l is within g =
     let none = passes_none page left o in
     let a = subst (λ (x : Option (List ℕ)). Passes page left o [] left x []) g.1 none in
     let b = subst (λ (x : List (List ℕ)). Passes page left o [] left o' x) (sym g.0) a in
-    let c = subst (λ (n : ℕ). Passes page left o [] n o' ds) (sym (left_after-zero page left l)) b in
+    let c =
+    subst (λ (n : ℕ). Passes page left o [] n o' ds) (sym (left_after-zero page left l)) b in
     subst (λ (t : List ℕ). Passes page left o t (left_after page left (length t)) o' ds) (sym is) c
 passes_fragments page left o bs (f ∷ fs) ds o' p l is within g =
-    let front = is.0 in
-    let rest = is.1 in
     let size : length bs ≡ length is.0 + length is.1 = ap length is.2 ∙ length-append is.0 is.1 in
     let a = passes_fragment page left o is.0 f g.0 g.1 p l is.3 (omega (arith, size)) g.3 in
-    let left' = left_after page left (length is.0) in
     let pos : 0 < left_after page left (length is.0) = left_after_pos page left (length is.0) p in
-    let fits : length is.1 ≤ left_after page left (length is.0) = fitting page left (length is.0) (length is.1) (omega (arith, size)) in
-    let b = passes_fragments page (left_after page left (length is.0)) g.1 is.1 fs g.2 o' p pos is.4 fits g.4 in
-    let c = passes_on page left (left_after page left (length is.0)) (left_after page (left_after page left (length is.0)) (length is.1)) o g.1 o' is.0 is.1 g.0 g.2 a b in
+    let fits : length is.1 ≤ left_after page left (length is.0) =
+    fitting page left (length is.0) (length is.1) (omega (arith, size)) in
+    let b =
+    passes_fragments page (left_after page left (length is.0)) g.1 is.1 fs g.2 o' p pos is.4 fits g.4 in
+    let c =
+    passes_on page left (left_after page left (length is.0)) (left_after page (left_after page left (length is.0)) (length is.1)) o g.1 o' is.0 is.1 g.0 g.2 a b in
     let n : left_after page (left_after page left (length is.0)) (length is.1) ≡ left_after page left (length bs) =
-    left_after-add page left (length is.0) (length is.1) p (omega (arith, size)) ∙ ap (left_after page left) (sym size) in
+    left_after-add page left (length is.0) (length is.1) p (omega (arith, size))
+    ∙ ap (left_after page left) (sym size) in
     let c1 = subst (λ (m : ℕ). Passes page left o (is.0 ++ is.1) m o' (g.0 ++ g.2)) n c in
-    let c2 = subst (λ (t : List ℕ). Passes page left o t (left_after page left (length bs)) o' (g.0 ++ g.2)) (sym is.2) c1 in
+    let c2 =
+    subst (λ (t : List ℕ). Passes page left o t (left_after page left (length bs)) o' (g.0 ++ g.2)) (sym is.2) c1 in
     subst (λ (x : List (List ℕ)). Passes page left o bs (left_after page left (length bs)) o' x) (sym g.5) c2
   where
     fitting : (page left a b : ℕ) → a + b ≤ left → b ≤ left_after page left a
@@ -290,10 +338,12 @@ passes_fragments page left o bs (f ∷ fs) ds o' p l is within g =
     ]
 
 -- zeros to the page's end
-passes_zeros : (page left : ℕ) (o : Option (List ℕ)) → 0 < page → 0 < left → Passes page left o (replicate left 0) page o []
+passes_zeros : (page left : ℕ) (o : Option (List ℕ)) → 0 < page → 0 < left
+    → Passes page left o (replicate left 0) page o []
 passes_zeros page left o p l =
     let size : length (replicate left 0) ≡ left = length-replicate {A = ℕ} left 0 in
-    let seam : (rest : List ℕ) → drop left (replicate left 0 ++ rest) ≡ rest = λ rest. subst (λ (n : ℕ). drop n (replicate left 0 ++ rest) ≡ rest) size (drop-append_seam (replicate left 0) rest) in
+    let seam : (rest : List ℕ) → drop left (replicate left 0 ++ rest) ≡ rest =
+    λ rest. subst (λ (n : ℕ). drop n (replicate left 0 ++ rest) ≡ rest) size (drop-append_seam (replicate left 0) rest) in
     record {
       reads = λ rest. read_zeros page left (replicate left 0 ++ rest) p l o (zeros_read left rest l) ∙ ap (read_from page page o) (seam rest);
       counts = λ rest. count_item page left o (replicate left 0 ++ rest) zeros p l (zeros_read left rest l) ∙ ap (λ (t : List ℕ). left + read_count page page o t) (seam rest)
@@ -301,7 +351,8 @@ passes_zeros page left o p l =
     }
 
 -- a page
-page_end : (page used empty : ℕ) (o : Option (List ℕ)) → 0 < page → used + empty ≡ page → Passes page (left_after page page used) o (replicate empty 0) page o []
+page_end : (page used empty : ℕ) (o : Option (List ℕ)) → 0 < page → used + empty ≡ page
+    → Passes page (left_after page page used) o (replicate empty 0) page o []
 page_end page used zero o p e =
     let t : ltb used page ≡ false = le-ltb used page (omega arith) in
     let n : left_after page page used ≡ page = rw t refl in
@@ -311,18 +362,23 @@ page_end page used (suc k) o p e =
     let n : left_after page page used ≡ suc k = rw t (omega arith) in
     subst (λ (m : ℕ). Passes page m o (replicate (suc k) 0) page o []) (sym n) (passes_zeros page (suc k) o p (omega arith))
 
-passes_page : (page : ℕ) (o : Option (List ℕ)) (bs : List ℕ) (fs : List Fragment) (ds : List (List ℕ)) (o' : Option (List ℕ)) → 0 < page → IsPage page bs fs → Gathers o fs ds o' → Passes page page o bs page o' ds
+passes_page : (page : ℕ) (o : Option (List ℕ)) (bs : List ℕ) (fs : List Fragment)
+    (ds : List (List ℕ)) (o' : Option (List ℕ)) → 0 < page → IsPage page bs fs
+    → Gathers o fs ds o' → Passes page page o bs page o' ds
 passes_page page o bs fs ds o' p is g =
     let a = passes_fragments page page o is.used fs ds o' p p is.are (omega (arith, is.size)) g in
     let b = page_end page (length is.used) is.empty o' p is.size in
-    let c = passes_on page page (left_after page page (length is.used)) page o o' o' is.used (replicate is.empty 0) ds [] a b in
+    let c =
+    passes_on page page (left_after page page (length is.used)) page o o' o' is.used (replicate is.empty 0) ds [] a b in
     let c1 = subst (λ (t : List ℕ). Passes page page o t page o' (ds ++ [])) (sym is.parts) c in
     subst (λ (x : List (List ℕ)). Passes page page o bs page o' x) (append-nil ds) c1
 
-passes_pages : (page : ℕ) (o : Option (List ℕ)) (bs : List ℕ) (pages : List (List Fragment)) (ds : List (List ℕ)) (o' : Option (List ℕ)) → 0 < page → InTurn (IsPage page) bs pages
+passes_pages : (page : ℕ) (o : Option (List ℕ)) (bs : List ℕ) (pages : List (List Fragment))
+    (ds : List (List ℕ)) (o' : Option (List ℕ)) → 0 < page → InTurn (IsPage page) bs pages
     → Gathers o (flat_map (λ fs. fs) pages) ds o' → Passes page page o bs page o' ds
 passes_pages page o bs [] ds o' p is g =
-    let a = subst (λ (x : Option (List ℕ)). Passes page page o [] page x []) g.1 (passes_none page page o) in
+    let a =
+    subst (λ (x : Option (List ℕ)). Passes page page o [] page x []) g.1 (passes_none page page o) in
     let b = subst (λ (x : List (List ℕ)). Passes page page o [] page o' x) (sym g.0) a in
     subst (λ (t : List ℕ). Passes page page o t page o' ds) (sym is) b
 passes_pages page o bs (fs ∷ pages) ds o' p is g =
@@ -330,28 +386,35 @@ passes_pages page o bs (fs ∷ pages) ds o' p is g =
     let a = passes_page page o is.0 fs j.front j.between p is.3 j.fronts in
     let b = passes_pages page j.between is.1 pages j.back o' p is.4 j.backs in
     let c = passes_on page page page page o j.between o' is.0 is.1 j.front j.back a b in
-    let c1 = subst (λ (t : List ℕ). Passes page page o t page o' (j.front ++ j.back)) (sym is.2) c in
+    let c1 =
+    subst (λ (t : List ℕ). Passes page page o t page o' (j.front ++ j.back)) (sym is.2) c in
     subst (λ (x : List (List ℕ)). Passes page page o bs page o' x) (sym j.all) c1
 
-passes_paged : (page left : ℕ) (o : Option (List ℕ)) (bs : List ℕ) (fs : List Fragment) (ds : List (List ℕ)) (o' : Option (List ℕ)) → 0 < page → IsPaged page bs left fs
+passes_paged : (page left : ℕ) (o : Option (List ℕ)) (bs : List ℕ) (fs : List Fragment)
+    (ds : List (List ℕ)) (o' : Option (List ℕ)) → 0 < page → IsPaged page bs left fs
     → Gathers o fs ds o' → Passes page page o bs left o' ds
 passes_paged page left o bs fs ds o' p is g =
     let g' = subst (λ (l : List Fragment). Gathers o l ds o') is.all g in
     let j = gathers_split o (flat_map (λ fs. fs) is.in_pages) is.after_pages ds o' g' in
     let a = passes_pages page o is.whole is.in_pages j.front j.between p is.pages j.fronts in
-    let b = passes_fragments page page j.between is.begun is.after_pages j.back o' p p is.are (omega (arith, is.size)) j.backs in
-    let t : ltb (length is.begun) page ≡ true = lt-ltb (length is.begun) page (omega (arith, is.size, is.room)) in
+    let b =
+    passes_fragments page page j.between is.begun is.after_pages j.back o' p p is.are (omega (arith, is.size)) j.backs in
+    let t : ltb (length is.begun) page ≡ true =
+    lt-ltb (length is.begun) page (omega (arith, is.size, is.room)) in
     let n : left_after page page (length is.begun) ≡ left = rw t (omega (arith, is.size)) in
     let b' = subst (λ (m : ℕ). Passes page page j.between is.begun m o' j.back) n b in
     let c = passes_on page page page left o j.between o' is.whole is.begun j.front j.back a b' in
-    let c1 = subst (λ (t : List ℕ). Passes page page o t left o' (j.front ++ j.back)) (sym is.parts) c in
+    let c1 =
+    subst (λ (t : List ℕ). Passes page page o t left o' (j.front ++ j.back)) (sym is.parts) c in
     subst (λ (x : List (List ℕ)). Passes page page o bs left o' x) (sym j.all) c1
 
 -- the front of a segment is passed over, with its records
-pub passes_front : (page left : ℕ) (bs : List ℕ) (ds : List (List ℕ)) (o : Option (List ℕ)) → 0 < page → HaveForms ds → IsFront page bs left ds o → Passes page page None bs left o ds
+pub passes_front : (page left : ℕ) (bs : List ℕ) (ds : List (List ℕ)) (o : Option (List ℕ))
+    → 0 < page → HaveForms ds → IsFront page bs left ds o → Passes page page None bs left o ds
 passes_front page left bs ds o p forms is =
     let a = records_gather is.closed ds forms is.are in
     let b = may_be_open_gathers is.opened o is.may_be_open in
     let g = gathers_join None is.closed is.opened ds None [] o a b in
-    let g' = subst (λ (x : List (List ℕ)). Gathers None (is.closed ++ is.opened) x o) (append-nil ds) g in
+    let g' =
+    subst (λ (x : List (List ℕ)). Gathers None (is.closed ++ is.opened) x o) (append-nil ds) g in
     passes_paged page left None bs (is.closed ++ is.opened) ds o p is.paged g'

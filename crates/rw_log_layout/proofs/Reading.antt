@@ -27,21 +27,26 @@ pub record FirstEntries (d : List ℕ) (ds : List (List ℕ)) (es : List Entry) 
   pub rest_is : entries_of_records ds ≡ Some more
   pub all : es ≡ own ++ more
 
-first_entries : (d : List ℕ) (ds : List (List ℕ)) (es : List Entry) (found : Option (List Entry)) (others : Option (List Entry)) → record_entries d ≡ found → entries_of_records ds ≡ others
+first_entries : (d : List ℕ) (ds : List (List ℕ)) (es : List Entry) (found : Option (List Entry))
+    (others : Option (List Entry)) → record_entries d ≡ found → entries_of_records ds ≡ others
     → (found then λ own. others then λ more. Some (own ++ more)) ≡ Some es → FirstEntries d ds es
 first_entries d ds es None others a b h = absurd cc
 first_entries d ds es (Some own) None a b h = absurd cc
 first_entries d ds es (Some own) (Some more) a b h = record { own = own; more = more; first_is = a; rest_is = b; all = cc }
 
-pub entries_first : (d : List ℕ) (ds : List (List ℕ)) (es : List Entry) → entries_of_records (d ∷ ds) ≡ Some es → FirstEntries d ds es
+pub entries_first : (d : List ℕ) (ds : List (List ℕ)) (es : List Entry)
+    → entries_of_records (d ∷ ds) ≡ Some es → FirstEntries d ds es
 entries_first d ds es h = first_entries d ds es (record_entries d) (entries_of_records ds) refl refl h
 
-pub have_forms : (ds : List (List ℕ)) (es : List Entry) → entries_of_records ds ≡ Some es → HaveForms ds
+pub have_forms : (ds : List (List ℕ)) (es : List Entry) → entries_of_records ds ≡ Some es
+    → HaveForms ds
 have_forms [] es h = tt
 have_forms (d ∷ ds) es h = let x = entries_first d ds es h in ((x.own, x.first_is), have_forms ds x.more x.rest_is)
 
 -- records, and then a stop
-pub records_read : (ds : List (List ℕ)) (es : List Entry) (s : Stop) → entries_of_records ds ≡ Some es → with_records ds (stopped s) ≡ record { entries = es; skipped = count_by is_skipped ds; stop = s }
+pub records_read : (ds : List (List ℕ)) (es : List Entry) (s : Stop)
+    → entries_of_records ds ≡ Some es
+    → with_records ds (stopped s) ≡ record { entries = es; skipped = count_by is_skipped ds; stop = s }
 records_read [] es s h = let e : [] ≡ es = cc in ap (λ (l : List Entry). record { entries = l; skipped = 0; stop = s }) e
 records_read (d ∷ ds) es s h =
     let x = entries_first d ds es h in
@@ -68,11 +73,14 @@ pub record StopsHere (page left : ℕ) (o : Option (List ℕ)) (bs : List ℕ) (
   pub counts : read_count page left o bs ≡ 0
 
 module _ (page left : ℕ) (bs : List ℕ) (p : 0 < page) (l : 0 < left) where
-  stops_out : (o : Option (List ℕ)) (kind : Kind) (d : List ℕ) → item_at left bs ≡ fragment kind d → read_from page left o bs ≡ stopped (at_fault Sequence) → opens o kind d ≡ None
+  stops_out : (o : Option (List ℕ)) (kind : Kind) (d : List ℕ) → item_at left bs ≡ fragment kind d
+      → read_from page left o bs ≡ stopped (at_fault Sequence) → opens o kind d ≡ None
       → StopsHere page left o bs (at_fault Sequence)
   stops_out o kind d e r c = record { reads = r; counts = count_item page left o bs (fragment kind d) p l e ∙ ap (count_after page left (7 + length d) bs (λ m x t. read_count page m x t)) c }
 
-  stops_sequence : (o : Option (List ℕ)) (kind : Kind) (d : List ℕ) → item_at left bs ≡ fragment kind d → FragmentFault o (kind, d) Sequence → StopsHere page left o bs (at_fault Sequence)
+  stops_sequence : (o : Option (List ℕ)) (kind : Kind) (d : List ℕ)
+      → item_at left bs ≡ fragment kind d → FragmentFault o (kind, d) Sequence
+      → StopsHere page left o bs (at_fault Sequence)
   stops_sequence None full d e (inl h) = absurd cc
   stops_sequence None full d e (inr h) = absurd cc
   stops_sequence None first d e (inl h) = absurd cc
@@ -86,23 +94,31 @@ module _ (page left : ℕ) (bs : List ℕ) (p : 0 < page) (l : 0 < left) where
   stops_sequence (Some r) last d e (inl h) = absurd cc
   stops_sequence (Some r) last d e (inr h) = absurd cc
 
-  stops_record : (o : Option (List ℕ)) (kind : Kind) (d r : List ℕ) → item_at left bs ≡ fragment kind d → Completes o (kind, d) r → record_entries r ≡ None → StopsHere page left o bs (at_fault BadRecord)
+  stops_record : (o : Option (List ℕ)) (kind : Kind) (d r : List ℕ)
+      → item_at left bs ≡ fragment kind d → Completes o (kind, d) r → record_entries r ≡ None
+      → StopsHere page left o bs (at_fault BadRecord)
   stops_record None kind d r e h bad =
       let e' : item_at left bs ≡ fragment full d = e ∙ ap (λ (k : Kind). fragment k d) h.0 in
       let bad' : record_entries d ≡ None = ap record_entries (sym h.1) ∙ bad in
       record {
-        reads = read_full page left bs p l d e' ∙ ap (λ (x : Option (List Entry)). with_entries d x (read_from page (left_after page left (7 + length d)) None (drop (7 + length d) bs))) bad';
-        counts = count_item page left None bs (fragment full d) p l e' ∙ ap (λ (x : Option (List Entry)). count_after page left (7 + length d) bs (λ m y t. read_count page m y t) (closes x)) bad';
+        reads = read_full page left bs p l d e'
+            ∙ ap (λ (x : Option (List Entry)). with_entries d x (read_from page (left_after page left (7 + length d)) None (drop (7 + length d) bs))) bad';
+        counts = count_item page left None bs (fragment full d) p l e'
+            ∙ ap (λ (x : Option (List Entry)). count_after page left (7 + length d) bs (λ m y t. read_count page m y t) (closes x)) bad';
       }
   stops_record (Some o) kind d r e h bad =
       let e' : item_at left bs ≡ fragment last d = e ∙ ap (λ (k : Kind). fragment k d) h.0 in
       let bad' : record_entries (o ++ d) ≡ None = ap record_entries (sym h.1) ∙ bad in
       record {
-        reads = read_last page left bs p l o d e' ∙ ap (λ (x : Option (List Entry)). with_entries (o ++ d) x (read_from page (left_after page left (7 + length d)) None (drop (7 + length d) bs))) bad';
-        counts = count_item page left (Some o) bs (fragment last d) p l e' ∙ ap (λ (x : Option (List Entry)). count_after page left (7 + length d) bs (λ m y t. read_count page m y t) (closes x)) bad';
+        reads = read_last page left bs p l o d e'
+            ∙ ap (λ (x : Option (List Entry)). with_entries (o ++ d) x (read_from page (left_after page left (7 + length d)) None (drop (7 + length d) bs))) bad';
+        counts = count_item page left (Some o) bs (fragment last d) p l e'
+            ∙ ap (λ (x : Option (List Entry)). count_after page left (7 + length d) bs (λ m y t. read_count page m y t) (closes x)) bad';
       }
 
-  stops_fragment : (o : Option (List ℕ)) (next : Fragment) (f : TailFault) → StartsWithFragment left bs next → FragmentFault o next f → StopsHere page left o bs (at_fault f)
+  stops_fragment : (o : Option (List ℕ)) (next : Fragment) (f : TailFault)
+      → StartsWithFragment left bs next → FragmentFault o next f
+      → StopsHere page left o bs (at_fault f)
   stops_fragment o next f s h = by_fault f h
     where
       found : item_at left bs ≡ fragment next.0 next.1
@@ -123,13 +139,15 @@ module _ (page left : ℕ) (bs : List ℕ) (p : 0 < page) (l : 0 < left) where
   stops_here o between h =
       let e = item_read left bs nothing l h.0 in
       record {
-        reads = read_nothing page left bs p l o e ∙ ap (λ (x : Option (List ℕ)). stopped (end_of x between)) h.1;
+        reads = read_nothing page left bs p l o e
+            ∙ ap (λ (x : Option (List ℕ)). stopped (end_of x between)) h.1;
         counts = count_item page left o bs nothing p l e;
       }
   stops_here o inside (inl h) =
       let e = item_read left bs nothing l h.0 in
       record {
-        reads = read_nothing page left bs p l o e ∙ ap (λ (x : Option (List ℕ)). stopped (end_of x between)) h.1.1;
+        reads = read_nothing page left bs p l o e
+            ∙ ap (λ (x : Option (List ℕ)). stopped (end_of x between)) h.1.1;
         counts = count_item page left o bs nothing p l e;
       }
   stops_here o inside (inr h) =
@@ -153,7 +171,8 @@ pub record IsReadAs (page : ℕ) (text : List ℕ) (r : Reading) (offset : ℕ) 
   pub reads : segment page text ≡ r
   pub stops_at : stop_offset page text ≡ offset
 
-pub segment_read : (page : ℕ) (text : List ℕ) (r : Reading) (offset : ℕ) → 0 < page → IsSegment page text r offset → IsReadAs page text r offset
+pub segment_read : (page : ℕ) (text : List ℕ) (r : Reading) (offset : ℕ) → 0 < page
+    → IsSegment page text r offset → IsReadAs page text r offset
 unfolding segment stop_offset
 segment_read page text r offset p is =
     let forms = have_forms is.records r.entries is.entries in

@@ -115,7 +115,9 @@ ItemFault left text _ = ⊥
 abbrev pub IsItem : ℕ → List ℕ → Item → Type 0
 -- the text ends here, or among zeros that do not yet reach the page's end
 IsItem left text nothing = (n : ℕ) × (n < left) × (text ≡ replicate n 0)
+-- the text ends inside a fragment
 IsItem left text begun = (7 ≤ left) × (EndsInHeader text ⊎ EndsInData left text)
+-- the rest of the page is empty
 IsItem left text zeros = (after : List ℕ) × (text ≡ replicate left 0 ++ after)
 IsItem left text (fragment kind d) = StartsWithFragment left text (kind, d)
 IsItem left text (wrong f) = ItemFault left text f

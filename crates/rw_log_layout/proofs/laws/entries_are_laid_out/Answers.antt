@@ -9,5 +9,6 @@ pub returns : goal.returns
 unfolding reading
 returns c = λ pieces all. (
   λ e. (reading_after page_size [] pieces, stop_after page_size 0 [] pieces, log_laid_out page_size pieces _ _ (omega arith) (refl, refl), e),
-  λ h. ap (λ (r : Reading). r.entries) (log_read page_size pieces h.0 h.1 (omega arith) h.2).0 ∙ h.3,
+  λ h. ap (λ (r : Reading). r.entries) (log_read page_size pieces h.0 h.1 (omega arith) h.2).0
+      ∙ h.3,
 )

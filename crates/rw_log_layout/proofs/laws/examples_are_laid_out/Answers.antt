@@ -11,7 +11,8 @@ use Rattle.rw_log_layout.proofs.Logs.{log_laid_out}
 use Rattle.rw_log_layout.specs.Examples as examples
 use Rattle.rw_log_layout.proofs.laws.examples_are_laid_out.Goals as goal
 
-laid_out : (page : ℕ) (text : List ℕ) (r : Reading) (offset : ℕ) → 0 < page → segment page text ≡ r → stop_offset page text ≡ offset → IsSegment page text r offset
+laid_out : (page : ℕ) (text : List ℕ) (r : Reading) (offset : ℕ) → 0 < page
+    → segment page text ≡ r → stop_offset page text ≡ offset → IsSegment page text r offset
 laid_out page text r offset p e n = (segment_both_ways page text r offset p).0 (e, n)
 
 pub returns-clause-flushed_page : goal.returns-clause-flushed_page
