@@ -1,11 +1,8 @@
 -- Pieces of a log that are fed one after the other.
-use Rattle.std.proofs.Common.{◌≡◌, ◌⊎◌, inl, inr, suc, List, [], ◌∷◌, ◌++◌, map, take, length, Some, Err, refl, sym, ap, ◌∙◌, subst, length-append, append_assoc, arith}
-use Rattle.std.specs.Prelude.{IsSome}
+use Rattle.std.proofs.Common.{◌≡◌, inl, inr, suc, List, [], ◌∷◌, ◌++◌, map, take, length, Err, refl, sym, ap, ◌∙◌, length-append, append_assoc, arith}
 use Rattle.std.proofs.lemmas.List.{map-append, take_at}
-use Rattle.rw_wal_format.specs.declared.tail_fault.TailFault.{TailFault}
 use Rattle.rw_wal_tail.specs.Fed.{piece_of}
 use Rattle.rw_wal_tail.specs.declared.piece.Piece.{Piece}
-use Rattle.rw_feeder.specs.Feeders.{HasRead}
 use Rattle.rw_fleet.specs.Fleets.{Shards}
 use Rattle.rw_shipper.specs.Shipping.{Shipping, Feeds, Joins}
 use Rattle.rw_shipper.specs.declared.shipper.FeedFault.{FeedFault}
@@ -31,33 +28,30 @@ module _ {T : Type 0} (old was now : Shipping T) (log yielded rest : List Piece)
   take_one : take (suc (length yielded)) log ≡ yielded ++ piece ∷ []
   take_one = ap (take (suc (length yielded))) (left ∙ sym (append_assoc yielded (piece ∷ []) rest)) ∙ take_at (yielded ++ piece ∷ []) rest (suc (length yielded)) (let l = length-append yielded (piece ∷ []) in omega arith)
 
-  abbrev IsPart : Type 0
-  IsPart = IsSome now.fault ⊎ ((f : TailFault) × HasRead now.log.pieces now.log.placed (Some f))
-
-  with_piece : (e : FeedFault) → IsPart → now.log.pieces ≡ was.log.pieces ++ piece_of piece ∷ [] → HasFed old now log (Err e)
-  with_piece e part joins = record {
+  with_piece : (e : FeedFault) → Feeds now (Err e) → now.log.pieces ≡ was.log.pieces ++ piece_of piece ∷ [] → HasFed old now log (Err e)
+  with_piece e feeds joins = record {
     fed = suc (length yielded);
     pieces = grown joins ∙ ap (λ (l : List Piece). old.log.pieces ++ map piece_of l) (sym take_one);
     whole = tt;
-    part = part;
+    feeds = feeds;
     choice = then_choice ∙ choice;
     fleet = fleet_on;
     len = then_len ∙ len;
   }
 
-  without : (e : FeedFault) → IsPart → now.log.pieces ≡ was.log.pieces → HasFed old now log (Err e)
-  without e part same = record {
+  without : (e : FeedFault) → Feeds now (Err e) → now.log.pieces ≡ was.log.pieces → HasFed old now log (Err e)
+  without e feeds same = record {
     fed = length yielded;
     pieces = same ∙ pieces ∙ ap (λ (l : List Piece). old.log.pieces ++ map piece_of l) (sym take_none);
     whole = tt;
-    part = part;
+    feeds = feeds;
     choice = then_choice ∙ choice;
     fleet = fleet_on;
     len = then_len ∙ len;
   }
 
   pub fails : (e : FeedFault) → Feeds now (Err e) → Joins was.log now.log (piece_of piece) (Err e) → HasFed old now log (Err e)
-  fails (Damaged f) feeds joins = with_piece (Damaged f) (inr (f, feeds.0)) joins
-  fails Gone feeds joins = with_piece Gone (inl (subst IsSome (sym feeds) refl)) joins
-  fails OutOfMemory feeds (inl same) = without OutOfMemory (inl (subst IsSome (sym feeds) refl)) same
-  fails OutOfMemory feeds (inr joins) = with_piece OutOfMemory (inl (subst IsSome (sym feeds) refl)) joins
+  fails (Damaged f) feeds joins = with_piece (Damaged f) feeds joins
+  fails Gone feeds joins = with_piece Gone feeds joins
+  fails OutOfMemory feeds (inl same) = without OutOfMemory feeds same
+  fails OutOfMemory feeds (inr joins) = with_piece OutOfMemory feeds joins

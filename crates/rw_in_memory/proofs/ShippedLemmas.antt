@@ -1,35 +1,40 @@
 -- A shipper over lines, from its start to where the head is back.
-use Rattle.std.proofs.Common.{◌≡◌, ◌⊎◌, inl, inr, ℕ, ◌≤◌, List, [], ◌∷◌, ◌++◌, All, map, take, length, Option, None, Some, Result, Ok, Err, IfOk, IfSome, slice_get, get_or, refl, sym, ap, ◌∙◌, subst, arith}
-use Rattle.std.specs.Prelude.{IsSome, is_some, OnOk, OnErr}
+use Rattle.std.proofs.Common.{◌≡◌, inl, inr, ℕ, ◌≤◌, List, [], ◌∷◌, ◌++◌, All, map, take, length, Option, None, Some, Result, Ok, Err, IfOk, IfSome, slice_get, get_or, refl, sym, ap, ◌∙◌, subst, arith}
+use Rattle.std.specs.Prelude.{IsSome, is_some, OnOk}
 use Rattle.std.specs.FinMap.{empty}
 use Rattle.std.proofs.lemmas.List.{length-map}
 use Rattle.std.proofs.lemmas.Option.{none-some, slice_get_within, get_or_from_slice_get, slice_get-get_or}
 use Rattle.rw_wal_tail.specs.Fed.{piece_of}
 use Rattle.rw_wal_tail.specs.declared.piece.Piece.{Piece}
-use Rattle.rw_wal_format.specs.Pieces.{entries}
+use Rattle.rw_wal_format.specs.Pieces.{reading, entries}
+use Rattle.rw_wal_format.specs.Segments.{segment}
 use Rattle.rw_wal_format.specs.declared.tail_fault.TailFault.{TailFault}
+use Rattle.rw_relabel.specs.declared.choice.Choice.{Choice}
 use Rattle.rw_shard_core.specs.Configs.{choice_of}
 use Rattle.rw_shard_core.specs.declared.config.ConfigFields.{ConfigFields}
 use Rattle.rw_shard_core.specs.declared.outcome.Outcome.{Outcome}
 use Rattle.rw_shard_core.specs.declared.outcome.Outcome.TheVariants.{Complete, Damaged}
 use Rattle.rw_head.specs.Head.{State}
+use Rattle.rw_head.specs.declared.limits.Limits.{Limits}
 use Rattle.rw_feeder.specs.Feeders.{Sorting, HasRead}
 use Rattle.rw_fleet.specs.ShardHistories.{ShardHistory, AreFresh, AreSame}
 use Rattle.rw_fleet.specs.Work.{lane_of, finished_of}
 use Rattle.rw_fleet.specs.Fleets.{Shards, EndBy}
 use Rattle.rw_fleet.specs.declared.joined.StoppedShard.{StoppedShard}
 use Rattle.rw_fleet.specs.declared.running.Fault.{Fault}
+use Rattle.rw_fleet.specs.declared.running.Fault.TheVariants as queue_fault
 use Rattle.rw_shipper.specs.Reports.{IsAbandoned, kind_of}
-use Rattle.rw_shipper.specs.Shipping.{Shipping, HasStopped, Ends}
+use Rattle.rw_shipper.specs.Shipping.{Shipping, HasStopped, Ends, Feeds}
 use Rattle.rw_shipper.specs.declared.report.Report.{Report}
 use Rattle.rw_shipper.specs.declared.shipper.FeedFault.{FeedFault}
+use Rattle.rw_shipper.specs.declared.shipper.FeedFault.TheVariants as feed_fault
 use Rattle.rw_machine.specs.Worlds.{Setup}
 use Rattle.rw_machine.specs.Promises.{CanWork}
 use Rattle.rw_simulation.specs.StoppedRuns.{IsMachineOf}
 use Rattle.rw_simulation.specs.Received.{IsHeld}
 use Rattle.rw_in_memory.specs.Lines.{Line}
 use Rattle.rw_in_memory.specs.Held.{seen_by, IsAnyones, AreLines, IsFirst, HasEnded}
-use Rattle.rw_in_memory.specs.Shipped.{IsSound, HasFed, IsGathered, IsShipped}
+use Rattle.rw_in_memory.specs.Shipped.{IsSound, HasFed, IsGathered, IsOneEpoch, IsShippedTo, IsNew, IsShipped}
 use Rattle.rw_in_memory.specs.declared.shipping.Shipped.{Shipped}
 use Rattle.rw_in_memory.proofs.Held.{holds-in-memory}
 
@@ -68,11 +73,23 @@ pub if_ok : {X E : Type 0} (P Q : X → Type 0) (r : Result X E) → IfOk r P �
 if_ok P Q (Ok x) h f = f x h
 if_ok P Q (Err e) h f = tt
 
+-- ---- where nothing was fed yet
+pub none_read : (log : Sorting) (choice : Choice) → log ≡ record { choice = choice; pieces = []; placed = []; hand = [] } → HasRead log.pieces log.placed None
+unfolding reading segment
+none_read log choice is = subst (λ (l : Sorting). HasRead l.pieces l.placed None) (sym is) (record { all = refl; fault_is = refl })
+
+-- ---- to a new head
+pub shipped_new : (opening : State) (limits : Limits) (config : ConfigFields) (log : List Piece) (v : Shipped) (path : List ℕ) (limit : ℕ) → IsNew limits opening → path ≡ config.target.path → limit ≡ 67108864
+    → IsShippedTo opening path limit config log v → IsShipped config limits log v
+shipped_new opening limits config log v path limit new same bound shipped =
+    let so = subst (λ (p : List ℕ). IsShippedTo opening p limit config log v) same shipped in
+    (opening, new, subst (λ (n : ℕ). IsShippedTo opening config.target.path n config log v) bound so)
+
 -- ---- from the start to the end
 module _ (opening : State) (path : List ℕ) (limit : ℕ) (config : ConfigFields) (log : List Piece) (was now : Shipping Line) (answer : Result (Unit {0}) FeedFault) (v : Shipped)
     (log_is : was.log ≡ record { choice = choice_of config; pieces = []; placed = []; hand = [] }) (config_is : was.fleet.config ≡ record config { rules = [] })
     (opened : (was.fleet.epoch ≡ 0) × (was.fleet.ended ≡ []) × (length was.fleet.current ≡ config.shards) × AreFresh 0 was.fleet.current)
-    (fed : HasFed was now log answer) (g : IsGathered opening path limit now v) (empty_is : opening.store ≡ empty) (path_is : path ≡ config.target.path) (sound : IsSound config) where
+    (fed : HasFed was now log answer) (g : IsGathered opening path limit now v) (fed_is : v.fed ≡ answer) (empty_is : opening.store ≡ empty) (path_is : path ≡ config.target.path) (sound : IsSound config) where
   setup : Setup
   setup = record {
     target = config.target;
@@ -139,31 +156,45 @@ module _ (opening : State) (path : List ℕ) (limit : ℕ) (config : ConfigField
 
   -- nothing is left where the outcome says complete
   whole : (end : ℕ) → g.r.outcome ≡ Complete end → (length log ≤ fed.fed) × (end ≡ length now.log.placed) × (now.log.placed ≡ entries now.log.pieces)
-  whole end is = (by_answer answer fed.whole fed.part, ends.0, ends.1.all)
+  whole end is = (by_answer answer fed.whole fed.feeds, ends.0, ends.1.all)
     where
       ends : Ends now g.stopped.joined (Complete end)
       ends = subst (Ends now g.stopped.joined) is g.stopped.ends
 
-      by_answer : (a : Result (Unit {0}) FeedFault) → OnOk a (length log ≤ fed.fed) → OnErr a (IsSome now.fault ⊎ ((f : TailFault) × HasRead now.log.pieces now.log.placed (Some f))) → length log ≤ fed.fed
-      by_answer (Ok u) ok err = ok
-      by_answer (Err e) ok (inl failed) = absurd (subst IsAbandoned is (g.failed failed))
-      by_answer (Err e) ok (inr (f, read)) = absurd (none-some f (sym ends.1.fault_is ∙ read.fault_is))
+      fails : (f : Fault) → now.fault ≡ Some f → length log ≤ fed.fed
+      fails f e = absurd (subst IsAbandoned is (g.failed (subst IsSome (sym e) refl)))
+
+      by_answer : (a : Result (Unit {0}) FeedFault) → OnOk a (length log ≤ fed.fed) → Feeds now a → length log ≤ fed.fed
+      by_answer (Ok u) ok feeds = ok
+      by_answer (Err (feed_fault.Damaged f)) ok feeds = absurd (none-some f (sym ends.1.fault_is ∙ feeds.0.fault_is))
+      by_answer (Err feed_fault.OutOfMemory) ok feeds = fails queue_fault.OutOfMemory feeds
+      by_answer (Err feed_fault.Gone) ok feeds = fails queue_fault.Gone feeds
 
   fault_read : (f : TailFault) → g.r.outcome ≡ Damaged f → HasRead now.log.pieces now.log.placed (Some f)
   fault_read f is = (subst (Ends now g.stopped.joined) is g.stopped.ends).0
 
-  pub shipped_so : IsShipped (choice_of config) log v
+  epoch : IsOneEpoch config now
+  epoch = record {
+    choice_is = choice_is;
+    config_is = config_now;
+    epoch_is = first.epoch_is;
+    none_ended = first.none_ended;
+    shards = count;
+  }
+
+  pub shipped_so : IsShippedTo opening path limit config log v
   shipped_so = record {
     fed = fed.fed;
     s = now;
-    r = g.r;
-    choice_is = choice_is;
+    epoch = epoch;
+    gathered = g;
     pieces_are = pieces_are;
     read = g.stopped.read;
-    outcome_is = g.outcome_is;
-    parts_are = g.parts_are;
+    feeds = subst (Feeds now) (sym fed_is) fed.feeds;
+    whole = subst (λ (a : Result (Unit {0}) FeedFault). OnOk a (length log ≤ fed.fed)) (sym fed_is) fed.whole;
     filter_count = g.filter_count ∙ g.stopped.filter_count;
     complete = λ end is. whole end (sym g.outcome_is ∙ is);
     damaged = λ f is. fault_read f (sym g.outcome_is ∙ is);
+    cut = λ none is. g.cut none (subst IsAbandoned g.outcome_is is);
     held = held;
   }

@@ -1,5 +1,6 @@
 -- A log that was shipped to a head in the same process.
-use Rattle.std.specs.Prelude.{◌≡◌, ◌⊎◌, true, ℕ, ◌≤◌, List, ◌++◌, length, map, take, Some, Result, OnOk, OnErr, IsSome, slice_get}
+use Rattle.std.specs.Prelude.{◌≡◌, true, ℕ, ◌≤◌, List, [], ◌++◌, length, map, take, Some, None, Result, OnOk, IsSome, slice_get}
+use Rattle.std.specs.FinMap.{empty}
 use Rattle.rw_types.specs.Beginnings.{Begins}
 use Rattle.rw_types.specs.Requests.{is_host_name}
 use Rattle.rw_shard_core.specs.declared.config.ConfigFields.{ConfigFields}
@@ -8,15 +9,16 @@ use Rattle.rw_wal_format.specs.Pieces.{entries}
 use Rattle.rw_wal_format.specs.declared.tail_fault.TailFault.{TailFault}
 use Rattle.rw_wal_tail.specs.Fed.{piece_of}
 use Rattle.rw_wal_tail.specs.declared.piece.Piece.{Piece}
-use Rattle.rw_relabel.specs.declared.choice.Choice.{Choice}
+use Rattle.rw_shard_core.specs.Configs.{choice_of}
 use Rattle.rw_shard_core.specs.declared.outcome.Outcome.TheVariants.{Complete, Damaged}
 use Rattle.rw_head.specs.Head.{State}
+use Rattle.rw_head.specs.declared.limits.Limits.{Limits}
 use Rattle.rw_shared_head.specs.Seats.{HasGathered}
 use Rattle.rw_feeder.specs.Feeders.{HasRead}
 use Rattle.rw_feeder.specs.Logs.{filtered}
 use Rattle.rw_fleet.specs.declared.joined.Finished.{Finished}
-use Rattle.rw_shipper.specs.Reports.{IsAbandoned}
-use Rattle.rw_shipper.specs.Shipping.{Shipping, PlacesAll, HasStopped}
+use Rattle.rw_shipper.specs.Reports.{IsAbandoned, ListsCut}
+use Rattle.rw_shipper.specs.Shipping.{Shipping, PlacesAll, HasStopped, Feeds}
 use Rattle.rw_shipper.specs.declared.report.Report.{Report}
 use Rattle.rw_shipper.specs.declared.shipper.FeedFault.{FeedFault}
 use Rattle.rw_simulation.specs.Received.{IsHeld}
@@ -36,7 +38,7 @@ pub record HasFed {T : Type 0} (old new : Shipping T) (log : List Piece) (answer
   pub fed : ℕ
   pub pieces : new.log.pieces ≡ old.log.pieces ++ map piece_of (take fed log)
   pub whole : OnOk answer (length log ≤ fed)
-  pub part : OnErr answer (IsSome new.fault ⊎ ((f : TailFault) × HasRead new.log.pieces new.log.placed (Some f)))
+  pub feeds : Feeds new answer
   pub choice : new.log.choice ≡ old.log.choice
   pub fleet : new.fleet ≡ record old.fleet { current = new.fleet.current }
   pub len : length new.fleet.current ≡ length old.fleet.current
@@ -48,24 +50,50 @@ pub record IsGathered (opening : State) (path : List ℕ) (limit : ℕ) (s : Shi
   pub stopped : HasStopped (IsLine opening path limit) seen_by IsAnyones s r
   pub ended : HasEnded s r
   pub failed : IsSome s.fault → IsAbandoned r.outcome
+  pub cut : s.fault ≡ None → IsAbandoned r.outcome → ListsCut r.workers.items
   pub outcome_is : shipped.outcome ≡ r.outcome
   pub parts_are : shipped.parts ≡ r.parts
   pub filter_count : shipped.filtered ≡ r.filtered
   pub each : (k : ℕ) (f : Finished Line) → slice_get r.workers.items k ≡ Some f → IsLine opening path limit f.transport
   pub gathered : HasGathered opening (map seat_of r.workers.items) shipped.head.store
 
--- Some first pieces of the log were fed, and some first entries of them were placed: all of both, where the outcome says complete; all entries before the fault,
--- where it says damaged. The head holds what is owed of these (`IsHeld`), by what the parts name.
-pub record IsShipped (choice : Choice) (log : List Piece) (shipped : Shipped) : Type 0 where
+-- one epoch of a shipper with this configuration
+pub record IsOneEpoch (config : ConfigFields) (s : Shipping Line) : Type 0 where
+  pub choice_is : s.log.choice ≡ choice_of config
+  pub config_is : s.fleet.config ≡ record config { rules = [] }
+  pub epoch_is : s.fleet.epoch ≡ 0
+  pub none_ended : s.fleet.ended ≡ []
+  pub shards : length s.fleet.current ≡ config.shards
+
+-- Some first pieces of the log were fed: all of them, and all of their entries placed, where
+-- `shipped.fed` is `Ok`, and all entries before the fault, where it says damaged (`feeds`). The
+-- shipper's own report is in `gathered`: what its workers were put, sent and read of each reply, and
+-- that the parts name exactly what was dropped or refused so, and that the seats of the workers were
+-- all that the head, which was `opening`, was asked. So it holds what is owed (`held`).
+-- Work is abandoned only where the shipper failed, as `shipped.fed` then says, or a worker was cut.
+pub record IsShippedTo (opening : State) (path : List ℕ) (limit : ℕ) (config : ConfigFields) (log : List Piece) (shipped : Shipped) : Type 0 where
   pub fed : ℕ
   pub s : Shipping Line
-  pub r : Report Line
-  pub choice_is : s.log.choice ≡ choice
+  pub epoch : IsOneEpoch config s
+  pub gathered : IsGathered opening path limit s shipped
   pub pieces_are : s.log.pieces ≡ map piece_of (take fed log)
   pub read : Begins s.log.placed (entries s.log.pieces)
-  pub outcome_is : shipped.outcome ≡ r.outcome
-  pub parts_are : shipped.parts ≡ r.parts
+  pub feeds : Feeds s shipped.fed
+  pub whole : OnOk shipped.fed (length log ≤ fed)
   pub filter_count : shipped.filtered ≡ length (filtered s.log.choice s.log.placed)
   pub complete : (end : ℕ) → shipped.outcome ≡ Complete end → (length log ≤ fed) × (end ≡ length s.log.placed) × (s.log.placed ≡ entries s.log.pieces)
   pub damaged : (f : TailFault) → shipped.outcome ≡ Damaged f → HasRead s.log.pieces s.log.placed (Some f)
-  pub held : IsHeld s r shipped.head.store
+  pub cut : s.fault ≡ None → IsAbandoned shipped.outcome → ListsCut gathered.r.workers.items
+  pub held : IsHeld s gathered.r shipped.head.store
+
+-- a head without samples, with these limits
+pub record IsNew (limits : Limits) (opening : State) : Type 0 where
+  pub store : opening.store ≡ empty
+  pub names : opening.limits.names ≡ limits.names
+  pub max_labels : opening.limits.max_labels ≡ limits.max_labels
+  pub max_label_bytes : opening.limits.max_label_bytes ≡ limits.max_label_bytes
+  pub busy : opening.busy ≡ limits.busy_first
+
+-- The head began so. Its endpoint had the path of the target, and read bodies of up to 64 MiB.
+abbrev pub IsShipped : ConfigFields → Limits → List Piece → Shipped → Type 0
+IsShipped config limits log shipped = (opening : State) × IsNew limits opening × IsShippedTo opening config.target.path 67108864 config log shipped

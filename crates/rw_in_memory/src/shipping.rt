@@ -3,10 +3,10 @@
 ghost use Rattle.std.specs.Prelude.{◌≡◌, ◌+◌, [], None, map, All, length, IfOk};
 ghost use Rattle.std.specs.Arc.{arc_value};
 ghost use Rattle.std.specs.FinMap.{empty};
-ghost use Rattle.rw_shard_core.specs.Configs.{choice_of};
+ghost use Rattle.rw_feeder.specs.Feeders.{HasRead};
 ghost use Rattle.rw_in_memory.specs.Lines.{IsLine};
 ghost use Rattle.rw_in_memory.specs.Held.{seat_of};
-ghost use Rattle.rw_in_memory.specs.Shipped.{HasFed, IsGathered, IsShipped, IsSound};
+ghost use Rattle.rw_in_memory.specs.Shipped.{HasFed, IsGathered, IsShipped, IsShippedTo, IsSound};
 
 use crate::line::Line;
 use crate::lines::Lines;
@@ -28,6 +28,8 @@ use std::thread::Threads;
 #[derive(Drop)]
 pub struct Shipped {
     pub outcome: Outcome,
+    /// `Ok` where the whole log was read and placed, and else why it was not.
+    pub fed: Result<(), FeedFault>,
     /// The samples that were not sent, or were refused: as in the report of a shipper.
     pub parts: Vec<Ledger>,
     /// How many samples were placed whose series the rules drop.
@@ -41,7 +43,8 @@ fn feed_all<R: Wait, C: Connect + Drop>(
     shipper: &mut Shipper<C>,
     log: Vec<Piece>,
 ) -> Result<(), FeedFault>
-    requires { shipper.old.fault ≡ None }
+    requires fault { shipper.old.fault ≡ None }
+    requires read { HasRead shipper.old.log.pieces shipper.old.log.placed None }
     ensures { HasFed shipper.old shipper.new log.items result }
 {
     for piece in log {
@@ -87,11 +90,12 @@ fn gathered<
     rt: &R,
     alloc: Global,
     shipper: Shipper<Lines<R, L, P>>,
+    fed: Result<(), FeedFault>,
     receiver: Arc<Receiver<L>>,
 ) -> Result<Shipped, AllocError>
     requires first { shipper.fleet.ended ≡ [] }
     requires seats { length shipper.fleet.current ≡ (arc_value receiver).seats }
-    ensures { IfOk result (IsGathered L.opening L.path L.limit shipper) }
+    ensures { IfOk result (λ v. IsGathered L.opening L.path L.limit shipper v × (v.fed ≡ fed)) }
 {
     // By its contract the shards have what was placed.
     let _ = shipper.load();
@@ -109,6 +113,7 @@ fn gathered<
     let head = receiver.into_shared().gather(seats);
     Ok(Shipped {
         outcome,
+        fed,
         parts,
         filtered,
         head,
@@ -151,13 +156,13 @@ fn ship_to<
     requires sound { IsSound config }
     requires empty { L.opening.store ≡ empty }
     requires path { L.path ≡ config.target.path }
-    ensures { IfOk result (IsShipped (choice_of config) log.items) }
+    ensures { IfOk result (IsShippedTo L.opening L.path L.limit config log.items) }
 {
     let limit = receiver.limits().max_body_bytes.get();
     let (receiver, lines, stop) = lined(*rt, alloc, receiver, seats, pause)?;
     let mut shipper = Shipper::start_within(rt, alloc, config, lines, Some(limit), stop)?;
-    let _ = feed_all(rt, &mut shipper, log);
-    gathered(rt, alloc, shipper, receiver)
+    let fed = feed_all(rt, &mut shipper, log);
+    gathered(rt, alloc, shipper, fed, receiver)
 }
 
 /// Shares a head among as many seats as there are shards, and ships a log to it.
@@ -186,7 +191,7 @@ fn ship_shared<
     requires path { limits.path ≡ L.path }
     requires limit { limits.max_body_bytes ≡ L.limit }
     requires target { limits.path ≡ config.target.path }
-    ensures { IfOk result (IsShipped (choice_of config) log.items) }
+    ensures { IfOk result (IsShippedTo L.opening L.path L.limit config log.items) }
 {
     let (receiver, seats) = Receiver::<L>::open(alloc, limits, blank, head, count)?;
     ship_to(rt, alloc, config, log, receiver, seats, pause)
@@ -229,7 +234,7 @@ pub fn ship<R: Threads + Wait + Copy + Send + 'static, P: Pause + Copy + Send + 
     limits: Limits,
     pause: P,
 ) -> Result<Shipped, AllocError>
-    ensures { IfOk result (IsShipped (choice_of config) log.items) }
+    ensures { IfOk result (IsShipped config limits log.items) }
 {
     let count = count_of(&config);
     let mut limits = limits;

@@ -1,28 +1,24 @@
 //! The commands that read standard input, or a folder, and write what they make of it.
 
 use crate::ending::{ended, unset};
-use crate::explaining::{Input, explained, whole_input};
+use crate::explaining::explained;
+use crate::input::{Form, Input, Reader};
 use crate::inspecting::{print_plan, tell_log};
 use crate::settings::settings_in;
 use rw_fault::ToolFault;
 use rw_log_commands::{run_body, run_log, run_log_dir, run_plan};
 use rw_replay::run_replay;
 use rw_settings::Settings;
-use rw_types::{Bounded, Source, Std};
+use rw_types::{Bounded, Std};
 use rw_words::SettingsFile;
 use std::process::ExitCode;
 
 /// Writes the body of a segment.
 pub fn body(rt: &HostRuntime, hex: bool, is_explained: bool) -> ExitCode {
-    let mut output = Std::new(rt.stdout());
-    if !is_explained {
-        let mut input = Std::new(rt.stdin());
-        return ended(rt, run_body(rt.alloc(), &mut input, &mut output, hex));
-    }
-    match whole_input(rt) {
-        Ok(text) => {
-            let input = Input::segment(text, hex);
-            let outcome = run_body(rt.alloc(), &mut input.as_slice(), &mut output, hex);
+    match Input::open(rt, Form::of_segment(hex), is_explained) {
+        Ok(input) => {
+            let mut output = Std::new(rt.stdout());
+            let outcome = run_body(rt.alloc(), &mut input.reader(rt), &mut output, hex);
             explained(rt, &input, outcome)
         }
         Err(fault) => ended(rt, Err(fault)),
@@ -30,9 +26,9 @@ pub fn body(rt: &HostRuntime, hex: bool, is_explained: bool) -> ExitCode {
 }
 
 /// Writes a segment of log text, or the segments into a folder.
-fn log_from<S: Source>(
+fn log_from(
     rt: &HostRuntime,
-    input: &mut S,
+    input: &mut Reader<'_>,
     hex: bool,
     pages: Bounded<1, 4096>,
     dir: Option<&str>,
@@ -47,7 +43,8 @@ fn log_from<S: Source>(
     }
 }
 
-/// Writes the log that standard input tells, and says what is wrong with a bad line where that is asked for.
+/// Writes the log that standard input describes. If that is asked for, prints what is wrong with a
+/// bad line.
 pub fn log(
     rt: &HostRuntime,
     hex: bool,
@@ -55,13 +52,9 @@ pub fn log(
     dir: Option<&str>,
     is_explained: bool,
 ) -> ExitCode {
-    if !is_explained {
-        return ended(rt, log_from(rt, &mut Std::new(rt.stdin()), hex, pages, dir));
-    }
-    match whole_input(rt) {
-        Ok(text) => {
-            let input = Input::LogText(text);
-            let outcome = log_from(rt, &mut input.as_slice(), hex, pages, dir);
+    match Input::open(rt, Form::LogText, is_explained) {
+        Ok(input) => {
+            let outcome = log_from(rt, &mut input.reader(rt), hex, pages, dir);
             explained(rt, &input, outcome)
         }
         Err(fault) => ended(rt, Err(fault)),
@@ -84,16 +77,10 @@ fn plan_folder(rt: &HostRuntime, dir: &str, settings: Settings, is_explained: bo
 
 /// Prints the plan of a segment.
 fn plan_segment(rt: &HostRuntime, settings: Settings, hex: bool, is_explained: bool) -> ExitCode {
-    let mut output = Std::new(rt.stdout());
-    if !is_explained {
-        let mut input = Std::new(rt.stdin());
-        let outcome = run_plan(rt.alloc(), &mut input, &mut output, settings, hex);
-        return ended(rt, outcome);
-    }
-    match whole_input(rt) {
-        Ok(text) => {
-            let input = Input::segment(text, hex);
-            let mut reader = input.as_slice();
+    match Input::open(rt, Form::of_segment(hex), is_explained) {
+        Ok(input) => {
+            let mut reader = input.reader(rt);
+            let mut output = Std::new(rt.stdout());
             let outcome = run_plan(rt.alloc(), &mut reader, &mut output, settings, hex);
             explained(rt, &input, outcome)
         }
@@ -114,18 +101,10 @@ pub fn plan(rt: &HostRuntime, file: SettingsFile<'_>, hex: bool, dir: Option<&st
 
 /// Plays a script under settings.
 fn play(rt: &HostRuntime, settings: Settings, is_explained: bool) -> ExitCode {
-    let mut output = Std::new(rt.stdout());
-    if !is_explained {
-        let mut input = Std::new(rt.stdin());
-        return ended(
-            rt,
-            run_replay(rt.alloc(), &mut input, &mut output, settings),
-        );
-    }
-    match whole_input(rt) {
-        Ok(text) => {
-            let input = Input::Script(text);
-            let mut reader = input.as_slice();
+    match Input::open(rt, Form::Script, is_explained) {
+        Ok(input) => {
+            let mut reader = input.reader(rt);
+            let mut output = Std::new(rt.stdout());
             let outcome = run_replay(rt.alloc(), &mut reader, &mut output, settings);
             explained(rt, &input, outcome)
         }

@@ -1,16 +1,17 @@
-//! The command `inspect`, and what other commands tell of a log that they could not read.
+//! The command `inspect`, and what other commands print of a log that they could not read.
 
 use crate::ending::tell_device;
+use crate::input::Reader;
 use rw_fault::ToolFault;
-use rw_inspect::{Named, Report, find_entries, inspect, json_of, plan_segments, table_of};
+use rw_inspect::{Damage, Named, Report, find_entries, inspect, json_of, plan_segments, table_of};
 use rw_send::{Opened, SegmentFile, segment_files};
 use rw_settings::Settings;
-use rw_types::{Source, Std, write_all};
+use rw_types::{Std, write_all};
 use std::alloc::AllocError;
 use std::fs;
 use std::path::Path;
 
-/// The segments of a folder, each with the name of its file.
+/// Returns the segments of a folder, each with the name of its file.
 fn named_files(
     rt: &HostRuntime,
     dir: &str,
@@ -26,58 +27,71 @@ fn named_files(
     Ok(named)
 }
 
-/// Reads the segments of a folder, or the one on standard input.
-fn inspected(rt: &HostRuntime, dir: Option<&str>) -> Result<Report, ToolFault> {
-    let alloc = rt.alloc();
-    if let Some(dir) = dir {
-        return Ok(inspect(alloc, named_files(rt, dir)?)?);
-    }
-    let mut one = Vec::with_capacity(alloc, 1)?;
-    one.push_reserved(Named {
-        name: String::from_str(alloc, "-")?,
-        source: Std::new(rt.stdin()),
-    });
-    Ok(inspect(alloc, one)?)
+/// Reads the segments of a folder.
+fn inspect_folder(rt: &HostRuntime, dir: &str) -> Result<Report, ToolFault> {
+    Ok(inspect(rt.alloc(), named_files(rt, dir)?)?)
 }
 
-/// Prints what the segments hold. A fault of the log stands at the end.
-pub fn print_inspected(rt: &HostRuntime, dir: Option<&str>, json: bool) -> Result<(), ToolFault> {
-    let report = inspected(rt, dir)?;
-    let text = if json {
-        json_of(rt.alloc(), &report)?
-    } else {
-        table_of(rt.alloc(), &report)?
-    };
-    let mut output = Std::new(rt.stdout());
-    write_all(&mut output, &text)?;
-    match report.damage {
+/// Reads a segment that is no file.
+pub fn inspect_segment(rt: &HostRuntime, source: Reader<'_>) -> Result<Report, ToolFault> {
+    let name = String::from_str(rt.alloc(), "-")?;
+    let mut one = Vec::with_capacity(rt.alloc(), 1)?;
+    one.push_reserved(Named { name, source });
+    Ok(inspect(rt.alloc(), one)?)
+}
+
+/// Returns the fault of a log with this damage.
+fn fault_of(damage: Option<Damage>) -> Result<(), ToolFault> {
+    match damage {
         Some(damage) => Err(ToolFault::Log(damage.fault)),
         None => Ok(()),
     }
+}
+
+/// Writes a text to standard output.
+fn print_text(rt: &HostRuntime, text: &[u8]) -> Result<(), ToolFault> {
+    Ok(write_all(&mut Std::new(rt.stdout()), text)?)
+}
+
+/// Prints a report, and returns the fault of its log.
+fn print_report(rt: &HostRuntime, report: &Report, json: bool) -> Result<(), ToolFault> {
+    let text = if json {
+        json_of(rt.alloc(), report)?
+    } else {
+        table_of(rt.alloc(), report)?
+    };
+    print_text(rt, &text)?;
+    fault_of(report.damage)
+}
+
+/// Prints what the segments of a folder hold, or the one on standard input. A fault of the log is
+/// printed at the end, and returned.
+pub fn print_inspected(rt: &HostRuntime, dir: Option<&str>, json: bool) -> Result<(), ToolFault> {
+    let report = match dir {
+        Some(dir) => inspect_folder(rt, dir)?,
+        None => inspect_segment(rt, Reader::Live(Std::new(rt.stdin())))?,
+    };
+    print_report(rt, &report, json)
 }
 
 /// Prints the plan of the segments of a folder.
 pub fn print_plan(rt: &HostRuntime, dir: &str, settings: Settings) -> Result<(), ToolFault> {
+    let segments = named_files(rt, dir)?;
     let choice = settings.config.into_fields().into_choice();
     let mut output = Std::new(rt.stdout());
-    match plan_segments(rt.alloc(), choice, named_files(rt, dir)?, &mut output)? {
-        Some(damage) => Err(ToolFault::Log(damage.fault)),
-        None => Ok(()),
-    }
+    fault_of(plan_segments(rt.alloc(), choice, segments, &mut output)?)
 }
 
-/// Prints the entries at positions of the log in a folder, and answers how many are not there. A fault of the log stands at the end.
+/// Prints the entries at positions of the log in a folder, and returns how many do not exist. A
+/// fault of the log is printed at the end, and returned.
 pub fn print_found(rt: &HostRuntime, dir: &str, positions: Vec<u64>) -> Result<u64, ToolFault> {
     let found = find_entries(rt.alloc(), named_files(rt, dir)?, positions)?;
-    let mut output = Std::new(rt.stdout());
-    write_all(&mut output, &found.text)?;
-    match found.damage {
-        Some(damage) => Err(ToolFault::Log(damage.fault)),
-        None => Ok(found.missing),
-    }
+    print_text(rt, &found.text)?;
+    fault_of(found.damage)?;
+    Ok(found.missing)
 }
 
-/// Tells what a table says of a fault, at its end.
+/// Prints what a table says of a fault, at its end.
 fn tell_table_end(rt: &HostRuntime, table: &str) {
     let mut has_begun = false;
     for line in table.lines() {
@@ -88,25 +102,23 @@ fn tell_table_end(rt: &HostRuntime, table: &str) {
     }
 }
 
-/// Tells the fault of the log in these segments.
-pub fn tell_damage_of<S: Source + Drop>(
-    rt: &HostRuntime,
-    segments: Vec<Named<S>>,
-) -> Result<(), ToolFault> {
-    let report = inspect(rt.alloc(), segments)?;
-    let table = table_of(rt.alloc(), &report)?;
+/// Prints the fault of a log with this report.
+pub fn tell_report(rt: &HostRuntime, report: &Report) -> Result<(), AllocError> {
+    let table = table_of(rt.alloc(), report)?;
     if let Ok(table) = str::from_utf8(&table) {
         tell_table_end(rt, table);
     }
     Ok(())
 }
 
-/// Tells the fault of the log in a folder, which is read once more for that.
-fn tell_damage(rt: &HostRuntime, dir: &str) -> Result<(), ToolFault> {
-    tell_damage_of(rt, named_files(rt, dir)?)
+/// Prints the fault of the log in a folder, which is read once more for that.
+fn tell_damage(rt: &HostRuntime, dir: &str) {
+    if let Ok(report) = inspect_folder(rt, dir) {
+        let _ = tell_report(rt, &report);
+    }
 }
 
-/// Tells which segment cannot be opened, the first one.
+/// Prints which segment cannot be opened, the first one.
 fn tell_first_closed(rt: &HostRuntime, dir: &str) -> Result<(), AllocError> {
     for segment in segment_files(rt, dir, None)? {
         let path = Path::new(dir).join(rt.alloc(), segment.place().name())?;
@@ -118,7 +130,7 @@ fn tell_first_closed(rt: &HostRuntime, dir: &str) -> Result<(), AllocError> {
     Ok(())
 }
 
-/// Tells what cannot be read of a folder, which is tried once more for that.
+/// Prints what cannot be read of a folder, which is tried once more for that.
 fn tell_unreadable(rt: &HostRuntime, dir: &str) {
     match fs::read_dir(rt, dir) {
         Ok(_) => {
@@ -128,12 +140,10 @@ fn tell_unreadable(rt: &HostRuntime, dir: &str) {
     }
 }
 
-/// Tells what is wrong with the log in a folder that could not be shipped for this fault.
+/// Prints what is wrong with the log in a folder that could not be shipped for this fault.
 pub fn tell_log(rt: &HostRuntime, dir: &str, fault: ToolFault) {
     match fault {
-        ToolFault::Log(_) => {
-            let _ = tell_damage(rt, dir);
-        }
+        ToolFault::Log(_) => tell_damage(rt, dir),
         ToolFault::Device => tell_unreadable(rt, dir),
         _ => {}
     }

@@ -4,6 +4,7 @@
 mod ending;
 mod engines;
 mod explaining;
+mod input;
 mod inspecting;
 mod receiving;
 mod reporting;
@@ -80,26 +81,45 @@ fn perform<R: Threads + Wait + Clock + Copy + Send + Sync + 'static>(
     }
 }
 
-/// Reads the words and does what they ask for.
+/// Does what the arguments ask for, as the command-line parser found them.
+fn perform_matches<R: Threads + Wait + Clock + Copy + Send + Sync + 'static>(
+    rt: &HostRuntime,
+    threads: &R,
+    matches: &ArgMatches<'_>,
+) -> ExitCode {
+    match task_of(matches) {
+        Some(task) => perform(rt, threads, &task, matches),
+        None => no_address(rt, matches),
+    }
+}
+
+/// Parses the arguments, and does what they ask for.
+fn perform_words<R: Threads + Wait + Clock + Copy + Send + Sync + 'static>(
+    rt: &HostRuntime,
+    threads: &R,
+    words: &[String],
+) -> Result<ExitCode, ToolFault> {
+    match command_line(rt.alloc())?.try_get_matches_from(words) {
+        Ok(matches) => Ok(perform_matches(rt, threads, &matches)),
+        Err(error) => Ok(unparsed(rt, error)),
+    }
+}
+
+/// Reads the arguments, and does what they ask for.
 fn run<R: Threads + Wait + Clock + Copy + Send + Sync + 'static>(
     rt: &HostRuntime,
     threads: &R,
 ) -> Result<ExitCode, ToolFault> {
-    let alloc = rt.alloc();
-    let words: Vec<String> = match env::args(rt) {
-        Ok(words) => words.collect(alloc)?,
-        Err(error) if error.kind() == ErrorKind::OutOfMemory => return Err(ToolFault::OutOfMemory),
-        Err(_) => return Ok(bad_words(
+    match env::args(rt) {
+        Ok(words) => {
+            let words: Vec<String> = words.collect(rt.alloc())?;
+            perform_words(rt, threads, words.as_slice())
+        }
+        Err(error) if error.kind() == ErrorKind::OutOfMemory => Err(ToolFault::OutOfMemory),
+        Err(_) => Ok(bad_words(
             rt,
             "error: a word is not UTF-8\n\nFor more information, try '--help'.",
         )),
-    };
-    match command_line(alloc)?.try_get_matches_from(words.as_slice()) {
-        Err(error) => Ok(unparsed(rt, error)),
-        Ok(matches) => match task_of(&matches) {
-            Some(task) => Ok(perform(rt, threads, &task, &matches)),
-            None => Ok(no_address(rt, &matches)),
-        },
     }
 }
 

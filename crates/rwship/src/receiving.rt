@@ -9,7 +9,7 @@ use rw_metrics::{Counters, ReceiveCounters};
 use rw_receive::{Service, run_receive, run_receive_until};
 use rw_settings::Settings;
 use rw_types::{Bounded, Std};
-use rw_words::{Receiving, SettingsFile, Until};
+use rw_words::{Receiving, Reporting, SettingsFile, Until};
 use std::alloc::{AllocError, Global};
 use std::net::TcpListener;
 use std::process::ExitCode;
@@ -93,26 +93,60 @@ fn serve<R: Threads + Wait + Clock + Sync>(
     )
 }
 
-/// Counters that were told nothing yet.
+/// Returns counters that have counted nothing.
 fn new_counters(rt: &HostRuntime) -> Result<Arc<ReceiveCounters, Global>, AllocError> {
     let counters = ReceiveCounters::new(rt.alloc())?;
     Ok(Arc::new(rt.alloc(), counters)?)
 }
 
-/// Serves, and tells how it goes where that is asked for.
-fn serve_and_tell<R: Threads + Wait + Clock + Sync>(
+/// Returns new counters, which are reported from here on as far as that is asked for.
+fn reported_counters<R: Threads>(
+    rt: &HostRuntime,
+    threads: &R,
+    reporting: &Reporting<'_>,
+) -> Result<Arc<ReceiveCounters, Global>, ToolFault> {
+    let counters = new_counters(rt)?;
+    let shown = Counters::Receive(Arc::try_clone(&counters)?);
+    begin_reporting(rt, threads, reporting, &shown)?;
+    Ok(counters)
+}
+
+/// Serves connections, and reports how that goes as far as it is asked for.
+fn serve_and_report<R: Threads + Wait + Clock + Sync>(
     rt: &HostRuntime,
     threads: &R,
     settings: &Settings,
     listener: TcpListener,
     receiving: &Receiving<'_>,
 ) -> Result<(), ToolFault> {
-    let counters = new_counters(rt)?;
-    let shown = Counters::Receive(Arc::try_clone(&counters)?);
-    begin_reporting(rt, threads, &receiving.reporting, &shown)?;
+    let counters = reported_counters(rt, threads, &receiving.reporting)?;
     let outcome = serve(rt, threads, settings, listener, receiving, &counters);
-    end_reporting(rt, &receiving.reporting, &shown);
+    end_reporting(rt, &receiving.reporting, &Counters::Receive(counters));
     outcome
+}
+
+/// Serves connections by settings, at an address.
+fn receive_by<R: Threads + Wait + Clock + Sync>(
+    rt: &HostRuntime,
+    threads: &R,
+    settings: &Settings,
+    receiving: &Receiving<'_>,
+    is_explained: bool,
+) -> ExitCode {
+    let listen = receiving.listen;
+    match TcpListener::bind(rt, (listen.name(), listen.port)) {
+        Ok(listener) => {
+            let outcome = serve_and_report(rt, threads, settings, listener, receiving);
+            ended(rt, outcome)
+        }
+        Err(error) => {
+            let status = ended(rt, Err(ToolFault::Device));
+            if is_explained {
+                tell_unheard(rt, listen, &error);
+            }
+            status
+        }
+    }
 }
 
 /// Serves connections by the settings in a file, at an address.
@@ -122,22 +156,8 @@ pub fn receive<R: Threads + Wait + Clock + Sync>(
     file: SettingsFile<'_>,
     receiving: &Receiving<'_>,
 ) -> ExitCode {
-    let settings = match settings_in(rt, file) {
-        Ok(settings) => settings,
-        Err(fault) => return unset(rt, fault),
-    };
-    let listen = receiving.listen;
-    match TcpListener::bind(rt, (listen.name(), listen.port)) {
-        Ok(listener) => {
-            let outcome = serve_and_tell(rt, threads, &settings, listener, receiving);
-            ended(rt, outcome)
-        }
-        Err(error) => {
-            let status = ended(rt, Err(ToolFault::Device));
-            if file.is_explained {
-                tell_unheard(rt, listen, &error);
-            }
-            status
-        }
+    match settings_in(rt, file) {
+        Ok(settings) => receive_by(rt, threads, &settings, receiving, file.is_explained),
+        Err(fault) => unset(rt, fault),
     }
 }

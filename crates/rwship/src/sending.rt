@@ -9,12 +9,13 @@ use rw_fault::ToolFault;
 use rw_follow::Timed;
 use rw_metrics::{Counters, SendCounters};
 use rw_send::{
-    Counted, Folder, FollowFault, StopFlag, TcpConnect, run_follow, run_send, segment_files,
+    Counted, Folder, FollowFault, Opened, SegmentFile, StopFlag, TcpConnect, run_follow, run_send,
+    segment_files,
 };
 use rw_settings::Settings;
 use rw_tcp::look_up;
-use rw_types::Std;
-use rw_words::{Following, Reading, Sending, SettingsFile};
+use rw_types::{Bounded, Std};
+use rw_words::{Following, Reading, Reporting, Sending, SettingsFile};
 use std::alloc::{AllocError, Global};
 use std::io::{Error, ErrorKind};
 use std::net::SocketAddr;
@@ -23,133 +24,179 @@ use std::sync::{Arc, Wait};
 use std::thread::Threads;
 use std::time::{Clock, Duration};
 
-/// Connections to the addresses of a receiver.
-fn connect_to(
-    rt: &HostRuntime,
-    settings: &Settings,
-    addresses: Vec<SocketAddr>,
-    counters: &Arc<SendCounters, Global>,
-) -> Result<TcpConnect<HostRuntime>, AllocError> {
-    let timeout_ms = settings.config.fields().timeout_ms;
-    let counters = Arc::try_clone(counters)?;
-    Ok(TcpConnect::new(rt.alloc(), *rt, addresses, timeout_ms, counters))
+/// The log that is shipped.
+enum Log {
+    /// The segments that the folder has.
+    Whole(Vec<Opened<SegmentFile<HostRuntime>>>),
+    /// The folder while it grows, and what says when that ends.
+    Growing(Folder<HostRuntime>, Timed<HostRuntime, Told>),
 }
 
-/// Ships the segments of a folder to a receiver, and prints the report.
-fn ship<R: Threads + Wait + Clock + Copy + Send + 'static>(
-    rt: &HostRuntime,
-    threads: &R,
-    settings: Settings,
-    sending: &Sending<'_>,
-    addresses: Vec<SocketAddr>,
-    counters: &Arc<SendCounters, Global>,
-) -> Result<(), ToolFault> {
-    let connect = connect_to(rt, &settings, addresses, counters)?;
-    let segments = segment_files(rt, sending.dir, Some(counters))?;
-    let line = Counted {
-        connect,
-        counters,
-        max_batch_bytes: sending.max_batch_bytes,
-        stop: StopFlag::new(rt.alloc())?,
-    };
-    let mut output = Std::new(rt.stdout());
-    run_send(threads, rt.alloc(), settings, segments, line, &mut output)
+/// All that shipping needs besides settings. It is made before they are given away, since each way
+/// out of a function that owns settings is dear to prove.
+struct Shipment {
+    log: Log,
+    connect: TcpConnect<HostRuntime>,
+    stop: StopFlag,
+    counters: Arc<SendCounters, Global>,
 }
 
-/// What tells a follower to stop, and its workers where that is at once, and lets time pass.
+/// Returns what tells a follower to stop, and its workers if that is at once, and lets time pass.
 fn watch_of<R: Threads>(
     rt: &HostRuntime,
     threads: &R,
     following: &Following<'_>,
-    workers: StopFlag,
+    stop: &StopFlag,
 ) -> Result<Timed<HostRuntime, Told>, AllocError> {
-    let told = Told::new(sign_of(rt, threads, following.stop_file, Some(workers))?);
+    let workers = stop.share()?;
+    let sign = Told::new(sign_of(rt, threads, following.stop_file, Some(workers))?);
     let poll = Duration::from_millis(following.poll_ms.get());
     let patience = Duration::from_millis(following.flush_ms.get());
     let reshard = Duration::from_millis(following.reshard_ms.get());
-    Ok(Timed::new(*rt, told, poll, patience, reshard))
+    Ok(Timed::new(*rt, sign, poll, patience, reshard))
 }
 
-/// Ships the segments of a folder while they grow, until told to stop, and prints the report.
-fn follow<R: Threads + Wait + Clock + Copy + Send + 'static>(
+/// Returns a folder that is read while it grows.
+fn folder_of(
     rt: &HostRuntime,
-    threads: &R,
-    settings: Settings,
-    sending: &Sending<'_>,
-    addresses: Vec<SocketAddr>,
-    following: &Following<'_>,
+    dir: &str,
     counters: &Arc<SendCounters, Global>,
-) -> Result<(), FollowFault> {
-    let connect = connect_to(rt, &settings, addresses, counters)?;
-    let dir = String::from_str(rt.alloc(), sending.dir)?;
-    let mut segments = Folder::new(*rt, dir, Arc::try_clone(counters)?);
-    let stop = StopFlag::new(rt.alloc())?;
-    let mut watch = watch_of(rt, threads, following, stop.share()?)?;
-    let line = Counted {
-        connect,
-        counters,
-        max_batch_bytes: sending.max_batch_bytes,
-        stop,
-    };
-    let mut output = Std::new(rt.stdout());
-    run_follow(
-        threads,
-        rt.alloc(),
-        settings,
-        &mut segments,
-        line,
-        &mut watch,
-        &mut output,
-    )
+) -> Result<Folder<HostRuntime>, AllocError> {
+    let dir = String::from_str(rt.alloc(), dir)?;
+    Ok(Folder::new(*rt, dir, Arc::try_clone(counters)?))
 }
 
-/// Ships a folder, whole or while it grows.
-fn ship_or_follow<R: Threads + Wait + Clock + Copy + Send + 'static>(
+/// Returns the log in the folder, to be read as it is or while it grows.
+fn log_of<R: Threads>(
     rt: &HostRuntime,
     threads: &R,
-    settings: Settings,
     sending: &Sending<'_>,
-    addresses: Vec<SocketAddr>,
+    stop: &StopFlag,
     counters: &Arc<SendCounters, Global>,
-) -> Result<(), FollowFault> {
+) -> Result<Log, AllocError> {
     match &sending.reading {
-        Reading::Whole => {
-            ship(rt, threads, settings, sending, addresses, counters).map_err(FollowFault::Tool)
-        }
+        Reading::Whole => Ok(Log::Whole(segment_files(rt, sending.dir, Some(counters))?)),
         Reading::Follow(following) => {
-            follow(
-                rt, threads, settings, sending, addresses, following, counters,
-            )
+            let folder = folder_of(rt, sending.dir, counters)?;
+            Ok(Log::Growing(folder, watch_of(rt, threads, following, stop)?))
         }
     }
 }
 
-/// Counters that were told nothing yet.
+/// Returns what shipping to a receiver at these addresses needs.
+fn shipment_to<R: Threads>(
+    rt: &HostRuntime,
+    threads: &R,
+    sending: &Sending<'_>,
+    addresses: Vec<SocketAddr>,
+    timeout_ms: Bounded<1, 3_600_000>,
+    counters: &Arc<SendCounters, Global>,
+) -> Result<Shipment, AllocError> {
+    let stop = StopFlag::new(rt.alloc())?;
+    let theirs = Arc::try_clone(counters)?;
+    let counters = Arc::try_clone(counters)?;
+    let log = log_of(rt, threads, sending, &stop, &counters)?;
+    Ok(Shipment {
+        log,
+        connect: TcpConnect::new(rt.alloc(), *rt, addresses, timeout_ms, theirs),
+        stop,
+        counters,
+    })
+}
+
+/// Returns counters that have counted nothing.
 fn new_counters(rt: &HostRuntime) -> Result<Arc<SendCounters, Global>, AllocError> {
     let counters = SendCounters::new(rt.alloc())?;
     Ok(Arc::new(rt.alloc(), counters)?)
 }
 
-/// Ships a folder, with what is told of it while it goes on. Gives how many samples were dropped.
-fn ship_and_tell<R: Threads + Wait + Clock + Copy + Send + 'static>(
+/// Returns new counters, which are reported from here on as far as that is asked for.
+fn reported_counters<R: Threads>(
+    rt: &HostRuntime,
+    threads: &R,
+    reporting: &Reporting<'_>,
+) -> Result<Arc<SendCounters, Global>, ToolFault> {
+    let counters = new_counters(rt)?;
+    let shown = Counters::Send(Arc::try_clone(&counters)?);
+    begin_reporting(rt, threads, reporting, &shown)?;
+    Ok(counters)
+}
+
+/// Begins to report, and returns what shipping needs.
+fn prepare<R: Threads>(
+    rt: &HostRuntime,
+    threads: &R,
+    sending: &Sending<'_>,
+    addresses: Vec<SocketAddr>,
+    timeout_ms: Bounded<1, 3_600_000>,
+) -> Result<Shipment, ToolFault> {
+    let counters = reported_counters(rt, threads, &sending.reporting)?;
+    match shipment_to(rt, threads, sending, addresses, timeout_ms, &counters) {
+        Ok(shipment) => Ok(shipment),
+        Err(fault) => {
+            end_reporting(rt, &sending.reporting, &Counters::Send(counters));
+            Err(ToolFault::from(fault))
+        }
+    }
+}
+
+/// Ships a log, until its end or until a stop, and prints the report.
+fn ship_log<R: Threads + Wait + Clock + Copy + Send + 'static>(
+    rt: &HostRuntime,
+    threads: &R,
+    settings: Settings,
+    log: Log,
+    line: Counted<'_, TcpConnect<HostRuntime>>,
+) -> Result<(), FollowFault> {
+    let mut output = Std::new(rt.stdout());
+    match log {
+        Log::Whole(segments) => {
+            let sent = run_send(threads, rt.alloc(), settings, segments, line, &mut output);
+            sent.map_err(FollowFault::Tool)
+        }
+        Log::Growing(mut folder, mut watch) => run_follow(
+            threads,
+            rt.alloc(),
+            settings,
+            &mut folder,
+            line,
+            &mut watch,
+            &mut output,
+        ),
+    }
+}
+
+/// Ships what was prepared, and ends the reporting. Returns how many samples were dropped.
+fn ship<R: Threads + Wait + Clock + Copy + Send + 'static>(
     rt: &HostRuntime,
     threads: &R,
     settings: Settings,
     sending: &Sending<'_>,
-    addresses: Vec<SocketAddr>,
+    shipment: Shipment,
 ) -> Result<u64, FollowFault> {
-    let counters = new_counters(rt)?;
-    let shown = Counters::Send(Arc::try_clone(&counters)?);
-    begin_reporting(rt, threads, &sending.reporting, &shown)?;
-    let outcome = ship_or_follow(rt, threads, settings, sending, addresses, &counters);
-    end_reporting(rt, &sending.reporting, &shown);
+    let Shipment {
+        log,
+        connect,
+        stop,
+        counters,
+    } = shipment;
+    let line = Counted {
+        connect,
+        counters: &counters,
+        max_batch_bytes: sending.max_batch_bytes,
+        stop,
+    };
+    let outcome = ship_log(rt, threads, settings, log, line);
+    let count = counters.dropped();
+    end_reporting(rt, &sending.reporting, &Counters::Send(counters));
     match outcome {
-        Ok(()) => Ok(counters.dropped()),
+        Ok(()) => Ok(count),
         Err(fault) => Err(fault),
     }
 }
 
-/// Says that a receiver cannot be looked up, and why where that is asked for.
+/// Reports that a receiver cannot be looked up and, if that is asked for, why. Returns the exit
+/// status.
 fn not_found(rt: &HostRuntime, name: &str, error: &Error, is_explained: bool) -> ExitCode {
     if error.kind() == ErrorKind::OutOfMemory {
         return ended(rt, Err(ToolFault::OutOfMemory));
@@ -161,8 +208,9 @@ fn not_found(rt: &HostRuntime, name: &str, error: &Error, is_explained: bool) ->
     status
 }
 
-/// Says how shipping ended, and what is wrong with the folder where that is asked for.
-fn told(
+/// Reports how shipping ended and, if that is asked for, what is wrong with the folder. Returns the
+/// exit status.
+fn report_outcome(
     rt: &HostRuntime,
     sending: &Sending<'_>,
     outcome: Result<u64, FollowFault>,
@@ -183,6 +231,46 @@ fn told(
     }
 }
 
+/// Looks the receiver up and prepares to ship. If that fails, it reports why, and returns the exit
+/// status.
+fn start<R: Threads>(
+    rt: &HostRuntime,
+    threads: &R,
+    sending: &Sending<'_>,
+    timeout_ms: Bounded<1, 3_600_000>,
+    is_explained: bool,
+) -> Result<Shipment, ExitCode> {
+    let to = sending.to;
+    match look_up(rt, rt.alloc(), to.name(), to.port) {
+        Ok(addresses) => match prepare(rt, threads, sending, addresses, timeout_ms) {
+            Ok(shipment) => Ok(shipment),
+            Err(fault) => {
+                let outcome = Err(FollowFault::Tool(fault));
+                Err(report_outcome(rt, sending, outcome, is_explained))
+            }
+        },
+        Err(error) => Err(not_found(rt, to.name(), &error, is_explained)),
+    }
+}
+
+/// Ships a folder by settings.
+fn send_by<R: Threads + Wait + Clock + Copy + Send + 'static>(
+    rt: &HostRuntime,
+    threads: &R,
+    settings: Settings,
+    sending: &Sending<'_>,
+    is_explained: bool,
+) -> ExitCode {
+    let timeout_ms = settings.config.fields().timeout_ms;
+    match start(rt, threads, sending, timeout_ms, is_explained) {
+        Ok(shipment) => {
+            let outcome = ship(rt, threads, settings, sending, shipment);
+            report_outcome(rt, sending, outcome, is_explained)
+        }
+        Err(status) => status,
+    }
+}
+
 /// Ships a folder by the settings in a file.
 pub fn send<R: Threads + Wait + Clock + Copy + Send + 'static>(
     rt: &HostRuntime,
@@ -190,15 +278,8 @@ pub fn send<R: Threads + Wait + Clock + Copy + Send + 'static>(
     file: SettingsFile<'_>,
     sending: &Sending<'_>,
 ) -> ExitCode {
-    let settings = match settings_in(rt, file) {
-        Ok(settings) => settings,
-        Err(fault) => return unset(rt, fault),
-    };
-    let to = sending.to;
-    let addresses = match look_up(rt, rt.alloc(), to.name(), to.port) {
-        Ok(addresses) => addresses,
-        Err(error) => return not_found(rt, to.name(), &error, file.is_explained),
-    };
-    let outcome = ship_and_tell(rt, threads, settings, sending, addresses);
-    told(rt, sending, outcome, file.is_explained)
+    match settings_in(rt, file) {
+        Ok(settings) => send_by(rt, threads, settings, sending, file.is_explained),
+        Err(fault) => unset(rt, fault),
+    }
 }

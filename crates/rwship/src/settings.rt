@@ -12,7 +12,7 @@ use std::io::ErrorKind;
 use std::{fs, io};
 
 /// Why there are no settings.
-#[derive(Debug, Drop)]
+#[derive(Drop)]
 pub enum Unset {
     /// Memory ran out.
     Tool(ToolFault),

@@ -1,6 +1,7 @@
 //! Label sets of one label, and samples. The calls that take memory are made again where it is refused.
 
 ghost use Rattle.std.specs.Prelude.{◌≡◌, ◌∷◌, [], codes, IfOk};
+ghost use Rattle.rw_plain_queue.specs.declared.item.Item.TheVariants as item;
 
 use rw_plain_queue::Item;
 use rw_types::{LabelFault, LabelSet, Place, RawLabels, Word};
@@ -28,8 +29,9 @@ pub(crate) fn metric(alloc: Global, name: &str) -> Result<LabelSet, LabelFault>
     }
 }
 
-fn shared(alloc: Global, labels: LabelSet) -> Result<Arc<LabelSet>, LabelFault> {
-    match Arc::new(alloc, labels) {
+/// The label set of a metric's name alone, to be shared.
+pub(crate) fn shared_metric(alloc: Global, name: &str) -> Result<Arc<LabelSet>, LabelFault> {
+    match Arc::new(alloc, metric(alloc, name)?) {
         Ok(labels) => Ok(labels),
         Err(refused) => match Arc::new(alloc, refused.value) {
             Ok(labels) => Ok(labels),
@@ -38,10 +40,11 @@ fn shared(alloc: Global, labels: LabelSet) -> Result<Arc<LabelSet>, LabelFault> 
     }
 }
 
-/// The sample numbered `seq` of shard 1 of epoch 3, at this position. Its label set is its own, and its number of series is 0.
-pub(crate) fn sample(alloc: Global, seq: u64, pos: u64, row: Row) -> Result<Item, LabelFault> {
-    let (name, word, t) = row;
-    let labels = shared(alloc, metric(alloc, name)?)?;
+/// The sample numbered `seq` of shard 1 of epoch 3, at this position. Its number of series is 0.
+pub(crate) fn sample_item(seq: u64, pos: u64, t: i64, word: Word, labels: Arc<LabelSet>) -> Item
+    ensures { result ≡ item.Sample
+        (record { epoch = 3; shard = 1; seq = seq; pos = pos; series = 0 }) t word labels }
+{
     let place = Place {
         epoch: 3,
         shard: 1,
@@ -49,5 +52,11 @@ pub(crate) fn sample(alloc: Global, seq: u64, pos: u64, row: Row) -> Result<Item
         pos,
         series: 0,
     };
-    Ok(Item::Sample(place, t, Word(word), labels))
+    Item::Sample(place, t, word, labels)
+}
+
+/// The same, with a label set of its own.
+pub(crate) fn sample(alloc: Global, seq: u64, pos: u64, row: Row) -> Result<Item, LabelFault> {
+    let (name, word, t) = row;
+    Ok(sample_item(seq, pos, t, Word(word), shared_metric(alloc, name)?))
 }

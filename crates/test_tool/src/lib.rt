@@ -1,4 +1,5 @@
-//! Tests of the rules, of what is known of references, of the settings, and of the program's engines.
+//! Tests of the rules, of what is known of references, of the settings, of the program's engines,
+//! of the printed reports of a log, and of what is said of lines that are of no form.
 #![tactic(auto)]
 
 #[cfg(test)]
@@ -6,7 +7,11 @@ mod bodies;
 #[cfg(test)]
 mod logs;
 #[cfg(test)]
+mod notes;
+#[cfg(test)]
 mod plans;
+#[cfg(test)]
+mod reports;
 #[cfg(test)]
 mod rows;
 #[cfg(test)]

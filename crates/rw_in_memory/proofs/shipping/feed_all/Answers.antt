@@ -7,7 +7,8 @@ use Rattle.rw_in_memory.proofs.shipping.feed_all.Goals as goal
 pub loop-piece-init : goal.loop-piece-init
 loop-piece-init g c =
     let into = c.into_iter-piece-iterator.ensures.into_iter_gives in record {
-      fault = c.requires;
+      fault = c.requires.fault;
+      read = c.requires.read;
       pieces = sym (append-nil _);
       choice = refl;
       fleet = refl;
@@ -27,6 +28,7 @@ loop-piece-preserved g c =
     let before = c.loop-piece.shipper in
     let e = c.feed.ensures in record {
       fault = (subst (Feeds now) c.in-Ok.is (e.fed i.fault)).1;
+      read = (subst (Feeds now) c.in-Ok.is (e.fed i.fault)).0;
       pieces = grown c.args.shipper.now before now c.args.log.items more _ piece left i.pieces i.choice i.fleet i.len e.choice e.rest e.len (subst (Joins before.log now.log (piece_of piece)) c.in-Ok.is (e.pieces i.fault));
       choice = e.choice ∙ i.choice;
       fleet = fleet_on c.args.shipper.now before now c.args.log.items more _ piece left i.pieces i.choice i.fleet i.len e.choice e.rest e.len;

@@ -19,15 +19,19 @@ gather-head-requires g c =
 
 pub returns : goal.returns
 returns g c =
-    let stop = c.stop_orderly-outcome in record {
-      r = stop.result;
-      placed = c.load.ensures.placed;
-      stopped = stop.ensures.stopped;
-      ended = ended_so c.args.shipper.fault c.args.shipper stop.result stop.ensures.ended stop.ensures.failed;
-      failed = failed_so c.args.shipper.fault stop.result.outcome stop.ensures.failed;
-      outcome_is = refl;
-      parts_are = refl;
-      filter_count = refl;
-      each = each_of (λ (f : Finished Line). IsLine g.L.Naming.opening g.L.Endpoint.path g.L.Endpoint.limit f.transport) stop.result.workers.items c.in_ok-seats.ensures.lines;
-      gathered = subst (λ ss. HasGathered g.L.Naming.opening ss c.gather-head.result.store) c.in_ok-seats.ensures.seats c.gather-head.ensures.gathered;
-    }
+    let stop = c.stop_orderly-outcome in (
+      record {
+        r = stop.result;
+        placed = c.load.ensures.placed;
+        stopped = stop.ensures.stopped;
+        ended = ended_so c.args.shipper.fault c.args.shipper stop.result stop.ensures.ended stop.ensures.failed;
+        failed = failed_so c.args.shipper.fault stop.result.outcome stop.ensures.failed;
+        cut = stop.ensures.cut;
+        outcome_is = refl;
+        parts_are = refl;
+        filter_count = refl;
+        each = each_of (λ (f : Finished Line). IsLine g.L.Naming.opening g.L.Endpoint.path g.L.Endpoint.limit f.transport) stop.result.workers.items c.in_ok-seats.ensures.lines;
+        gathered = subst (λ ss. HasGathered g.L.Naming.opening ss c.gather-head.result.store) c.in_ok-seats.ensures.seats c.gather-head.ensures.gathered;
+      },
+      refl,
+    )

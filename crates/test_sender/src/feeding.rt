@@ -1,26 +1,11 @@
 //! What a queue between threads is fed.
 
 ghost use Rattle.std.specs.Prelude.{◌≡◌, [], IfSome};
-ghost use Rattle.rw_plain_queue.specs.declared.item.Item.TheVariants as item;
 
+use crate::samples::sample_item;
 use rw_shard_channel::{Ended, Feed, Item, Kind, Open};
-use rw_types::{LabelSet, Place, Word};
+use rw_types::{LabelSet, Word};
 use std::sync::{Arc, Wait};
-
-/// The sample of this number at this position, of the queue of shard 1 in epoch 3.
-fn sample(seq: u64, pos: u64, t: i64, word: Word, labels: Arc<LabelSet>) -> Item
-    ensures { result ≡ item.Sample
-        (record { epoch = 3; shard = 1; seq = seq; pos = pos; series = 0 }) t word labels }
-{
-    let place = Place {
-        epoch: 3,
-        shard: 1,
-        seq,
-        pos,
-        series: 0,
-    };
-    Item::Sample(place, t, word, labels)
-}
 
 /// Puts a sample of this value, and an End of this kind.
 pub(crate) fn one<R: Wait>(
@@ -34,7 +19,7 @@ pub(crate) fn one<R: Wait>(
     ensures { IfSome result (λ f. f.queue ≡ feed.queue) }
 {
     let mut feed = feed;
-    feed.put(rt, sample(0, 5, 1000, word, labels)).ok()?;
+    feed.put(rt, sample_item(0, 5, 1000, word, labels)).ok()?;
     feed.end(rt, kind).ok()
 }
 
@@ -50,8 +35,8 @@ pub(crate) fn two<R: Wait>(
 {
     let copy = Arc::try_clone(&labels).ok()?;
     let mut feed = feed;
-    feed.put(rt, sample(0, 5, 1000, word, copy)).ok()?;
+    feed.put(rt, sample_item(0, 5, 1000, word, copy)).ok()?;
     feed.put(rt, Item::Flush).ok()?;
-    feed.put(rt, sample(1, 9, 2000, word, labels)).ok()?;
+    feed.put(rt, sample_item(1, 9, 2000, word, labels)).ok()?;
     feed.end(rt, Kind::Orderly).ok()
 }

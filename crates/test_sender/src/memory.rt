@@ -2,7 +2,7 @@
 
 ghost use Rattle.std.specs.Prelude.{◌≡◌, [], ◌∷◌, ◌++◌, true};
 ghost use Rattle.rw_worker.specs.Transcript.{exchange_of};
-ghost use Rattle.test_worker.specs.Noted.{noted};
+ghost use Rattle.test_sender.specs.Noted.{noted};
 
 use rw_worker::{Lost, Pause, Reply, StopFlag, Transport};
 use std::alloc::Global;
@@ -82,7 +82,7 @@ impl Script {
 
 impl Transport for Script {
     ghost use Rattle.std.specs.Prelude.{◌≡◌, true, ⊤};
-    ghost use Rattle.test_worker.specs.Noted.{noted};
+    ghost use Rattle.test_sender.specs.Noted.{noted};
 
     ghost is_for = { λ _ _ _. ⊤ };
 

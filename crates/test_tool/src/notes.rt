@@ -1,5 +1,6 @@
 //! What is said of lines that are of no form.
 
+use crate::rows::{holds, none_is_wrong};
 use rw_line_notes::{log_line_note, numbered_line, script_line_note, shown_line};
 use std::alloc::{AllocError, Global};
 use std::test::Fail;
@@ -51,8 +52,8 @@ fn wrong_note(alloc: Global) -> Result<Option<usize>, AllocError> {
 
 #[test]
 fn notes_on_lines(rt: HostRuntime) -> Result<(), Fail> {
-    assert_eq!(rt; wrong_note(rt.alloc())?, None);
+    none_is_wrong(&rt, wrong_note(rt.alloc())?);
     let second = numbered_line(b"a\n\tb\nc", 2).unwrap_or(b"");
-    assert!(rt; shown_line(rt.alloc(), second)?.as_str() == "?b");
+    holds(&rt, shown_line(rt.alloc(), second)?.as_str() == "?b");
     Ok(())
 }

@@ -4,11 +4,13 @@ ghost use Rattle.std.specs.Prelude.{◌≡◌, ◌<◌, [], IfOk};
 
 use crate::feeding::{one, two};
 use crate::memory::{Script, Times};
+use crate::rows::holds;
+use crate::samples::shared_metric;
 use http::StatusCode;
 use rw_ledger::{Ledger, Reason};
 use rw_shard_channel::{Drain, Feed, Kind, Open, open};
 use rw_shard_core::{Config, ConfigFields};
-use rw_types::{Bounded, LabelFault, LabelSet, RawLabels, Word};
+use rw_types::{Bounded, LabelFault, LabelSet, Word};
 use rw_worker::{Lost, Reply, StopFlag, TakingEnd, Worker, WorkerReport, spawn};
 use std::alloc::{AllocError, Global};
 use std::sync::{Arc, Wait};
@@ -19,16 +21,6 @@ const UP: &[u8] =
     b"POST /api/v1/write HTTP/1.1\r\nHost: localhost:9090\r\nUser-Agent: rwship/1.0\r\nContent-Type: application/x-protobuf\r\nX-Prometheus-Remote-Write-Version: 0.1.0\r\nConnection: close\r\nContent-Length: 32\r\n\r\n\x0a\x1e\x0a\x0e\x0a\x08__name__\x12\x02up\x12\x0c\x09\x00\x00\x00\x00\x00\x00\xf0?\x10\xe8\x07";
 
 const ONE: Word = Word(0x3ff0_0000_0000_0000);
-
-fn up(alloc: Global) -> Result<Arc<LabelSet>, LabelFault> {
-    let mut raw = RawLabels::new(alloc);
-    raw.push(b"__name__", b"up")?;
-    let labels = LabelSet::check(alloc, &raw)?;
-    match Arc::new(alloc, labels) {
-        Ok(labels) => Ok(labels),
-        Err(_) => Err(LabelFault::OutOfMemory),
-    }
-}
 
 /// A status, or no answer for 0.
 fn answer(status: u16) -> Result<Reply, Lost> {
@@ -202,7 +194,7 @@ fn config_of(alloc: Global, batch: u64) -> Result<Option<Config>, AllocError> {
 
 /// Whether a worker does as a row wants.
 fn does_as_wanted<R: Wait>(rt: &R, alloc: Global, row: &Row<'_>) -> Result<bool, LabelFault> {
-    let labels = up(alloc)?;
+    let labels = shared_metric(alloc, "up")?;
     match config_of(alloc, row.batch)? {
         Some(config) => Ok(fed_and_run(rt, alloc, &config, labels, row)?),
         None => Ok(false),
@@ -395,7 +387,7 @@ fn does_in_a_thread<R: Threads + Wait + Copy + Send + 'static>(
     rt: &R,
     alloc: Global,
 ) -> Result<bool, LabelFault> {
-    let labels = up(alloc)?;
+    let labels = shared_metric(alloc, "up")?;
     let config = Config::standard(alloc)?;
     Ok(fed_in_a_thread(rt, alloc, &config, labels)?)
 }
@@ -403,5 +395,5 @@ fn does_in_a_thread<R: Threads + Wait + Copy + Send + 'static>(
 /// The queue holds one item, so the two threads wait for one another.
 #[test]
 fn a_worker_in_a_thread(rt: HostRuntime) {
-    assert_eq!(rt; does_in_a_thread(&rt, rt.alloc()), Ok(true));
+    holds(&rt, does_in_a_thread(&rt, rt.alloc()) == Ok(true));
 }

@@ -1,13 +1,13 @@
-//! One queue: both ends in one thread, and each in a thread of its own.
+//! The queue between threads: both ends in one thread, and each in a thread of its own.
 
 ghost use Rattle.std.specs.Prelude.{◌≡◌, IfSome};
 
 use crate::feeding::two;
+use crate::rows::holds;
 use rw_shard_channel::{Drain, Ended, Feed, Gone, Item, Kind, Open, Taken, begins, compare, open};
 use rw_types::{LabelSet, Word};
 use std::alloc::{AllocError, Global};
 use std::sync::{Arc, Wait};
-use std::test::Fail;
 use std::thread::{Threads, join};
 
 fn no_labels(alloc: Global) -> Result<Arc<LabelSet>, AllocError> {
@@ -73,11 +73,8 @@ fn is_whole<R: Wait>(rt: &R, fed: Option<Feed<Ended>>, haul: Haul) -> bool
 }
 
 /// Whether a thread takes all behind what it has put.
-fn takes_in_one_thread<R: Wait>(
-    rt: &R,
-    alloc: Global,
-    labels: Arc<LabelSet>,
-) -> Result<bool, AllocError> {
+fn takes_in_one_thread<R: Wait>(rt: &R, alloc: Global) -> Result<bool, AllocError> {
+    let labels = no_labels(alloc)?;
     let positions = Vec::with_capacity(alloc, 3)?;
     let (feed, drain) = open(alloc, 3, 1, 4)?;
     let (feed, drain) = begins(feed, drain);
@@ -90,18 +87,16 @@ fn takes_in_one_thread<R: Wait>(
 }
 
 #[test]
-fn one_thread(rt: HostRuntime) -> Result<(), Fail> {
-    let labels = no_labels(rt.alloc())?;
-    assert_eq!(rt; takes_in_one_thread(&rt, rt.alloc(), labels), Ok(true));
-    Ok(())
+fn one_thread(rt: HostRuntime) {
+    holds(&rt, takes_in_one_thread(&rt, rt.alloc()) == Ok(true));
 }
 
 /// Whether a thread takes all that another one puts.
 fn takes_in_two_threads<R: Threads + Wait + Sync>(
     rt: &R,
     alloc: Global,
-    labels: Arc<LabelSet>,
 ) -> Result<bool, AllocError> {
+    let labels = no_labels(alloc)?;
     let positions = Vec::with_capacity(alloc, 3)?;
     let (feed, drain) = open(alloc, 3, 1, 1)?;
     let (fed, haul) = join(
@@ -114,10 +109,8 @@ fn takes_in_two_threads<R: Threads + Wait + Sync>(
 
 /// The queue holds one item, so each thread waits for the other.
 #[test]
-fn two_threads(rt: HostRuntime) -> Result<(), Fail> {
-    let labels = no_labels(rt.alloc())?;
-    assert_eq!(rt; takes_in_two_threads(&rt, rt.alloc(), labels), Ok(true));
-    Ok(())
+fn two_threads(rt: HostRuntime) {
+    holds(&rt, takes_in_two_threads(&rt, rt.alloc()) == Ok(true));
 }
 
 /// Whether an end that waits for room is told when the other end is given up.
@@ -146,6 +139,6 @@ fn drain_is_told<R: Threads + Wait + Sync>(rt: &R, alloc: Global) -> Result<bool
 
 #[test]
 fn gone_ends(rt: HostRuntime) {
-    assert_eq!(rt; feed_is_told(&rt, rt.alloc()), Ok(true));
-    assert_eq!(rt; drain_is_told(&rt, rt.alloc()), Ok(true));
+    holds(&rt, feed_is_told(&rt, rt.alloc()) == Ok(true));
+    holds(&rt, drain_is_told(&rt, rt.alloc()) == Ok(true));
 }
