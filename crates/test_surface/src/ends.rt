@@ -23,6 +23,7 @@ pub fn of_worlds() {
     let _ = World::step;
     let _ = World::run;
     let _ = World::settle;
+    let _ = (World::promises, World::request);
 }
 
 /// What a world tells.

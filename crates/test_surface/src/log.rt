@@ -1,10 +1,12 @@
 //! Types, codes, the log, rules, series, messages.
 
-use rw_codes::{CodeFault, crc32c, get_uvarint, get_varint, put_uvarint, put_varint};
-use rw_relabel::{Action, Rule, RuleFault, Rules};
+use rw_codes::{
+    CodeFault, crc32c, get_uvarint, get_varint, push_uvarint, put_uvarint, put_varint, uvarint_len,
+};
+use rw_relabel::{Action, Choice, Rule, RuleFault, Rules};
 use rw_series_cache::{Cache, Known};
 use rw_types::{Entry, LabelFault, LabelSet, Names, Place, RawLabels, Sink, Source, Word};
-use rw_wal_tail::{Piece, Tail, TailFault};
+use rw_wal_tail::{Piece, Tail, TailFault, is_out_of_memory};
 use rw_wal_write::{LogFault, SegmentWriter, sample_record, series_record};
 use rw_write_request::{Message, Series, WireFault, decode, encode};
 
@@ -26,9 +28,22 @@ pub fn of_the_log<R: Source, W: Sink>() {
     let _ = (Tail::entries_read, Tail::skipped);
 }
 
+/// The calls of codes and logs that the crates above need.
+pub fn of_parts<W: Sink>() {
+    let _ = (push_uvarint, uvarint_len);
+    let _ = (
+        SegmentWriter::<W>::resume,
+        SegmentWriter::<W>::offset,
+        SegmentWriter::<W>::into_inner,
+    );
+    let _ = (Tail::feed_piece, Tail::fault_place, Tail::copy);
+    let _ = (TailFault::number, is_out_of_memory);
+}
+
 /// The calls of rw_relabel, rw_series_cache and rw_write_request.
 pub fn of_series() {
-    let _ = (Rule::build, Rules::keeps);
-    let _ = (Cache::new, Cache::define, Cache::look);
+    let _ = (Rule::build, Rules::new, Rules::keeps, Choice::legacy);
+    let _ = (Cache::new, Cache::define, Cache::look, Cache::rises);
+    let _ = (Cache::note, Cache::names, Cache::series_count);
     let _ = (encode, decode);
 }

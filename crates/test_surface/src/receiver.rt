@@ -1,6 +1,8 @@
 //! The receiver: its head, alone and under a lock, and its endpoint.
 
-use rw_recv_head::{Blank, Head, LabelSets, Limits, Naming, Seat, SharedHead, Verdict};
+use rw_recv_head::{
+    Blank, Block, Head, HeldSeries, LabelSets, Limits, Naming, Seat, SharedHead, Verdict,
+};
 use rw_recv_http::{Answer, Asking, ServeEnd, serve};
 use rw_types::{Sink, Source};
 use std::sync::Wait;
@@ -14,13 +16,16 @@ pub type Types<'a, R, L> = (
 /// The calls of rw_recv_head.
 pub fn of_heads() {
     let _ = (Head::new, Head::apply, Head::answer, Head::samples);
-    let _ = (Head::label_sets, Head::total);
+    let _ = (Head::label_sets, Head::total, Head::series, Head::places);
+    let _ = (Head::sealed, Head::open, Block::samples);
+    let _ = (HeldSeries::labels, HeldSeries::samples, Limits::standard);
 }
 
 /// The calls of a head under a lock.
 pub fn of_shared_heads<R: Wait, L: Naming>() {
     let _ = (Blank::new, SharedHead::<L>::seats, SharedHead::<L>::gather);
-    let _ = (Seat::<L>::answer::<R>, Seat::<L>::stored);
+    let _ = (Seat::<L>::answer::<R>, Seat::<L>::ask::<R>);
+    let _ = Seat::<L>::stored;
 }
 
 /// The calls of rw_recv_http.

@@ -5,7 +5,7 @@ use rw_ledger::{Ledger, Reason};
 use rw_reshard::{Draining, Fleet, Make, NextFault, Running, Shard, want};
 use rw_retry::{Judgement, delay, judge};
 use rw_shard_queue::{
-    Drain, Ended, Feed, Gone, Item, Killed, Kind, Open, PlainQueue, PutFault, Taken, Whole,
+    Drain, Ended, Feed, Gone, Item, Killed, Kind, Open, PlainQueue, PutFault, Taken, Whole, begins,
     compare, open,
 };
 use std::sync::Wait;
@@ -27,7 +27,7 @@ pub type Types<S> = (
 /// The calls of rw_ledger and rw_batch.
 pub fn of_batches() {
     let _ = (Ledger::new, Ledger::room, Ledger::name, Ledger::give_back);
-    let _ = (Ledger::iter, Ledger::total);
+    let _ = (Ledger::iter, Ledger::total, Ledger::left, Ledger::get);
     let _ = (
         Builder::new,
         Builder::take,
@@ -40,9 +40,11 @@ pub fn of_batches() {
 /// The calls of rw_shard_queue.
 pub fn of_queues<R: Wait>() {
     let _ = (PlainQueue::new, PlainQueue::put, PlainQueue::take);
-    let _ = (PlainQueue::close, PlainQueue::kill);
-    let _ = (open, compare::<R>);
+    let _ = (PlainQueue::close, PlainQueue::kill, PlainQueue::refusal);
+    let _ = (PlainQueue::iter, PlainQueue::len, PlainQueue::is_empty);
+    let _ = (open, begins::<Open, Open>, compare::<R>);
     let _ = (Feed::<Open>::put::<R>, Feed::<Open>::end::<R>);
+    let _ = Feed::<Open>::hand_over::<R>;
     let _ = (Drain::<Open>::take::<R>, Drain::<Open>::kill);
 }
 

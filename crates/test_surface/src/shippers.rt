@@ -41,7 +41,7 @@ pub fn of_workers<T: Transport + Drop, P: Pause, R: Wait>() {
 /// The start of a shipper.
 pub fn of_new_shippers<C: Connect + Drop, R: Threads + Wait + Copy + Send + 'static>() {
     let _ = C::transport;
-    let _ = Shipper::<C>::start::<R>;
+    let _ = (Shipper::<C>::start::<R>, Shipper::<C>::start_within::<R>);
 }
 
 /// What a shipper is fed.
@@ -62,6 +62,7 @@ pub fn of_resharded_shippers<C: Connect + Drop, R: Threads + Wait + Copy + Send 
 /// How far a shipper is.
 pub fn of_loads<C: Connect + Drop>() {
     let _ = (Shipper::<C>::entries_read, Shipper::<C>::load);
+    let _ = (Shipper::<C>::dropped, Shipper::<C>::filtered);
 }
 
 /// The orderly stop.

@@ -1,0 +1,65 @@
+//! What the engines of the program take: folders, connections, counters, settings, stop signs.
+
+use rw_tool::{
+    Folder, Open, Opened, ReceiveCounters, SegmentFile, Segments, SendCounters, SettingsFault,
+    Sign, TcpConnect, ToolFault, Watch, read_settings, run_log_dir, segment_files,
+};
+use rw_types::Source;
+use std::alloc::{AllocGlobal, Global};
+use std::fs::File;
+use std::rt::Files;
+
+/// The calls of settings, faults and stop signs.
+pub fn of_settings() {
+    let _ = (read_settings, SettingsFault::number);
+    let _ = ToolFault::exit_status;
+    let _ = (Sign::new, Sign::wish, Sign::end, Sign::hard);
+}
+
+/// The engine that writes a folder.
+pub fn of_written_folders<F: Files, R: Source>(
+    rt: &F,
+    alloc: Global,
+    reader: &mut R,
+    dir: &str,
+) -> Result<(), ToolFault> {
+    run_log_dir(rt, alloc, reader, dir, 4_096)
+}
+
+/// The calls of folders of segments.
+pub fn of_folders<R: Files<File = File> + AllocGlobal + Copy>() {
+    let _ = (Folder::<R>::new, segment_files::<R>);
+    let _ = SegmentFile::<R>::name;
+}
+
+/// The calls of what the engines are given.
+pub fn of_given<O: Open, S: Segments, W: Watch, N>() {
+    let _ = (O::open, Opened::<O>::place, S::advance);
+    let _ = (W::wish, W::nap, W::is_flush_due, W::is_reshard_due);
+    let _ = TcpConnect::<N>::new;
+}
+
+/// The counters of a receiver.
+pub fn of_receive_counters() {
+    let _ = (ReceiveCounters::new, ReceiveCounters::numbers);
+    let _ = ReceiveCounters::begin_connection;
+    let _ = ReceiveCounters::end_connection;
+    let _ = ReceiveCounters::refuse_connection;
+    let _ = (ReceiveCounters::answer, ReceiveCounters::hold_label_sets);
+}
+
+/// The counters of a sender: what was read and placed.
+pub fn of_send_counters() {
+    let _ = (SendCounters::new, SendCounters::numbers);
+    let _ = (SendCounters::begin_segment, SendCounters::read_bytes);
+    let _ = (SendCounters::set_folder_bytes, SendCounters::set_entries);
+    let _ = (SendCounters::set_shards, SendCounters::set_load);
+    let _ = SendCounters::set_filtered;
+}
+
+/// The counters of a sender: what became of the samples.
+pub fn of_resolved_counters() {
+    let _ = (SendCounters::set_resolved, SendCounters::attempt);
+    let _ = (SendCounters::drop_sample, SendCounters::drop_unsent);
+    let _ = (SendCounters::dropped, SendCounters::fail);
+}
