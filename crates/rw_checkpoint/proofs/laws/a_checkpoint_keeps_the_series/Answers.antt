@@ -1,0 +1,11 @@
+use Rattle.rw_checkpoint.proofs.CheckpointLemmas.{rest-same, whole-parts, owed-end}
+use Rattle.rw_checkpoint.proofs.laws.a_checkpoint_keeps_the_series.Goals as goal
+
+pub returns-clause-rest : goal.returns-clause-rest
+returns-clause-rest c = rest-same
+
+pub returns-clause-whole : goal.returns-clause-whole
+returns-clause-whole c = whole-parts
+
+pub returns-clause-owed : goal.returns-clause-owed
+returns-clause-owed c = owed-end

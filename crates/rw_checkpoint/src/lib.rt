@@ -1,0 +1,7 @@
+//! What is true of a log whose oldest segments were replaced by a checkpoint. Laws alone: nothing
+//! here runs.
+#![tactic(auto)]
+
+mod laws;
+
+pub use laws::a_checkpoint_keeps_the_series;

@@ -1,0 +1,2 @@
+pub mod GapLemmas
+pub mod NewestLemmas

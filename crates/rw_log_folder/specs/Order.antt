@@ -1,0 +1,81 @@
+-- Which files of a log are read, and in which order.
+use Rattle.std.specs.Prelude.{◌≡◌, ℕ, ◌+◌, ◌<◌, ◌≤◌, ltb, ◌==◌, Bool, true, false, if◌then◌else◌, List, [], ◌∷◌, ◌++◌, map, Option, None, Some}
+use Rattle.std.specs.List.{All, Contains, filter, list_any}
+use Rattle.std.specs.List.Sorted.{IsPermutation, IsSortedBy}
+use Rattle.std.specs.Ordering.{is_lt, nat_cmp, ordering_then}
+use Rattle.rw_log_folder.specs.declared.listing.Checkpoint.{Checkpoint}
+use Rattle.rw_log_folder.specs.declared.listing.Listing.{Listing}
+use Rattle.rw_log_folder.specs.declared.listing.Name.{Name}
+use Rattle.rw_log_folder.specs.declared.listing.Place.{Place}
+
+-- by number, and of two names of one number the shorter first
+abbrev pub comes_before : Name → Name → Bool
+comes_before x y = is_lt (ordering_then (nat_cmp x.number y.number) (nat_cmp x.digits y.digits))
+
+-- `sorted` has these names, by rising number
+abbrev pub AreByNumber : List Name → List Name → Type 0
+AreByNumber names sorted = IsPermutation names sorted × IsSortedBy comes_before sorted
+
+-- the checkpoint with the greatest number, if there is one
+abbrev pub IsNewest : List Checkpoint → Option Checkpoint → Type 0
+IsNewest checkpoints None = checkpoints ≡ []
+IsNewest checkpoints (Some newest) = Contains checkpoints newest
+    × All (λ (c : Checkpoint). c.name.number ≤ newest.name.number) checkpoints
+
+abbrev pub place_in : Option Name → Name → Place
+place_in checkpoint segment = record { checkpoint = checkpoint; segment = segment }
+
+-- the segment comes after a checkpoint of this number
+abbrev pub is_above : ℕ → Name → Bool
+is_above number segment = ltb number segment.number
+
+-- a segment of this number is there
+abbrev pub has_number : List Name → ℕ → Bool
+has_number segments n = list_any (λ (s : Name). s.number == n) segments
+
+-- a segment of a greater number is there
+abbrev pub has_above : List Name → ℕ → Bool
+has_above segments n = list_any (is_above n) segments
+
+-- n is the least number above `last` that is missing although a greater one is there
+pub record IsGap (last : ℕ) (segments : List Name) (n : ℕ) : Type 0 where
+  pub above : last < n
+  pub absent : has_number segments n ≡ false
+  pub later : has_above segments n ≡ true
+  pub least : (k : ℕ) → last < k → k < n → has_number segments k ≡ true
+
+-- no number above `last` is missing before one that is there
+abbrev pub IsWhole : ℕ → List Name → Type 0
+IsWhole last segments =
+    (k : ℕ) → last < k → has_above segments k ≡ true → has_number segments k ≡ true
+
+-- the same by a walk over segments in order
+abbrev pub gap_after : ℕ → List Name → Option ℕ
+gap_after last [] = None
+gap_after last (s ∷ ss) = if ltb (last + 1) s.number then Some (last + 1) else gap_after s.number ss
+
+-- the files of a log that is read from this checkpoint on: its segments by rising number, and then
+-- those of the folder with greater numbers than the checkpoint's, none missing between
+pub record IsReadFrom (checkpoint : Checkpoint) (segments : List Name) (places : List Place) : Type 0 where
+  pub first : List Name
+  pub then_ : List Name
+  pub first_sorted : AreByNumber checkpoint.segments.items first
+  pub then_sorted : AreByNumber (filter (is_above checkpoint.name.number) segments) then_
+  pub whole : IsWhole checkpoint.name.number (filter (is_above checkpoint.name.number) segments)
+  pub is : places ≡ map (place_in (Some checkpoint.name)) first ++ map (place_in None) then_
+
+-- the files of a log: from a checkpoint on, or, without one, all segments by rising number
+abbrev pub IsReadAfter : Option Checkpoint → List Name → List Place → Type 0
+IsReadAfter None segments places =
+    (sorted : List Name) × AreByNumber segments sorted × (places ≡ map (place_in None) sorted)
+IsReadAfter (Some checkpoint) segments places = IsReadFrom checkpoint segments places
+
+-- the files of the log in a folder, from the newest checkpoint on
+abbrev pub IsLogOrder : Listing → List Place → Type 0
+IsLogOrder listing places = (newest : Option Checkpoint)
+    × IsNewest listing.checkpoints.items newest × IsReadAfter newest listing.segments.items places
+
+-- the least number that is missing after the newest checkpoint although a greater one is there
+abbrev pub IsMissing : Listing → ℕ → Type 0
+IsMissing listing n = (checkpoint : Checkpoint) × IsNewest listing.checkpoints.items (Some checkpoint)
+    × IsGap checkpoint.name.number (filter (is_above checkpoint.name.number) listing.segments.items) n

@@ -1,0 +1,5 @@
+//! Tests of which files of a log in a folder are read.
+#![tactic(auto)]
+
+#[cfg(test)]
+mod order;
