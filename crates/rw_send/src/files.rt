@@ -78,7 +78,7 @@ pub(crate) struct SegmentName {
 }
 
 /// The number of a segment by the name of its file; none where it is no name of a segment.
-fn number_of(name: &str) -> Option<u64>
+pub(crate) fn number_of(name: &str) -> Option<u64>
     ensures { MatchOption result ((n : ℕ) → n < 2 ^ 64 → IsNameOf name.now n → ⊥)
         (IsNameOf name.now) }
 {
@@ -96,7 +96,7 @@ fn put_in_order(names: &mut Vec<SegmentName>)
 }
 
 /// Why a folder cannot be read.
-fn fault_of(error: &io::Error) -> ToolFault {
+pub(crate) fn fault_of(error: &io::Error) -> ToolFault {
     match error.kind() {
         ErrorKind::OutOfMemory => ToolFault::OutOfMemory,
         _ => ToolFault::Device,
@@ -137,7 +137,7 @@ pub(crate) fn names_in<R: Files + AllocGlobal + Copy>(
 }
 
 /// The file of a segment. The counters are told when it is opened.
-fn file_of<R: Files + AllocGlobal + Copy>(
+pub(crate) fn file_of<R: Files + AllocGlobal + Copy>(
     rt: &R,
     dir: &str,
     segment: SegmentName,
@@ -157,6 +157,36 @@ fn file_of<R: Files + AllocGlobal + Copy>(
     })
 }
 
+/// Appends a file that cannot be read.
+pub(crate) fn push_unreadable<R: Files<File = File> + AllocGlobal + Copy>(
+    rt: &R,
+    files: &mut Vec<Opened<SegmentFile<R>>>,
+) -> Result<(), AllocError> {
+    let alloc = rt.alloc();
+    files.push(Opened::unreadable(SegmentFile {
+        rt: *rt,
+        path: PathBuf::new(alloc),
+        name: String::new(alloc),
+        number: 0,
+        counters: None,
+    }))?;
+    Ok(())
+}
+
+/// Tells the counters, if there are any, how many bytes the files have.
+pub(crate) fn count_bytes<R: Files<File = File> + AllocGlobal + Copy>(
+    files: &[Opened<SegmentFile<R>>],
+    counters: Option<&Arc<SendCounters, Global>>,
+) {
+    if let Some(counters) = counters {
+        let mut bytes = 0u64;
+        for file in files {
+            bytes = bytes.saturating_add(file.place().bytes());
+        }
+        counters.set_folder_bytes(bytes);
+    }
+}
+
 /// The segments of a log in a folder, in the order of their numbers: the files whose names are one to eight decimal digits, and of two names
 /// of one number the shorter first. Other names are passed over. Of a folder that cannot be read there is one segment, which cannot be read.
 /// Counters are told how many bytes the segments have, and of each one that is opened.
@@ -169,24 +199,13 @@ pub fn segment_files<R: Files<File = File> + AllocGlobal + Copy>(
     let mut files = Vec::new(alloc);
     match names_in(rt, dir) {
         Ok(names) => {
-            let mut bytes = 0u64;
             for segment in names {
-                let file = file_of(rt, dir, segment, counters)?;
-                bytes = bytes.saturating_add(file.bytes());
-                files.push(Opened::new(file))?;
+                files.push(Opened::new(file_of(rt, dir, segment, counters)?))?;
             }
-            if let Some(counters) = counters {
-                counters.set_folder_bytes(bytes);
-            }
+            count_bytes(&files, counters);
         }
         Err(ToolFault::OutOfMemory) => return Err(AllocError),
-        Err(_) => files.push(Opened::unreadable(SegmentFile {
-            rt: *rt,
-            path: PathBuf::new(alloc),
-            name: String::new(alloc),
-            number: 0,
-            counters: None,
-        }))?,
+        Err(_) => push_unreadable(rt, &mut files)?,
     }
     Ok(files)
 }

@@ -1,5 +1,6 @@
 //! The segments of a folder in which a writer goes on writing.
 
+use crate::checkpoint::{FilesFault, first_files};
 use crate::files::{SegmentName, names_in};
 use rw_fault::ToolFault;
 use rw_follow::{Ahead, Segments};
@@ -14,9 +15,9 @@ use std::sync::Arc;
 
 /// A segment that is read.
 #[derive(Drop)]
-struct Current {
-    segment: SegmentName,
-    file: Std<File>,
+pub(crate) struct Current {
+    pub(crate) segment: SegmentName,
+    pub(crate) file: Std<File>,
 }
 
 /// The segments of a log in a folder, as they come: the files whose names are one to eight decimal digits, by number, and of two names of one number the
@@ -29,6 +30,12 @@ pub struct Folder<R> {
     current: Option<Current>,
     /// The one after it, once it was seen.
     ahead: Option<SegmentName>,
+    /// Whether a checkpoint is still to be looked for.
+    from_checkpoint: bool,
+    /// Those that are open and come after the current one, the last one first.
+    opened: Vec<Current>,
+    /// The segment of this number is missing after the checkpoint.
+    gap: Option<u64>,
     counters: Arc<SendCounters, Global>,
 }
 
@@ -57,12 +64,65 @@ fn name_after(names: Vec<SegmentName>, current: &Option<Current>) -> Option<Segm
 impl<R: Files<File = File> + AllocGlobal + Copy> Folder<R> {
     /// Of the folder of this name, from its first segment on. The counters are told of each segment that is opened.
     pub fn new(rt: R, dir: String, counters: Arc<SendCounters, Global>) -> Folder<R> {
+        let opened = Vec::new(rt.alloc());
         Folder {
             rt,
             dir,
             current: None,
             ahead: None,
+            from_checkpoint: false,
+            opened,
+            gap: None,
             counters,
+        }
+    }
+
+    /// Of the folder of this name, from its newest checkpoint on, if it has one when it is first
+    /// read: the segments of that checkpoint, and then those of the folder that come after it. The
+    /// files of the checkpoint and the first one after it are opened before the first byte is given.
+    pub fn from_checkpoint(rt: R, dir: String, counters: Arc<SendCounters, Global>) -> Folder<R> {
+        let opened = Vec::new(rt.alloc());
+        Folder {
+            rt,
+            dir,
+            current: None,
+            ahead: None,
+            from_checkpoint: true,
+            opened,
+            gap: None,
+            counters,
+        }
+    }
+
+    /// Makes the next one of the open files the current one.
+    fn take_opened(&mut self) {
+        if let Some(next) = self.opened.pop() {
+            self.counters.begin_segment(next.segment.number);
+            self.current = Some(next);
+        }
+    }
+
+    /// Opens what is read first, if it is there.
+    fn begin(&mut self) -> Result<(), ReadFault> {
+        if !self.from_checkpoint {
+            return match self.next_name()? {
+                Some(first) => self.open(first),
+                None => Ok(()),
+            };
+        }
+        match first_files(&self.rt, self.dir.as_str()) {
+            Ok(files) => {
+                self.opened = files;
+                self.opened.reverse();
+                self.take_opened();
+                Ok(())
+            }
+            Err(FilesFault::Missing(number)) => {
+                self.gap = Some(number);
+                Ok(())
+            }
+            Err(FilesFault::OutOfMemory) => Err(ReadFault::OutOfMemory),
+            Err(FilesFault::Unreadable) => Err(ReadFault::Failed),
         }
     }
 
@@ -112,9 +172,7 @@ impl<R: Files<File = File> + AllocGlobal + Copy> Segments for Folder<R> {
 
     fn read(&mut self, buf: &mut [u8]) -> Result<usize, ReadFault> {
         if self.current.is_none() {
-            if let Some(first) = self.next_name()? {
-                self.open(first)?;
-            }
+            self.begin()?;
         }
         match &mut self.current {
             Some(current) => match current.file.read(buf) {
@@ -126,6 +184,12 @@ impl<R: Files<File = File> + AllocGlobal + Copy> Segments for Folder<R> {
     }
 
     fn look(&mut self) -> Result<Ahead, ReadFault> {
+        if let Some(number) = self.gap {
+            return Ok(Ahead::Missing(number));
+        }
+        if !self.opened.is_empty() {
+            return Ok(Ahead::Segment);
+        }
         if self.current.is_none() {
             return Ok(Ahead::Nothing);
         }
@@ -142,6 +206,10 @@ impl<R: Files<File = File> + AllocGlobal + Copy> Segments for Folder<R> {
     }
 
     fn advance(&mut self) -> Result<(), ReadFault> {
+        if !self.opened.is_empty() {
+            self.take_opened();
+            return Ok(());
+        }
         match self.ahead.take() {
             Some(next) => self.open(next),
             None => Err(ReadFault::Failed),

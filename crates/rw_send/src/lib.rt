@@ -1,6 +1,7 @@
 //! The sender: segments of a log shipped over many shards, and the report of it printed.
 #![tactic(auto)]
 
+mod checkpoint;
 mod connect;
 mod files;
 mod folder;
@@ -12,6 +13,7 @@ mod printing;
 mod send;
 mod telling;
 
+pub use checkpoint::{LogFiles, has_checkpoint, log_files};
 pub use connect::TcpConnect;
 pub use files::{SegmentFile, segment_files};
 pub use folder::Folder;

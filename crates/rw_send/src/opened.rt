@@ -37,6 +37,17 @@ impl<O: Open> Opened<O> {
         }
     }
 
+    /// Opens it before it is read, and returns whether it could be opened.
+    pub(crate) fn open_now(&mut self) -> bool {
+        match self.place.open() {
+            Ok(source) => {
+                self.source = Some(source);
+                true
+            }
+            Err(_) => false,
+        }
+    }
+
     /// What it opens.
     pub fn place(&self) -> &O
         ensures { result.now ≡ self.now.place }

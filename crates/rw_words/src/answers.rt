@@ -1,6 +1,6 @@
 //! What an option gives, and what options ask for that several commands have.
 
-use crate::{Reporting, SettingsFile};
+use crate::{LogDir, Reporting, SettingsFile};
 use clap::ArgMatches;
 use rw_text::{Address, read_address};
 use rw_types::Bounded;
@@ -16,6 +16,15 @@ pub(crate) fn number_of<const LOW: u64, const HIGH: u64>(
 /// The address that an option gives; none where the HOST:PORT is none.
 pub(crate) fn address_of<'a>(options: &ArgMatches<'a>, name: &str) -> Option<Address<'a>> {
     read_address(options.get_str(name)?)
+}
+
+/// The folder with a log that an option gives.
+pub(crate) fn dir_of<'a>(options: &ArgMatches<'a>) -> Option<LogDir<'a>> {
+    let path = options.get_str("dir")?;
+    Some(LogDir {
+        path,
+        from_checkpoint: options.get_flag("checkpoint"),
+    })
 }
 
 /// Which settings are asked for.

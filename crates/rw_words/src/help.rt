@@ -31,7 +31,8 @@ Example:
   rwship plan --settings rwship.toml --dir data/wal
 
 It prints 'REFERENCE kept NUMBER LABELS' or 'REFERENCE filtered LABELS' for each series, and how many
-samples are kept and filtered. With --dir it reads the segments of a folder as 'send' does.
+samples are kept and filtered. With --dir it reads the segments of a folder as 'send' does, and with
+--checkpoint the newest checkpoint first.
 docs/SETTINGS.md tells the rules.
 
 Exit status: 0; 1 for a fault of the log; 2 for bad words or settings; 3 out of memory; 4 where a
@@ -77,8 +78,9 @@ Example:
 
   rwship send --dir data/wal --to receiver.example:9090 --progress --metrics 127.0.0.1:9200 --fail-on-drop
 
-DIR is the folder 'wal' of a server that has stopped, or a copy of it, from its first segment on; with
---follow that of a server that runs. --follow ends once standard input ends, or, with --stop-file, once
+DIR is the folder 'wal' of a server that has stopped, or a copy of it; with --follow that of a server
+that runs. A server removes its oldest segments and keeps their series in a checkpoint: read that with
+--checkpoint, or start from the first segment on. --follow ends once standard input ends, or, with --stop-file, once
 FILE is there: it ships what stands, and prints its report. A line 'hard', on standard input or as the
 first one of FILE, ends it at once. The report names each sample that was not taken; docs/OPERATING.md
 tells its lines, and docs/SETTINGS.md the settings.

@@ -8,7 +8,7 @@ mod receive;
 mod send;
 mod table;
 
-use answers::{number_of, settings_of};
+use answers::{dir_of, number_of, settings_of};
 use clap::ArgMatches;
 pub use commands::command_line;
 use receive::receive_task;
@@ -50,6 +50,14 @@ pub struct Following<'a> {
     pub reshard_ms: Bounded<10, 3_600_000>,
 }
 
+/// A folder with a log.
+#[derive(Clone, Copy)]
+pub struct LogDir<'a> {
+    pub path: &'a str,
+    /// Whether its newest checkpoint is read first, and then the segments after it.
+    pub from_checkpoint: bool,
+}
+
 /// How far a log is read.
 #[derive(Clone, Copy)]
 pub enum Reading<'a> {
@@ -72,7 +80,7 @@ pub struct Reporting<'a> {
 #[derive(Clone, Copy)]
 pub struct Sending<'a> {
     /// The segments of this folder are shipped.
-    pub dir: &'a str,
+    pub dir: LogDir<'a>,
     pub to: Address<'a>,
     pub reading: Reading<'a>,
     pub reporting: Reporting<'a>,
@@ -113,16 +121,16 @@ pub enum Task<'a> {
     Plan {
         settings: SettingsFile<'a>,
         hex: bool,
-        dir: Option<&'a str>,
+        dir: Option<LogDir<'a>>,
     },
     /// One log segment in, or all segments of `dir`; what they hold out.
     Inspect {
-        dir: Option<&'a str>,
+        dir: Option<LogDir<'a>>,
         json: bool,
     },
     /// All segments of `dir` in; the entries at the positions that `positions_of` gives out.
     Find {
-        dir: &'a str,
+        dir: LogDir<'a>,
     },
     /// An event script in; the state at its end out.
     Replay {
@@ -171,7 +179,7 @@ pub fn bad_address<'a>(words: &ArgMatches<'a>) -> Option<(&'static str, &'a str)
 
 /// What the options of `inspect` ask for.
 fn inspect_task<'a>(options: &ArgMatches<'a>) -> Task<'a> {
-    let dir = options.get_str("dir");
+    let dir = dir_of(options);
     match dir {
         Some(dir) if options.get_str("at").is_some() => Task::Find { dir },
         _ => Task::Inspect {
@@ -232,7 +240,7 @@ fn plan_task<'a>(settings: SettingsFile<'a>, options: &ArgMatches<'a>) -> Task<'
     Task::Plan {
         settings,
         hex: options.get_flag("hex"),
-        dir: options.get_str("dir"),
+        dir: dir_of(options),
     }
 }
 

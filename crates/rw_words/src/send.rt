@@ -1,6 +1,6 @@
 //! What the words of the command `send` ask for.
 
-use crate::answers::{address_of, number_of, reporting_of};
+use crate::answers::{address_of, dir_of, number_of, reporting_of};
 use crate::{Following, Reading, Sending, SettingsFile, Task};
 use clap::ArgMatches;
 
@@ -22,7 +22,7 @@ pub(crate) fn send_task<'a>(
     settings: SettingsFile<'a>,
     options: &ArgMatches<'a>,
 ) -> Option<Task<'a>> {
-    let dir = options.get_str("dir")?;
+    let dir = dir_of(options)?;
     let to = address_of(options, "to")?;
     let Some(reading) = reading_of(options) else {
         return None;

@@ -87,6 +87,13 @@ const SEGMENTS: Opt = Opt {
     help: "Read the segments of this folder in place of one on standard input",
 };
 
+const CHECKPOINT: Opt = Opt {
+    name: "checkpoint",
+    takes: Takes::Nothing,
+    bonds: &[Bond::Needs("dir")],
+    help: "With --dir: read the newest checkpoint there first, and then the segments after it",
+};
+
 const PROGRESS: Opt = Opt {
     name: "progress",
     takes: Takes::Nothing,
@@ -146,6 +153,7 @@ static PLAN: Words = Words {
         SETTINGS,
         EXPLAIN,
         SEGMENTS,
+        CHECKPOINT,
         Opt {
             name: "hex",
             takes: Takes::Nothing,
@@ -165,6 +173,7 @@ static INSPECT: Words = Words {
     after: help::INSPECT,
     options: &[
         SEGMENTS,
+        CHECKPOINT,
         Opt {
             name: "json",
             takes: Takes::Nothing,
@@ -227,6 +236,7 @@ static SEND: Words = Words {
             bonds: &[Bond::Required],
             help: "Ship the segments of this folder",
         },
+        CHECKPOINT,
         Opt {
             name: "to",
             takes: Takes::Text("HOST:PORT"),

@@ -3,14 +3,14 @@
 use crate::ending::{ended, unset};
 use crate::explaining::explained;
 use crate::input::{Form, Input, Reader};
-use crate::inspecting::{print_plan, tell_log};
+use crate::inspecting::{log_fault, print_plan};
 use crate::settings::settings_in;
 use rw_fault::ToolFault;
 use rw_log_commands::{run_body, run_log, run_log_dir, run_plan};
 use rw_replay::run_replay;
 use rw_settings::Settings;
 use rw_types::{Bounded, Std};
-use rw_words::SettingsFile;
+use rw_words::{LogDir, SettingsFile};
 use std::process::ExitCode;
 
 /// Writes the body of a segment.
@@ -62,16 +62,15 @@ pub fn log(
 }
 
 /// Prints the plan of the segments of a folder.
-fn plan_folder(rt: &HostRuntime, dir: &str, settings: Settings, is_explained: bool) -> ExitCode {
+fn plan_folder(
+    rt: &HostRuntime,
+    dir: LogDir<'_>,
+    settings: Settings,
+    is_explained: bool,
+) -> ExitCode {
     match print_plan(rt, dir, settings) {
         Ok(()) => ExitCode::SUCCESS,
-        Err(fault) => {
-            let status = ended(rt, Err(fault));
-            if is_explained {
-                tell_log(rt, dir, fault);
-            }
-            status
-        }
+        Err(fault) => log_fault(rt, dir, fault, is_explained),
     }
 }
 
@@ -89,7 +88,12 @@ fn plan_segment(rt: &HostRuntime, settings: Settings, hex: bool, is_explained: b
 }
 
 /// Prints the plan of a segment, or of the segments of a folder.
-pub fn plan(rt: &HostRuntime, file: SettingsFile<'_>, hex: bool, dir: Option<&str>) -> ExitCode {
+pub fn plan(
+    rt: &HostRuntime,
+    file: SettingsFile<'_>,
+    hex: bool,
+    dir: Option<LogDir<'_>>,
+) -> ExitCode {
     match settings_in(rt, file) {
         Ok(settings) => match dir {
             Some(dir) => plan_folder(rt, dir, settings, file.is_explained),

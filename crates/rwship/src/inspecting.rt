@@ -1,35 +1,62 @@
 //! The command `inspect`, and what other commands print of a log that they could not read.
 
-use crate::ending::tell_device;
+use crate::ending::{followed, tell_device};
 use crate::input::Reader;
 use rw_fault::ToolFault;
 use rw_inspect::{Damage, Named, Report, find_entries, inspect, json_of, plan_segments, table_of};
-use rw_send::{Opened, SegmentFile, segment_files};
+use rw_metrics::SendCounters;
+use rw_send::{FollowFault, LogFiles, Opened, SegmentFile, log_files, segment_files};
 use rw_settings::Settings;
 use rw_types::{Std, write_all};
-use std::alloc::AllocError;
+use rw_words::LogDir;
+use std::alloc::{AllocError, Global};
 use std::fs;
 use std::path::Path;
+use std::process::ExitCode;
+use std::sync::Arc;
 
-/// Returns the segments of a folder, each with the name of its file.
+/// Returns the files of the log in a folder, of which the counters are told.
+pub fn files_of(
+    rt: &HostRuntime,
+    dir: LogDir<'_>,
+    counters: Option<&Arc<SendCounters, Global>>,
+) -> Result<LogFiles<HostRuntime>, AllocError> {
+    if dir.from_checkpoint {
+        return log_files(rt, dir.path, counters);
+    }
+    Ok(LogFiles {
+        files: segment_files(rt, dir.path, counters)?,
+        missing: None,
+    })
+}
+
+/// Returns the files of the log in a folder, each with its name.
 fn named_files(
     rt: &HostRuntime,
-    dir: &str,
-) -> Result<Vec<Named<Opened<SegmentFile<HostRuntime>>>>, AllocError> {
+    dir: LogDir<'_>,
+) -> Result<Vec<Named<Opened<SegmentFile<HostRuntime>>>>, FollowFault> {
     let alloc = rt.alloc();
+    let LogFiles { files, missing } = files_of(rt, dir, None)?;
+    if let Some(number) = missing {
+        return Err(FollowFault::Missing(number));
+    }
     let mut named = Vec::new(alloc);
-    for source in segment_files(rt, dir, None)? {
+    for source in files {
         let name = String::from_str(alloc, source.place().name())?;
         if named.push(Named { name, source }).is_err() {
-            return Err(AllocError);
+            return Err(FollowFault::Tool(ToolFault::OutOfMemory));
         }
     }
     Ok(named)
 }
 
 /// Reads the segments of a folder.
-fn inspect_folder(rt: &HostRuntime, dir: &str) -> Result<Report, ToolFault> {
-    Ok(inspect(rt.alloc(), named_files(rt, dir)?)?)
+fn inspect_folder(rt: &HostRuntime, dir: LogDir<'_>) -> Result<Report, FollowFault> {
+    let files = named_files(rt, dir)?;
+    match inspect(rt.alloc(), files) {
+        Ok(report) => Ok(report),
+        Err(fault) => Err(FollowFault::Tool(ToolFault::from(fault))),
+    }
 }
 
 /// Reads a segment that is no file.
@@ -66,26 +93,45 @@ fn print_report(rt: &HostRuntime, report: &Report, json: bool) -> Result<(), Too
 
 /// Prints what the segments of a folder hold, or the one on standard input. A fault of the log is
 /// printed at the end, and returned.
-pub fn print_inspected(rt: &HostRuntime, dir: Option<&str>, json: bool) -> Result<(), ToolFault> {
+pub fn print_inspected(
+    rt: &HostRuntime,
+    dir: Option<LogDir<'_>>,
+    json: bool,
+) -> Result<(), FollowFault> {
     let report = match dir {
         Some(dir) => inspect_folder(rt, dir)?,
         None => inspect_segment(rt, Reader::Live(Std::new(rt.stdin())))?,
     };
-    print_report(rt, &report, json)
+    Ok(print_report(rt, &report, json)?)
 }
 
 /// Prints the plan of the segments of a folder.
-pub fn print_plan(rt: &HostRuntime, dir: &str, settings: Settings) -> Result<(), ToolFault> {
+pub fn print_plan(
+    rt: &HostRuntime,
+    dir: LogDir<'_>,
+    settings: Settings,
+) -> Result<(), FollowFault> {
     let segments = named_files(rt, dir)?;
     let choice = settings.config.into_fields().into_choice();
     let mut output = Std::new(rt.stdout());
-    fault_of(plan_segments(rt.alloc(), choice, segments, &mut output)?)
+    match plan_segments(rt.alloc(), choice, segments, &mut output) {
+        Ok(damage) => Ok(fault_of(damage)?),
+        Err(fault) => Err(FollowFault::Tool(ToolFault::from(fault))),
+    }
 }
 
 /// Prints the entries at positions of the log in a folder, and returns how many do not exist. A
 /// fault of the log is printed at the end, and returned.
-pub fn print_found(rt: &HostRuntime, dir: &str, positions: Vec<u64>) -> Result<u64, ToolFault> {
-    let found = find_entries(rt.alloc(), named_files(rt, dir)?, positions)?;
+pub fn print_found(
+    rt: &HostRuntime,
+    dir: LogDir<'_>,
+    positions: Vec<u64>,
+) -> Result<u64, FollowFault> {
+    let files = named_files(rt, dir)?;
+    let found = match find_entries(rt.alloc(), files, positions) {
+        Ok(found) => found,
+        Err(fault) => return Err(FollowFault::Tool(ToolFault::from(fault))),
+    };
     print_text(rt, &found.text)?;
     fault_of(found.damage)?;
     Ok(found.missing)
@@ -112,16 +158,16 @@ pub fn tell_report(rt: &HostRuntime, report: &Report) -> Result<(), AllocError> 
 }
 
 /// Prints the fault of the log in a folder, which is read once more for that.
-fn tell_damage(rt: &HostRuntime, dir: &str) {
+fn tell_damage(rt: &HostRuntime, dir: LogDir<'_>) {
     if let Ok(report) = inspect_folder(rt, dir) {
         let _ = tell_report(rt, &report);
     }
 }
 
 /// Prints which segment cannot be opened, the first one.
-fn tell_first_closed(rt: &HostRuntime, dir: &str) -> Result<(), AllocError> {
-    for segment in segment_files(rt, dir, None)? {
-        let path = Path::new(dir).join(rt.alloc(), segment.place().name())?;
+fn tell_first_closed(rt: &HostRuntime, dir: LogDir<'_>) -> Result<(), AllocError> {
+    for segment in files_of(rt, dir, None)?.files {
+        let path = Path::new(dir.path).join(rt.alloc(), segment.place().name())?;
         if let Err(error) = fs::open(rt, path.as_path()) {
             tell_device(rt, "read", path.as_path().as_str(), &error);
             return Ok(());
@@ -131,20 +177,37 @@ fn tell_first_closed(rt: &HostRuntime, dir: &str) -> Result<(), AllocError> {
 }
 
 /// Prints what cannot be read of a folder, which is tried once more for that.
-fn tell_unreadable(rt: &HostRuntime, dir: &str) {
-    match fs::read_dir(rt, dir) {
+fn tell_unreadable(rt: &HostRuntime, dir: LogDir<'_>) {
+    match fs::read_dir(rt, dir.path) {
         Ok(_) => {
             let _ = tell_first_closed(rt, dir);
         }
-        Err(error) => tell_device(rt, "read", dir, &error),
+        Err(error) => tell_device(rt, "read", dir.path, &error),
     }
 }
 
 /// Prints what is wrong with the log in a folder that could not be shipped for this fault.
-pub fn tell_log(rt: &HostRuntime, dir: &str, fault: ToolFault) {
+fn tell_log(rt: &HostRuntime, dir: LogDir<'_>, fault: ToolFault) {
     match fault {
         ToolFault::Log(_) => tell_damage(rt, dir),
         ToolFault::Device => tell_unreadable(rt, dir),
         _ => {}
     }
+}
+
+/// Prints the fault of the log in a folder and, if that is asked for, what is wrong with the folder.
+/// Returns the exit status.
+pub fn log_fault(
+    rt: &HostRuntime,
+    dir: LogDir<'_>,
+    fault: FollowFault,
+    is_explained: bool,
+) -> ExitCode {
+    let status = followed(rt, fault);
+    if let FollowFault::Tool(fault) = fault {
+        if is_explained {
+            tell_log(rt, dir, fault);
+        }
+    }
+    status
 }

@@ -13,13 +13,14 @@ mod settings;
 mod sign;
 
 use clap::ArgMatches;
-use ending::{bad_words, ended, missing, no_address, unparsed, unset};
+use ending::{bad_words, ended, followed, missing, no_address, unparsed, unset};
 use engines::{body, log, plan, replay};
 use inspecting::{print_found, print_inspected};
 use receiving::receive;
 use rw_fault::ToolFault;
+use rw_send::FollowFault;
 use rw_types::{Std, write_all};
-use rw_words::{SettingsFile, Task, command_line, positions_of, task_of};
+use rw_words::{LogDir, SettingsFile, Task, command_line, positions_of, task_of};
 use sending::send;
 use settings::printed_settings;
 use std::env;
@@ -42,7 +43,11 @@ fn print_settings(rt: &HostRuntime, settings: SettingsFile<'_>) -> ExitCode {
 }
 
 /// Prints the entries at positions of the log in a folder.
-fn find(rt: &HostRuntime, dir: &str, words: &ArgMatches<'_>) -> Result<ExitCode, ToolFault> {
+fn find(
+    rt: &HostRuntime,
+    dir: LogDir<'_>,
+    words: &ArgMatches<'_>,
+) -> Result<ExitCode, FollowFault> {
     let positions = positions_of(rt.alloc(), words)?;
     match print_found(rt, dir, positions)? {
         0 => Ok(ExitCode::SUCCESS),
@@ -66,10 +71,13 @@ fn perform<R: Threads + Wait + Clock + Copy + Send + Sync + 'static>(
             is_explained,
         } => log(rt, *hex, *pages, *dir, *is_explained),
         Task::Plan { settings, hex, dir } => plan(rt, *settings, *hex, *dir),
-        Task::Inspect { dir, json } => ended(rt, print_inspected(rt, *dir, *json)),
-        Task::Find { dir } => match find(rt, dir, words) {
+        Task::Inspect { dir, json } => match print_inspected(rt, *dir, *json) {
+            Ok(()) => ExitCode::SUCCESS,
+            Err(fault) => followed(rt, fault),
+        },
+        Task::Find { dir } => match find(rt, *dir, words) {
             Ok(status) => status,
-            Err(fault) => ended(rt, Err(fault)),
+            Err(fault) => followed(rt, fault),
         },
         Task::Replay { settings } => replay(rt, *settings),
         Task::Settings { settings } => print_settings(rt, *settings),

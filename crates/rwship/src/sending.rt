@@ -1,7 +1,7 @@
 //! The command `send`.
 
-use crate::ending::{dropped, ended, followed, tell_device, unset};
-use crate::inspecting::tell_log;
+use crate::ending::{dropped, ended, tell_device, unset};
+use crate::inspecting::{files_of, log_fault};
 use crate::reporting::{begin_reporting, end_reporting};
 use crate::settings::settings_in;
 use crate::sign::{Told, sign_of};
@@ -9,13 +9,13 @@ use rw_fault::ToolFault;
 use rw_follow::Timed;
 use rw_metrics::{Counters, SendCounters};
 use rw_send::{
-    Counted, Folder, FollowFault, Opened, SegmentFile, StopFlag, TcpConnect, run_follow, run_send,
-    segment_files,
+    Counted, Folder, FollowFault, LogFiles, StopFlag, TcpConnect, has_checkpoint, run_follow,
+    run_send,
 };
 use rw_settings::Settings;
 use rw_tcp::look_up;
 use rw_types::{Bounded, Std};
-use rw_words::{Following, Reading, Reporting, Sending, SettingsFile};
+use rw_words::{Following, LogDir, Reading, Reporting, Sending, SettingsFile};
 use std::alloc::{AllocError, Global};
 use std::io::{Error, ErrorKind};
 use std::net::SocketAddr;
@@ -26,8 +26,8 @@ use std::time::{Clock, Duration};
 
 /// The log that is shipped.
 enum Log {
-    /// The segments that the folder has.
-    Whole(Vec<Opened<SegmentFile<HostRuntime>>>),
+    /// The files that the folder has.
+    Whole(LogFiles<HostRuntime>),
     /// The folder while it grows, and what says when that ends.
     Growing(Folder<HostRuntime>, Timed<HostRuntime, Told>),
 }
@@ -59,11 +59,15 @@ fn watch_of<R: Threads>(
 /// Returns a folder that is read while it grows.
 fn folder_of(
     rt: &HostRuntime,
-    dir: &str,
+    dir: LogDir<'_>,
     counters: &Arc<SendCounters, Global>,
 ) -> Result<Folder<HostRuntime>, AllocError> {
-    let dir = String::from_str(rt.alloc(), dir)?;
-    Ok(Folder::new(*rt, dir, Arc::try_clone(counters)?))
+    let path = String::from_str(rt.alloc(), dir.path)?;
+    let counters = Arc::try_clone(counters)?;
+    if dir.from_checkpoint {
+        return Ok(Folder::from_checkpoint(*rt, path, counters));
+    }
+    Ok(Folder::new(*rt, path, counters))
 }
 
 /// Returns the log in the folder, to be read as it is or while it grows.
@@ -75,7 +79,7 @@ fn log_of<R: Threads>(
     counters: &Arc<SendCounters, Global>,
 ) -> Result<Log, AllocError> {
     match &sending.reading {
-        Reading::Whole => Ok(Log::Whole(segment_files(rt, sending.dir, Some(counters))?)),
+        Reading::Whole => Ok(Log::Whole(files_of(rt, sending.dir, Some(counters))?)),
         Reading::Follow(following) => {
             let folder = folder_of(rt, sending.dir, counters)?;
             Ok(Log::Growing(folder, watch_of(rt, threads, following, stop)?))
@@ -140,6 +144,14 @@ fn prepare<R: Threads>(
     }
 }
 
+/// Returns the fault of a log that is read as it is, of which this segment is missing.
+fn whole_fault(missing: Option<u64>, fault: ToolFault) -> FollowFault {
+    match (missing, fault) {
+        (Some(number), ToolFault::Device) => FollowFault::Missing(number),
+        _ => FollowFault::Tool(fault),
+    }
+}
+
 /// Ships a log, until its end or until a stop, and prints the report.
 fn ship_log<R: Threads + Wait + Clock + Copy + Send + 'static>(
     rt: &HostRuntime,
@@ -150,9 +162,11 @@ fn ship_log<R: Threads + Wait + Clock + Copy + Send + 'static>(
 ) -> Result<(), FollowFault> {
     let mut output = Std::new(rt.stdout());
     match log {
-        Log::Whole(segments) => {
-            let sent = run_send(threads, rt.alloc(), settings, segments, line, &mut output);
-            sent.map_err(FollowFault::Tool)
+        Log::Whole(LogFiles { files, missing }) => {
+            match run_send(threads, rt.alloc(), settings, files, line, &mut output) {
+                Ok(()) => Ok(()),
+                Err(fault) => Err(whole_fault(missing, fault)),
+            }
         }
         Log::Growing(mut folder, mut watch) => run_follow(
             threads,
@@ -166,6 +180,33 @@ fn ship_log<R: Threads + Wait + Clock + Copy + Send + 'static>(
     }
 }
 
+/// Whether the folder that is sent has a checkpoint that is passed over.
+fn passes_checkpoint_over(rt: &HostRuntime, dir: LogDir<'_>) -> bool {
+    !dir.from_checkpoint && has_checkpoint(rt, dir.path)
+}
+
+/// Reports that a checkpoint is passed over, if progress or faults are reported.
+fn note_checkpoint(rt: &HostRuntime, sending: &Sending<'_>, is_explained: bool) {
+    let is_reported = is_explained || sending.reporting.has_progress;
+    if is_reported && passes_checkpoint_over(rt, sending.dir) {
+        let _ = eprintln!(rt;
+            "rwship: the newest checkpoint is passed over; --checkpoint reads it"
+        );
+    }
+}
+
+/// Reports that samples had no series, if a checkpoint was passed over that may have them.
+fn note_lost_series(rt: &HostRuntime, sending: &Sending<'_>, counters: &SendCounters) {
+    if let Ok(numbers) = counters.numbers(rt.alloc()) {
+        let count = numbers.drops.no_series;
+        if count > 0 && passes_checkpoint_over(rt, sending.dir) {
+            let _ = eprintln!(rt;
+                "  samples without a series: {count}; --checkpoint reads series from the newest checkpoint"
+            );
+        }
+    }
+}
+
 /// Ships what was prepared, and ends the reporting. Returns how many samples were dropped.
 fn ship<R: Threads + Wait + Clock + Copy + Send + 'static>(
     rt: &HostRuntime,
@@ -173,6 +214,7 @@ fn ship<R: Threads + Wait + Clock + Copy + Send + 'static>(
     settings: Settings,
     sending: &Sending<'_>,
     shipment: Shipment,
+    is_explained: bool,
 ) -> Result<u64, FollowFault> {
     let Shipment {
         log,
@@ -188,6 +230,9 @@ fn ship<R: Threads + Wait + Clock + Copy + Send + 'static>(
     };
     let outcome = ship_log(rt, threads, settings, log, line);
     let count = counters.dropped();
+    if is_explained {
+        note_lost_series(rt, sending, &counters);
+    }
     end_reporting(rt, &sending.reporting, &Counters::Send(counters));
     match outcome {
         Ok(()) => Ok(count),
@@ -219,15 +264,7 @@ fn report_outcome(
     match outcome {
         Ok(count) if count > 0 && sending.fails_on_drop => dropped(rt, count),
         Ok(_) => ExitCode::SUCCESS,
-        Err(fault) => {
-            let status = followed(rt, fault);
-            if let FollowFault::Tool(fault) = fault {
-                if is_explained {
-                    tell_log(rt, sending.dir, fault);
-                }
-            }
-            status
-        }
+        Err(fault) => log_fault(rt, sending.dir, fault, is_explained),
     }
 }
 
@@ -262,9 +299,10 @@ fn send_by<R: Threads + Wait + Clock + Copy + Send + 'static>(
     is_explained: bool,
 ) -> ExitCode {
     let timeout_ms = settings.config.fields().timeout_ms;
+    note_checkpoint(rt, sending, is_explained);
     match start(rt, threads, sending, timeout_ms, is_explained) {
         Ok(shipment) => {
-            let outcome = ship(rt, threads, settings, sending, shipment);
+            let outcome = ship(rt, threads, settings, sending, shipment, is_explained);
             report_outcome(rt, sending, outcome, is_explained)
         }
         Err(status) => status,

@@ -28,7 +28,11 @@ pub fn of_written_folders<F: Files, R: Source>(
 
 /// The calls of folders of segments.
 pub fn of_folders<R: Files<File = File> + AllocGlobal + Copy>() {
-    let _ = (Folder::<R>::new, segment_files::<R>);
+    let _ = (
+        Folder::<R>::new,
+        Folder::<R>::from_checkpoint,
+        segment_files::<R>,
+    );
     let _ = SegmentFile::<R>::name;
 }
 

@@ -1,0 +1,242 @@
+//! The files that are read of folders, by rows. Each file holds its own path in the folder and a
+//! space.
+
+use rw_follow::{Ahead, Segments};
+use rw_metrics::SendCounters;
+use rw_send::{Folder, LogFiles, log_files};
+use rw_types::read_to_end;
+use std::alloc::{AllocError, Global};
+use std::path::{Path, PathBuf};
+use std::sync::Arc;
+use std::test::Fail;
+use std::{env, fs};
+
+/// A folder and what is read of it.
+struct Row {
+    name: &'static str,
+    folders: &'static [&'static str],
+    files: &'static [&'static str],
+    /// What the files hold that are read; and the number of the segment that is missing.
+    text: &'static str,
+    missing: Option<u64>,
+}
+
+static ROWS: [Row; 8] = [
+    Row {
+        name: "no checkpoint",
+        folders: &[],
+        files: &["00000001", "00000000", "x"],
+        text: "00000000 00000001 ",
+        missing: None,
+    },
+    Row {
+        name: "a checkpoint",
+        folders: &["checkpoint.00000003"],
+        files: &[
+            "checkpoint.00000003/00000001",
+            "checkpoint.00000003/00000000",
+            "00000005",
+            "00000004",
+        ],
+        text: "checkpoint.00000003/00000000 checkpoint.00000003/00000001 00000004 00000005 ",
+        missing: None,
+    },
+    Row {
+        name: "an unfinished checkpoint is passed over",
+        folders: &["checkpoint.00000003", "checkpoint.00000004.tmp"],
+        files: &[
+            "checkpoint.00000003/00000000",
+            "checkpoint.00000004.tmp/00000000",
+            "00000004",
+        ],
+        text: "checkpoint.00000003/00000000 00000004 ",
+        missing: None,
+    },
+    Row {
+        name: "segments up to the checkpoint are passed over",
+        folders: &["checkpoint.00000003"],
+        files: &[
+            "00000002",
+            "00000003",
+            "checkpoint.00000003/00000000",
+            "00000004",
+        ],
+        text: "checkpoint.00000003/00000000 00000004 ",
+        missing: None,
+    },
+    Row {
+        name: "of two checkpoints the newer one counts",
+        folders: &["checkpoint.00000003", "checkpoint.00000011"],
+        files: &[
+            "checkpoint.00000003/00000000",
+            "checkpoint.00000011/00000000",
+            "00000011",
+            "00000012",
+        ],
+        text: "checkpoint.00000011/00000000 00000012 ",
+        missing: None,
+    },
+    Row {
+        name: "nothing after the checkpoint",
+        folders: &["checkpoint.00000003"],
+        files: &["checkpoint.00000003/00000000"],
+        text: "checkpoint.00000003/00000000 ",
+        missing: None,
+    },
+    Row {
+        name: "a gap after the checkpoint",
+        folders: &["checkpoint.00000003"],
+        files: &["checkpoint.00000003/00000000", "00000005"],
+        text: "",
+        missing: Some(4),
+    },
+    Row {
+        name: "a short name keeps its digits",
+        folders: &["checkpoint.3"],
+        files: &["checkpoint.3/0", "checkpoint.3/007", "4"],
+        text: "checkpoint.3/0 checkpoint.3/007 4 ",
+        missing: None,
+    },
+];
+
+/// Makes a folder of this name that holds what a row says.
+fn make_folder(rt: &HostRuntime, name: &str, row: &Row) -> Result<PathBuf, Fail> {
+    let temp = env::temp_dir(rt)?;
+    let dir = temp.as_path().join(rt.alloc(), name)?;
+    let _ = fs::remove_dir_all(rt, dir.as_path());
+    fs::create_dir(rt, dir.as_path())?;
+    for folder in row.folders {
+        fs::create_dir(rt, dir.as_path().join(rt.alloc(), folder)?.as_path())?;
+    }
+    for file in row.files {
+        let text = format!(in rt.alloc(); "{file} ")?;
+        fs::write(rt, dir.as_path().join(rt.alloc(), file)?, text)?;
+    }
+    Ok(dir)
+}
+
+/// Appends what files hold. Returns whether all could be read.
+fn read_all(rt: &HostRuntime, log: LogFiles<HostRuntime>, text: &mut Vec<u8>) -> bool {
+    for file in log.files {
+        let mut file = file;
+        if read_to_end(rt.alloc(), &mut file, text).is_err() {
+            return false;
+        }
+    }
+    true
+}
+
+/// Whether the log in a folder is read as a row says. The folder is removed once it was opened, if
+/// that is asked for.
+fn is_read(rt: &HostRuntime, dir: Path<'_>, row: &Row, goes: bool) -> Result<bool, AllocError> {
+    let log = log_files(rt, dir.as_str(), None)?;
+    if goes {
+        let _ = fs::remove_dir_all(rt, dir);
+    }
+    if log.missing.is_some() {
+        return Ok(log.missing == row.missing && log.files.len() == 1);
+    }
+    let mut text = Vec::new(rt.alloc());
+    let is_whole = read_all(rt, log, &mut text);
+    Ok(is_whole && row.missing.is_none() && text.as_slice() == row.text.as_bytes())
+}
+
+/// Follows a folder to its end. Returns the number that is missing; `Err` if it cannot be read.
+fn follow(folder: &mut Folder<HostRuntime>, text: &mut Vec<u8>) -> Result<Option<u64>, ()> {
+    let mut buf = [0u8; 64];
+    for _ in 0..100 {
+        let Ok(count) = folder.read(&mut buf) else {
+            return Err(());
+        };
+        if count > 0 {
+            if text.extend_from_slice(&buf[..count]).is_err() {
+                return Err(());
+            }
+            continue;
+        }
+        match folder.look() {
+            Ok(Ahead::Segment) if folder.advance().is_ok() => {}
+            Ok(Ahead::Missing(number)) => return Ok(Some(number)),
+            Ok(Ahead::Nothing) => return Ok(None),
+            _ => return Err(()),
+        }
+    }
+    Err(())
+}
+
+/// Whether the log in a folder is followed as a row says.
+fn is_followed(rt: &HostRuntime, dir: Path<'_>, row: &Row) -> Result<bool, AllocError> {
+    let alloc = rt.alloc();
+    let counters = Arc::new(alloc, SendCounters::new(alloc)?)?;
+    let path = String::from_str(alloc, dir.as_str())?;
+    let mut folder = Folder::from_checkpoint(*rt, path, counters);
+    let mut text = Vec::new(alloc);
+    let missing = follow(&mut folder, &mut text);
+    Ok(missing == Ok(row.missing) && text.as_slice() == row.text.as_bytes())
+}
+
+/// The first row that does not hold, over folders that begin with this name.
+fn first_wrong(rt: &HostRuntime, name: &str) -> Result<Option<&'static str>, Fail> {
+    for row in &ROWS {
+        let dir = make_folder(rt, name, row)?;
+        let is_so = is_read(rt, dir.as_path(), row, false)? && is_followed(rt, dir.as_path(), row)?;
+        fs::remove_dir_all(rt, dir.as_path())?;
+        if !is_so {
+            return Ok(Some(row.name));
+        }
+    }
+    Ok(None)
+}
+
+#[test]
+fn folders_are_read_from_their_newest_checkpoint_on(rt: HostRuntime) -> Result<(), Fail> {
+    assert_eq!(rt; first_wrong(&rt, "rwship-folders-from-a-checkpoint")?, None);
+    Ok(())
+}
+
+/// What goes with the folder is what was open, and the second segment after the checkpoint was not.
+static GOES: Row = Row {
+    name: "a checkpoint that is removed once it is open",
+    folders: &["checkpoint.00000003"],
+    files: &[
+        "checkpoint.00000003/00000000",
+        "checkpoint.00000003/00000001",
+        "00000004",
+    ],
+    text: "checkpoint.00000003/00000000 checkpoint.00000003/00000001 00000004 ",
+    missing: None,
+};
+
+#[test]
+fn a_checkpoint_that_goes_is_read_to_its_end(rt: HostRuntime) -> Result<(), Fail> {
+    let dir = make_folder(&rt, "rwship-a-checkpoint-that-goes", &GOES)?;
+    let is_so = is_read(&rt, dir.as_path(), &GOES, true)?;
+    assert!(rt; is_so);
+    Ok(())
+}
+
+/// A file that has the name of a checkpoint cannot be listed.
+static NO_FOLDER: Row = Row {
+    name: "a checkpoint that is no folder",
+    folders: &[],
+    files: &["checkpoint.00000003", "00000004"],
+    text: "",
+    missing: None,
+};
+
+/// Whether the log in a folder cannot be read.
+fn is_unreadable(rt: &HostRuntime, dir: &str) -> Result<bool, AllocError> {
+    let log = log_files(rt, dir, None)?;
+    let is_one = log.files.len() == 1 && log.missing.is_none();
+    let mut text = Vec::new(rt.alloc());
+    Ok(is_one && !read_all(rt, log, &mut text))
+}
+
+#[test]
+fn what_cannot_be_read_is_no_empty_log(rt: HostRuntime) -> Result<(), Fail> {
+    let dir = make_folder(&rt, "rwship-a-checkpoint-that-is-no-folder", &NO_FOLDER)?;
+    let is_so = is_unreadable(&rt, dir.as_str())? && is_unreadable(&rt, "/no such folder")?;
+    fs::remove_dir_all(&rt, dir.as_path())?;
+    assert!(rt; is_so);
+    Ok(())
+}
