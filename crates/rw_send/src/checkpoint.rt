@@ -195,11 +195,14 @@ fn segment_at(alloc: Global, place: Place) -> Result<SegmentName, AllocError> {
 }
 
 /// Returns the files of a log, of which those of the checkpoint and the first one after it are open.
+/// The first one of them that cannot be opened is the only one in `closed`.
 fn open_files<R: Files<File = File> + AllocGlobal + Copy>(
     rt: &R,
     dir: &str,
     counters: Option<&Arc<SendCounters, Global>>,
+    closed: &mut Vec<Opened<SegmentFile<R>>>,
 ) -> Result<Vec<Opened<SegmentFile<R>>>, FilesFault> {
+    closed.clear();
     let alloc = rt.alloc();
     let places = log_order(alloc, list_all(rt, dir)?)?;
     let mut files = Vec::with_capacity(alloc, places.len())?;
@@ -208,6 +211,7 @@ fn open_files<R: Files<File = File> + AllocGlobal + Copy>(
         let segment = segment_at(alloc, place)?;
         let mut file = Opened::new(file_of(rt, dir, segment, counters)?);
         if is_at_checkpoint && !file.open_now() {
+            closed.push(file)?;
             return Err(FilesFault::Unreadable);
         }
         is_at_checkpoint = is_at_checkpoint && place.checkpoint.is_some();
@@ -276,15 +280,16 @@ pub(crate) fn first_files<R: Files<File = File> + AllocGlobal + Copy>(
 /// The files of the checkpoint and the first one after it are open, so that they can be read even if
 /// a server removes them. If one of them is gone before it is opened, the folder is listed again,
 /// three times at most. If a segment is missing, or the folder or one of these files cannot be read,
-/// there is one file, which cannot be read.
+/// there is one file, which cannot be read: the first one that cannot be opened, if it is known.
 pub fn log_files<R: Files<File = File> + AllocGlobal + Copy>(
     rt: &R,
     dir: &str,
     counters: Option<&Arc<SendCounters, Global>>,
 ) -> Result<LogFiles<R>, AllocError> {
+    let mut closed = Vec::new(rt.alloc());
     let mut missing = None;
     for _ in 0..MOST_LISTINGS {
-        match open_files(rt, dir, counters) {
+        match open_files(rt, dir, counters, &mut closed) {
             Ok(files) => {
                 count_bytes(&files, counters);
                 return Ok(LogFiles {
@@ -297,7 +302,11 @@ pub fn log_files<R: Files<File = File> + AllocGlobal + Copy>(
             Err(FilesFault::Unreadable) => missing = None,
         }
     }
-    let mut files = Vec::new(rt.alloc());
-    push_unreadable(rt, &mut files)?;
-    Ok(LogFiles { files, missing })
+    if closed.is_empty() {
+        push_unreadable(rt, &mut closed)?;
+    }
+    Ok(LogFiles {
+        files: closed,
+        missing,
+    })
 }

@@ -37,15 +37,13 @@ impl<O: Open> Opened<O> {
         }
     }
 
-    /// Opens it before it is read, and returns whether it could be opened.
+    /// Opens it before it is read, and returns whether it could be opened. If not, each read fails.
     pub(crate) fn open_now(&mut self) -> bool {
         match self.place.open() {
-            Ok(source) => {
-                self.source = Some(source);
-                true
-            }
-            Err(_) => false,
+            Ok(source) => self.source = Some(source),
+            Err(_) => self.failed = true,
         }
+        !self.failed
     }
 
     /// What it opens.

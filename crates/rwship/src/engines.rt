@@ -3,7 +3,7 @@
 use crate::ending::{ended, unset};
 use crate::explaining::explained;
 use crate::input::{Form, Input, Reader};
-use crate::inspecting::{log_fault, print_plan};
+use crate::inspecting::{log_fault, note_checkpoint, print_plan};
 use crate::settings::settings_in;
 use rw_fault::ToolFault;
 use rw_log_commands::{run_body, run_log, run_log_dir, run_plan};
@@ -68,6 +68,9 @@ fn plan_folder(
     settings: Settings,
     is_explained: bool,
 ) -> ExitCode {
+    if is_explained {
+        note_checkpoint(rt, dir);
+    }
     match print_plan(rt, dir, settings) {
         Ok(()) => ExitCode::SUCCESS,
         Err(fault) => log_fault(rt, dir, fault, is_explained),

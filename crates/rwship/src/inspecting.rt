@@ -5,7 +5,9 @@ use crate::input::Reader;
 use rw_fault::ToolFault;
 use rw_inspect::{Damage, Named, Report, find_entries, inspect, json_of, plan_segments, table_of};
 use rw_metrics::SendCounters;
-use rw_send::{FollowFault, LogFiles, Opened, SegmentFile, log_files, segment_files};
+use rw_send::{
+    FollowFault, LogFiles, Opened, SegmentFile, has_checkpoint, log_files, segment_files,
+};
 use rw_settings::Settings;
 use rw_types::{Std, write_all};
 use rw_words::LogDir;
@@ -28,6 +30,20 @@ pub fn files_of(
         files: segment_files(rt, dir.path, counters)?,
         missing: None,
     })
+}
+
+/// Whether a folder has a checkpoint that is passed over.
+pub fn passes_checkpoint_over(rt: &HostRuntime, dir: LogDir<'_>) -> bool {
+    !dir.from_checkpoint && has_checkpoint(rt, dir.path)
+}
+
+/// Reports that a checkpoint is passed over, if one is.
+pub fn note_checkpoint(rt: &HostRuntime, dir: LogDir<'_>) {
+    if passes_checkpoint_over(rt, dir) {
+        let _ = eprintln!(rt;
+            "rwship: the newest checkpoint is passed over; --checkpoint reads it"
+        );
+    }
 }
 
 /// Returns the files of the log in a folder, each with its name.

@@ -1,17 +1,14 @@
 //! The command `send`.
 
 use crate::ending::{dropped, ended, tell_device, unset};
-use crate::inspecting::{files_of, log_fault};
+use crate::inspecting::{files_of, log_fault, note_checkpoint, passes_checkpoint_over};
 use crate::reporting::{begin_reporting, end_reporting};
 use crate::settings::settings_in;
 use crate::sign::{Told, sign_of};
 use rw_fault::ToolFault;
 use rw_follow::Timed;
 use rw_metrics::{Counters, SendCounters};
-use rw_send::{
-    Counted, Folder, FollowFault, LogFiles, StopFlag, TcpConnect, has_checkpoint, run_follow,
-    run_send,
-};
+use rw_send::{Counted, Folder, FollowFault, LogFiles, StopFlag, TcpConnect, run_follow, run_send};
 use rw_settings::Settings;
 use rw_tcp::look_up;
 use rw_types::{Bounded, Std};
@@ -180,21 +177,6 @@ fn ship_log<R: Threads + Wait + Clock + Copy + Send + 'static>(
     }
 }
 
-/// Whether the folder that is sent has a checkpoint that is passed over.
-fn passes_checkpoint_over(rt: &HostRuntime, dir: LogDir<'_>) -> bool {
-    !dir.from_checkpoint && has_checkpoint(rt, dir.path)
-}
-
-/// Reports that a checkpoint is passed over, if progress or faults are reported.
-fn note_checkpoint(rt: &HostRuntime, sending: &Sending<'_>, is_explained: bool) {
-    let is_reported = is_explained || sending.reporting.has_progress;
-    if is_reported && passes_checkpoint_over(rt, sending.dir) {
-        let _ = eprintln!(rt;
-            "rwship: the newest checkpoint is passed over; --checkpoint reads it"
-        );
-    }
-}
-
 /// Reports that samples had no series, if a checkpoint was passed over that may have them.
 fn note_lost_series(rt: &HostRuntime, sending: &Sending<'_>, counters: &SendCounters) {
     if let Ok(numbers) = counters.numbers(rt.alloc()) {
@@ -299,7 +281,9 @@ fn send_by<R: Threads + Wait + Clock + Copy + Send + 'static>(
     is_explained: bool,
 ) -> ExitCode {
     let timeout_ms = settings.config.fields().timeout_ms;
-    note_checkpoint(rt, sending, is_explained);
+    if is_explained || sending.reporting.has_progress {
+        note_checkpoint(rt, sending.dir);
+    }
     match start(rt, threads, sending, timeout_ms, is_explained) {
         Ok(shipment) => {
             let outcome = ship(rt, threads, settings, sending, shipment, is_explained);

@@ -6,6 +6,7 @@ use rw_metrics::SendCounters;
 use rw_send::{Folder, LogFiles, log_files};
 use rw_types::read_to_end;
 use std::alloc::{AllocError, Global};
+use std::os::unix::fs::symlink;
 use std::path::{Path, PathBuf};
 use std::sync::Arc;
 use std::test::Fail;
@@ -224,18 +225,44 @@ static NO_FOLDER: Row = Row {
     missing: None,
 };
 
-/// Whether the log in a folder cannot be read.
+/// Whether the log in a folder cannot be read, as it is or while it grows.
 fn is_unreadable(rt: &HostRuntime, dir: &str) -> Result<bool, AllocError> {
+    let alloc = rt.alloc();
     let log = log_files(rt, dir, None)?;
     let is_one = log.files.len() == 1 && log.missing.is_none();
-    let mut text = Vec::new(rt.alloc());
-    Ok(is_one && !read_all(rt, log, &mut text))
+    let mut text = Vec::new(alloc);
+    let counters = Arc::new(alloc, SendCounters::new(alloc)?)?;
+    let mut folder = Folder::from_checkpoint(*rt, String::from_str(alloc, dir)?, counters);
+    let is_refused = follow(&mut folder, &mut text).is_err();
+    Ok(is_one && is_refused && !read_all(rt, log, &mut text))
 }
 
 #[test]
 fn what_cannot_be_read_is_no_empty_log(rt: HostRuntime) -> Result<(), Fail> {
     let dir = make_folder(&rt, "rwship-a-checkpoint-that-is-no-folder", &NO_FOLDER)?;
     let is_so = is_unreadable(&rt, dir.as_str())? && is_unreadable(&rt, "/no such folder")?;
+    fs::remove_dir_all(&rt, dir.as_path())?;
+    assert!(rt; is_so);
+    Ok(())
+}
+
+/// Its checkpoint's file is added as a link that leads nowhere.
+static GONE: Row = Row {
+    name: "a file that is listed and gone before it is opened",
+    folders: &["checkpoint.00000003"],
+    files: &["00000004"],
+    text: "",
+    missing: None,
+};
+
+#[test]
+fn a_checkpoint_that_goes_before_it_is_opened_is_a_fault(rt: HostRuntime) -> Result<(), Fail> {
+    let dir = make_folder(&rt, "rwship-a-checkpoint-that-has-gone", &GONE)?;
+    let file = dir
+        .as_path()
+        .join(rt.alloc(), "checkpoint.00000003/00000000")?;
+    symlink(&rt, "nowhere", file.as_path())?;
+    let is_so = is_unreadable(&rt, dir.as_str())?;
     fs::remove_dir_all(&rt, dir.as_path())?;
     assert!(rt; is_so);
     Ok(())
