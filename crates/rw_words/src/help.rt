@@ -74,20 +74,21 @@ pub(crate) const SEND: &str = "\
 Example:
   rwship send --settings rwship.toml --dir data/wal --to receiver.example:9090
 
-  rwship send --dir data/wal --to receiver.example:9090 --follow --stop-file stop --poll-ms 500 --flush-ms 2000
+  rwship send --dir data/wal --checkpoint --to receiver.example:9090 --follow --stop-file stop --poll-ms 500 --flush-ms 2000
 
   rwship send --dir data/wal --to receiver.example:9090 --progress --metrics 127.0.0.1:9200 --fail-on-drop
 
 DIR is the folder 'wal' of a server that has stopped, or a copy of it; with --follow that of a server
 that runs. A server removes its oldest segments and keeps their series in a checkpoint: read that with
---checkpoint, or start from the first segment on. --follow ends once standard input ends, or, with --stop-file, once
-FILE is there: it ships what stands, and prints its report. A line 'hard', on standard input or as the
-first one of FILE, ends it at once. The report names each sample that was not taken; docs/OPERATING.md
-tells its lines, and docs/SETTINGS.md the settings.
+--checkpoint, or start from the first segment on.
 
-Exit status: 0 where each sample is answered for (look for 'dropped' lines); 1 for a fault of the log,
-and with --fail-on-drop where samples were dropped;
-2 for bad words or settings; 3 out of memory; 4 where a file, the look-up or standard output failed, a
+--follow ends once standard input ends, or, with --stop-file, once FILE is there: it ships what the log
+has, and prints its report. A line 'hard', on standard input or as the first one of FILE, ends it at
+once. The report names each sample that was not taken; docs/OPERATING.md explains its lines, and
+docs/SETTINGS.md the settings.
+
+Exit status: 0 if each sample is answered for (look for 'dropped' lines); 1 for a fault of the log, with
+--fail-on-drop if samples were dropped, with --fail-on-empty if DIR has no segment; 2 for bad words or settings; 3 out of memory; 4 where a file, the look-up or standard output failed, a
 segment is missing, or a line 'hard' came.";
 
 pub(crate) const RECEIVE: &str = "\

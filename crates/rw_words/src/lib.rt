@@ -86,6 +86,8 @@ pub struct Sending<'a> {
     pub reporting: Reporting<'a>,
     /// Whether a complete report that names dropped samples is a fault.
     pub fails_on_drop: bool,
+    /// Whether a folder without a segment is a fault.
+    pub fails_on_empty: bool,
     /// How many bytes the body of a batch may take; none for no limit.
     pub max_batch_bytes: Option<u64>,
 }

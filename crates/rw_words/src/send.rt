@@ -38,6 +38,7 @@ pub(crate) fn send_task<'a>(
             reading,
             reporting,
             fails_on_drop: options.get_flag("fail-on-drop"),
+            fails_on_empty: options.get_flag("fail-on-empty"),
             max_batch_bytes: options.get_one::<u64>("max-batch-bytes"),
         },
     })

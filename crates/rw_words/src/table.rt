@@ -280,6 +280,12 @@ static SEND: Words = Words {
             help: "End with status 1 where all was answered for, but samples were dropped",
         },
         Opt {
+            name: "fail-on-empty",
+            takes: Takes::Nothing,
+            bonds: &[Bond::Excludes("follow")],
+            help: "End with status 1 if DIR has no segment",
+        },
+        Opt {
             name: "max-batch-bytes",
             takes: Takes::Number(1, 1_099_511_627_776),
             bonds: &[],

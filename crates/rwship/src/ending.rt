@@ -21,6 +21,9 @@ const BAD_WORDS: u8 = 2;
 /// The exit status for dropped samples, where they are a fault.
 const DROPPED: u8 = 1;
 
+/// The exit status for a folder without a segment, if that is a fault.
+const EMPTY: u8 = 1;
+
 /// The exit status for positions that have no entry.
 const NOT_THERE: u8 = 1;
 
@@ -64,6 +67,13 @@ pub fn dropped(rt: &HostRuntime, count: u64) -> ExitCode
 {
     let _ = eprintln!(rt; "rwship: samples dropped: {count}");
     ExitCode::from(DROPPED)
+}
+
+/// Returns the exit status for a folder without a segment, if that is a fault.
+pub fn empty() -> ExitCode
+    ensures { process.exit_status result ≡ 1 }
+{
+    ExitCode::from(EMPTY)
 }
 
 /// Says how many positions have no entry.

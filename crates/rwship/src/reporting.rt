@@ -24,6 +24,11 @@ fn screen_of(rt: &HostRuntime) -> Screen {
     }
 }
 
+/// Whether progress is shown, or standard error is a terminal.
+pub fn is_watched(rt: &HostRuntime, reporting: &Reporting<'_>) -> bool {
+    reporting.has_progress || rt.stderr().is_terminal()
+}
+
 /// Serves the page of the counters at an address.
 fn serve_at<R: Threads>(
     rt: &HostRuntime,

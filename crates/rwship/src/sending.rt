@@ -1,8 +1,8 @@
 //! The command `send`.
 
-use crate::ending::{dropped, ended, tell_device, unset};
+use crate::ending::{dropped, empty, ended, tell_device, unset};
 use crate::inspecting::{files_of, log_fault, note_checkpoint, passes_checkpoint_over};
-use crate::reporting::{begin_reporting, end_reporting};
+use crate::reporting::{begin_reporting, end_reporting, is_watched};
 use crate::settings::settings_in;
 use crate::sign::{Told, sign_of};
 use rw_fault::ToolFault;
@@ -272,6 +272,25 @@ fn start<R: Threads>(
     }
 }
 
+/// Whether the folder has no segment.
+fn is_empty(log: &Log) -> bool {
+    match log {
+        Log::Whole(log) => log.missing.is_none() && log.files.is_empty(),
+        Log::Growing(..) => false,
+    }
+}
+
+/// Reports that the folder has no segment, if somebody may read that.
+fn note_empty(rt: &HostRuntime, sending: &Sending<'_>, is_explained: bool) {
+    let is_reported = is_explained || sending.fails_on_empty || is_watched(rt, &sending.reporting);
+    if is_reported {
+        let dir = sending.dir.path;
+        let _ = eprintln!(rt;
+            "rwship: no segment in {dir} (names of one to eight digits); is it the folder 'wal' of Prometheus?"
+        );
+    }
+}
+
 /// Ships a folder by settings.
 fn send_by<R: Threads + Wait + Clock + Copy + Send + 'static>(
     rt: &HostRuntime,
@@ -286,8 +305,14 @@ fn send_by<R: Threads + Wait + Clock + Copy + Send + 'static>(
     }
     match start(rt, threads, sending, timeout_ms, is_explained) {
         Ok(shipment) => {
-            let outcome = ship(rt, threads, settings, sending, shipment, is_explained);
-            report_outcome(rt, sending, outcome, is_explained)
+            let has_nothing = is_empty(&shipment.log);
+            if has_nothing {
+                note_empty(rt, sending, is_explained);
+            }
+            match ship(rt, threads, settings, sending, shipment, is_explained) {
+                Ok(_) if has_nothing && sending.fails_on_empty => empty(),
+                outcome => report_outcome(rt, sending, outcome, is_explained),
+            }
         }
         Err(status) => status,
     }
