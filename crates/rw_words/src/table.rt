@@ -11,26 +11,26 @@ pub(crate) enum Takes {
     Text(&'static str),
     /// A path, which is no empty word.
     Path(&'static str),
-    /// A path that stands alone, without the name of an option before it.
+    /// A path without the name of an option before it.
     Place(&'static str),
     /// A number from the first to the second one.
     Number(i64, i64),
-    /// A number from the first to the second one, and the number that stands where none is given.
+    /// A number from the first to the second one, and the default.
     NumberOr(i64, i64, &'static str),
     /// One number or more, shown by this name.
     Numbers(&'static str),
 }
 
-/// What an option has to do with others.
+/// How an option depends on others.
 #[derive(Clone, Copy)]
 pub(crate) enum Bond {
-    /// It has to be there.
+    /// It must be given.
     Required,
-    /// It has to be there where this one is not.
+    /// It must be given if this one is not.
     RequiredWithout(&'static str),
-    /// It is refused where this one is not there.
+    /// It is refused if this one is not given.
     Needs(&'static str),
-    /// It is refused where this one is there.
+    /// It is refused if this one is given.
     Excludes(&'static str),
 }
 
@@ -56,7 +56,7 @@ const HEX: Opt = Opt {
     name: "hex",
     takes: Takes::Nothing,
     bonds: &[],
-    help: "Read and write lower case hexadecimal text in place of bytes",
+    help: "Read and write lower-case hexadecimal text instead of bytes",
 };
 
 const SETTINGS: Opt = Opt {
@@ -70,21 +70,21 @@ const EXPLAIN: Opt = Opt {
     name: "explain",
     takes: Takes::Nothing,
     bonds: &[],
-    help: "Tell each fault of the settings and of the input, and what cannot be read, found or listened at",
+    help: "Explain each fault of the settings and the input, and what cannot be read, found or listened on",
 };
 
 const EXPLAIN_INPUT: Opt = Opt {
     name: "explain",
     takes: Takes::Nothing,
     bonds: &[],
-    help: "Tell where the input has its fault, and what is wrong there",
+    help: "Explain where the input has a fault, and what is wrong there",
 };
 
 const SEGMENTS: Opt = Opt {
     name: "dir",
     takes: Takes::Path("DIR"),
     bonds: &[],
-    help: "Read the segments of this folder in place of one on standard input",
+    help: "Read the segments of this folder instead of one segment on standard input",
 };
 
 const CHECKPOINT: Opt = Opt {
@@ -98,7 +98,7 @@ const PROGRESS: Opt = Opt {
     name: "progress",
     takes: Takes::Nothing,
     bonds: &[],
-    help: "Tell once a second on standard error how far the work is",
+    help: "Report progress once a second on standard error",
 };
 
 const METRICS: Opt = Opt {
@@ -129,7 +129,7 @@ static LOG: Words = Words {
             name: "pages",
             takes: Takes::NumberOr(1, 4096, "4096"),
             bonds: &[],
-            help: "Give a segment at most this many pages, 1 to 4096",
+            help: "Begin a new segment after N pages, 1 to 4096",
         },
         Opt {
             name: "dir",
@@ -158,7 +158,7 @@ static PLAN: Words = Words {
             name: "hex",
             takes: Takes::Nothing,
             bonds: &[Bond::Excludes("dir")],
-            help: "Read and write lower case hexadecimal text in place of bytes",
+            help: "Read and write lower-case hexadecimal text instead of bytes",
         },
     ],
 };
@@ -184,7 +184,7 @@ static INSPECT: Words = Words {
             name: "at",
             takes: Takes::Numbers("POS"),
             bonds: &[Bond::Excludes("json"), Bond::Needs("dir")],
-            help: "With --dir: print the entries at these positions of a report of 'send', and nothing else",
+            help: "With --dir: print only the entries at these positions, as a report of 'send' gives them",
         },
     ],
 };
@@ -206,14 +206,14 @@ fn replay() -> &'static Words {
 
 static SETTINGS_COMMAND: Words = Words {
     name: "settings",
-    about: "Prints the settings that a file gives, each key with its value",
+    about: "Prints all settings with their values",
     after: help::SETTINGS,
     options: &[
         Opt {
             name: "settings",
             takes: Takes::Place("FILE"),
             bonds: &[],
-            help: "Print the settings of this TOML file, and without it the defaults",
+            help: "Print the settings of this TOML file; without it, the defaults",
         },
         EXPLAIN,
     ],
@@ -225,7 +225,7 @@ fn settings() -> &'static Words {
 
 static SEND: Words = Words {
     name: "send",
-    about: "Ships all segments of a folder and prints a report",
+    about: "Ships the log in a folder, and prints a report",
     after: help::SEND,
     options: &[
         SETTINGS,
@@ -234,7 +234,7 @@ static SEND: Words = Words {
             name: "dir",
             takes: Takes::Path("DIR"),
             bonds: &[Bond::Required],
-            help: "Ship the segments of this folder",
+            help: "Ship the log in this folder",
         },
         CHECKPOINT,
         Opt {
@@ -247,37 +247,37 @@ static SEND: Words = Words {
             name: "follow",
             takes: Takes::Nothing,
             bonds: &[],
-            help: "Go on with what the server writes, until standard input ends",
+            help: "Go on reading what the server writes, until standard input ends",
         },
         Opt {
             name: "stop-file",
             takes: Takes::Path("FILE"),
             bonds: &[Bond::Needs("follow")],
-            help: "With --follow: stop once this file is there, and do not look at standard input",
+            help: "With --follow: stop when this file exists, and do not read standard input",
         },
         Opt {
             name: "poll-ms",
             takes: Takes::NumberOr(10, 60_000, "200"),
             bonds: &[Bond::Needs("follow")],
-            help: "With --follow: look for more every N milliseconds, 10 to 60000",
+            help: "With --follow: look for new records every N milliseconds, 10 to 60000",
         },
         Opt {
             name: "flush-ms",
             takes: Takes::NumberOr(10, 3_600_000, "5000"),
             bonds: &[Bond::Needs("follow")],
-            help: "With --follow: let a sample wait N milliseconds for a full batch, 10 to 3600000",
+            help: "With --follow: send a batch that is not full after N milliseconds, 10 to 3600000",
         },
         Opt {
             name: "reshard-ms",
             takes: Takes::NumberOr(10, 3_600_000, "10000"),
             bonds: &[Bond::Needs("follow")],
-            help: "With --follow: ask every N milliseconds how many shards are wanted, 10 to 3600000",
+            help: "With --follow: set the number of shards every N milliseconds, 10 to 3600000",
         },
         Opt {
             name: "fail-on-drop",
             takes: Takes::Nothing,
             bonds: &[],
-            help: "End with status 1 where all was answered for, but samples were dropped",
+            help: "End with status 1 if the report is complete but samples were dropped",
         },
         Opt {
             name: "fail-on-empty",
@@ -289,7 +289,7 @@ static SEND: Words = Words {
             name: "max-batch-bytes",
             takes: Takes::Number(1, 1_099_511_627_776),
             bonds: &[],
-            help: "Send no body above N bytes but that of one sample, 1 to 1099511627776",
+            help: "Send no body of more than N bytes, unless it has one sample, 1 to 1099511627776",
         },
         PROGRESS,
         METRICS,
@@ -302,7 +302,7 @@ fn send() -> &'static Words {
 
 static RECEIVE: Words = Words {
     name: "receive",
-    about: "Serves connections and prints what they left",
+    about: "Receives samples, and prints what it holds at its end",
     after: help::RECEIVE,
     options: &[
         SETTINGS,
@@ -329,13 +329,13 @@ static RECEIVE: Words = Words {
             name: "stop-file",
             takes: Takes::Path("FILE"),
             bonds: &[Bond::Excludes("connections")],
-            help: "Stop once this file is there, and do not look at standard input",
+            help: "Stop when this file exists, and do not read standard input",
         },
         Opt {
             name: "idle-ms",
             takes: Takes::NumberOr(10, 3_600_000, "60000"),
             bonds: &[],
-            help: "Close a connection from which no byte comes for this many milliseconds, 10 to 3600000",
+            help: "Close a connection that sends nothing for N milliseconds, 10 to 3600000",
         },
         PROGRESS,
         METRICS,
