@@ -1,7 +1,9 @@
-//! Tests of which files of a log in a folder are read.
+//! Tests of folders: which files of a log are read, and what a crash leaves of a journal.
 #![tactic(auto)]
 
 #[cfg(test)]
 mod files;
+#[cfg(test)]
+mod journals;
 #[cfg(test)]
 mod order;

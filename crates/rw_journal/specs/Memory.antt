@@ -1,0 +1,38 @@
+-- A journal in memory, what a crash may leave of it, and what it might have left.
+use Rattle.std.specs.Prelude.{◌≡◌, ◌⊎◌, ℕ, ◌-◌, ◌≤◌, List, [], ◌∷◌, ◌++◌, length, take, drop, map, Vec}
+use mathlib.Core.Logic.{inl, inr}
+use Rattle.std.specs.declared.alloc.Global.{Global}
+use Rattle.rw_journal.specs.Journal.{Segments}
+use Rattle.rw_journal.specs.declared.image.Image.{Image}
+
+-- the segments that are done, and the last one
+abbrev pub contents : List (Vec ℕ Global) → List ℕ → Segments
+contents done last = map (λ v. v.items) done ++ last ∷ []
+
+abbrev pub segments_of : Image → Segments
+segments_of image = contents image.done.items image.last.items
+
+-- what a crash may leave: the synced part of the last segment, and after it any bytes, no more than
+-- were written there
+pub record IsLeftOf (image : Image) (c : Segments) : Type 0 where
+  pub more : List ℕ
+  pub no_longer : length more ≤ length image.last.items - image.synced
+  pub folder : c ≡ contents image.done.items (take image.synced image.last.items ++ more)
+
+-- a crash at one of these moments might have left this
+abbrev pub HadBeen : List Image → Segments → Type 0
+HadBeen [] c = ⊥
+HadBeen (image ∷ past) c = IsLeftOf image c ⊎ HadBeen past c
+
+-- what a crash since t might have left
+abbrev pub LeftSince : List Image → Image → ℕ → Segments → Type 0
+LeftSince past image t c = IsLeftOf image c ⊎ HadBeen (drop t past) c
+
+none_left : (past : List Image) (c : Segments) → HadBeen (drop (length past) past) c → ⊥
+none_left [] c had = had
+none_left (image ∷ past) c had = none_left past c had
+
+-- since the last of them there is what there is now
+pub only_this : (past : List Image) (image : Image) (c : Segments) → LeftSince past image (length past) c → IsLeftOf image c
+only_this past image c (inl now) = now
+only_this past image c (inr had) = absurd (none_left past c had)
