@@ -1,17 +1,24 @@
 //! What every schedule keeps: any list of events, and with it any loss, repeat, delay or disorder of requests and replies.
 
 ghost use Rattle.std.specs.Prelude.{◌≡◌, ℕ, List};
+ghost use Rattle.rw_head.specs.Growth.{EachRises};
 ghost use Rattle.rw_machine.specs.Worlds.{Setup, World, start};
 ghost use Rattle.rw_machine.specs.Steps.{run};
 ghost use Rattle.rw_machine.specs.Settling.{settle, settle_events};
-ghost use Rattle.rw_machine.specs.Promises.{CanWork, IsInOrder, IsWhole, IsWholeBeforeDamage, HoldsNothingElse, IsClosedForGood, HasOneClassEach, CountsFiltered, NamesRefusals, HasOneBatchEachId, CarriesEachBatch, SendsSameBytes, NeverTakesAndRefuses, StoresResolved, HasShardLists, SettleEnds};
+ghost use Rattle.rw_machine.specs.Promises.{CanWork, IsInOrder, IsOfPlaced, OwedRises, IsWhole, IsWholeBeforeDamage, HoldsNothingElse, IsClosedForGood, HasOneClassEach, CountsFiltered, NamesRefusals, HasOneBatchEachId, CarriesEachBatch, SendsSameBytes, NeverTakesAndRefuses, StoresResolved, HasShardLists, SettleEnds};
 ghost use Rattle.rw_machine.specs.declared.event.Event.{Event};
 
-/// For each label set the receiving head holds a beginning of its logged samples in log order, each once, less exactly those that are
-/// named as dropped, whatever their timestamps; once an orderly shutdown is complete it holds all of them up to the position asked for,
-/// and where the log is damaged all before the damage. Other label sets hold nothing.
+/// For each label set the receiving head holds a prefix of its logged samples in log order, each once,
+/// less exactly those that are named as dropped, whatever their timestamps. It holds none that was not
+/// placed (`of_placed`). What is owed of the placed ones rises strictly in time (`owed_rises`), and so
+/// does what it holds (`rises`). Once an orderly shutdown is complete it holds all of them up to the
+/// position asked for, and if the log is damaged all before the damage. Other label sets hold nothing.
 pub fn logged_samples_arrive_in_order()
     ensures in_order { (c : Setup) (events : List Event) → IsInOrder c (run c events (start c)) }
+    ensures of_placed { (c : Setup) (events : List Event) → IsOfPlaced c (run c events (start c)) }
+    ensures owed_rises { (c : Setup) (events : List Event) → OwedRises c (run c events (start c)) }
+    ensures rises { (c : Setup) (events : List Event)
+        → EachRises (run c events (start c)).head.store }
     ensures whole { (c : Setup) (events : List Event) → IsWhole c (run c events (start c)) }
     ensures damaged { (c : Setup) (events : List Event)
         → IsWholeBeforeDamage c (run c events (start c)) }

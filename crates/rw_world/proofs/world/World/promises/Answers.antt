@@ -1,5 +1,7 @@
 use Rattle.std.proofs.Common.{sym, subst}
-use Rattle.rw_machine.specs.Promises.{IsInOrder, IsWhole, IsWholeBeforeDamage, HoldsNothingElse, IsClosedForGood, HasOneClassEach, CountsFiltered, HasOneBatchEachId, CarriesEachBatch, SendsSameBytes, NeverTakesAndRefuses, StoresResolved, HasShardLists}
+use Rattle.rw_head.specs.Growth.{EachRises}
+use Rattle.rw_machine.specs.Worlds.{World}
+use Rattle.rw_machine.specs.Promises.{IsInOrder, IsOfPlaced, OwedRises, IsWhole, IsWholeBeforeDamage, HoldsNothingElse, IsClosedForGood, HasOneClassEach, CountsFiltered, HasOneBatchEachId, CarriesEachBatch, SendsSameBytes, NeverTakesAndRefuses, StoresResolved, HasShardLists}
 use Rattle.rw_world.specs.Machine.{Machine}
 use Rattle.rw_world.specs.Reached.{IsKept}
 use Rattle.rw_world.proofs.world.World.promises.Goals as goal
@@ -12,6 +14,9 @@ returns c =
     let back = sym r.reached in
     let kept : IsKept m.setup m.world = record {
       in_order = subst (IsInOrder m.setup) back (c.logged_samples_arrive_in_order.ensures.in_order m.setup es);
+      of_placed = subst (IsOfPlaced m.setup) back (c.logged_samples_arrive_in_order.ensures.of_placed m.setup es);
+      owed_rises = subst (OwedRises m.setup) back (c.logged_samples_arrive_in_order.ensures.owed_rises m.setup es);
+      rises = subst (λ (w : World). EachRises w.head.store) back (c.logged_samples_arrive_in_order.ensures.rises m.setup es);
       whole = subst (IsWhole m.setup) back (c.logged_samples_arrive_in_order.ensures.whole m.setup es);
       damaged = subst (IsWholeBeforeDamage m.setup) back (c.logged_samples_arrive_in_order.ensures.damaged m.setup es);
       nothing_else = subst (HoldsNothingElse m.setup) back (c.logged_samples_arrive_in_order.ensures.nothing_else m.setup es);
