@@ -14,11 +14,12 @@ pub record IsReached (m : Machine) : Type 0 where
   pub events : List Event
   pub reached : m.world ≡ run m.setup events (start m.setup)
 
--- the events that led to it, and the statuses that are named are those of the replies among them that refused a batch
+-- Events led to it. Whichever led to it, the statuses that are named are those of the replies among
+-- them that refused a batch.
 pub record NamesItsRefusals (c : Setup) (w : World) : Type 0 where
   pub events : List Event
   pub reached : w ≡ run c events (start c)
-  pub refusals : NamesRefusals c events
+  pub refusals : (es : List Event) → w ≡ run c es (start c) → NamesRefusals c es
 
 -- What every schedule keeps.
 pub record IsKept (c : Setup) (w : World) : Type 0 where

@@ -23,7 +23,7 @@ returns c =
       closed = subst (IsClosedForGood m.setup) back (c.closed_queues_hand_out_nothing.ensures m.setup es);
       classes = subst (HasOneClassEach m.setup) back (c.each_sample_has_one_class.ensures.classes m.setup es);
       filtered = subst (CountsFiltered m.setup) back (c.each_sample_has_one_class.ensures.filtered m.setup es);
-      refusals = record { events = es; reached = r.reached; refusals = c.each_sample_has_one_class.ensures.refusals m.setup es };
+      refusals = record { events = es; reached = r.reached; refusals = λ others _. c.each_sample_has_one_class.ensures.refusals m.setup others };
       one_batch = subst HasOneBatchEachId back (c.each_batch_has_one_fate.ensures.one_batch m.setup es);
       bytes = subst (CarriesEachBatch m.setup) back (c.requests_carry_their_batches.ensures.bytes m.setup es);
       same_bytes = subst SendsSameBytes back (c.requests_carry_their_batches.ensures.again m.setup es);
