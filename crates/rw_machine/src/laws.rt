@@ -1,6 +1,7 @@
 //! What every schedule keeps: any list of events, and with it any loss, repeat, delay or disorder of requests and replies.
 
 ghost use Rattle.std.specs.Prelude.{◌≡◌, ℕ, List};
+ghost use Rattle.rw_types.specs.Beginnings.{Begins};
 ghost use Rattle.rw_head.specs.Growth.{EachRises};
 ghost use Rattle.rw_machine.specs.Worlds.{Setup, World, start};
 ghost use Rattle.rw_machine.specs.Steps.{run};
@@ -57,6 +58,15 @@ pub fn requests_carry_their_batches()
     ensures bytes { (c : Setup) (events : List Event)
         → CarriesEachBatch c (run c events (start c)) }
     ensures again { (c : Setup) (events : List Event) → SendsSameBytes (run c events (start c)) }
+{}
+
+/// Nothing that was sent or answered is removed: later events add requests and replies after those
+/// that there are.
+pub fn requests_and_replies_stay()
+    ensures requests { (c : Setup) (events : List Event) (w : World)
+        → Begins w.requests (run c events w).requests }
+    ensures replies { (c : Setup) (events : List Event) (w : World)
+        → Begins w.replies (run c events w).replies }
 {}
 
 /// What a shard was put is what it has taken and what its queue holds, and what it has taken is what is resolved, its open batch and its
