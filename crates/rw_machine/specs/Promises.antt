@@ -189,11 +189,14 @@ refusals c (e ∷ es) w = refused_in w e (is_over w) ++ refusals c es (happens c
 abbrev pub Stands : ℕ × ℕ → List (ℕ × ℕ) → Type 0
 Stands q xs = (k : ℕ) × (slice_get xs k ≡ Some q)
 
--- a status is named of a position exactly where a reply with that status refused a batch with it
+-- a status is named of a position exactly where it stands among what was refused
+abbrev pub NamesExactly : FinMap nat_cmp Reason → List (ℕ × ℕ) → Type 0
+NamesExactly names refused =
+    (p s : ℕ) → (get names p ≡ Some (Status s) → Stands (p, s) refused) × (Stands (p, s) refused → get names p ≡ Some (Status s))
+
+-- that is, where a reply with that status refused a batch with it
 abbrev pub NamesRefusals : Setup → List Event → Type 0
-NamesRefusals c events =
-    (p s : ℕ) → (get (run c events (start c)).names p ≡ Some (Status s) → Stands (p, s) (refusals c events (start c)))
-    × (Stands (p, s) (refusals c events (start c)) → get (run c events (start c)).names p ≡ Some (Status s))
+NamesRefusals c events = NamesExactly (run c events (start c)).names (refusals c events (start c))
 
 -- room for an entry, batches of a sample, and a shard
 pub record CanWork (c : Setup) : Type 0 where
