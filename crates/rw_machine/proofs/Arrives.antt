@@ -42,7 +42,7 @@ later_pairs : (t : ℤ) (ps : List Point) → AllByRecursion (λ (p : Point). in
 later_pairs t [] h = tt
 later_pairs t (p ∷ ps) h = (h.0, later_pairs t ps h.1)
 
-ascends_points : (ps : List Point) → Rises IsEarlierPoint ps → Rises IsEarlier (map pair_of ps)
+pub ascends_points : (ps : List Point) → Rises IsEarlierPoint ps → Rises IsEarlier (map pair_of ps)
 ascends_points [] h = tt
 ascends_points (p ∷ ps) h = (later_pairs p.1 ps h.0, ascends_points ps h.1)
 

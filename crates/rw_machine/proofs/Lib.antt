@@ -24,5 +24,6 @@ pub mod Runs
 pub mod Sent
 pub mod Settles
 pub mod Steps
+pub mod Stays
 pub mod Stored
 pub mod Views

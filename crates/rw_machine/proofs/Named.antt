@@ -39,16 +39,16 @@ use Rattle.rw_machine.proofs.Resolves.{batch_numbered}
 abbrev Names : Type 0
 Names = FinMap nat_cmp Reason
 
-stands_left : (q : ℕ × ℕ) (xs ys : List (ℕ × ℕ)) → Stands q xs → Stands q (xs ++ ys)
+pub stands_left : (q : ℕ × ℕ) (xs ys : List (ℕ × ℕ)) → Stands q xs → Stands q (xs ++ ys)
 stands_left q [] ys h = let never : None ≡ Some q → ⊥ = λ h. cc in absurd (never h.1)
 stands_left q (x ∷ xs) ys (zero, e) = (zero, e)
 stands_left q (x ∷ xs) ys (suc k, e) = let r = stands_left q xs ys (k, e) in (suc r.0, r.1)
 
-stands_right : (q : ℕ × ℕ) (xs ys : List (ℕ × ℕ)) → Stands q ys → Stands q (xs ++ ys)
+pub stands_right : (q : ℕ × ℕ) (xs ys : List (ℕ × ℕ)) → Stands q ys → Stands q (xs ++ ys)
 stands_right q [] ys h = h
 stands_right q (x ∷ xs) ys h = let r = stands_right q xs ys h in (suc r.0, r.1)
 
-stands_split : (q : ℕ × ℕ) (xs ys : List (ℕ × ℕ)) → Stands q (xs ++ ys) → Stands q xs ⊎ Stands q ys
+pub stands_split : (q : ℕ × ℕ) (xs ys : List (ℕ × ℕ)) → Stands q (xs ++ ys) → Stands q xs ⊎ Stands q ys
 stands_split q [] ys h = inr h
 stands_split q (x ∷ xs) ys (zero, e) = inl (zero, e)
 stands_split q (x ∷ xs) ys (suc k, e) = by_rest (stands_split q xs ys (k, e))
@@ -57,7 +57,7 @@ stands_split q (x ∷ xs) ys (suc k, e) = by_rest (stands_split q xs ys (k, e))
     by_rest (inl r) = inl (suc r.0, r.1)
     by_rest (inr r) = inr r
 
-none_stands : {P : Type 0} {q : ℕ × ℕ} → Stands q [] → P
+pub none_stands : {P : Type 0} {q : ℕ × ℕ} → Stands q [] → P
 none_stands {q = q} h = let never : None ≡ Some q → ⊥ = λ h. cc in absurd (never h.1)
 
 -- the positions of a batch with a status
@@ -159,7 +159,7 @@ send_names : (w : World) (i : ℕ) (o : Option Shard) (p s : ℕ) → NamesBy p 
 send_names w i None p s = (λ h. inl h, λ h. none_stands h)
 send_names w i (Some u) p s = either (λ (v : World). NamesBy p s w.names [] v.names) (can_send u.core) _ w (λ _. (λ h. inl h, λ h. none_stands h)) (λ _. (λ h. inl h, λ h. none_stands h))
 
-happens_names : (c : Setup) (w : World) (e : Event) (b : Bool) (p s : ℕ) → NamesBy p s w.names (refused_in w e b) (unless_over c w e b).names
+pub happens_names : (c : Setup) (w : World) (e : Event) (b : Bool) (p s : ℕ) → NamesBy p s w.names (refused_in w e b) (unless_over c w e b).names
 happens_names c w (event.Arrive k how) b p s = arrive_names c w how (slice_get w.requests k) p s
 happens_names c w (event.Feed piece) true p s = (λ h. inl h, λ h. none_stands h)
 happens_names c w (event.Feed piece) false p s = either (λ (v : World). NamesBy p s w.names [] v.names) (is_some w.closed) w _ (λ _. (λ h. inl h, λ h. none_stands h)) (λ _. (λ h. inl h, λ h. none_stands h))

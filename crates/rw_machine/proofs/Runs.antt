@@ -3,7 +3,7 @@ use Rattle.std.proofs.Common.{◌≡◌, ℕ, ◌+◌, Bool, true, false, cond, 
 use Rattle.std.proofs.lemmas.List.{map-append}
 use Rattle.std.specs.List.{AllByRecursion}
 use Rattle.rw_machine.proofs.Steps.{always, unless, either, each_new}
-use Rattle.rw_machine.proofs.Risen.{risen}
+use Rattle.rw_machine.proofs.Risen.{IsEarlierPoint, Rises-risen, risen}
 use Rattle.rw_machine.proofs.Classes.{classes}
 use Rattle.rw_machine.proofs.Owed.{no_logged, owed_points}
 use Rattle.rw_machine.proofs.Others.{others, pending_parts}
@@ -11,7 +11,7 @@ use Rattle.rw_machine.proofs.Places.{logged_append, numbered_all, of_append}
 use Rattle.rw_machine.proofs.Invariant.{Inv, id_at, as_points, waits, home, SampleOk, ShardOk, GotOk, RequestOk, AnswerOk, quiet, quiet_take, quiet_freeze, quiet_flush, quiet_lost}
 use Rattle.rw_machine.proofs.Keeps.{feed_keeps, place_keeps, owed_all, owed_append, pairs_of_points}
 use Rattle.rw_machine.proofs.Resolves.{send_keeps, reply_keeps, restart_keeps, drained, drained_got, batch_numbered, length_new}
-use Rattle.rw_machine.proofs.Arrives.{arrive_keeps}
+use Rattle.rw_machine.proofs.Arrives.{arrive_keeps, ascends_points}
 use Rattle.rw_machine.specs.declared.event.Event.TheVariants as event
 use Rattle.std.specs.FinMap.{get, empty, get-empty}
 use Rattle.std.specs.Ordering.{nat_cmp}
@@ -22,13 +22,15 @@ use Rattle.rw_wal_format.specs.Series.{samples_after}
 use Rattle.rw_wal_format.specs.declared.tail_fault.TailFault.{TailFault}
 use Rattle.rw_relabel.specs.Rules.{keeps}
 use Rattle.rw_head.proofs.StoreLemmas.{list_of-empty}
-use Rattle.rw_series_cache.specs.Points.{is_kept}
+use Rattle.rw_series_cache.specs.Points.{is_kept, kept_points}
 use Rattle.rw_series_cache.proofs.KnownLemmas.{known-none}
 use Rattle.rw_series_cache.proofs.PointLemmas.{below_a_position}
 use Rattle.rw_types.specs.declared.label_fault.LabelFault.{LabelFault}
+use Rattle.rw_head.specs.Growth.{EachRises}
+use Rattle.rw_head.specs.Lists.{IsEarlier}
 use Rattle.rw_head.specs.Store.{list_of}
 use Rattle.rw_machine.proofs.Views.{IsKept, logged_from, logged_points, of, owed_by, pairs, points}
-use Rattle.rw_machine.specs.Promises.{HasOneClassEach, HoldsAll, HoldsBeginning, HoldsNothingElse, IsInOrder, IsWhole, IsWholeBeforeDamage, Point, owed, pair_of}
+use Rattle.rw_machine.specs.Promises.{HasOneClassEach, HoldsAll, HoldsBeginningBelow, HoldsNothingElse, IsInOrder, IsOfPlaced, IsWhole, IsWholeBeforeDamage, OwedRises, Point, owed, owed_below, pair_of}
 use Rattle.rw_machine.specs.Shards.{Shard, pending, samples_in, shard_freeze, shard_lost, shard_take}
 use Rattle.rw_machine.specs.Steps.{act, flush_shard, happens, run}
 use Rattle.rw_machine.specs.Worlds.{Abandoned, Complete, Damaged, Setup, World, all_drained, ended_as, is_finished, is_over, is_pending, log, new_shards, report, start, up_to}
@@ -36,9 +38,13 @@ use Rattle.rw_machine.specs.declared.event.Event.{Event}
 use Rattle.rw_series_cache.specs.Known.{Kept, Unknown}
 use Rattle.rw_plain_queue.specs.Items.{Placed}
 use Rattle.rw_types.specs.LabelOrder.{labels_eq}
+use Rattle.rw_types.specs.Beginnings.{Begins}
 use Rattle.rw_types.specs.Labels.{Labels, label_fault}
+use Rattle.rw_types.specs.Rising.{Rises}
 use Rattle.rw_types.specs.declared.entry.Entry.{Entry}
 use Rattle.rw_types.proofs.AllLemmas.{AllByRecursion-filter, AllByRecursion-get, AllByRecursion-map}
+use Rattle.rw_types.proofs.BeginningLemmas.{begins_twice}
+use Rattle.rw_types.proofs.RisingLemmas.{Rises-filter, Rises-left}
 
 -- Inv speaks of nothing that Reshard, Close and Kill change
 still : (c : Setup) (w : World) (draining closed : Option ℕ) (killed : Bool) → Inv c w → Inv c (record w { draining = draining; closed = closed; killed = killed })
@@ -102,18 +108,12 @@ holds_at_end c events = run_keeps c events (start c) (begins c)
 owed_placed : (c : Setup) (w : World) → Inv c w → HasOneClassEach c w → (l : Labels) → owed_by (get w.names) (logged_points c l (take w.placed (log w))) ≡ owed_by (get w.names) (points c l (take w.placed (log w)))
 owed_placed c w at one l = owed_points c w l one at.placed_in w.placed (omega arith)
 
--- what the head holds is a beginning
-beginning : (c : Setup) (w : World) → Inv c w → HasOneClassEach c w → (l : Labels) → IsKept c l → HoldsBeginning c w l
-beginning c w at one l k = (tail.0 ++ u, sym whole)
+-- what the head holds is a beginning of what was placed
+beginning : (c : Setup) (w : World) → Inv c w → HasOneClassEach c w → (l : Labels) → IsKept c l → HoldsBeginningBelow c w w.placed l
+beginning c w at one l k = (tail.0, sym whole)
   where
     part : List (ℤ × ℕ)
     part = map pair_of (owed_by (get w.names) (at.done l))
-
-    rest : List Point
-    rest = logged_from c l (take w.placed (log w)) (drop w.placed (log w))
-
-    u : List (ℤ × ℕ)
-    u = map pair_of (owed_by (get w.names) rest)
 
     Tail : Option Shard → Type 0
     Tail o = (t : List (ℤ × ℕ)) × (pairs (of l (at.got (home at.width w.series l))) ++ t ≡ map pair_of (owed_by (get w.names) (as_points (of l (waits o)))))
@@ -144,23 +144,45 @@ beginning c w at one l k = (tail.0 ++ u, sym whole)
     v : List (ℤ × ℕ)
     v = map pair_of (owed_by (get w.names) (as_points (of l (waits (slice_get w.shards (home at.width w.series l))))))
 
-    total : map pair_of (owed_by (get w.names) (logged_points c l (log w))) ≡ (part ++ v) ++ u
+    total : map pair_of (owed_below c w w.placed l) ≡ part ++ v
+    total =
+        ap (λ ps. map pair_of (owed_by (get w.names) ps)) (below_a_position c.choice (log w) l w.placed)
+        ∙ ap (map pair_of) (owed_placed c w at one l)
+        ∙ ap (λ ps. map pair_of (owed_by (get w.names) ps)) (at.mine l k)
+        ∙ ap (map pair_of) (owed_append (get w.names) (at.done l) (as_points (of l (waits (slice_get w.shards (home at.width w.series l))))))
+        ∙ map-append pair_of (owed_by (get w.names) (at.done l)) (owed_by (get w.names) (as_points (of l (waits (slice_get w.shards (home at.width w.series l))))))
+
+    whole : list_of w.head.store l ++ tail.0 ≡ map pair_of (owed_below c w w.placed l)
+    whole =
+        ap (λ ps. ps ++ tail.0) (at.stored l k)
+        ∙ append_assoc part g tail.0
+        ∙ ap (λ ps. part ++ ps) tail.1
+        ∙ sym total
+
+-- what is owed of the placed samples begins what is owed of the log
+placed_begin : (c : Setup) (w : World) (l : Labels) → Begins (map pair_of (owed_below c w w.placed l)) (map pair_of (owed w.names (kept_points c.choice (log w) l)))
+placed_begin c w l = (map pair_of (owed_by (get w.names) rest), total)
+  where
+    rest : List Point
+    rest = logged_from c l (take w.placed (log w)) (drop w.placed (log w))
+
+    total : map pair_of (owed_by (get w.names) (logged_points c l (log w))) ≡ map pair_of (owed_below c w w.placed l) ++ map pair_of (owed_by (get w.names) rest)
     total =
         ap (λ es. map pair_of (owed_by (get w.names) (logged_points c l es))) (sym (take-append-drop w.placed (log w)))
         ∙ ap (λ ps. map pair_of (owed_by (get w.names) ps)) (logged_append c l (take w.placed (log w)) (drop w.placed (log w)))
         ∙ ap (map pair_of) (owed_append (get w.names) (logged_points c l (take w.placed (log w))) rest)
         ∙ map-append pair_of (owed_by (get w.names) (logged_points c l (take w.placed (log w)))) (owed_by (get w.names) rest)
-        ∙ ap (λ ps. map pair_of ps ++ u) (owed_placed c w at one l)
-        ∙ ap (λ ps. map pair_of (owed_by (get w.names) ps) ++ u) (at.mine l k)
-        ∙ ap (λ ps. map pair_of ps ++ u) (owed_append (get w.names) (at.done l) (as_points (of l (waits (slice_get w.shards (home at.width w.series l))))))
-        ∙ ap (λ ps. ps ++ u) (map-append pair_of (owed_by (get w.names) (at.done l)) (owed_by (get w.names) (as_points (of l (waits (slice_get w.shards (home at.width w.series l)))))))
+        ∙ ap (λ ps. map pair_of (owed_by (get w.names) ps) ++ map pair_of (owed_by (get w.names) rest)) (sym (below_a_position c.choice (log w) l w.placed))
 
-    whole : list_of w.head.store l ++ (tail.0 ++ u) ≡ map pair_of (owed_by (get w.names) (logged_points c l (log w)))
-    whole =
-        ap (λ ps. ps ++ (tail.0 ++ u)) (at.stored l k)
-        ∙ sym (append_assoc (part ++ g) tail.0 u)
-        ∙ ap (λ ps. ps ++ u) (append_assoc part g tail.0 ∙ ap (λ ps. part ++ ps) tail.1)
-        ∙ sym total
+-- it rises, since what does not rise is named
+placed_rises : (c : Setup) (w : World) → Inv c w → HasOneClassEach c w → OwedRises c w
+placed_rises c w at one l =
+    subst (λ (ps : List Point). Rises IsEarlier (map pair_of ps))
+    (sym (ap (owed_by (get w.names)) (below_a_position c.choice (log w) l w.placed) ∙ owed_placed c w at one l))
+    (ascends_points (owed_by (get w.names) risen_points) (Rises-filter IsEarlierPoint (λ (p : Point). is_none (get w.names p.0)) risen_points (Rises-risen (logged_points c l (take w.placed (log w))))))
+  where
+    risen_points : List Point
+    risen_points = points c l (take w.placed (log w))
 
 -- labels that are kept, or that have no samples
 kept_or_none : (c : Setup) (l : Labels) → IsKept c l ⊎ ((es : List Entry) → logged_points c l es ≡ [])
@@ -175,8 +197,8 @@ kept_or_none c l = by_fault (label_fault c.choice.names l) refl
     by_fault (Some f) n = inr (λ es. cond-false (is_kept c.choice l) (samples_after l [] es) [] (ap (λ (o : Option LabelFault). is_none o && keeps c.choice.rules l) n))
 
 -- where a label set has no samples the head holds none
-nothing_held : (c : Setup) (w : World) → HoldsNothingElse c w → (l : Labels) → ((es : List Entry) → logged_points c l es ≡ []) → HoldsBeginning c w l
-nothing_held c w nothing l none = (map pair_of (owed w.names (logged_points c l (log w))), sym (ap (λ ps. ps ++ map pair_of (owed w.names (logged_points c l (log w)))) (nothing l (none (log w)))))
+nothing_held : (c : Setup) (w : World) → HoldsNothingElse c w → (l : Labels) → ((es : List Entry) → logged_points c l es ≡ []) → HoldsBeginningBelow c w w.placed l
+nothing_held c w nothing l none = (map pair_of (owed_below c w w.placed l), sym (ap (λ ps. ps ++ map pair_of (owed_below c w w.placed l)) (nothing l (none (log w)))))
 
 all_of_kept : (c : Setup) (w : World) → Inv c w → HasOneClassEach c w → all_drained w ≡ true → (l : Labels) → IsKept c l → HoldsAll c w w.placed l
 all_of_kept c w at one all l k =
@@ -218,12 +240,27 @@ damaged_is w f e = by_killed w.killed e
     by_killed true e = let never : Abandoned w.placed (filter (is_pending w) (up_to w.placed)) ≡ Damaged f → ⊥ = λ h. cc in absurd (never (same_Some _ _ e))
     by_killed false e = by_drained (is_finished w && all_drained w) refl e
 
-pub in_order : (c : Setup) (events : List Event) → IsInOrder c (run c events (start c))
-in_order c events l = by_kept (kept_or_none c l)
+pub of_placed : (c : Setup) (events : List Event) → IsOfPlaced c (run c events (start c))
+of_placed c events l = by_kept (kept_or_none c l)
   where
-    by_kept : IsKept c l ⊎ ((es : List Entry) → logged_points c l es ≡ []) → HoldsBeginning c (run c events (start c)) l
+    by_kept : IsKept c l ⊎ ((es : List Entry) → logged_points c l es ≡ []) → HoldsBeginningBelow c (run c events (start c)) (run c events (start c)).placed l
     by_kept (inl k) = beginning c (run c events (start c)) (holds_at_end c events) (classes c events) l k
     by_kept (inr none) = nothing_held c (run c events (start c)) (others c events) l none
+
+pub in_order : (c : Setup) (events : List Event) → IsInOrder c (run c events (start c))
+in_order c events l =
+    let w : World = run c events (start c) in
+    begins_twice (list_of w.head.store l) (map pair_of (owed_below c w w.placed l)) (map pair_of (owed w.names (kept_points c.choice (log w) l))) (of_placed c events l) (placed_begin c w l)
+
+pub owed_rises : (c : Setup) (events : List Event) → OwedRises c (run c events (start c))
+owed_rises c events = placed_rises c (run c events (start c)) (holds_at_end c events) (classes c events)
+
+-- and with it the part that the head holds
+pub held_rises : (c : Setup) (events : List Event) → EachRises (run c events (start c)).head.store
+held_rises c events l =
+    let w : World = run c events (start c) in
+    let held : Begins (list_of w.head.store l) (map pair_of (owed_below c w w.placed l)) = of_placed c events l in
+    Rises-left IsEarlier (list_of w.head.store l) held.0 (subst (Rises IsEarlier) held.1 (owed_rises c events l))
 
 pub all_when_complete : (c : Setup) (events : List Event) → IsWhole c (run c events (start c))
 all_when_complete c events end e l =

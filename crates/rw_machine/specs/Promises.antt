@@ -3,6 +3,7 @@ use Rattle.std.specs.Prelude.{◌≡◌, ◌⊎◌, ◌&&◌, if◌then◌else�
 use Rattle.std.specs.Ordering.{nat_cmp}
 use Rattle.std.specs.FinMap.{FinMap, get}
 use Rattle.rw_types.specs.Beginnings.{Begins}
+use Rattle.rw_types.specs.Rising.{Rises}
 use Rattle.rw_types.specs.Labels.{Labels, label_fault_number}
 use Rattle.rw_types.specs.declared.entry.Entry.{Entry}
 use Rattle.rw_types.specs.declared.entry.Entry.TheVariants.{Def, Sample}
@@ -18,6 +19,7 @@ use Rattle.rw_retry.specs.declared.judgement.Judgement.{Judgement}
 use Rattle.rw_retry.specs.declared.judgement.Judgement.TheVariants.{Done, Again, Refused}
 use Rattle.rw_shard_core.specs.Shard.{is_answer, positions, body_of}
 use Rattle.rw_shard_core.specs.SentRequest.{request_of}
+use Rattle.rw_head.specs.Lists.{IsEarlier}
 use Rattle.rw_head.specs.Order.{holds}
 use Rattle.rw_head.specs.Store.{list_of}
 use Rattle.rw_machine.specs.Shards.{Shard, samples_in}
@@ -44,13 +46,30 @@ owed names ps = filter (λ (p : Point). is_none (get names p.0)) ps
 abbrev pub HoldsBeginning : Setup → World → Labels → Type 0
 HoldsBeginning c w l = Begins (list_of w.head.store l) (map pair_of (owed w.names (kept_points c.choice (log w) l)))
 
+-- the samples of a label set below a position, less the named ones
+abbrev pub owed_below : Setup → World → ℕ → Labels → List Point
+owed_below c w end l = owed w.names (kept_points_below c.choice (log w) l end)
+
+-- the head holds a prefix of them
+abbrev pub HoldsBeginningBelow : Setup → World → ℕ → Labels → Type 0
+HoldsBeginningBelow c w end l = Begins (list_of w.head.store l) (map pair_of (owed_below c w end l))
+
 -- it holds all of them below a position
 abbrev pub HoldsAll : Setup → World → ℕ → Labels → Type 0
-HoldsAll c w end l = list_of w.head.store l ≡ map pair_of (owed w.names (kept_points_below c.choice (log w) l end))
+HoldsAll c w end l = list_of w.head.store l ≡ map pair_of (owed_below c w end l)
 
 -- whatever the schedule and the timestamps: each series in order, each sample once, less the dropped ones
 abbrev pub IsInOrder : Setup → World → Type 0
 IsInOrder c w = (l : Labels) → HoldsBeginning c w l
+
+-- no sample arrives before it is placed
+abbrev pub IsOfPlaced : Setup → World → Type 0
+IsOfPlaced c w = (l : Labels) → HoldsBeginningBelow c w w.placed l
+
+-- what is owed of the placed samples of a label set rises strictly in time, so no timestamp is in it
+-- twice
+abbrev pub OwedRises : Setup → World → Type 0
+OwedRises c w = (l : Labels) → Rises IsEarlier (map pair_of (owed_below c w w.placed l))
 
 -- and all of it up to the position asked for, once complete
 abbrev pub IsWhole : Setup → World → Type 0
@@ -170,11 +189,14 @@ refusals c (e ∷ es) w = refused_in w e (is_over w) ++ refusals c es (happens c
 abbrev pub Stands : ℕ × ℕ → List (ℕ × ℕ) → Type 0
 Stands q xs = (k : ℕ) × (slice_get xs k ≡ Some q)
 
--- a status is named of a position exactly where a reply with that status refused a batch with it
+-- a status is named of a position exactly where it stands among what was refused
+abbrev pub NamesExactly : FinMap nat_cmp Reason → List (ℕ × ℕ) → Type 0
+NamesExactly names refused =
+    (p s : ℕ) → (get names p ≡ Some (Status s) → Stands (p, s) refused) × (Stands (p, s) refused → get names p ≡ Some (Status s))
+
+-- that is, where a reply with that status refused a batch with it
 abbrev pub NamesRefusals : Setup → List Event → Type 0
-NamesRefusals c events =
-    (p s : ℕ) → (get (run c events (start c)).names p ≡ Some (Status s) → Stands (p, s) (refusals c events (start c)))
-    × (Stands (p, s) (refusals c events (start c)) → get (run c events (start c)).names p ≡ Some (Status s))
+NamesRefusals c events = NamesExactly (run c events (start c)).names (refusals c events (start c))
 
 -- room for an entry, batches of a sample, and a shard
 pub record CanWork (c : Setup) : Type 0 where

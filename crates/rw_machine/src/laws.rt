@@ -1,17 +1,25 @@
 //! What every schedule keeps: any list of events, and with it any loss, repeat, delay or disorder of requests and replies.
 
 ghost use Rattle.std.specs.Prelude.{◌≡◌, ℕ, List};
+ghost use Rattle.rw_types.specs.Beginnings.{Begins};
+ghost use Rattle.rw_head.specs.Growth.{EachRises};
 ghost use Rattle.rw_machine.specs.Worlds.{Setup, World, start};
 ghost use Rattle.rw_machine.specs.Steps.{run};
 ghost use Rattle.rw_machine.specs.Settling.{settle, settle_events};
-ghost use Rattle.rw_machine.specs.Promises.{CanWork, IsInOrder, IsWhole, IsWholeBeforeDamage, HoldsNothingElse, IsClosedForGood, HasOneClassEach, CountsFiltered, NamesRefusals, HasOneBatchEachId, CarriesEachBatch, SendsSameBytes, NeverTakesAndRefuses, StoresResolved, HasShardLists, SettleEnds};
+ghost use Rattle.rw_machine.specs.Promises.{CanWork, IsInOrder, IsOfPlaced, OwedRises, IsWhole, IsWholeBeforeDamage, HoldsNothingElse, IsClosedForGood, HasOneClassEach, CountsFiltered, NamesRefusals, HasOneBatchEachId, CarriesEachBatch, SendsSameBytes, NeverTakesAndRefuses, StoresResolved, HasShardLists, SettleEnds};
 ghost use Rattle.rw_machine.specs.declared.event.Event.{Event};
 
-/// For each label set the receiving head holds a beginning of its logged samples in log order, each once, less exactly those that are
-/// named as dropped, whatever their timestamps; once an orderly shutdown is complete it holds all of them up to the position asked for,
-/// and where the log is damaged all before the damage. Other label sets hold nothing.
+/// For each label set the receiving head holds a prefix of its logged samples in log order, each once,
+/// less exactly those that are named as dropped, whatever their timestamps. It holds none that was not
+/// placed (`of_placed`). What is owed of the placed ones rises strictly in time (`owed_rises`), and so
+/// does what it holds (`rises`). Once an orderly shutdown is complete it holds all of them up to the
+/// position asked for, and if the log is damaged all before the damage. Other label sets hold nothing.
 pub fn logged_samples_arrive_in_order()
     ensures in_order { (c : Setup) (events : List Event) → IsInOrder c (run c events (start c)) }
+    ensures of_placed { (c : Setup) (events : List Event) → IsOfPlaced c (run c events (start c)) }
+    ensures owed_rises { (c : Setup) (events : List Event) → OwedRises c (run c events (start c)) }
+    ensures rises { (c : Setup) (events : List Event)
+        → EachRises (run c events (start c)).head.store }
     ensures whole { (c : Setup) (events : List Event) → IsWhole c (run c events (start c)) }
     ensures damaged { (c : Setup) (events : List Event)
         → IsWholeBeforeDamage c (run c events (start c)) }
@@ -50,6 +58,15 @@ pub fn requests_carry_their_batches()
     ensures bytes { (c : Setup) (events : List Event)
         → CarriesEachBatch c (run c events (start c)) }
     ensures again { (c : Setup) (events : List Event) → SendsSameBytes (run c events (start c)) }
+{}
+
+/// Nothing that was sent or answered is removed: later events add requests and replies after those
+/// that there are.
+pub fn requests_and_replies_stay()
+    ensures requests { (c : Setup) (events : List Event) (w : World)
+        → Begins w.requests (run c events w).requests }
+    ensures replies { (c : Setup) (events : List Event) (w : World)
+        → Begins w.replies (run c events w).replies }
 {}
 
 /// What a shard was put is what it has taken and what its queue holds, and what it has taken is what is resolved, its open batch and its

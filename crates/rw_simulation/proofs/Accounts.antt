@@ -14,16 +14,16 @@ use Rattle.rw_worker.specs.Transcript.{Exchange}
 use Rattle.rw_shipper.specs.Shipping.{Shipping, HasStopped}
 use Rattle.rw_shipper.specs.declared.report.Report.{Report}
 use Rattle.rw_machine.specs.Worlds.{Setup, World, log}
-use Rattle.rw_machine.specs.Promises.{Accounted, AccountedEntry}
+use Rattle.rw_machine.specs.Promises.{Accounted, AccountedEntry, HasOneClassEach}
 use Rattle.rw_machine.proofs.Classes.{get_left}
-use Rattle.rw_simulation.specs.FreeLaws.{KeepsLaws, world_of}
+use Rattle.rw_simulation.specs.FreeLaws.{world_of}
 use Rattle.rw_simulation.specs.StoppedRuns.{ComesTo}
 use Rattle.rw_simulation.specs.Accounts.{IsNamedAs, AccountedAs, AccountsForAll, RunAccounts}
 
 at_most : (p n : ℕ) → p < n → p ≤ n
 at_most p n lt = omega arith
 
-module _ {T : Type 0} (tells : T → Type 0) (seen : T → List Exchange) (is_for : ℕ → ℕ → T → Type 0) (s : Shipping T) (r : Report T) (c : Setup) (h : HasStopped tells seen is_for s r) (choice : c.choice ≡ s.log.choice) (w : World) (comes : ComesTo tells seen c s r w) (laws : KeepsLaws c w) where
+module _ {T : Type 0} (tells : T → Type 0) (seen : T → List Exchange) (is_for : ℕ → ℕ → T → Type 0) (s : Shipping T) (r : Report T) (c : Setup) (h : HasStopped tells seen is_for s r) (choice : c.choice ≡ s.log.choice) (w : World) (comes : ComesTo tells seen c s r w) (classes : HasOneClassEach c w) where
   log_is : log w ≡ s.log.placed ++ h.read.0
   log_is = ap entries comes.log ∙ h.read.1
 
@@ -45,10 +45,10 @@ module _ {T : Type 0} (tells : T → Type 0) (seen : T → List Exchange) (is_fo
       get w.names p,
       named-as p (get w.names p) refl,
       accounted-as p (get w.names p) (slice_get s.log.placed p) lt refl
-          (subst (AccountedEntry c w p) (ap (λ (es : List Entry). slice_get es p) log_is ∙ get_left s.log.placed h.read.0 p lt) ((laws.classes p).0 (subst (λ (n : ℕ). p < n) (sym comes.placed) lt))),
+          (subst (AccountedEntry c w p) (ap (λ (es : List Entry). slice_get es p) log_is ∙ get_left s.log.placed h.read.0 p lt) ((classes p).0 (subst (λ (n : ℕ). p < n) (sym comes.placed) lt))),
     );
-    no_other = λ p far. named-as p None ((laws.classes p).1 (λ lt. far (subst (λ (n : ℕ). p < n) comes.placed lt)));
+    no_other = λ p far. named-as p None ((classes p).1 (λ lt. far (subst (λ (n : ℕ). p < n) comes.placed lt)));
   }
 
 pub run-accounts : {T : Type 0} (tells : T → Type 0) (seen : T → List Exchange) (is_for : ℕ → ℕ → T → Type 0) (s : Shipping T) (r : Report T) → RunAccounts tells seen is_for s r
-run-accounts tells seen is_for s r c h machine (hs, comes, laws) = accounts tells seen is_for s r c h machine.1 (world_of c hs) comes laws
+run-accounts tells seen is_for s r c h machine (hs, comes, laws) = accounts tells seen is_for s r c h machine.1 (world_of c hs) comes laws.classes

@@ -1,23 +1,16 @@
 -- The laws of the machine whose receiver is free.
-use Rattle.std.proofs.Common.{ℕ, List, [], ◌∷◌, Option, Some, None, slice_get}
-use Rattle.rw_machine.specs.Worlds.{Setup, Request, World, is_over, start, log}
-use Rattle.rw_machine.specs.Steps.{act, happens, turned_away}
-use Rattle.rw_machine.specs.declared.event.Event.{Event}
-use Rattle.rw_machine.proofs.Steps.{unless}
+use Rattle.std.proofs.Common.{ℕ, List, Option, Some, None, slice_get}
+use Rattle.rw_machine.specs.Worlds.{Setup, Request, World, start, log}
+use Rattle.rw_machine.specs.Steps.{turned_away}
 use Rattle.rw_machine.proofs.Counts.{Count, count_act, count_start}
 use Rattle.rw_machine.proofs.Lists.{all_act, all_start}
 use Rattle.rw_machine.proofs.Lists as lists
 use Rattle.rw_machine.proofs.Ids.{Ids, act_ids, ids_start}
 use Rattle.rw_machine.proofs.Requests.{Carries, act_carries, carries_start, carries_is, same_bytes}
 use Rattle.rw_machine.proofs.Classes.{Classes, classes_act, classes_at, accounted, not_below}
-use Rattle.rw_simulation.specs.Freely.{Happening, Of, Answered, run_freely}
+use Rattle.rw_simulation.specs.Freely.{Happening, run_freely}
 use Rattle.rw_simulation.specs.FreeLaws.{KeepsLaws, world_of}
-
--- a fact goes through a free schedule
-pub always_freely : (I : World → Type 0) (c : Setup) → ((w : World) (e : Event) → I w → I (act c w e)) → ((w : World) (status : ℕ) (o : Option Request) → I w → I (turned_away w status o)) → (hs : List Happening) (w : World) → I w → I (run_freely c hs w)
-always_freely I c keep answer [] w at = at
-always_freely I c keep answer (Of e ∷ hs) w at = always_freely I c keep answer hs (happens c w e) (unless I c w e (is_over w) at (keep w e at))
-always_freely I c keep answer (Answered k status ∷ hs) w at = always_freely I c keep answer hs (turned_away w status (slice_get w.requests k)) (answer w status (slice_get w.requests k) at)
+use Rattle.rw_simulation.proofs.FreeNames.{always_freely, names-refused}
 
 count_answer : (c : Setup) (w : World) (status : ℕ) (o : Option Request) → Count c w → Count c (turned_away w status o)
 count_answer c w status None at = at
@@ -43,7 +36,7 @@ classes_answer c w status (Some r) at = record { placed_in = at.placed_in; below
 pub keeps-lists : (c : Setup) (hs : List Happening) (w : World) → lists.All c w → lists.All c (run_freely c hs w)
 keeps-lists c = always_freely (lists.All c) c (all_act c) (lists_answer c)
 
-pub keeps-laws : (c : Setup) (hs : List Happening) → KeepsLaws c (world_of c hs)
+pub keeps-laws : (c : Setup) (hs : List Happening) → KeepsLaws c hs
 keeps-laws c hs =
     let w = world_of c hs in
     let cs = always_freely (Classes c) c (classes_act c) (classes_answer c) hs (start c) (classes_at c []) in
@@ -51,6 +44,7 @@ keeps-laws c hs =
     let carried = always_freely (Carries c) c (act_carries c) (carries_answer c) hs (start c) (carries_start c) in record {
       classes = λ p. (λ lt. accounted c w p (slice_get (log w) p) (cs.below p lt), λ h. cs.above p (not_below p w.placed h));
       filtered = (always_freely (Count c) c (count_act c) (count_answer c) hs (start c) (count_start c)).is;
+      refusals = names-refused c hs;
       one_batch = one;
       bytes = carries_is c w carried;
       again = same_bytes c w carried one;

@@ -12,6 +12,7 @@ pub mod EpochRuns
 pub mod FleetRuns
 pub mod FlushedShards
 pub mod FreeLaws
+pub mod FreeNames
 pub mod MarkRuns
 pub mod OwnRuns
 pub mod ReceivedRuns

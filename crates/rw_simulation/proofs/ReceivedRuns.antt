@@ -7,6 +7,7 @@ use Rattle.std.proofs.lemmas.List.{length-map, take-append-le}
 use Rattle.std.proofs.lemmas.Option.{same_Some, none-some, slice_get_within}
 use Rattle.rw_types.proofs.AllLemmas.{AllByRecursion-left, AllByRecursion-right}
 use Rattle.rw_types.specs.Beginnings.{Begins}
+use Rattle.rw_types.specs.Rising.{Rises}
 use Rattle.rw_types.specs.Labels.{Labels}
 use Rattle.rw_types.specs.declared.entry.Entry.{Entry}
 use Rattle.rw_types.specs.declared.entry.Entry.TheVariants as entry
@@ -27,6 +28,8 @@ use Rattle.rw_shard_core.specs.declared.outcome.Outcome.TheVariants as outcome
 use Rattle.rw_worker.specs.Transcript.{Exchange}
 use Rattle.rw_worker.specs.Steps.{Step, exchanges_of, items_of}
 use Rattle.rw_head.specs.Head.{State}
+use Rattle.rw_head.specs.Growth.{EachRises}
+use Rattle.rw_head.specs.Lists.{IsEarlier}
 use Rattle.rw_head.specs.Order.{holds}
 use Rattle.rw_head.specs.Store.{list_of}
 use Rattle.rw_fleet.specs.ShardHistories.{ShardHistory, put_into}
@@ -50,17 +53,17 @@ use Rattle.rw_machine.specs.declared.event.Event.{Event}
 use Rattle.rw_machine.specs.declared.event.Event.TheVariants as event
 use Rattle.rw_machine.specs.declared.event.How.{How}
 use Rattle.rw_machine.specs.declared.event.How.TheVariants.{Plain, Busy, OutOfMemory}
-use Rattle.rw_machine.specs.Promises.{CanWork, HoldsAll, HoldsBeginning, StoresResolved, owed, pair_of}
+use Rattle.rw_machine.specs.Promises.{CanWork, HoldsAll, HoldsBeginning, HoldsBeginningBelow, OwedRises, Point, StoresResolved, owed, owed_below, pair_of}
 use Rattle.rw_machine.proofs.Lists.{Lists}
 use Rattle.rw_machine.proofs.Stored.{resolved_is_stored}
-use Rattle.rw_machine.proofs.Runs.{in_order, all_when_complete, all_when_damaged}
+use Rattle.rw_machine.proofs.Runs.{in_order, of_placed, owed_rises, held_rises, all_when_complete, all_when_damaged}
 use Rattle.rw_simulation.specs.Freely.{Happening, Of, IsOwn, run_freely}
 use Rattle.rw_simulation.specs.Tallies.{Past, IsTallied, requests_of}
 use Rattle.rw_simulation.specs.EpochRuns.{ShardFate, AreUnsent, IsAllPut, Reaches}
 use Rattle.rw_simulation.specs.FleetRuns.{IsShardRun, fate_at}
 use Rattle.rw_simulation.specs.StoppedRuns.{IsSetAs, NamesAll, first_number}
 use Rattle.rw_simulation.specs.Arrivals.{Arrival, Receives, IsOneReceiver}
-use Rattle.rw_simulation.specs.Received.{AreOfSteps, AreExchangesOf, IsHeld, is_left, ReceivesInOrder, ReceivesAbandoned}
+use Rattle.rw_simulation.specs.Received.{AreOfSteps, AreExchangesOf, IsHeld, is_left, owed_of_placed, ReceivesInOrder, ReceivesAbandoned}
 use Rattle.rw_simulation.proofs.EntryRuns.{over_not}
 use Rattle.rw_simulation.proofs.ReshardRuns.{BeginsEpoch, asked, draining, ended, next, next-begins, restarts}
 use Rattle.rw_simulation.proofs.EndRuns.{IsResolvedFate, IsOver, end-all, tallies-at, drained-all}
@@ -582,6 +585,10 @@ held-so c s r v head events is head_is pieces_are choice named all rest read pla
   in_order = λ l. subst (λ (st : State). Begins (list_of st.store l) (map pair_of (owed v.names (kept_points s.log.choice (entries s.log.pieces) l)))) head_is
       (subst (λ (ps : List Piece). Begins (list_of v.head.store l) (map pair_of (owed v.names (kept_points s.log.choice (entries ps) l)))) pieces_are
       (subst (λ (ch : Choice). Begins (list_of v.head.store l) (map pair_of (owed v.names (kept_points ch (log v) l)))) choice (subst (λ (x : World). HoldsBeginning c x l) is (in_order c events l))));
+  of_placed = λ l. subst (λ (st : State). Begins (list_of st.store l) (map pair_of (owed_of_placed s v.names l))) head_is
+      (subst (λ (os : List Point). Begins (list_of v.head.store l) (map pair_of os)) (owed-is l) (subst (λ (x : World). HoldsBeginningBelow c x x.placed l) is (of_placed c events l)));
+  owed_rises = λ l. subst (λ (os : List Point). Rises IsEarlier (map pair_of os)) (owed-is l) (subst (OwedRises c) is (owed_rises c events) l);
+  rises = subst (λ (st : State). EachRises st.store) head_is (subst (λ (x : World). EachRises x.head.store) is (held_rises c events));
   whole = λ left l. subst (λ (st : State). list_of st.store l ≡ map pair_of (owed v.names (kept_points_below s.log.choice (entries s.log.pieces) l (length s.log.placed)))) head_is
       (subst (λ (ps : List Piece). list_of v.head.store l ≡ map pair_of (owed v.names (kept_points_below s.log.choice (entries ps) l (length s.log.placed)))) pieces_are
       (subst (λ (ch : Choice). list_of v.head.store l ≡ map pair_of (owed v.names (kept_points_below ch (log v) l (length s.log.placed)))) choice (all left l)));
@@ -595,6 +602,9 @@ held-so c s r v head events is head_is pieces_are choice named all rest read pla
   where
     log-is : log v ≡ s.log.placed ++ rest
     log-is = ap entries pieces_are ∙ read
+
+    owed-is : (l : Labels) → owed_below c v v.placed l ≡ owed_of_placed s v.names l
+    owed-is l = λ i. owed v.names (kept_points_below (choice i) (entries (pieces_are i)) l (placed i))
 
     below : (a b : ℕ) → a < b → a ≤ b
     below a b lt = omega arith

@@ -23,17 +23,17 @@ use Rattle.rw_worker.specs.declared.transport.Lost.{Lost}
 use Rattle.rw_worker.specs.Steps.{Working, Step, Takes, Freezes, Sends, Waits, after_step}
 use Rattle.rw_feeder.specs.Logs.{named, dropped, dropped_of, with_name}
 use Rattle.rw_machine.specs.Worlds.{Setup, Request, World, start}
-use Rattle.rw_machine.specs.Steps.{turned_away}
 use Rattle.rw_machine.proofs.Lists as lists
 use Rattle.rw_machine.proofs.Names.{ledger_insert}
-use Rattle.rw_machine.proofs.Named.{Unnamed, unnamed_act, unnamed_begins, stays_act}
+use Rattle.rw_machine.proofs.Named.{Unnamed, unnamed_act, unnamed_begins}
 use Rattle.rw_machine.proofs.Steps.{and_both}
 use Rattle.rw_machine.proofs.Views.{Ledger}
 use Rattle.rw_simulation.specs.Freely.{Happening, run_freely}
 use Rattle.rw_simulation.specs.WorkerRuns.{IsIdOf, answer_names, step_names, steps_names, sent_bytes}
 use Rattle.rw_simulation.specs.Tallies.{Past, requests_of, IsNamedSo, IsOwned, IsReached, IsTallied}
 use Rattle.rw_simulation.proofs.Changes.{run-append}
-use Rattle.rw_simulation.proofs.FreeLaws.{always_freely, keeps-lists}
+use Rattle.rw_simulation.proofs.FreeLaws.{keeps-lists}
+use Rattle.rw_simulation.proofs.FreeNames.{always_freely, stays-named, unnamed_answer}
 
 abbrev pub Names : Type 0
 Names = FinMap nat_cmp Reason
@@ -155,26 +155,12 @@ on c w v hs r is = (r.0 ++ hs, run-append c r.0 hs (start c) ∙ ap (run_freely 
 pub lists-at : (c : Setup) (w : World) → IsReached c w → lists.All c w
 lists-at c w r = subst (lists.All c) r.1 (keeps-lists c r.0 (start c) (lists.all_start c))
 
-unnamed_answer : (w : World) (status : ℕ) (o : Option Request) → Unnamed w → Unnamed (turned_away w status o)
-unnamed_answer w status None at = at
-unnamed_answer w status (Some r) at = record { ident = at.ident; numbered = at.numbered; fresh = at.fresh }
-
-named_answer : (w : World) (status p : ℕ) (reason : Reason) (o : Option Request) → get w.names p ≡ Some reason → get (turned_away w status o).names p ≡ Some reason
-named_answer w status p reason None h = h
-named_answer w status p reason (Some r) h = h
-
 -- a name stays
 name-stays : (c : Setup) (w v : World) (hs : List Happening) (p : ℕ) (reason : Reason) → IsReached c w → run_freely c hs w ≡ v → get w.names p ≡ Some reason → get v.names p ≡ Some reason
-name-stays c w v hs p reason r is h = subst (λ (u : World). get u.names p ≡ Some reason) is (all hs w unnamed h).1
+name-stays c w v hs p reason r is h = subst (λ (u : World). get u.names p ≡ Some reason) is (stays-named c p reason hs w unnamed h)
   where
-    Both : World → Type 0
-    Both u = Unnamed u × (get u.names p ≡ Some reason)
-
     unnamed : Unnamed w
     unnamed = subst Unnamed r.1 (always_freely Unnamed c (unnamed_act c) unnamed_answer r.0 (start c) (unnamed_begins c))
-
-    all : (hs : List Happening) (w : World) → Unnamed w → get w.names p ≡ Some reason → Both (run_freely c hs w)
-    all hs w at q = always_freely Both c (λ u e b. (unnamed_act c u e b.0, stays_act c p reason u e b.0 b.1)) (λ u status o b. (unnamed_answer u status o b.0, named_answer u status p reason o b.1)) hs w (at, q)
 
 -- ---- the parts, with one that has changed
 abbrev pub with_part : ℕ → Names → (ℕ → Names) → ℕ → Names

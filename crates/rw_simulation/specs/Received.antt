@@ -5,6 +5,7 @@ use Rattle.std.specs.List.{list_any}
 use Rattle.std.specs.FinMap.{FinMap, get}
 use Rattle.rw_types.specs.Labels.{Labels}
 use Rattle.rw_types.specs.Beginnings.{Begins}
+use Rattle.rw_types.specs.Rising.{Rises}
 use Rattle.rw_types.specs.declared.entry.Entry.TheVariants.{Sample}
 use Rattle.rw_wal_format.specs.Pieces.{entries}
 use Rattle.rw_wal_tail.specs.Fed.{piece_of}
@@ -16,6 +17,8 @@ use Rattle.rw_plain_queue.specs.declared.item.Kind.TheVariants.{Orderly}
 use Rattle.rw_shard_core.specs.declared.outcome.Outcome.{Outcome}
 use Rattle.rw_shard_core.specs.declared.outcome.Outcome.TheVariants.{Complete, Abandoned, Damaged}
 use Rattle.rw_head.specs.Head.{State}
+use Rattle.rw_head.specs.Growth.{EachRises}
+use Rattle.rw_head.specs.Lists.{IsEarlier}
 use Rattle.rw_head.specs.Order.{holds}
 use Rattle.rw_head.specs.Store.{Store, list_of}
 use Rattle.rw_worker.specs.Transcript.{Exchange}
@@ -28,7 +31,7 @@ use Rattle.rw_shipper.specs.Reports.{IsAbandoned}
 use Rattle.rw_shipper.specs.Shipping.{Shipping, PlacesAll, HasStopped}
 use Rattle.rw_shipper.specs.declared.report.Report.{Report}
 use Rattle.rw_machine.specs.Worlds.{Setup}
-use Rattle.rw_machine.specs.Promises.{CanWork, owed, pair_of}
+use Rattle.rw_machine.specs.Promises.{CanWork, Point, owed, pair_of}
 use Rattle.rw_simulation.specs.Arrivals.{Arrival, IsOneReceiver}
 use Rattle.rw_simulation.specs.StoppedRuns.{IsMachineOf, NamesAll, first_number}
 
@@ -48,14 +51,25 @@ is_left (Complete end) p = false
 is_left (Abandoned placed samples) p = list_any (λ (q : ℕ). q == p) samples.items
 is_left (Damaged f) p = false
 
--- Of each label set the store holds a beginning of its samples in the log that was fed, in log order, each once, less exactly those that the report names; of
--- one that the rules do not keep it holds none. Where the shipper left nothing, the store holds all of the samples that were placed; and else each
--- that was placed and of which the report neither says that it was left nor names it (`settled`).
+-- what the report does not name of the samples of a label set that were placed
+abbrev pub owed_of_placed : {T : Type 0} → Shipping T → FinMap nat_cmp Reason → Labels → List Point
+owed_of_placed s names l = owed names (kept_points_below s.log.choice (entries s.log.pieces) l (length s.log.placed))
+
+-- Of each label set the store holds a prefix of its samples in the log that was fed, in log order, each
+-- once, less exactly those that the report names (`in_order`), and of these only samples that were
+-- placed (`of_placed`). What the report does not name of the placed ones rises strictly in time
+-- (`owed_rises`), and so does what the store holds (`rises`). Of a label set that the rules do not keep
+-- it holds none. Where the shipper left nothing, the store holds all of the samples that were placed
+-- (`whole`); and else each that was placed and of which the report neither says that it was left nor
+-- names it (`settled`).
 pub record IsHeld {T : Type 0} (s : Shipping T) (r : Report T) (store : Store) : Type 0 where
   pub names : FinMap nat_cmp Reason
   pub named : NamesAll names r.parts.items
   pub in_order : (l : Labels) → Begins (list_of store l) (map pair_of (owed names (kept_points s.log.choice (entries s.log.pieces) l)))
-  pub whole : (IsAbandoned r.outcome → ⊥) → (l : Labels) → list_of store l ≡ map pair_of (owed names (kept_points_below s.log.choice (entries s.log.pieces) l (length s.log.placed)))
+  pub of_placed : (l : Labels) → Begins (list_of store l) (map pair_of (owed_of_placed s names l))
+  pub owed_rises : (l : Labels) → Rises IsEarlier (map pair_of (owed_of_placed s names l))
+  pub rises : EachRises store
+  pub whole : (IsAbandoned r.outcome → ⊥) → (l : Labels) → list_of store l ≡ map pair_of (owed_of_placed s names l)
   pub settled : (p ref : ℕ) (t : ℤ) (word : ℕ) (l : Labels) → slice_get s.log.placed p ≡ Some (Sample ref t word) → known s.log.choice (take p s.log.placed) ref ≡ Kept l → is_left r.outcome p ≡ false → get names p ≡ None → holds (t, word) (list_of store l) ≡ true
 
 -- So one receiver holds the samples of every shipper that was stopped in order with nothing left, whatever the network lost, repeated, delayed or put in another order.

@@ -107,7 +107,7 @@ pub record ComesTo {T : Type 0} (tells : T → Type 0) (seen : T → List Exchan
 
 -- some free schedule of the machine leads there, and what the machine's laws say holds of it
 abbrev pub IsRun : {T : Type 0} → (T → Type 0) → (T → List Exchange) → Setup → Shipping T → Report T → Type 0
-IsRun tells seen c s r = (hs : List Happening) × ComesTo tells seen c s r (world_of c hs) × KeepsLaws c (world_of c hs)
+IsRun tells seen c s r = (hs : List Happening) × ComesTo tells seen c s r (world_of c hs) × KeepsLaws c hs
 
 -- So it is of every shipper that left nothing, over whichever epochs its samples were placed, where these had such numbers of shards and ended in turn;
 abbrev pub StopsAsRun : {T : Type 0} → (T → Type 0) → (T → List Exchange) → (ℕ → ℕ → T → Type 0) → Shipping T → Report T → Type 0

@@ -8,7 +8,7 @@ ghost use Rattle.rw_head.specs.Head.{State};
 ghost use Rattle.rw_worker.specs.Transcript.{Exchange};
 ghost use Rattle.rw_machine.specs.Worlds.{Setup, World};
 ghost use Rattle.rw_simulation.specs.Freely.{Happening};
-ghost use Rattle.rw_simulation.specs.FreeLaws.{KeepsLaws, world_of};
+ghost use Rattle.rw_simulation.specs.FreeLaws.{KeepsLaws};
 ghost use Rattle.rw_simulation.specs.WorkerRuns.{IsWorkerRun};
 ghost use Rattle.rw_simulation.specs.Tallies.{Earlier, past_by};
 ghost use Rattle.rw_simulation.specs.FleetRuns.{IsFleetRun};
@@ -25,7 +25,7 @@ use rw_worker::Transport;
 
 /// The laws of the sender's part of the machine hold whoever answers its requests, and with whatever status.
 pub fn free_runs_keep_the_laws()
-    ensures { (c : Setup) (hs : List Happening) → KeepsLaws c (world_of c hs) }
+    ensures { (c : Setup) (hs : List Happening) → KeepsLaws c hs }
 {}
 
 /// The steps of a worker are events of its shard of the machine. The machine's shard comes to the worker's state, with the same bytes sent and

@@ -1,9 +1,10 @@
 -- What is known of every world, since events have brought it there.
 use Rattle.std.specs.Prelude.{◌≡◌, List}
+use Rattle.rw_head.specs.Growth.{EachRises}
 use Rattle.rw_machine.specs.declared.event.Event.{Event}
 use Rattle.rw_machine.specs.Worlds.{Setup, World, start}
 use Rattle.rw_machine.specs.Steps.{run}
-use Rattle.rw_machine.specs.Promises.{CanWork, IsInOrder, IsWhole, IsWholeBeforeDamage, HoldsNothingElse, IsClosedForGood, HasOneClassEach, CountsFiltered, NamesRefusals, HasOneBatchEachId, CarriesEachBatch, SendsSameBytes, NeverTakesAndRefuses, StoresResolved, HasShardLists}
+use Rattle.rw_machine.specs.Promises.{CanWork, IsInOrder, IsOfPlaced, OwedRises, IsWhole, IsWholeBeforeDamage, HoldsNothingElse, IsClosedForGood, HasOneClassEach, CountsFiltered, NamesRefusals, HasOneBatchEachId, CarriesEachBatch, SendsSameBytes, NeverTakesAndRefuses, StoresResolved, HasShardLists}
 use Rattle.rw_world.specs.Arriving.{AnswersBytes}
 use Rattle.rw_world.specs.Machine.{Machine}
 
@@ -13,15 +14,19 @@ pub record IsReached (m : Machine) : Type 0 where
   pub events : List Event
   pub reached : m.world ≡ run m.setup events (start m.setup)
 
--- the events that led to it, and the statuses that are named are those of the replies among them that refused a batch
+-- Events led to it. Whichever led to it, the statuses that are named are those of the replies among
+-- them that refused a batch.
 pub record NamesItsRefusals (c : Setup) (w : World) : Type 0 where
   pub events : List Event
   pub reached : w ≡ run c events (start c)
-  pub refusals : NamesRefusals c events
+  pub refusals : (es : List Event) → w ≡ run c es (start c) → NamesRefusals c es
 
 -- What every schedule keeps.
 pub record IsKept (c : Setup) (w : World) : Type 0 where
   pub in_order : IsInOrder c w  -- of each label set a beginning of its logged samples has arrived, each once, less the named ones
+  pub of_placed : IsOfPlaced c w  -- none of them before it was placed
+  pub owed_rises : OwedRises c w  -- what is owed of the placed ones rises strictly in time
+  pub rises : EachRises w.head.store  -- and so does what has arrived
   pub whole : IsWhole c w  -- all of them up to the position asked for, once complete
   pub damaged : IsWholeBeforeDamage c w  -- and all before the damage of a log
   pub nothing_else : HoldsNothingElse c w
