@@ -211,7 +211,9 @@ fn open_files<R: Files<File = File> + AllocGlobal + Copy>(
         let segment = segment_at(alloc, place)?;
         let mut file = Opened::new(file_of(rt, dir, segment, counters)?);
         if is_at_checkpoint && !file.open_now() {
-            closed.push(file)?;
+            if closed.push(file).is_err() {
+                return Err(FilesFault::OutOfMemory);
+            }
             return Err(FilesFault::Unreadable);
         }
         is_at_checkpoint = is_at_checkpoint && place.checkpoint.is_some();
