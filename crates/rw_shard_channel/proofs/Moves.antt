@@ -33,13 +33,13 @@ pub joined-snoc : (bs : List Filled) (b : Filled) → joined (bs ++ b ∷ []) �
 joined-snoc [] b = append-nil b.items
 joined-snoc (x ∷ xs) b = ap (λ ys. x.items ++ ys) (joined-snoc xs b) ∙ sym (append_assoc x.items (joined xs) b.items)
 
-pub blocks-snoc : (most : ℕ) (bs : List Filled) (b : Filled) → AreBlocks most bs → 0 < length b.items → length b.items ≤ most → AreBlocks most (bs ++ b ∷ [])
-blocks-snoc most [] b are any few = (any, few, tt)
-blocks-snoc most (x ∷ xs) b are any few = (are.0, are.1, blocks-snoc most xs b are.2 any few)
+pub blocks-snoc : (most : ℕ) (bs : List Filled) (b : Filled) → AreBlocks most bs → 0 < length b.items → length b.items ≤ most → b.most ≡ most → AreBlocks most (bs ++ b ∷ [])
+blocks-snoc most [] b are any few sized = (any, few, sized, tt)
+blocks-snoc most (x ∷ xs) b are any few sized = (are.0, are.1, are.2, blocks-snoc most xs b are.3 any few sized)
 
 pub joined-most : (most : ℕ) (bs : List Filled) → AreBlocks most bs → length (joined bs) ≤ length bs * most
 joined-most most [] are = omega arith
-joined-most most (x ∷ xs) are = let rest = joined-most most xs are.2 in let here = are.1 in let whole = length-append x.items (joined xs) in omega arith
+joined-most most (x ∷ xs) are = let rest = joined-most most xs are.3 in let here = are.1 in let whole = length-append x.items (joined xs) in omega arith
 
 pub joined-within : (slots most : ℕ) (bs : List Filled) → AreBlocks most bs → length bs ≤ slots → length (joined bs) ≤ slots * most
 joined-within slots most bs are few = let one = joined-most most bs are in let two = mul-le (length bs) most slots most few (omega arith) in omega arith
@@ -63,8 +63,8 @@ begins = record {
     one (suc port) v e = absurd (some-ne-none v (sym e))
 
 -- the feeder hands over a block with which its list still is a history
-pub puts : (n port : ℕ) (v : Log) (x : Filled) → v ≡ feeder v.name v.put → v.name.slots ≡ n → IsHistory v.name.epoch v.name.shard (v.put ++ x.items) → 0 < length x.items → length x.items ≤ v.name.most → Pushes IsRelayed n port v x (λ w. w ≡ feeder v.name (v.put ++ x.items))
-puts n port v x is most goes any few items views room h at =
+pub puts : (n port : ℕ) (v : Log) (x : Filled) → v ≡ feeder v.name v.put → v.name.slots ≡ n → IsHistory v.name.epoch v.name.shard (v.put ++ x.items) → 0 < length x.items → length x.items ≤ v.name.most → x.most ≡ v.name.most → Pushes IsRelayed n port v x (λ w. w ≡ feeder v.name (v.put ++ x.items))
+puts n port v x is most goes any few sized items views room h at =
     let w : Log = feeder v.name (v.put ++ x.items) in
     let mine = (h.fits port v at).0 (ap (λ (u : Log). u.feeds) is) in
     let put = h.put ++ x.items in
@@ -78,7 +78,7 @@ puts n port v x is most goes any few items views room h at =
         taken = h.taken;
         split = ap (λ l. l ++ x.items) h.split ∙ append_assoc h.taken (joined items) x.items ∙ ap (λ l. h.taken ++ l) (sym (joined-snoc items x));
         within = let longer = length-append items (x ∷ []) in omega arith;
-        sized = blocks-snoc h.name.most items x h.sized any (subst (λ (m : Name). length x.items ≤ m.most) mine.1 few);
+        sized = blocks-snoc h.name.most items x h.sized any (subst (λ (m : Name). length x.items ≤ m.most) mine.1 few) (sized ∙ ap (λ (m : Name). m.most) mine.1);
         history = subst (λ (y : Name × List Item). IsHistory y.0.epoch y.0.shard (y.1 ++ x.items)) (λ i. (mine.1 i, mine.2 i)) goes;
         fits = all_set (Fits h.writer h.reader h.name put h.taken) views port w ((λ _. (mine.0, mine.1, ap (λ l. l ++ x.items) mine.2)), (λ d. absurd (false≢true d)))
             (λ j u other e. ((λ p. absurd (other (((h.fits j u e).0 p).0 ∙ sym mine.0))), (h.fits j u e).1));
@@ -101,7 +101,7 @@ takes port v is x items views h at =
         taken = taken;
         split = split;
         within = let most = h.within in omega arith;
-        sized = h.sized.2;
+        sized = h.sized.3;
         history = h.history;
         fits = all_set (Fits h.writer h.reader h.name h.put taken) views port w ((λ d. absurd (false≢true d)), (λ _. (mine.0, mine.1, ap (λ l. l ++ x.items) mine.2)))
             (λ j u other e. ((h.fits j u e).0, (λ p. absurd (other (((h.fits j u e).1 p).0 ∙ sym mine.0)))));
@@ -111,6 +111,7 @@ takes port v is x items views h at =
         subst (λ (y : Name × List Item). IsHistory y.0.epoch y.0.shard (y.1 ++ x.items)) (λ i. (sym mine.1 i, sym mine.2 i)) (history-front h.name.epoch h.name.shard taken (joined items) (subst (IsHistory h.name.epoch h.name.shard) split h.history)),
         h.sized.0,
         subst (λ (m : Name). length x.items ≤ m.most) (sym mine.1) h.sized.1,
+        h.sized.2 ∙ ap (λ (m : Name). m.most) (sym mine.1),
       ),
     )
 
@@ -225,6 +226,10 @@ next epoch shard all taken rest now x history split is =
 pub next-open : (taken now : List Item) (x : Item) → IsOpen taken → now ≡ taken ++ x ∷ [] → is_end x ≡ false → IsOpen now
 next-open taken now x still is other = subst IsOpen (sym is) (open-push taken x still other)
 
+-- what was taken is a beginning of what was handed over
+pub split-handed : (put all taken block joined : List Item) → put ≡ all ++ joined → all ≡ taken ++ block → put ≡ taken ++ (block ++ joined)
+split-handed put all taken block joined e f = e ∙ ap (λ xs. xs ++ joined) f ∙ append_assoc taken block joined
+
 -- what was taken is a beginning of what was put
 pub split-on : (put all taken held block joined : List Item) → put ≡ all ++ joined → all ≡ taken ++ block → put ++ held ≡ taken ++ ((block ++ joined) ++ held)
 split-on put all taken held block joined e f = ap (λ xs. xs ++ held) (e ∙ ap (λ xs. xs ++ joined) f ∙ append_assoc taken block joined) ∙ append_assoc taken (block ++ joined) held
@@ -251,6 +256,10 @@ handed stands held n u v x b is none most history stood slots roomy nothing =
     let now : Filled = record { items = []; most = v.name.most } in
     let e : b ≡ now = λ i. record { items = none i; most = most i } in
     subst (λ (y : Log × Filled). IsFeed stands held n y.0 y.1) (λ i. (sym is i, sym e i)) (refl, subst (IsHistory v.name.epoch v.name.shard) (sym (append-nil (v.put ++ x))) history, subst stands (sym (append-nil (v.put ++ x))) stood, slots, roomy, refl, roomy.0, nothing)
+
+-- the room of a block does not change when one is handed over
+pub sizes : (u v : Log) (put : List Item) (spares spare : ℕ) → u ≡ feeder v.name put → spares ≡ spare → spare ≡ v.name.most → spares ≡ u.name.most
+sizes u v put spares spare is same most = same ∙ most ∙ ap (λ (l : Log). l.name.most) (sym is)
 
 pub kept : (stands held : List Item → Type 0) (n : ℕ) (u v : Log) (a b : Filled) → u ≡ v → b.items ≡ a.items → b.most ≡ a.most → IsFeed stands held n v a → IsFeed stands held n u b
 kept stands held n u v a b is same most f =

@@ -25,11 +25,12 @@ log_of p = view p
 abbrev pub queue_of : Pass Filled Log → QueueId
 queue_of p = record { epoch = (log_of p).name.epoch; shard = (log_of p).name.shard; capacity = (log_of p).name.capacity; slots = (log_of p).name.slots; most = (log_of p).name.most; table = p.table_id; key = p.me.0.of }
 
--- the end that puts: its queue, how many items the queue holds at most, and what was put
+-- the end that puts: its queue, how many items the queue holds at most, what was put, and how much of it was handed over to the channel; the rest waits in the block of this end
 pub record Feeding : Type 0 where
   pub queue : QueueId
   pub capacity : ℕ
   pub put : List Item
+  pub handed : List Item
 
 -- the end that takes: its queue, and what was taken
 pub record Draining : Type 0 where

@@ -17,10 +17,10 @@ abbrev pub joined : List Filled → List Item
 joined [] = []
 joined (b ∷ bs) = b.items ++ joined bs
 
--- each block has an item, and no more than so many
+-- each block has an item, and room for so many
 abbrev pub AreBlocks : ℕ → List Filled → Type 0
 AreBlocks most [] = ⊤
-AreBlocks most (b ∷ bs) = (0 < length b.items) × (length b.items ≤ most) × AreBlocks most bs
+AreBlocks most (b ∷ bs) = (0 < length b.items) × (length b.items ≤ most) × (b.most ≡ most) × AreBlocks most bs
 
 abbrev pub both : Name → List Item → List Item → Log
 both name put taken = record { feeds = true; drains = true; name = name; put = put; taken = taken }
@@ -70,9 +70,9 @@ pub record IsRelayed (blocks : List Filled) (views : List Log) : Type 0 where
 abbrev pub HandsOver : Log → Log → List Item → List Item → Type 0
 HandsOver v w held left = (w ≡ feeder v.name (v.put ++ held)) × (left ≡ [])
 
--- the items of the block join what was taken, which still is a history of the queue; there is one, and no more than a block may have
+-- the items of the block join what was taken, which still is a history of the queue; there is one, and no more than a block may have, which the block has room for
 abbrev pub Took : Log → Filled → Log → Type 0
-Took v x w = (w ≡ drainer v.name (v.taken ++ x.items)) × IsHistory v.name.epoch v.name.shard (v.taken ++ x.items) × (0 < length x.items) × (length x.items ≤ v.name.most)
+Took v x w = (w ≡ drainer v.name (v.taken ++ x.items)) × IsHistory v.name.epoch v.name.shard (v.taken ++ x.items) × (0 < length x.items) × (length x.items ≤ v.name.most) × (x.most ≡ v.name.most)
 
 -- what was put is what was taken and then these, no more than the channel holds, and an End was put last
 abbrev pub Remains : Log → List Filled → Type 0

@@ -1,6 +1,7 @@
 //! The blocks of items that go through the channel of a queue.
 
 ghost use Rattle.std.specs.Prelude.{◌≡◌, ◌++◌, ◌∷◌, [], length, IfOk, IfNone, ◌≤◌, ◌<◌, MatchOption};
+ghost use Rattle.rw_shard_channel.specs.Spares.{empty_block};
 
 use rw_plain_queue::Item;
 use std::alloc::{AllocError, Global};
@@ -28,19 +29,12 @@ impl Model for Block {
 
 impl Block {
     pub(crate) fn new(alloc: Global, most: usize) -> Result<Block, AllocError>
-        ensures { IfOk result (λ b. b ≡ record { items = []; most = most }) }
+        ensures { IfOk result (λ b. b ≡ empty_block most) }
     {
         Ok(Block {
             items: VecDeque::with_capacity(alloc, most)?,
             most,
         })
-    }
-
-    /// An empty block with as much room as this one.
-    pub(crate) fn fresh(&self) -> Result<Block, AllocError>
-        ensures { IfOk result (λ b. b ≡ record { items = []; most = self.now.most }) }
-    {
-        Block::new(*self.items.allocator(), self.most)
     }
 
     pub(crate) fn len(&self) -> usize

@@ -1,6 +1,6 @@
 //! The two ends of a queue: `Feed` puts, `Drain` takes.
 
-ghost use Rattle.std.specs.Prelude.{◌≡◌, ◌<◌, [], ◌∷◌, ◌++◌, ◌≤◌, length, IfOk, OnOk, OnErr, MatchResult};
+ghost use Rattle.std.specs.Prelude.{◌≡◌, ◌<◌, [], ◌∷◌, ◌++◌, ◌+◌, ◌≤◌, length, IfOk, OnOk, OnErr, MatchResult};
 ghost use Rattle.crossbeam_channel.specs.Claims.{IsSeatAt};
 ghost use Rattle.crossbeam_channel.specs.Ends.{sends_on, receives_on, ruled_capacity};
 ghost use Rattle.rw_shard_channel.specs.Ends.{log_of, queue_of};
@@ -10,6 +10,7 @@ ghost use Rattle.rw_shard_channel.specs.Taken.{TakesFront};
 
 use crate::block::Block;
 use crate::rule::{InOrder, Log, Naming, Opens, Puts, Takes};
+use crate::spares::{Returns, Spares, spare_blocks};
 use crate::stage::{Deserted, Ended, Killed, Open, Stage};
 use crossbeam_channel::{Pass, RuledReceiver, RuledSender, bounded_with};
 use rw_history::History;
@@ -32,13 +33,15 @@ impl fmt::Display for Gone {
 
 impl Error for Gone {}
 
-/// The end of a queue that puts. Contracts see its queue, how many items that holds at most, and what was put.
+/// The end of a queue that puts. Contracts see its queue, how many items that holds at most, what was
+/// put, and how much of it was handed over to the channel.
 #[derive(Drop)]
 pub struct Feed<S: Stage> {
     pub(crate) sender: RuledSender<Block, Log, InOrder>,
     pub(crate) pass: Pass<Block, Log>,
     /// What was put and is held back until a block is handed over.
     pub(crate) block: Block,
+    pub(crate) spares: Spares,
     pub(crate) stage: PhantomData<S>,
 }
 
@@ -54,6 +57,7 @@ impl<S: Stage> Model for Feed<S> {
     ghost view = { λ f. record {
       queue = queue_of f.pass;
       capacity = (log_of f.pass).name.capacity;
+      handed = (log_of f.pass).put;
       put = (log_of f.pass).put ++ f.block.items;
     } };
 
@@ -65,7 +69,8 @@ impl<S: Stage> Model for Feed<S> {
         × IsRoomy (log_of f.pass).name
         × (f.block.most ≡ (log_of f.pass).name.most)
         × (length f.block.items < (log_of f.pass).name.most)
-        × S.held f.block.items };
+        × S.held f.block.items
+        × (f.spares ≡ (log_of f.pass).name.most) };
 }
 
 /// The end of a queue that takes. Contracts see its queue and what was taken.
@@ -75,6 +80,8 @@ pub struct Drain<S: Stage> {
     pub(crate) pass: Pass<Block, Log>,
     /// What was received and is not taken yet.
     pub(crate) block: Block,
+    /// None once the end was given up, as `receiver` is.
+    pub(crate) returns: Option<Returns>,
     pub(crate) taken: History<Item>,
     pub(crate) stage: PhantomData<S>,
 }
@@ -96,7 +103,9 @@ impl<S: Stage> Model for Drain<S> {
         × IsNamed (log_of d.pass).name (log_of d.pass).taken
         × ((log_of d.pass).taken ≡ d.taken ++ d.block.items)
         × S.stands d.taken
-        × (length d.block.items < (log_of d.pass).name.most) };
+        × (length d.block.items < (log_of d.pass).name.most)
+        × (d.block.most ≡ (log_of d.pass).name.most)
+        × MatchOption d.returns S.let_go (λ r. r ≡ (log_of d.pass).name.most) };
 }
 
 /// What `Drain::take` gives, with the end as it then is.
@@ -110,24 +119,14 @@ pub enum Taken {
     Gone(Drain<Deserted>),
 }
 
-/// An empty block with as much room as `like`. It may wait for memory.
-fn fresh_block<R: Wait>(rt: &R, like: &Block) -> Block
-    ensures { result ≡ record { items = []; most = like.now.most } }
-{
-    for _ in rt.forever() {
-        if let Ok(block) = like.fresh() {
-            return block;
-        }
-    }
-    unreachable!()
-}
-
-/// Hands a block over, and an empty one stands in its place. Where nobody is at the other end nothing changes.
+/// Hands a block over, and puts an empty one in its place. If nobody is at the other end, what was
+/// put does not change.
 fn send<R: Wait>(
     rt: &R,
     sender: &RuledSender<Block, Log, InOrder>,
     pass: &mut Pass<Block, Log>,
     block: &mut Block,
+    spares: &mut Spares,
 ) -> Result<(), Gone>
     requires seat { IsSeatAt (sends_on sender.now) pass.old }
     requires log { log_of pass.old ≡ feeder (log_of pass.old).name (log_of pass.old).put }
@@ -135,14 +134,19 @@ fn send<R: Wait>(
     requires slots { (log_of pass.old).name.slots ≡ ruled_capacity (sends_on sender.now) }
     requires some { 0 < length block.old.items }
     requires most { length block.old.items ≤ (log_of pass.old).name.most }
+    requires sized { block.old.most ≡ (log_of pass.old).name.most }
+    requires spares { spares.old ≡ (log_of pass.old).name.most }
     ensures seat { IsSeatAt (sends_on sender.now) pass.new × (pass.new.id ≡ pass.old.id) }
     ensures room { block.new.most ≡ block.old.most }
+    ensures spares { spares.new ≡ spares.old }
     ensures ok { OnOk result
         (HandsOver (log_of pass.old) (log_of pass.new) block.old.items block.new.items) }
     ensures err { OnErr result ((log_of pass.new ≡ log_of pass.old) × (block.new ≡ block.old)) }
 {
-    let fresh = fresh_block(rt, block);
-    let full = mem::replace(block, fresh);
+    let Some(spare) = spares.take(rt) else {
+        return Err(Gone);
+    };
+    let full = mem::replace(block, spare);
     if let Err(e) = sender.send_as::<Puts, R>(rt, pass, full) {
         *block = e.into_inner();
         return Err(Gone);
@@ -159,6 +163,8 @@ impl Feed<Open> {
         ensures put { MatchResult result (λ _. self.new.put ≡ self.old.put ++ item ∷ [])
             (λ e. (e.0 ≡ item)
             × (self.new.put ≡ self.old.put)) }
+        ensures hands_over { OnOk result (item ≡ Item.Flush → self.new.handed ≡ self.new.put) }
+        ensures few { length self.new.put < length self.new.handed + self.new.queue.most }
         ensures history { IsHistory self.new.queue.epoch self.new.queue.shard self.new.put }
     {
         let waits = !matches!(item, Item::Flush);
@@ -166,7 +172,13 @@ impl Feed<Open> {
         if waits && self.block.len() < self.block.most() {
             return Ok(());
         }
-        if let Err(gone) = send(rt, &self.sender, &mut self.pass, &mut self.block) {
+        if let Err(gone) = send(
+            rt,
+            &self.sender,
+            &mut self.pass,
+            &mut self.block,
+            &mut self.spares,
+        ) {
             let Some(item) = self.block.undo() else {
                 unreachable!();
             };
@@ -177,28 +189,40 @@ impl Feed<Open> {
 
     /// Hands over the items that are held back, so that the other end can take them. It may wait for room.
     pub fn hand_over<R: Wait>(&mut self, rt: &R) -> Result<(), Gone>
-        ensures { self.new ≡ self.old }
+        ensures queue { (self.new.queue ≡ self.old.queue)
+            × (self.new.capacity ≡ self.old.capacity) }
+        ensures put { self.new.put ≡ self.old.put }
+        ensures hands_over { OnOk result (self.new.handed ≡ self.new.put) }
+        ensures err { OnErr result (self.new ≡ self.old) }
     {
         if self.block.len() == 0 {
             return Ok(());
         }
-        send(rt, &self.sender, &mut self.pass, &mut self.block)
+        send(
+            rt,
+            &self.sender,
+            &mut self.pass,
+            &mut self.block,
+            &mut self.spares,
+        )
     }
 
     /// Puts an End, the last item, of this kind. It may wait for room. Where nobody is at the other end, this end comes back as it was.
     pub fn end<R: Wait>(self, rt: &R, kind: Kind) -> Result<Feed<Ended>, (Feed<Open>, Gone)>
         ensures put { MatchResult result (λ f. (f.queue ≡ self.queue) × (f.capacity ≡ self.capacity)
             × (f.put ≡ self.put ++ Item.End kind ∷ [])) (λ e. e.0 ≡ self) }
+        ensures hands_over { IfOk result (λ f. f.handed ≡ f.put) }
         ensures history { IfOk result (λ f. IsHistory f.queue.epoch f.queue.shard f.put) }
     {
         let Feed {
             sender,
             mut pass,
             mut block,
+            mut spares,
             ..
         } = self;
         block.push(Item::End(kind));
-        if let Err(gone) = send(rt, &sender, &mut pass, &mut block) {
+        if let Err(gone) = send(rt, &sender, &mut pass, &mut block, &mut spares) {
             let Some(_) = block.undo() else {
                 unreachable!();
             };
@@ -206,6 +230,7 @@ impl Feed<Open> {
                 sender,
                 pass,
                 block,
+                spares,
                 stage: PhantomData,
             };
             return Err((feed, gone));
@@ -214,6 +239,7 @@ impl Feed<Open> {
             sender,
             pass,
             block,
+            spares,
             stage: PhantomData,
         })
     }
@@ -225,6 +251,7 @@ fn given(
     receiver: RuledReceiver<Block, Log, InOrder>,
     pass: Pass<Block, Log>,
     block: Block,
+    returns: Returns,
     taken: History<Item>,
 ) -> Taken
     requires seat { IsSeatAt (receives_on receiver) pass }
@@ -233,6 +260,8 @@ fn given(
     requires front { (log_of pass).taken ≡ taken ++ item ∷ block.items }
     requires open { IsOpen taken }
     requires most { length block.items < (log_of pass).name.most }
+    requires sized { block.most ≡ (log_of pass).name.most }
+    requires returns { returns ≡ (log_of pass).name.most }
     ensures { TakesFront (record { queue = queue_of pass; taken = taken }) result }
 {
     let mut taken = taken;
@@ -244,6 +273,7 @@ fn given(
                 receiver: Some(receiver),
                 pass,
                 block,
+                returns: Some(returns),
                 taken,
                 stage: PhantomData,
             },
@@ -255,6 +285,7 @@ fn given(
             receiver: Some(receiver),
             pass,
             block,
+            returns: Some(returns),
             taken,
             stage: PhantomData,
         },
@@ -270,28 +301,31 @@ impl Drain<Open> {
             receiver,
             mut pass,
             mut block,
+            returns,
             taken,
             ..
         } = self;
-        let Some(receiver) = receiver else {
+        let (Some(receiver), Some(mut returns)) = (receiver, returns) else {
             unreachable!();
         };
         if let Some(item) = block.pop() {
-            return given(item, receiver, pass, block, taken);
+            return given(item, receiver, pass, block, returns, taken);
         }
         let Ok(mut next) = receiver.recv_as::<Takes, R>(rt, &mut pass) else {
             return Taken::Gone(Drain {
                 receiver: Some(receiver),
                 pass,
                 block,
+                returns: Some(returns),
                 taken,
                 stage: PhantomData,
             });
         };
+        returns.give_back(rt, block);
         let Some(item) = next.pop() else {
             unreachable!();
         };
-        given(item, receiver, pass, next, taken)
+        given(item, receiver, pass, next, returns, taken)
     }
 }
 
@@ -310,6 +344,7 @@ impl<S: Stage> Drain<S> {
             receiver: None,
             pass,
             block,
+            returns: None,
             taken,
             stage: PhantomData,
         }
@@ -334,19 +369,22 @@ fn open_named<Q: Naming>(
     ensures empty { IfOk result (λ r. (r.0.put ≡ []) × (r.1.taken ≡ [])) }
 {
     let held = Block::new(alloc, most)?;
-    let block = Block::new(alloc, 0)?;
+    let block = Block::new(alloc, most)?;
+    let (spares, returns) = spare_blocks::<Q>(alloc, slots, most)?;
     let (sender, receiver, mut pass) = bounded_with::<Block, Log, InOrder, Global>(alloc, slots)?;
     let other = sender.another::<Opens<Q>>(&mut pass);
     let feed = Feed {
         sender,
         pass,
         block: held,
+        spares,
         stage: PhantomData,
     };
     let drain = Drain {
         receiver: Some(receiver),
         pass: other,
         block,
+        returns: Some(returns),
         taken: History::new(),
         stage: PhantomData,
     };

@@ -5,6 +5,7 @@
 mod block;
 mod ends;
 mod rule;
+mod spares;
 mod stage;
 mod whole;
 

@@ -66,18 +66,21 @@ pub fn begins<S: Stage, T: Stage>(feed: Feed<S>, drain: Drain<T>) -> (Feed<S>, D
     requires { feed.queue ≡ drain.queue }
     ensures same { (result.0 ≡ feed) × (result.1 ≡ drain) }
     ensures begins { Begins drain.taken feed.put }
+    ensures handed { Begins drain.taken feed.handed × Begins feed.handed feed.put }
     ensures within { length feed.put ≤ length drain.taken + feed.queue.capacity }
 {
     let Feed {
         sender,
         mut pass,
         block: held,
+        spares,
         ..
     } = feed;
     let Drain {
         receiver,
         pass: other,
         block,
+        returns,
         taken,
         ..
     } = drain;
@@ -88,12 +91,14 @@ pub fn begins<S: Stage, T: Stage>(feed: Feed<S>, drain: Drain<T>) -> (Feed<S>, D
         sender,
         pass,
         block: held,
+        spares,
         stage: PhantomData,
     };
     let drain = Drain {
         receiver,
         pass: other,
         block,
+        returns,
         taken,
         stage: PhantomData,
     };

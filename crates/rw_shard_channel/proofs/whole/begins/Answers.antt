@@ -3,7 +3,7 @@ use Rattle.rw_plain_queue.specs.declared.item.Item.{Item}
 use Rattle.rw_shard_channel.specs.declared.rule.Log.{Log}
 use Rattle.rw_shard_channel.specs.Ends.{Feeding, Draining}
 use Rattle.rw_shard_channel.specs.Rule.{joined}
-use Rattle.rw_shard_channel.proofs.Moves.{closes, compares, met, parts, split-on}
+use Rattle.rw_shard_channel.proofs.Moves.{closes, compares, met, parts, split-on, split-handed}
 use Rattle.rw_shard_channel.proofs.whole.begins.Goals as goal
 
 pub absorb-requires-clause-rule : goal.absorb-requires-clause-rule
@@ -22,3 +22,13 @@ returns-clause-begins g c =
     let e = ap (λ (l : Log). l.put) (sym a) ∙ r.1.0 ∙ ap (λ (l : Log). l.taken ++ joined r.0) a in
     let rest : List Item = (c.drain.inside.block.items ++ joined r.0) ++ c.feed.inside.block.items in
     (rest, ap (λ (f : Feeding). f.put) (sym c.feed.view_is) ∙ split-on _ _ _ c.feed.inside.block.items c.drain.inside.block.items (joined r.0) e c.drain.invariant.4 ∙ ap (λ (d : Draining). d.taken ++ rest) c.drain.view_is)
+
+pub returns-clause-handed : goal.returns-clause-handed
+returns-clause-handed g c =
+    let r = c.learn_as.ensures.rule in
+    let a = c.absorb.ensures.rule in
+    let e = ap (λ (l : Log). l.put) (sym a) ∙ r.1.0 ∙ ap (λ (l : Log). l.taken ++ joined r.0) a in
+    let rest : List Item = c.drain.inside.block.items ++ joined r.0 in (
+      (rest, ap (λ (f : Feeding). f.handed) (sym c.feed.view_is) ∙ split-handed _ _ _ c.drain.inside.block.items (joined r.0) e c.drain.invariant.4 ∙ ap (λ (d : Draining). d.taken ++ rest) c.drain.view_is),
+      (c.feed.inside.block.items, ap (λ (f : Feeding). f.put) (sym c.feed.view_is) ∙ ap (λ (f : Feeding). f.handed ++ c.feed.inside.block.items) c.feed.view_is),
+    )
