@@ -1,8 +1,8 @@
 -- What is known of the series, with one entry more.
-use Rattle.std.proofs.Common.{◌≡◌, ℕ, ℤ, ◌<◌, Bool, true, false, List, [], ◌∷◌, ◌++◌, length, refl, sym, ap, subst, ◌∙◌}
+use Rattle.std.proofs.Common.{◌≡◌, ℕ, ℤ, ◌<◌, Bool, true, false, List, [], ◌∷◌, ◌++◌, length, refl, sym, ap, subst, ◌∙◌, ◌⊎◌, inl, inr, None, Result, Ok, Err, OnErr}
 use Rattle.std.proofs.lemmas.Option.{slice_get_within}
 use Rattle.std.specs.FinMap.{empty, insert}
-use Rattle.rw_types.specs.Labels.{Labels}
+use Rattle.rw_types.specs.Labels.{Labels, label_fault}
 use Rattle.rw_types.specs.declared.entry.Entry.{Entry}
 use Rattle.rw_types.specs.declared.label_fault.LabelFault.{LabelFault}
 use Rattle.rw_types.specs.declared.entry.Entry.TheVariants.{Def, Sample}
@@ -12,14 +12,28 @@ use Rattle.rw_series_cache.specs.Cached.{Taken}
 use Rattle.rw_series_cache.specs.Known.{Standing, Unknown, Bad, Filtered, Kept, known}
 use Rattle.rw_series_cache.specs.Numbers.{series_of}
 use Rattle.rw_series_cache.specs.Rising.{rises, IsNoted}
-use Rattle.rw_series_cache.proofs.KnownLemmas.{series_of-definitions_of, definitions_of-definition, definitions_of-sample}
+use Rattle.rw_series_cache.proofs.KnownLemmas.{known-definitions_of, series_of-definitions_of, definitions_of-definition, definitions_of-sample}
 use Rattle.rw_series_cache.proofs.RisingLemmas.{noted_at_first, noted_definition, noted_other, noted_falling, noted_rising}
 use Rattle.rw_router.specs.Fates.{Drops, Sends, kept_fate, fate_by, fate}
-use Rattle.rw_router.specs.Routing.{Knows, IsSentNext}
+use Rattle.rw_router.specs.Routing.{Knows, IsSentNext, TakesMemory}
 
 -- nothing was placed
 pub knows_none : (choice : Choice) (cache : Taken) → cache ≡ record { choice = choice; definitions = []; noted = empty } → Knows [] cache
 knows_none choice cache is = subst (Knows []) (sym is) (record { defined = refl; noted = noted_at_first choice })
+
+-- a reference stands for the same after all entries as after the definitions
+pub known_before : (before : List Entry) (cache : Taken) (reference : ℕ) → Knows before cache → known cache.choice cache.definitions reference ≡ known cache.choice before reference
+known_before before cache reference k =
+    ap (λ ds. known cache.choice ds reference) (sym k.defined) ∙ known-definitions_of cache.choice before reference
+
+-- memory is refused of a definition by what is known after all entries
+pub takes_definition : {T E : Type 0} (r : Result T E) (before : List Entry) (cache : Taken) (reference : ℕ) (l : Labels) → Knows before cache
+    → (label_fault cache.choice.names l ≡ None) ⊎ (known cache.choice cache.definitions reference ≡ Unknown) → OnErr r (TakesMemory cache.choice before (Def reference l))
+takes_definition (Ok x) before cache reference l k h = tt
+takes_definition (Err x) before cache reference l k h = elim h [
+  | inl none ↦ inl none
+  | inr unknown ↦ inr (sym (known_before before cache reference k) ∙ unknown)
+]
 
 -- a definition is known
 pub knows_definition : (before : List Entry) (cache after : Taken) (reference : ℕ) (l : Labels) → Knows before cache

@@ -1,12 +1,12 @@
 -- What a router knows, and what it tells.
-use Rattle.std.specs.Prelude.{◌≡◌, ℕ, suc, ℤ, List, [], ◌∷◌, ◌++◌}
+use Rattle.std.specs.Prelude.{◌≡◌, ◌⊎◌, None, ℕ, suc, ℤ, List, [], ◌∷◌, ◌++◌}
 use Rattle.std.specs.Arc.{arc_value}
-use Rattle.rw_types.specs.Labels.{Labels}
+use Rattle.rw_types.specs.Labels.{Labels, label_fault}
 use Rattle.rw_types.specs.declared.entry.Entry.{Entry}
 use Rattle.rw_types.specs.declared.entry.Entry.TheVariants.{Def, Sample}
 use Rattle.rw_relabel.specs.declared.choice.Choice.{Choice}
 use Rattle.rw_series_cache.specs.Cached.{Taken}
-use Rattle.rw_series_cache.specs.Known.{definitions_of}
+use Rattle.rw_series_cache.specs.Known.{Unknown, known, definitions_of}
 use Rattle.rw_series_cache.specs.Numbers.{HasNumber, series_of}
 use Rattle.rw_series_cache.specs.Rising.{IsNoted}
 use Rattle.rw_router.specs.Fates.{Fate, Drops, Filters, Sends, fate}
@@ -72,3 +72,9 @@ WouldSend choice before reference t series = (l : Labels) × (fate choice before
 -- it would not
 abbrev pub WouldKeep : Choice → List Entry → ℕ → ℤ → Type 0
 WouldKeep choice before reference t = (l : Labels) → fate choice before reference t ≡ Sends l → ⊥
+
+-- Memory may be refused of this entry: of a definition of a label set, of the first definition of its
+-- reference, and of a sample that is sent.
+abbrev pub TakesMemory : Choice → List Entry → Entry → Type 0
+TakesMemory choice before (Def reference l) = (label_fault choice.names l ≡ None) ⊎ (known choice before reference ≡ Unknown)
+TakesMemory choice before (Sample reference t word) = (l : Labels) × (fate choice before reference t ≡ Sends l)

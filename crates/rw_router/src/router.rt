@@ -3,7 +3,7 @@
 ghost use Rattle.std.specs.Prelude.{◌≡◌, ◌<◌, ◌^◌, [], ◌∷◌, ◌++◌, List, IfOk, IfSome, IfNone, OnErr};
 ghost use Rattle.std.specs.FinMap as map;
 ghost use Rattle.rw_types.specs.declared.entry.Entry.{Entry};
-ghost use Rattle.rw_router.specs.Routing.{Knows, Routes, KnowsMore, IsRising, IsSentNext, WouldSend, WouldKeep};
+ghost use Rattle.rw_router.specs.Routing.{Knows, Routes, KnowsMore, IsRising, IsSentNext, WouldSend, WouldKeep, TakesMemory};
 
 use crate::sample::RoutedSample;
 use rw_ledger::Reason;
@@ -70,6 +70,8 @@ impl Router {
         ensures knows { (before : List Entry) → Knows before self.old.cache
             → IfOk result (λ r. KnowsMore before entry self.new.cache r) }
         ensures err { OnErr result (self.new ≡ self.old) }
+        ensures sound { (before : List Entry) → Knows before self.old.cache
+            → OnErr result (TakesMemory self.old.cache.choice before entry) }
     {
         match entry {
             Entry::Def { reference, labels } => {
@@ -94,6 +96,9 @@ impl Router {
         ensures knows { (before : List Entry) → Knows before self.old.cache
             → IfOk result (λ r. KnowsMore before (Entry.Sample reference t word) self.new.cache r) }
         ensures err { OnErr result (self.new ≡ self.old) }
+        ensures sound { (before : List Entry) → Knows before self.old.cache
+            → OnErr result
+            (TakesMemory self.old.cache.choice before (Entry.Sample reference t word)) }
     {
         match self.cache.look(reference) {
             Known::Unknown => Ok(Routed::Dropped(Reason::NoSeries)),

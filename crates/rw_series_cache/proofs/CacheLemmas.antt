@@ -1,5 +1,5 @@
 -- What a cache keeps, definition by definition.
-use Rattle.std.proofs.Common.{◌≡◌, ℕ, List, [], ◌∷◌, ◌++◌, Bool, true, false, cond, nat_eq, sym, ◌∙◌, ap, subst, Option, Some, None}
+use Rattle.std.proofs.Common.{◌≡◌, ℕ, List, [], ◌∷◌, ◌++◌, Bool, true, false, cond, nat_eq, refl, sym, ◌∙◌, ap, subst, Option, Some, None}
 use Rattle.std.specs.List.{list_any}
 use Rattle.rw_types.specs.Labels.{Labels}
 use Rattle.rw_types.specs.LabelOrder.{labels_eq}
@@ -25,6 +25,12 @@ nothing_defined choice definitions verdict_of sets e v s = record {
       (subst (StandsFor sets None) (sym (ap (λ es. known choice es r) e ∙ known-none choice r)) tt);
   series = s ∙ sym (ap (series_of choice) e ∙ series_of-none choice);
 }
+
+-- only what is unknown has no verdict
+pub unknown_without : (sets : List Labels) (v : Option Verdict) (is : Standing) → StandsFor sets v is → v ≡ None → is ≡ Unknown
+unknown_without sets None Unknown h e = refl
+unknown_without sets (Some v) is h e = absurd cc
+unknown_without sets None _ h e = absurd h
 
 stays_with : (sets : List Labels) (l : Labels) (b : Bool) (v : Option Verdict) (is : Standing) → StandsFor sets v is → StandsFor (cond b sets (sets ++ l ∷ [])) v is
 stays_with sets l true v is h = h

@@ -1,9 +1,10 @@
 //! Which series the references of a log stand for.
 
-ghost use Rattle.std.specs.Prelude.{◌≡◌, ◌<◌, ◌∷◌, ◌++◌, [], List, length, true, OnOk, OnErr};
+ghost use Rattle.std.specs.Prelude.{◌≡◌, ◌⊎◌, ◌<◌, ◌∷◌, ◌++◌, [], List, length, true, OnOk, OnErr, None};
 ghost use Rattle.std.specs.FinMap as map;
 ghost use Rattle.rw_types.specs.declared.entry.Entry.{Entry};
-ghost use Rattle.rw_series_cache.specs.Known.{definitions_of};
+ghost use Rattle.rw_series_cache.specs.Known.{definitions_of, known, Unknown};
+ghost use Rattle.rw_types.specs.Labels.{label_fault};
 ghost use Rattle.rw_series_cache.specs.Numbers.{series_of};
 ghost use Rattle.rw_series_cache.specs.Found.{Answers};
 ghost use Rattle.rw_series_cache.specs.Rising.{is_after};
@@ -79,11 +80,15 @@ impl Cache {
                   ∷ [];
             }) }
         ensures err { OnErr result (self.new ≡ self.old) }
+
+        // Memory is refused only of a label set, or of the first definition of a reference.
+        ensures sound { OnErr result
+            ((label_fault self.old.choice.names labels ≡ None)
+            ⊎ (known self.old.choice self.old.definitions reference ≡ Unknown)) }
     {
-        // This room is all that the reference and its series take: once a label set has its number, nothing is refused any more.
+        // The room is made first: once a label set has its number, nothing is refused any more.
         self.verdicts.make_room(reference)?;
-        self.latest.make_place(self.sets.len())?;
-        let verdict = self.sets.judge(&labels)?;
+        let verdict = self.sets.judge(&labels, &mut self.latest)?;
         self.verdicts.put(reference, verdict);
         self.taken.push(&Entry::Def { reference, labels });
         Ok(())

@@ -1,10 +1,11 @@
 //! Label sets, judged by the rules.
 
-ghost use Rattle.std.specs.Prelude.{◌≡◌, ◌<◌, [], length, Some, None, slice_get, IfOk, OnErr};
+ghost use Rattle.std.specs.Prelude.{◌≡◌, ◌<◌, ◌≤◌, [], length, Some, None, slice_get, IfOk, OnErr};
 ghost use Rattle.std.specs.Arc.{arc_value};
 ghost use Rattle.rw_types.specs.Labels.{IsLabelSet, label_fault};
 ghost use Rattle.rw_series_cache.specs.Cached.{Judges};
 
+use crate::timestamps::Timestamps;
 use crate::verdict::Verdict;
 use indexmap::IndexSet;
 use rw_relabel::Choice;
@@ -56,14 +57,26 @@ impl LabelSets {
         self.choice.names
     }
 
-    /// What becomes of the labels. A label set that was judged before is not asked of the rules again. Labels with a fault take no memory.
-    pub(crate) fn judge(&mut self, labels: &RawLabels) -> Result<Verdict, AllocError>
+    /// What becomes of the labels. A label set that was judged before is not asked of the rules again.
+    /// A series that is new has a place in `latest`, which is made before it has a number. Labels with
+    /// a fault take no memory.
+    pub(crate) fn judge(
+        &mut self,
+        labels: &RawLabels,
+        latest: &mut Timestamps,
+    ) -> Result<Verdict, AllocError>
+        requires { length self.old.series ≤ latest.old.places }
         ensures ok { IfOk result (λ v. Judges self.old self.new labels.now v) }
         ensures err { OnErr result (self.new ≡ self.old) }
         ensures sound { OnErr result (label_fault self.old.choice.names labels.now ≡ None) }
+        ensures places { length self.new.series ≤ latest.new.places }
+        ensures times { latest.new.times ≡ latest.old.times }
     {
         match LabelSet::check_as(self.alloc, self.choice.names, labels) {
-            Ok(set) => self.judge_set(set),
+            Ok(set) => {
+                latest.make_place(self.len())?;
+                self.judge_set(set)
+            }
             Err(LabelFault::OutOfMemory) => Err(AllocError),
             Err(fault) => Ok(Verdict::Bad(fault)),
         }

@@ -1,6 +1,6 @@
 //! The verdicts of references.
 
-ghost use Rattle.std.specs.Prelude.{◌≡◌, ℕ, ◌+◌, ◌*◌, ◌≤◌, None, OnOk, Some, nat_eq, if◌then◌else◌};
+ghost use Rattle.std.specs.Prelude.{◌≡◌, ℕ, ◌+◌, ◌*◌, ◌≤◌, None, OnErr, OnOk, Some, nat_eq, if◌then◌else◌};
 ghost use Rattle.rw_series_cache.specs.Verdicts.{verdict_in, HasRoom, IsWithin};
 
 use crate::verdict::Verdict;
@@ -44,17 +44,19 @@ impl Verdicts {
         }
     }
 
-    /// Makes room for the verdict of a reference. The table is extended only for one that is small for the number of definitions: a
-    /// log may name any number.
+    /// Makes room for the verdict of a reference. A reference that has a verdict takes no memory. The
+    /// table is extended only for one that is small for the number of definitions: a log may name any
+    /// number.
     pub(crate) fn make_room(&mut self, reference: u64) -> Result<(), AllocError>
         ensures ok { OnOk result (HasRoom self.new reference) }
+        ensures sound { OnErr result (verdict_in self.old reference ≡ None) }
         ensures same { (r : ℕ) → verdict_in self.new r ≡ verdict_in self.old r }
 
         // However large the reference is, the table reaches no further than the definitions so far allow.
         ensures within { (count : ℕ) → IsWithin self.old count → IsWithin self.new count }
     {
         let place = reference as usize;
-        if place < self.table.len() {
+        if place < self.table.len() || self.beside.contains_key(&reference) {
             return Ok(());
         }
         if place < self.most_places() {

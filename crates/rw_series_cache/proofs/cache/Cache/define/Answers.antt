@@ -13,10 +13,7 @@ invariant_of-self-2 c = (
   one_defined c.self.inside.sets c.judge.new.self c.self.inside.taken c.push.new.self (verdict_in c.self.inside.verdicts) (verdict_in c.put.new.self) c.args.reference c.args.labels
       c.in_ok-verdict.verdict c.self.invariant.0 c.in_ok-verdict.ensures.ok c.push.ensures
       (λ r. c.put.ensures.found r ∙ ap (λ o. cond (nat_eq c.args.reference r) (Some c.in_ok-verdict.verdict) o) (c.in_ok-make_room.ensures.same r)),
-  let series : length c.judge.new.self.series ≡ length (with_series c.self.inside.sets.series (standing_of c.self.inside.sets.choice (Some c.args.labels))) = ap length c.in_ok-verdict.ensures.ok.series in
-      let few = one_more_at_most c.self.inside.sets.series (standing_of c.self.inside.sets.choice (Some c.args.labels)) in
-      let room : length c.self.inside.sets.series < c.make_place.new.self.places = subst (λ n. n < c.make_place.new.self.places) c.len.ensures c.in_ok-make_place.ensures.ok in
-      omega (arith, series, few, room),
+  c.judge.ensures.places,
   subst (IsWithin c.put.new.self) (sym (ap (λ (ds : List Entry). length ds) c.push.ensures ∙ length-append c.self.inside.taken (Def c.args.reference c.args.labels ∷ [])))
       (c.put.ensures.within (length c.self.inside.taken) (c.in_ok-make_room.ensures.within (length c.self.inside.taken) c.self.invariant.2)),
 )
@@ -24,8 +21,5 @@ invariant_of-self-2 c = (
 pub invariant_of-self : goal.invariant_of-self
 invariant_of-self c = (search rules, search rules, c.in_err-make_room.ensures.within (length c.self.inside.taken) c.self.invariant.2)
 
-pub invariant_of-self-in_err-make_place : goal.invariant_of-self-in_err-make_place
-invariant_of-self-in_err-make_place c = (search rules, search rules, c.in_ok-make_room.ensures.within (length c.self.inside.taken) c.self.invariant.2)
-
 pub invariant_of-self-in_err-verdict : goal.invariant_of-self-in_err-verdict
-invariant_of-self-in_err-verdict c = (search rules, search rules, c.in_ok-make_room.ensures.within (length c.self.inside.taken) c.self.invariant.2)
+invariant_of-self-in_err-verdict c = (search rules, c.judge.ensures.places, c.in_ok-make_room.ensures.within (length c.self.inside.taken) c.self.invariant.2)
