@@ -240,7 +240,7 @@ fn each_byte_changed(rt: HostRuntime) {
     none_is_wrong(&rt, wrong_change(rt.alloc()));
 }
 
-/// Whether this fault, and nothing else, is answered by each of the next calls, whatever is fed between them.
+/// Whether each of the next calls answers this fault, whatever is fed between them.
 fn answers_only(tail: &mut Tail, fault: TailFault) -> bool {
     for _ in 0..3u32 {
         match tail.next_entry() {
@@ -254,7 +254,7 @@ fn answers_only(tail: &mut Tail, fault: TailFault) -> bool {
     true
 }
 
-/// Whether the definition is read of `UP` with its last byte changed, and then nothing but this fault.
+/// Whether `UP` with its last byte changed gives its definition, and then nothing but this fault.
 fn repeats_its_fault(alloc: Global, fault: TailFault) -> bool {
     let mut text = UP;
     text[62] = 1;

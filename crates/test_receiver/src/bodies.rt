@@ -128,7 +128,8 @@ const FIRST_TWO: Samples<'static> = &[(10, VALUES[0]), (20, VALUES[1])];
 
 const FIRST_THREE: Samples<'static> = &[(10, VALUES[0]), (20, VALUES[1]), (30, VALUES[2])];
 
-/// What a request shows, the samples in it, the status, and what a head then holds that held the first two samples.
+/// What a request shows, its samples and its status, and what a head holds after it that held the
+/// first two samples.
 type Later = (&'static str, Samples<'static>, u16, Samples<'static>);
 
 static LATER: [Later; 3] = [
@@ -188,7 +189,8 @@ fn wrong_by_itself(alloc: Global) -> Option<&'static str> {
     None
 }
 
-/// The first request that one head answers otherwise that is asked all of them, or after which it holds anything but the first three samples.
+/// Asks one head with all requests. Gives the first one that has another status, or after which the
+/// head holds anything but the first three samples.
 fn wrong_in_turn(alloc: Global) -> Option<&'static str> {
     let Ok(mut head) = standard(alloc) else {
         return Some("a head");

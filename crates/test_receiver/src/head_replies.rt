@@ -1,4 +1,5 @@
-//! Requests to the endpoint of a head, each over a connection of its own: the replies, and what the head then holds. `|` stands for CR LF.
+//! Requests to the endpoint of a head, each over a connection of its own: the replies, and what the
+//! head then holds. `|` stands for CR LF.
 
 use crate::bodies::WORD_OF_ONE;
 use crate::devices::Taking;
@@ -142,7 +143,8 @@ fn is_replied(alloc: Global, head: &mut Head, row: &Row) -> bool {
         && replies_so(alloc, head, &input, &reply)
 }
 
-/// The first request to a new head that has another reply, or after which the head holds anything but the first samples of these.
+/// Asks a new head with these requests. Gives the first one that has another reply, or after which
+/// the head holds anything but the first samples of these.
 fn first_wrong(alloc: Global, rows: &[Row], held: Samples<'_>) -> Option<&'static str> {
     let Ok(mut head) = standard(alloc) else {
         return Some("a head");

@@ -296,7 +296,8 @@ fn sixty_five_labels_are_too_many(rt: HostRuntime) {
     );
 }
 
-/// What a question shows, the number of a series and a timestamp, and whether that rises. One that does is noted.
+/// What a question shows, the number of a series and a timestamp, and whether that rises. If it
+/// does, it is noted.
 static TIMES: [(&str, u64, i64, bool); 10] = [
     (
         "the least timestamp, where nothing is noted",
@@ -319,7 +320,8 @@ fn times() -> &'static [(&'static str, u64, i64, bool)] {
     &TIMES
 }
 
-/// Whether a timestamp of a series rises; it is then noted. None, where there is no such series, or asking changes the answer.
+/// Whether a timestamp of a series rises; it is then noted. None, if there is no such series, or if
+/// asking changes the answer.
 fn is_noted(cache: &mut Cache, series: u64, t: i64) -> Option<bool> {
     if series >= cache.series_count() as u64 {
         return None;
@@ -344,7 +346,8 @@ fn wrong_time(cache: &mut Cache) -> Option<&'static str> {
     None
 }
 
-/// The first wrong answer of a cache with two series, and of a third reference that has the label set of the first one.
+/// The first wrong answer of a cache with two series, to which a third reference comes that has the
+/// label set of the first one.
 fn wrong_note(alloc: Global) -> Option<&'static str> {
     let mut cache = Cache::new(alloc, Choice::legacy(alloc));
     if !defines(alloc, &mut cache, 1, &[("job", "a")])
