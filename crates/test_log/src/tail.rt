@@ -240,6 +240,35 @@ fn each_byte_changed(rt: HostRuntime) {
     none_is_wrong(&rt, wrong_change(rt.alloc()));
 }
 
+/// Whether each of the next calls answers this fault, whatever is fed between them.
+fn answers_only(tail: &mut Tail, fault: TailFault) -> bool {
+    for _ in 0..3u32 {
+        match tail.next_entry() {
+            Err(found) if found == fault => {}
+            _ => return false,
+        }
+        if !is_fed(tail, &UP) {
+            return false;
+        }
+    }
+    true
+}
+
+/// Whether `UP` with its last byte changed gives its definition, and then nothing but this fault.
+fn repeats_its_fault(alloc: Global, fault: TailFault) -> bool {
+    let mut text = UP;
+    text[62] = 1;
+    let mut tail = Tail::new(alloc);
+    let mut seen = NOTHING;
+    seen.feed(&mut tail, &text);
+    seen == DEFINITION.but(fault) && answers_only(&mut tail, fault)
+}
+
+#[test]
+fn a_wrong_crc_is_the_answer_of_each_later_call(rt: HostRuntime) {
+    holds(&rt, repeats_its_fault(rt.alloc(), TailFault::BadCrc));
+}
+
 /// A fragment of a record that is not of its form.
 const BAD_RECORD: &[u8] = &[
     1, 0, 19, 0x7e, 0xa6, 0xff, 0x1a, 1, 0, 0, 0, 0, 0, 0, 0, 1, 255, 255, 255, 255, 255, 255, 255,

@@ -1,7 +1,7 @@
 //! Request bodies and the statuses that answer them.
 
-use crate::messages::{UP, message, standard};
-use crate::rows::{holds, none_is_wrong};
+use crate::messages::{Samples, UP, has_samples, message, standard};
+use crate::rows::{holds, none_differs, none_is_wrong};
 use rw_head::{Head, Limits};
 use rw_types::Bounded;
 use rw_write_request::encode;
@@ -114,6 +114,103 @@ fn wrong_status(alloc: Global) -> Option<usize> {
 #[test]
 fn statuses_tell_verdicts(rt: HostRuntime) {
     none_is_wrong(&rt, wrong_status(rt.alloc()));
+}
+
+/// The words of the values 1, 2, 3 and 5.
+const VALUES: [u64; 4] = [
+    WORD_OF_ONE,
+    0x4000_0000_0000_0000,
+    0x4008_0000_0000_0000,
+    0x4014_0000_0000_0000,
+];
+
+const FIRST_TWO: Samples<'static> = &[(10, VALUES[0]), (20, VALUES[1])];
+
+const FIRST_THREE: Samples<'static> = &[(10, VALUES[0]), (20, VALUES[1]), (30, VALUES[2])];
+
+/// What a request shows, its samples and its status, and what a head holds after it that held the
+/// first two samples.
+type Later = (&'static str, Samples<'static>, u16, Samples<'static>);
+
+static LATER: [Later; 3] = [
+    (
+        "a repeat and a later sample",
+        &[(20, VALUES[1]), (30, VALUES[2])],
+        204,
+        FIRST_THREE,
+    ),
+    (
+        "a later sample and one that is earlier than it",
+        &[(30, VALUES[2]), (25, VALUES[0])],
+        400,
+        FIRST_TWO,
+    ),
+    (
+        "another value at the last timestamp",
+        &[(20, VALUES[3])],
+        400,
+        FIRST_TWO,
+    ),
+];
+
+fn later() -> &'static [Later] {
+    &LATER
+}
+
+/// How a head answers the body of these samples of one series. 503 where memory is refused.
+fn status_of(alloc: Global, head: &mut Head, samples: Samples<'_>) -> u16 {
+    let Ok(message) = message(alloc, &[(UP, samples)]) else {
+        return 503;
+    };
+    match encode(alloc, &message) {
+        Ok(body) => head.answer(&body),
+        Err(_) => 503,
+    }
+}
+
+/// Whether a head that holds the first two samples answers a request so, and then holds just this.
+fn is_answered_so(alloc: Global, row: &Later) -> bool {
+    let Ok(mut head) = standard(alloc) else {
+        return false;
+    };
+    status_of(alloc, &mut head, FIRST_TWO) == 204
+        && status_of(alloc, &mut head, row.1) == row.2
+        && has_samples(alloc, &head, UP, row.3)
+        && head.total() == row.3.len() as u64
+}
+
+/// The first request that is answered otherwise, each by a head of its own.
+fn wrong_by_itself(alloc: Global) -> Option<&'static str> {
+    for row in later() {
+        if !is_answered_so(alloc, row) {
+            return Some(row.0);
+        }
+    }
+    None
+}
+
+/// Asks one head with all requests. Gives the first one that has another status, or after which the
+/// head holds anything but the first three samples.
+fn wrong_in_turn(alloc: Global) -> Option<&'static str> {
+    let Ok(mut head) = standard(alloc) else {
+        return Some("a head");
+    };
+    if status_of(alloc, &mut head, FIRST_TWO) != 204 {
+        return Some("the first two samples");
+    }
+    for row in later() {
+        let is_so = status_of(alloc, &mut head, row.1) == row.2;
+        if !is_so || !has_samples(alloc, &head, UP, FIRST_THREE) || head.total() != 3 {
+            return Some(row.0);
+        }
+    }
+    None
+}
+
+#[test]
+fn later_samples_are_appended_and_earlier_ones_refused(rt: HostRuntime) {
+    none_differs(&rt, wrong_by_itself(rt.alloc()));
+    none_differs(&rt, wrong_in_turn(rt.alloc()));
 }
 
 /// The body of so many samples of one series, with no timestamp that is short.

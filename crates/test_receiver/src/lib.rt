@@ -12,6 +12,8 @@ mod connections;
 #[cfg(test)]
 mod devices;
 #[cfg(test)]
+mod head_replies;
+#[cfg(test)]
 mod limits;
 #[cfg(test)]
 mod memory;

@@ -3,7 +3,7 @@
 
 use crate::bodies::{ONE, TWO};
 use crate::messages::narrow;
-use crate::rows::none_is_wrong;
+use crate::rows::{holds, none_is_wrong};
 use rw_head::Head;
 use std::alloc::Global;
 
@@ -55,4 +55,38 @@ fn wrong_body(alloc: Global) -> Option<usize> {
 #[test]
 fn refused_memory_changes_nothing(rt: HostRuntime) {
     none_is_wrong(&rt, wrong_body(rt.alloc()));
+}
+
+/// Asks a head with one body several times. Whether each answer is that the body is stored, or that
+/// memory is refused and nothing has changed. A body that is not a message is bad each time.
+fn answers_are_whole(head: &mut Head) -> bool {
+    let mut held = (0, 0);
+    for _ in 0..3u32 {
+        if head.answer(&TWO[..65]) != 400 {
+            return false;
+        }
+        match head.answer(&ONE) {
+            204 => held = (1, 1),
+            503 => {}
+            _ => return false,
+        }
+        if counts(head) != held {
+            return false;
+        }
+    }
+    true
+}
+
+/// The same of a new head, if there is memory for one.
+fn are_whole(alloc: Global) -> bool {
+    match narrow(alloc) {
+        Ok(mut head) => answers_are_whole(&mut head),
+        Err(_) => true,
+    }
+}
+
+/// Holds also where memory stays refused, from whichever growth on.
+#[test]
+fn lasting_refusals_change_nothing(rt: HostRuntime) {
+    holds(&rt, are_whole(rt.alloc()));
 }

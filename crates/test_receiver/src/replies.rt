@@ -21,7 +21,7 @@ const MESSAGE: &[u8] =
     b"\n\x1e\n\x0e\n\x08__name__\x12\x02up\x12\x0c\x09\x00\x00\x00\x00\x00\x00\xf0?\x10\xe8\x07";
 
 /// Adds a text, with CR LF for each `|`.
-fn put_lines(out: &mut Vec<u8>, text: &[u8]) -> Result<(), AllocError> {
+pub(crate) fn put_lines(out: &mut Vec<u8>, text: &[u8]) -> Result<(), AllocError> {
     for byte in text {
         match byte {
             b'|' => out.extend_from_slice(b"\r\n")?,
@@ -32,7 +32,7 @@ fn put_lines(out: &mut Vec<u8>, text: &[u8]) -> Result<(), AllocError> {
 }
 
 /// Adds texts one after the other.
-fn put_all_lines(out: &mut Vec<u8>, texts: &[&[u8]]) -> Result<(), AllocError> {
+pub(crate) fn put_all_lines(out: &mut Vec<u8>, texts: &[&[u8]]) -> Result<(), AllocError> {
     for text in texts {
         put_lines(out, text)?;
     }

@@ -101,12 +101,13 @@ impl Transport for Peer {
     }
 }
 
-/// A receiver for each shard. For the epochs after the first few there is no memory.
+/// A receiver for each shard. After the first few there is no memory for one.
 #[derive(Drop)]
 pub(crate) struct Peers {
     pub(crate) alloc: Global,
     pub(crate) status: StatusCode,
-    pub(crate) epochs: u64,
+    /// How many more receivers there is memory for.
+    pub(crate) left: u64,
     /// The shard that is held until another one was answered.
     pub(crate) held: Option<u32>,
     pub(crate) has_answered: Arc<AtomicBool>,
@@ -130,9 +131,7 @@ impl Connect for Peers {
     type P = Quick;
 
     fn transport(&mut self, epoch: u64, shard: u32) -> Result<(Peer, Quick), AllocError> {
-        if epoch >= self.epochs {
-            return Err(AllocError);
-        }
+        self.left = self.left.checked_sub(1).ok_or(AllocError)?;
         let peer = Peer {
             epoch,
             shard,

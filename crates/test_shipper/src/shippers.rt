@@ -36,8 +36,8 @@ const SECOND_OF_C: &[u8] = &[
 struct Row<'a> {
     task: Task<'a>,
     status: u16,
-    /// For the receivers of the epochs from this one on there is no memory.
-    epochs: u64,
+    /// For how many receivers there is memory.
+    receivers: u64,
     wanted: Wanted<'a>,
     /// The bodies that the first and the last receiver get, each in one request; an empty one for no request.
     sent: Option<(&'a [u8], &'a [u8])>,
@@ -48,7 +48,7 @@ struct Row<'a> {
 fn peers_of(
     alloc: Global,
     status: u16,
-    epochs: u64,
+    receivers: u64,
     held: Option<u32>,
 ) -> Result<Peers, AllocError> {
     let Ok(status) = StatusCode::from_u16(status) else {
@@ -57,7 +57,7 @@ fn peers_of(
     Ok(Peers {
         alloc,
         status,
-        epochs,
+        left: receivers,
         held,
         has_answered: Arc::new(alloc, AtomicBool::new(false))?,
     })
@@ -91,7 +91,7 @@ fn has_loads(work: &Work, loads: Option<&[Load]>) -> bool {
 
 /// Whether a shipper does as a row wants.
 fn does<R: Threads + Wait + Copy + Send + 'static>(rt: &R, alloc: Global, row: &Row<'_>) -> bool {
-    let Ok(peers) = peers_of(alloc, row.status, row.epochs, None) else {
+    let Ok(peers) = peers_of(alloc, row.status, row.receivers, None) else {
         return false;
     };
     let Some((work, peers)) = done(rt, alloc, &row.task, peers) else {
@@ -109,7 +109,7 @@ static ALL_SENT: Row<'static> = Row {
         limit: None,
     },
     status: 204,
-    epochs: u64::MAX,
+    receivers: u64::MAX,
     wanted: Wanted {
         faults: &[None, None],
         ending: Ending::Complete(3),
@@ -135,7 +135,7 @@ static NAMED: Row<'static> = Row {
         limit: None,
     },
     status: 400,
-    epochs: u64::MAX,
+    receivers: u64::MAX,
     wanted: Wanted {
         faults: &[None],
         ending: Ending::Complete(3),
@@ -191,7 +191,7 @@ static ONE_SERIES: Row<'static> = Row {
         limit: None,
     },
     status: 204,
-    epochs: u64::MAX,
+    receivers: u64::MAX,
     wanted: Wanted {
         faults: &[None, None, None, None],
         ending: Ending::Complete(6),
@@ -223,7 +223,7 @@ static KEPT_SHARDS: Row<'static> = Row {
         limit: None,
     },
     status: 204,
-    epochs: u64::MAX,
+    receivers: u64::MAX,
     wanted: Wanted {
         faults: &[None, None, None, None],
         ending: Ending::Complete(8),
@@ -249,7 +249,7 @@ static HARD_STOP: Row<'static> = Row {
         limit: None,
     },
     status: 503,
-    epochs: u64::MAX,
+    receivers: u64::MAX,
     wanted: Wanted {
         faults: &[None],
         ending: Ending::Abandoned(3, &[1, 2]),
@@ -276,7 +276,7 @@ static DAMAGED: Row<'static> = Row {
         limit: None,
     },
     status: 204,
-    epochs: u64::MAX,
+    receivers: u64::MAX,
     wanted: Wanted {
         faults: &[Some(FeedFault::Damaged(TailFault::Compressed))],
         ending: Ending::Damaged(TailFault::Compressed),
@@ -312,7 +312,7 @@ static REFUSED_EPOCH: Row<'static> = Row {
         limit: None,
     },
     status: 204,
-    epochs: 1,
+    receivers: 2,
     wanted: Wanted {
         faults: &[None, REFUSED, REFUSED, REFUSED, REFUSED],
         ending: Ending::Abandoned(2, &[]),
@@ -407,10 +407,26 @@ static NO_CALLS: Task<'static> = Task {
     limit: None,
 };
 
+/// Whether a shipper of two shards does not start if there is memory for this number of receivers,
+/// and nothing that it began keeps its part of what the receivers share.
+fn leaves_nothing<R: Threads + Wait + Copy + Send + 'static>(
+    rt: &R,
+    alloc: Global,
+    receivers: u64,
+) -> Result<bool, AllocError> {
+    let peers = peers_of(alloc, 204, receivers, Some(0))?;
+    let shared = peers.has_answered.clone()?;
+    let is_refused = done(rt, alloc, &NO_CALLS, peers).is_none();
+    Ok(is_refused && Arc::into_inner(shared).is_some())
+}
+
+/// The receiver of the first shard is refused, or that of the second one, after the first shard has
+/// its worker.
 #[test]
 fn a_refused_start(rt: HostRuntime) -> Result<(), Fail> {
-    let peers = peers_of(rt.alloc(), 204, 0, None)?;
-    assert!(rt; done(&rt, rt.alloc(), &NO_CALLS, peers).is_none());
+    for receivers in [0, 1] {
+        assert!(rt; leaves_nothing(&rt, rt.alloc(), receivers)?);
+    }
     Ok(())
 }
 

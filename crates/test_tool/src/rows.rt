@@ -7,6 +7,11 @@ pub(crate) fn none_is_wrong(rt: &impl Abort, row: Option<usize>) {
     assert_eq!(rt; row, None);
 }
 
+/// Stops at the first row that is wrong, by its name.
+pub(crate) fn none_differs(rt: &impl Abort, name: Option<&'static str>) {
+    assert_eq!(rt; name, None);
+}
+
 /// Stops where something does not hold.
 pub(crate) fn holds(rt: &impl Abort, is_so: bool) {
     assert!(rt; is_so);

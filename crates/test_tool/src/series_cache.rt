@@ -1,7 +1,7 @@
 //! What a cache knows of references. The calls that take memory are made again where it is refused, so the test can be run
 //! with each allocation refused in turn: the refused call changes no answer.
 
-use crate::rows::none_is_wrong;
+use crate::rows::{none_differs, none_is_wrong};
 use crate::rule_making::{Config, raw_labels, rules};
 use rw_relabel::{Action, Choice, RuleFault, Rules};
 use rw_series_cache::{Cache, Known};
@@ -294,4 +294,80 @@ fn sixty_five_labels_are_too_many(rt: HostRuntime) {
         &rt,
         wrong_with_no_rules(rt.alloc(), Trial::TooMany(too_many)),
     );
+}
+
+/// What a question shows, the number of a series and a timestamp, and whether that rises. If it
+/// does, it is noted.
+static TIMES: [(&str, u64, i64, bool); 10] = [
+    (
+        "the least timestamp, where nothing is noted",
+        0,
+        i64::MIN,
+        true,
+    ),
+    ("the least timestamp again", 0, i64::MIN, false),
+    ("a later timestamp", 0, 10, true),
+    ("the same timestamp", 0, 10, false),
+    ("an earlier timestamp", 0, 9, false),
+    ("an earlier timestamp of another series", 1, 9, true),
+    ("a timestamp between those of both", 1, 10, true),
+    ("the next millisecond", 0, 11, true),
+    ("the greatest timestamp", 0, i64::MAX, true),
+    ("the greatest timestamp again", 0, i64::MAX, false),
+];
+
+fn times() -> &'static [(&'static str, u64, i64, bool)] {
+    &TIMES
+}
+
+/// Whether a timestamp of a series rises; it is then noted. None, if there is no such series, or if
+/// asking changes the answer.
+fn is_noted(cache: &mut Cache, series: u64, t: i64) -> Option<bool> {
+    if series >= cache.series_count() as u64 {
+        return None;
+    }
+    if !cache.rises(series, t) {
+        return Some(false);
+    }
+    if !cache.rises(series, t) {
+        return None;
+    }
+    cache.note(series, t);
+    Some(true)
+}
+
+/// The first question that is answered otherwise.
+fn wrong_time(cache: &mut Cache) -> Option<&'static str> {
+    for (name, series, t, wanted) in times() {
+        if is_noted(cache, *series, *t) != Some(*wanted) {
+            return Some(name);
+        }
+    }
+    None
+}
+
+/// The first wrong answer of a cache with two series, to which a third reference comes that has the
+/// label set of the first one.
+fn wrong_note(alloc: Global) -> Option<&'static str> {
+    let mut cache = Cache::new(alloc, Choice::legacy(alloc));
+    if !defines(alloc, &mut cache, 1, &[("job", "a")])
+        || !defines(alloc, &mut cache, 2, &[("job", "b")])
+    {
+        return Some("two definitions");
+    }
+    if let Some(name) = wrong_time(&mut cache) {
+        return Some(name);
+    }
+    if !defines(alloc, &mut cache, 3, &[("job", "a")])
+        || shape_of(&cache, 3) != Shape::Kept(0)
+        || is_noted(&mut cache, 0, i64::MAX) != Some(false)
+    {
+        return Some("a reference more");
+    }
+    None
+}
+
+#[test]
+fn later_timestamps_rise(rt: HostRuntime) {
+    none_differs(&rt, wrong_note(rt.alloc()));
 }
