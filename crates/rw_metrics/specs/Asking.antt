@@ -12,3 +12,7 @@ pub record Asks (buf method target : List ℕ) : Type 0 where
 
 abbrev pub AsksForPage : List ℕ → Type 0
 AsksForPage buf = Asks buf (codes "GET") (codes "/metrics")
+
+-- for the page for people
+abbrev pub AsksForHtml : List ℕ → Type 0
+AsksForHtml buf = Asks buf (codes "GET") (codes "/")

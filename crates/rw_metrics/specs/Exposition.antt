@@ -27,6 +27,9 @@ status_sample name label prefix count = name ++ codes "{" ++ label ++ codes "=\"
 abbrev pub by_status : (name label prefix : List ℕ) → List (ℕ × ℕ) → List ℕ
 by_status name label prefix counts = flat_map (status_sample name label prefix) counts
 
--- the reply that carries a page
-abbrev pub reply : List ℕ → List ℕ
-reply body = codes "HTTP/1.1 200 OK\r\nContent-Type: text/plain; version=0.0.4\r\nConnection: close\r\nContent-Length: " ++ decimal (length body) ++ codes "\r\n\r\n" ++ body
+-- the reply that carries a page, with the type of its contents
+abbrev pub reply : (kind body : List ℕ) → List ℕ
+reply kind body =
+    codes "HTTP/1.1 200 OK\r\nContent-Type: " ++ kind
+    ++ codes "\r\nConnection: close\r\nContent-Length: " ++ decimal (length body)
+    ++ codes "\r\n\r\n" ++ body

@@ -1,5 +1,8 @@
 pub mod Exposition
 pub mod SendPage
 pub mod ReceivePage
+pub mod Html
+pub mod SendHtml
+pub mod ReceiveHtml
 pub mod Lines
 pub mod Asking

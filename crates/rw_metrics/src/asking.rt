@@ -1,7 +1,7 @@
 //! What a request asks for.
 
 ghost use Rattle.std.specs.Prelude.{◌≡◌};
-ghost use Rattle.rw_metrics.specs.Asking.{AsksForPage};
+ghost use Rattle.rw_metrics.specs.Asking.{AsksForHtml, AsksForPage};
 ghost use Rattle.rw_metrics.specs.declared.asking.Asked.TheVariants as Asked;
 
 use httparse::Status;
@@ -13,11 +13,13 @@ const MOST_HEADERS: usize = 32;
 /// What the first bytes of a connection ask for.
 #[derive(Clone, Copy, Debug, PartialEq, Eq)]
 pub(crate) enum Asked {
-    /// The page.
+    /// The page for Prometheus.
     Page,
+    /// The page for people.
+    Html,
     /// Another path.
     Elsewhere,
-    /// The page, by another method than GET.
+    /// A page, by another method than GET.
     Otherwise,
     /// They begin no request.
     Bad,
@@ -27,17 +29,28 @@ pub(crate) enum Asked {
 
 /// What these bytes ask for.
 pub(crate) fn wanted(buf: &[u8]) -> Asked
-    ensures { result ≡ Asked.Page → AsksForPage buf.now }
+    ensures page { result ≡ Asked.Page → AsksForPage buf.now }
+    ensures html { result ≡ Asked.Html → AsksForHtml buf.now }
 {
     let mut headers = [EMPTY_HEADER_SPAN; MOST_HEADERS];
     match parse_request(buf, &mut headers) {
         Ok(Status::Complete(head)) => {
-            if head.path.of(buf) != b"/metrics".as_slice() {
-                Asked::Elsewhere
-            } else if head.method.of(buf) == b"GET".as_slice() {
-                Asked::Page
+            let path = head.path.of(buf);
+            let is_get = head.method.of(buf) == b"GET".as_slice();
+            if path == b"/metrics".as_slice() {
+                if is_get {
+                    Asked::Page
+                } else {
+                    Asked::Otherwise
+                }
+            } else if path == b"/".as_slice() {
+                if is_get {
+                    Asked::Html
+                } else {
+                    Asked::Otherwise
+                }
             } else {
-                Asked::Otherwise
+                Asked::Elsewhere
             }
         }
         Ok(Status::Partial) => Asked::More,

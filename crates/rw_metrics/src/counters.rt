@@ -2,8 +2,10 @@
 
 use crate::lines::{drops_line, receive_line, send_line};
 use crate::receive_counters::ReceiveCounters;
+use crate::receiver_html::receive_html;
 use crate::receiver_page::receive_page;
 use crate::send_counters::SendCounters;
+use crate::sender_html::send_html;
 use crate::sender_page::send_page;
 use std::alloc::{AllocError, Global};
 use std::sync::Arc;
@@ -29,6 +31,14 @@ impl Counters {
         match self {
             Counters::Send(counters) => send_page(alloc, &counters.numbers(alloc)?),
             Counters::Receive(counters) => receive_page(alloc, &counters.numbers(alloc)?),
+        }
+    }
+
+    /// Returns their page for people.
+    pub(crate) fn html(&self, alloc: Global) -> Result<Vec<u8>, AllocError> {
+        match self {
+            Counters::Send(counters) => send_html(alloc, &counters.numbers(alloc)?),
+            Counters::Receive(counters) => receive_html(alloc, &counters.numbers(alloc)?),
         }
     }
 

@@ -43,7 +43,7 @@ fn push_statuses_told(out: &mut Vec<u8>, counts: &[(u16, u64)]) -> Result<(), Al
 }
 
 /// Adds the name of a cause.
-fn push_cause(out: &mut Vec<u8>, cause: Cause) -> Result<(), AllocError>
+pub(crate) fn push_cause(out: &mut Vec<u8>, cause: Cause) -> Result<(), AllocError>
     ensures { OnOk result (out.new.items ≡ out.old.items ++ cause_text cause) }
 {
     match cause {
@@ -75,7 +75,7 @@ fn push_last_told(out: &mut Vec<u8>, last: Option<Cause>) -> Result<(), AllocErr
 }
 
 /// How many hundredths of so many bytes were read, at most 100.
-fn percent(bytes: u64, all: u64) -> u64
+pub(crate) fn percent(bytes: u64, all: u64) -> u64
     requires { 0 < all }
     ensures { result ≡ percent bytes all }
 {

@@ -3,20 +3,20 @@
 ghost use Rattle.std.specs.Prelude.{◌≡◌, IfOk};
 ghost use Rattle.rw_metrics.specs.Exposition.{reply};
 
+use crate::exposition::push_text;
 use rw_text::push_number;
 use std::alloc::{AllocError, Global};
 
-const HEAD: &[u8] =
-    b"HTTP/1.1 200 OK\r\nContent-Type: text/plain; version=0.0.4\r\nConnection: close\r\nContent-Length: ";
-
-/// The reply that carries this page.
-pub(crate) fn reply_of(alloc: Global, page: &[u8]) -> Result<Vec<u8>, AllocError>
-    ensures { IfOk result (λ text. text.items ≡ reply page.now) }
+/// Returns the reply that carries this page, with the type of its contents.
+pub(crate) fn reply_of(alloc: Global, kind: &str, page: &[u8]) -> Result<Vec<u8>, AllocError>
+    ensures { IfOk result (λ text. text.items ≡ reply kind.now page.now) }
 {
     let mut out = Vec::new(alloc);
-    out.extend_from_slice(HEAD)?;
+    push_text(&mut out, "HTTP/1.1 200 OK\r\nContent-Type: ")?;
+    push_text(&mut out, kind)?;
+    push_text(&mut out, "\r\nConnection: close\r\nContent-Length: ")?;
     push_number(&mut out, page.len() as u64)?;
-    out.extend_from_slice(b"\r\n\r\n")?;
+    push_text(&mut out, "\r\n\r\n")?;
     out.extend_from_slice(page)?;
     Ok(out)
 }

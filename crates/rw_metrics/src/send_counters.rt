@@ -57,6 +57,7 @@ struct FailureCounters {
     bad_reply: AtomicU64,
     memory: AtomicU64,
     statuses: Codes,
+    in_a_row: AtomicU64,
     last: AtomicU64,
 }
 
@@ -71,6 +72,7 @@ impl FailureCounters {
             bad_reply: AtomicU64::new(0),
             memory: AtomicU64::new(0),
             statuses: Codes::new(alloc)?,
+            in_a_row: AtomicU64::new(0),
             last: AtomicU64::new(0),
         })
     }
@@ -85,6 +87,7 @@ impl FailureCounters {
             bad_reply: read(&self.bad_reply),
             memory: read(&self.memory),
             statuses: self.statuses.read(alloc)?,
+            in_a_row: read(&self.in_a_row),
             last: cause_of(read(&self.last)),
         })
     }
@@ -218,10 +221,16 @@ impl SendCounters {
         add(&self.attempts, 1);
     }
 
+    /// Counts an attempt that succeeded.
+    pub fn succeed(&self) {
+        set(&self.failures.in_a_row, 0);
+    }
+
     /// An attempt has failed.
     pub fn fail(&self, cause: Cause) {
         let failures = &self.failures;
         add(&failures.all, 1);
+        add(&failures.in_a_row, 1);
         set(&failures.last, number_of(cause));
         match cause {
             Cause::Connect => add(&failures.connect, 1),

@@ -28,6 +28,8 @@ pub struct Failures {
     pub memory: u64,
     /// The statuses in ascending order, each with how often it came.
     pub statuses: Vec<(u16, u64)>,
+    /// Those since an attempt succeeded.
+    pub in_a_row: u64,
     /// Of the last one.
     pub last: Option<Cause>,
 }

@@ -1,4 +1,4 @@
-//! The endpoint of the page.
+//! The endpoint of the pages.
 
 use crate::asking::{Asked, wanted};
 use crate::counters::Counters;
@@ -18,6 +18,12 @@ const NAP_MS: u64 = 200;
 
 /// For how many seconds a read or a write waits.
 const PATIENCE_SECONDS: u64 = 2;
+
+/// The type of the contents of the page for Prometheus.
+const TEXT: &str = "text/plain; version=0.0.4";
+
+/// The type of the contents of the page for people.
+const HTML: &str = "text/html; charset=utf-8";
 
 const NOT_FOUND: &[u8] =
     b"HTTP/1.1 404 Not Found\r\nConnection: close\r\nContent-Length: 0\r\n\r\n";
@@ -47,14 +53,26 @@ fn asked_by<S: Source>(reader: &mut S) -> Option<Asked> {
     Some(Asked::Bad)
 }
 
-/// Writes the page. Nothing is written where memory is refused.
+/// Writes the page for Prometheus. Writes nothing if out of memory.
 fn write_page<W: Sink>(
     alloc: Global,
     writer: &mut W,
     counters: &Counters,
 ) -> Result<(), AllocError> {
     let page = counters.page(alloc)?;
-    let reply = reply_of(alloc, &page)?;
+    let reply = reply_of(alloc, TEXT, &page)?;
+    let _ = write_all(writer, &reply);
+    Ok(())
+}
+
+/// Writes the page for people. Writes nothing if out of memory.
+fn write_html<W: Sink>(
+    alloc: Global,
+    writer: &mut W,
+    counters: &Counters,
+) -> Result<(), AllocError> {
+    let page = counters.html(alloc)?;
+    let reply = reply_of(alloc, HTML, &page)?;
     let _ = write_all(writer, &reply);
     Ok(())
 }
@@ -65,6 +83,10 @@ fn answer<S: Source, W: Sink>(alloc: Global, reader: &mut S, writer: &mut W, cou
         None | Some(Asked::More) => return,
         Some(Asked::Page) => {
             let _ = write_page(alloc, writer, counters);
+            return;
+        }
+        Some(Asked::Html) => {
+            let _ = write_html(alloc, writer, counters);
             return;
         }
         Some(Asked::Elsewhere) => NOT_FOUND,
@@ -99,8 +121,9 @@ fn serve<C: Clock>(clock: &C, alloc: Global, listener: &TcpListener, counters: &
     }
 }
 
-/// Answers `GET /metrics` with the page of the counters, over one connection after another, in a thread that nobody joins: it ends with the process.
-/// An accept that fails is made again after a nap.
+/// Answers `GET /metrics` with the page of the counters for Prometheus, and `GET /` with their page
+/// for people, over one connection after another, in a thread that nobody joins: it ends with the
+/// process. After an accept that fails it sleeps for a moment and accepts again.
 pub fn serve_metrics<R: Threads, C: Clock + Copy + Send + 'static>(
     rt: &R,
     clock: C,

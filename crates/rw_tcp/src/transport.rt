@@ -153,7 +153,8 @@ fn exchange_through<C: Clock + Copy>(
     )
 }
 
-/// The reply that was heard. Counts an attempt that failed: it has no answer, or a status that does not take the batch.
+/// The reply that was heard. Counts an attempt that succeeded, and one that failed: it has no answer,
+/// or a status that does not take the batch.
 fn counted<C: Clock>(
     counters: &SendCounters,
     deadline: &Deadline<C>,
@@ -164,7 +165,9 @@ fn counted<C: Clock>(
     match answer {
         Ok(heard) => {
             let reply = heard.into_reply();
-            if judge(reply.status) != Judgement::Done {
+            if judge(reply.status) == Judgement::Done {
+                counters.succeed();
+            } else {
                 counters.fail(Cause::Status(reply.status.as_u16()));
             }
             Ok(reply)

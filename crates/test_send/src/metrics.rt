@@ -17,12 +17,23 @@ use std::time::Clock;
 /// A request, and how its reply begins.
 type Row<'a> = (&'a [u8], &'a [u8]);
 
-static ASKED: [Row<'static>; 5] = [
+static ASKED: [Row<'static>; 7] = [
     (
         b"GET /metrics HTTP/1.1\r\nHost: a\r\n\r\n",
         b"HTTP/1.1 200 OK\r\nContent-Type: text/plain; version=0.0.4\r\n",
     ),
-    (b"GET / HTTP/1.1\r\n\r\n", b"HTTP/1.1 404 Not Found\r\n"),
+    (
+        b"GET / HTTP/1.1\r\n\r\n",
+        b"HTTP/1.1 200 OK\r\nContent-Type: text/html; charset=utf-8\r\n",
+    ),
+    (
+        b"GET /metric HTTP/1.1\r\n\r\n",
+        b"HTTP/1.1 404 Not Found\r\n",
+    ),
+    (
+        b"POST / HTTP/1.1\r\n\r\n",
+        b"HTTP/1.1 405 Method Not Allowed\r\n",
+    ),
     (
         b"POST /metrics HTTP/1.1\r\n\r\n",
         b"HTTP/1.1 405 Method Not Allowed\r\n",

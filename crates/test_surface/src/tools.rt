@@ -66,4 +66,5 @@ pub fn of_resolved_counters() {
     let _ = (SendCounters::set_resolved, SendCounters::attempt);
     let _ = (SendCounters::drop_sample, SendCounters::drop_unsent);
     let _ = (SendCounters::dropped, SendCounters::fail);
+    let _ = SendCounters::succeed;
 }

@@ -1,0 +1,36 @@
+-- The page of a receiver for people.
+use Rattle.std.specs.Prelude.{ℕ, List, ◌++◌, codes}
+use Rattle.rw_metrics.specs.Html.{page_start, page_end, table_start, table_end, row, status_rows}
+use Rattle.rw_metrics.specs.declared.receive_numbers.ReceiveNumbers.{ReceiveNumbers}
+
+-- what is held
+abbrev pub held_table : ReceiveNumbers → List ℕ
+held_table n =
+    table_start (codes "Held")
+    ++ row (codes "Samples") n.samples
+    ++ row (codes "Series") n.label_sets
+    ++ table_end
+
+-- the connections
+abbrev pub connections_table : ReceiveNumbers → List ℕ
+connections_table n =
+    table_start (codes "Connections")
+    ++ row (codes "Served now") n.connections
+    ++ row (codes "Accepted in all") n.accepted
+    ++ row (codes "Accepts that failed") n.refused
+    ++ table_end
+
+-- the requests with a body that the head was asked for, by status
+abbrev pub answers_table : ReceiveNumbers → List ℕ
+answers_table n =
+    table_start (codes "Bodies answered")
+    ++ status_rows (codes "With status") n.statuses.items
+    ++ table_end
+
+abbrev pub receive_html : ReceiveNumbers → List ℕ
+receive_html n =
+    page_start (codes "rwship receive")
+    ++ held_table n
+    ++ connections_table n
+    ++ answers_table n
+    ++ page_end

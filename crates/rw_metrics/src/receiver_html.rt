@@ -1,0 +1,56 @@
+//! The page of a receiver for people.
+
+ghost use Rattle.std.specs.Prelude.{◌≡◌, ◌++◌, IfOk, OnOk};
+ghost use Rattle.rw_metrics.specs.ReceiveHtml.{answers_table, connections_table, held_table, receive_html};
+
+use crate::html::{
+    push_page_end, push_page_start, push_row, push_status_rows, push_table_end, push_table_start,
+};
+use crate::receive_numbers::ReceiveNumbers;
+use std::alloc::{AllocError, Global};
+
+/// Adds what is held.
+fn push_held(out: &mut Vec<u8>, n: &ReceiveNumbers) -> Result<(), AllocError>
+    ensures { OnOk result (out.new.items ≡ out.old.items ++ held_table n.now) }
+{
+    push_table_start(out, "Held")?;
+    push_row(out, "Samples", n.samples)?;
+    push_row(out, "Series", n.label_sets)?;
+    push_table_end(out)?;
+    Ok(())
+}
+
+/// Adds the connections.
+fn push_connections(out: &mut Vec<u8>, n: &ReceiveNumbers) -> Result<(), AllocError>
+    ensures { OnOk result (out.new.items ≡ out.old.items ++ connections_table n.now) }
+{
+    push_table_start(out, "Connections")?;
+    push_row(out, "Served now", n.connections)?;
+    push_row(out, "Accepted in all", n.accepted)?;
+    push_row(out, "Accepts that failed", n.refused)?;
+    push_table_end(out)?;
+    Ok(())
+}
+
+/// Adds the answers, by status.
+fn push_answers(out: &mut Vec<u8>, n: &ReceiveNumbers) -> Result<(), AllocError>
+    ensures { OnOk result (out.new.items ≡ out.old.items ++ answers_table n.now) }
+{
+    push_table_start(out, "Bodies answered")?;
+    push_status_rows(out, "With status", n.statuses.as_slice())?;
+    push_table_end(out)?;
+    Ok(())
+}
+
+/// Returns the page of a receiver with these numbers for people, in HTML.
+pub fn receive_html(alloc: Global, numbers: &ReceiveNumbers) -> Result<Vec<u8>, AllocError>
+    ensures { IfOk result (λ page. page.items ≡ receive_html numbers.now) }
+{
+    let mut out = Vec::new(alloc);
+    push_page_start(&mut out, "rwship receive")?;
+    push_held(&mut out, numbers)?;
+    push_connections(&mut out, numbers)?;
+    push_answers(&mut out, numbers)?;
+    push_page_end(&mut out)?;
+    Ok(out)
+}
