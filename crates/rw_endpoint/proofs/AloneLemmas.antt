@@ -1,5 +1,5 @@
 -- One request on a connection of its own.
-use Rattle.std.proofs.Common.{◌≡◌, ◌≤◌, ◌+◌, ℕ, List, [], ◌∷◌, ◌++◌, length, Bool, true, false, not, ◌||◌, nat_lt, codes, map, if◌then◌else◌, IsTrue, Option, None, Some, refl, sym, subst, ◌∙◌, ap, inl, inr, arith, length-append}
+use Rattle.std.proofs.Common.{◌≡◌, ◌≤◌, ℕ, List, [], ◌∷◌, ◌++◌, length, Bool, true, false, not, ◌||◌, nat_lt, codes, map, if◌then◌else◌, IsTrue, Option, None, Some, refl, sym, subst, ◌∙◌, ap, inl, inr, arith, length-append}
 use Rattle.std.proofs.lemmas.List.{append-nil}
 use Rattle.std.proofs.lemmas.Bool.{ltb-false}
 use Rattle.std.specs.Str.{bytes_eq}
@@ -110,13 +110,6 @@ finding_within path limit head =
     (one_of limit (not (bytes_eq head.method (codes "POST"))) _ _ (refused_within limit 405 refl)
     (one_of limit (has_field (codes "transfer-encoding") fields || not (has_field (codes "content-length") fields)) _ _ (refused_within limit 411 refl)
     (body_within limit head.minor fields (announced fields))))
-
--- so the input is not long
-pub few_bytes : (path : List ℕ) (limit : ℕ) (input body : List ℕ) → IsOneRequest path limit input body → length input ≤ 8192 + limit
-few_bytes path limit input body one =
-    let bound : length body ≤ limit = subst (FindingWithin limit) one.finding (finding_within path limit one.head).bound in
-    let whole = simp length-append at (ap length one.begins.0.1) in
-    omega (arith, bound, whole, one.begins.1)
 
 -- how such a connection ends
 ended : {S : Type 0} (path : List ℕ) (limit : ℕ) (answers : S → List ℕ → ℕ → S → Type 0) (input body : List ℕ) (old : S) (before text : List ℕ) (contents : Option (List ℕ)) (new : S) (how : ServeEnd) →

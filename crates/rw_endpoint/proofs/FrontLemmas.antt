@@ -6,7 +6,7 @@ use Rattle.rw_endpoint.specs.Reading.{BeginsWithHead, NeverHasHead, Judges}
 use Rattle.rw_endpoint.specs.declared.finding.Finding.TheVariants.{Refused, Body}
 use Rattle.rw_endpoint.specs.declared.head.Reading.TheVariants.{Head}
 use Rattle.rw_endpoint.specs.Replies.{reply}
-use Rattle.rw_endpoint.specs.Serving.{Replies}
+use Rattle.rw_endpoint.specs.Serving.{Replies, AsksForBody}
 use Rattle.rw_endpoint.specs.Steps.{IsBodyAnswered, HasBodyServed, HasServed}
 use Rattle.rw_endpoint.specs.declared.serve_end.ServeEnd.{ServeEnd}
 use Rattle.rw_endpoint.specs.declared.serve_end.ServeEnd.TheVariants.{Eof, Closed, Torn, Device, OutOfMemory}
@@ -52,6 +52,13 @@ body_answered path limit answers p y rest old new n len closes text j b =
       verdict = b.verdict;
       written = b.written;
     }))
+
+-- a request that asks for its body
+pub asks_for_body : (path : List ℕ) (limit : ℕ) (p : List ℕ) (r : Option (List ℕ)) (input : List ℕ) (n len : ℕ) (closes : Bool) →
+    Judges path limit p (Head (Body n closes) len) → prepend_known p r ≡ Some input → AsksForBody path limit input
+asks_for_body path limit p r input n len closes j e =
+    let split = prepend_split p r input e in
+    record { head = j.0; rest = drop len p ++ split.0; len = n; closes = closes; begins = subst (λ (t : List ℕ). BeginsWithHead t j.0 (drop len p ++ split.0)) (sym split.2) (begins_more p split.0 j.0 (drop len p) j.1); finding = sym j.3 }
 
 -- what a body became, as what the request became
 pub body_served : {S : Type 0} (path : List ℕ) (limit : ℕ) (answers : S → List ℕ → ℕ → S → Type 0) (p y : List ℕ) (old new : S) (n len : ℕ) (closes : Bool) (text : List ℕ) (after : Option (List ℕ)) (result : Result Unit ServeEnd) →

@@ -1,10 +1,9 @@
 -- A request that its head refuses.
 use Rattle.std.proofs.Common.{◌≡◌, ◌≤◌, ℕ, List, [], ◌++◌, length, Bool, true, false, IsTrue, Option, Some, refl, sym, subst, ◌∙◌, ap, inl, inr, arith, length-append}
-use Rattle.std.proofs.lemmas.List.{append-nil}
 use Rattle.std.proofs.lemmas.Bool.{or_right}
 use Rattle.rw_endpoint.specs.Judgement.{finding_of, is_refusal}
 use Rattle.rw_endpoint.specs.Replies.{reply, is_verdict}
-use Rattle.rw_endpoint.specs.Serving.{Replies, RepliesTo, last, further, Ends, Serves, ends, stays, HasWritten, IsTooSmall}
+use Rattle.rw_endpoint.specs.Serving.{Replies, RepliesTo, last, further, Ends, Serves, ends, stays, HasWritten, IsTooSmall, RepliesUpTo, nothing_yet, one_more, AsksForBody, IsStoppedAtBody}
 use Rattle.rw_endpoint.specs.Alone.{IsOneRefusal, IsTurnedAway}
 use Rattle.rw_endpoint.specs.declared.finding.Finding.TheVariants.{Refused, Body}
 use Rattle.rw_endpoint.specs.declared.serve_end.ServeEnd.{ServeEnd}
@@ -50,40 +49,66 @@ replies_short path limit answers input status old text one (further {first = fir
     let p = refusal_of path limit answers input status old first rest false middle one r in
     absurd (let e : false ≡ true = p.closing in cc)
 
+-- no request before it has a reply
+nothing_before : {S : Type 0} (path : List ℕ) (limit : ℕ) (answers : S → List ℕ → ℕ → S → Type 0) (input : List ℕ) (status : ℕ) (old : S) (text left : List ℕ) (new : S) →
+    IsOneRefusal path limit input status → RepliesUpTo path limit answers input old text left new → left ≡ input
+nothing_before path limit answers input status old text left new one nothing_yet = refl
+nothing_before path limit answers input status old text left new one (one_more {text = so_far} {left = middle} {first = first} {rest = rest} {middle = was} r reply) =
+    let same = nothing_before path limit answers input status old so_far middle was one r in
+    let p = refusal_of path limit answers input status was first left false new one
+    (subst (λ (t : List ℕ). Replies path limit answers t was first left false new) same reply) in
+    absurd (let e : false ≡ true = p.closing in cc)
+
+-- it asks for no body
+asks_none : (path : List ℕ) (limit : ℕ) (input : List ℕ) (status : ℕ) → IsOneRefusal path limit input status → AsksForBody path limit input → ⊥
+asks_none path limit input status one asks =
+    let same = one_head input one.head asks.head one.rest asks.rest one.begins asks.begins in
+    let e : Refused status ≡ Body asks.len asks.closes = sym one.finding ∙ ap (finding_of path limit) same.0 ∙ asks.finding in
+    cc
+
+-- so memory is not what it lacks
+memory_enough : {S : Type 0} (path : List ℕ) (limit : ℕ) (answers : S → List ℕ → ℕ → S → Type 0) (input : List ℕ) (status : ℕ) (old : S) (before : List ℕ) (contents : Option (List ℕ)) (new : S) →
+    IsOneRefusal path limit input status → IsStoppedAtBody path limit answers input old before contents new → ⊥
+memory_enough path limit answers input status old before contents new one stopped =
+    asks_none path limit input status one
+    (subst (AsksForBody path limit) (nothing_before path limit answers input status old stopped.text stopped.left new one stopped.replied) stopped.asks)
+
 -- how such a connection ends
 ended : {S : Type 0} (path : List ℕ) (limit : ℕ) (answers : S → List ℕ → ℕ → S → Type 0) (input : List ℕ) (status : ℕ) (old : S) (before text : List ℕ) (contents : Option (List ℕ)) (new : S) (how : ServeEnd) →
-    IsOneRefusal path limit input status → contents ≡ Some (before ++ text) → Ends path limit answers input old text new how → (how ≡ Device → ⊥) →
+    IsOneRefusal path limit input status → contents ≡ Some (before ++ text) → Ends path limit answers input old text new how → (how ≡ Device → ⊥) → (how ≡ OutOfMemory → ⊥) →
     IsTurnedAway status old before contents new how
-ended path limit answers input status old before text contents new Eof one w e sound =
+ended path limit answers input status old before text contents new Eof one w e sound enough =
     absurd (let some = head_longer one.head one.begins.0.0 in
     let whole = simp length-append at (ap length one.begins.0.1) in
     let none : length input ≡ 0 = ap length e.0 in
     omega (arith, some, whole, none))
-ended path limit answers input status old before text contents new Torn one w ((inl e), silent) sound = absurd (e.1.0 one.head one.rest one.begins)
-ended path limit answers input status old before text contents new Torn one w ((inr e), silent) sound =
+ended path limit answers input status old before text contents new Torn one w ((inl e), silent) sound enough = absurd (e.1.0 one.head one.rest one.begins)
+ended path limit answers input status old before text contents new Torn one w ((inr e), silent) sound enough =
     let same = one_head input one.head e.0 one.rest e.1 one.begins e.4 in
     absurd (let f : Refused status ≡ Body e.2 e.3 = sym one.finding ∙ ap (finding_of path limit) same.0 ∙ e.5 in cc)
-ended path limit answers input status old before text contents new Closed one w e sound =
+ended path limit answers input status old before text contents new Closed one w e sound enough =
     let p = refusal_of path limit answers input status old text e.0 true new one e.1 in
-    (p.unasked, inl (refl, refusal_status path limit input status one, w ∙ ap (λ (t : List ℕ). Some (before ++ t)) p.written))
-ended path limit answers input status old before text contents new Device one w e sound = absurd (sound refl)
-ended path limit answers input status old before text contents new OutOfMemory one w e sound =
-    (e.1, inr (refl, w ∙ ap (λ (t : List ℕ). Some (before ++ t)) e.0 ∙ ap Some (append-nil before)))
+    (p.unasked, refl, refusal_status path limit input status one, w ∙ ap (λ (t : List ℕ). Some (before ++ t)) p.written)
+ended path limit answers input status old before text contents new Device one w e sound enough = absurd (sound refl)
+ended path limit answers input status old before text contents new OutOfMemory one w e sound enough = absurd (enough refl)
 
 served : {S : Type 0} (path : List ℕ) (limit : ℕ) (answers : S → List ℕ → ℕ → S → Type 0) (input : List ℕ) (status : ℕ) (old : S) (before text : List ℕ) (contents : Option (List ℕ)) (new : S) (how : ServeEnd) →
-    IsOneRefusal path limit input status → contents ≡ Some (before ++ text) → Serves path limit answers input old text new how → (how ≡ Device → ⊥) →
+    IsOneRefusal path limit input status → contents ≡ Some (before ++ text) → Serves path limit answers input old text new how → (how ≡ Device → ⊥) → (how ≡ OutOfMemory → ⊥) →
     IsTurnedAway status old before contents new how
-served path limit answers input status old before text contents new how one w (ends e) sound = ended path limit answers input status old before text contents new how one w e sound
-served path limit answers input status old before text contents new how one w (stays {first = first} {rest = rest} {middle = middle} r more) sound =
+served path limit answers input status old before text contents new how one w (ends e) sound enough = ended path limit answers input status old before text contents new how one w e sound enough
+served path limit answers input status old before text contents new how one w (stays {first = first} {rest = rest} {middle = middle} r more) sound enough =
     let p = refusal_of path limit answers input status old first rest false middle one r in
     absurd (let e : false ≡ true = p.closing in cc)
 
--- it is turned away where there is room for a reply
+-- it is turned away if there is room for a reply
 pub turned_away : {S : Type 0} (path : List ℕ) (limit : ℕ) (answers : S → List ℕ → ℕ → S → Type 0) (input : List ℕ) (status : ℕ) (old : S) (before : List ℕ) (contents : Option (List ℕ)) (new : S) (how : ServeEnd) (room : ℕ) →
     IsOneRefusal path limit input status → HasWritten path limit answers input old before contents new how → 86 ≤ room →
-    (how ≡ Device → IsTooSmall path limit answers input old room) → IsTurnedAway status old before contents new how
-turned_away path limit answers input status old before contents new how room one w fits small =
-    served path limit answers input status old before w.0 contents new how one w.1 w.2 (λ e.
+    (how ≡ Device → IsTooSmall path limit answers input old room) →
+    (how ≡ OutOfMemory → IsStoppedAtBody path limit answers input old before contents new) → IsTurnedAway status old before contents new how
+turned_away path limit answers input status old before contents new how room one w fits small stopped =
+    served path limit answers input status old before w.0 contents new how one w.1 w.2
+    (λ e.
     let s = small e in
     let few = replies_short path limit answers input status old s.0 one s.1 in
     omega (arith, few, s.2, fits))
+    (λ e. memory_enough path limit answers input status old before contents new one (stopped e))

@@ -27,9 +27,7 @@ pub record IsOneRefusal (path : List ℕ) (limit : ℕ) (input : List ℕ) (stat
   pub begins : BeginsWithHead input head rest
   pub finding : finding_of path limit head ≡ Refused status
 
--- nothing was asked, and that is the reply; or memory was refused, and nothing was written
+-- nothing was asked, and that is the reply
 abbrev pub IsTurnedAway : {S : Type 0} → ℕ → S → List ℕ → Option (List ℕ) → S → ServeEnd → Type 0
 IsTurnedAway status old before contents new how =
-    (new ≡ old)
-    × (((how ≡ Closed) × IsTrue (is_refusal status) × (contents ≡ Some (before ++ reply status true)))
-    ⊎ ((how ≡ OutOfMemory) × (contents ≡ Some before)))
+    (new ≡ old) × (how ≡ Closed) × IsTrue (is_refusal status) × (contents ≡ Some (before ++ reply status true))

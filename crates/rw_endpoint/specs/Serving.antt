@@ -92,3 +92,28 @@ pub data RepliesTo {S : Type 0} (path : List ℕ) (limit : ℕ) (answers : S →
 abbrev pub IsTooSmall : {S : Type 0} → List ℕ → ℕ → (S → List ℕ → ℕ → S → Type 0) → List ℕ → S → ℕ → Type 0
 IsTooSmall path limit answers input old room =
     (replies : List ℕ) × RepliesTo path limit answers input old replies × (room < length replies)
+
+-- the input begins with a request whose head refuses nothing: only its body decides its status
+pub record AsksForBody (path : List ℕ) (limit : ℕ) (input : List ℕ) : Type 0 where
+  pub head : RequestHead
+  pub rest : List ℕ
+  pub len : ℕ
+  pub closes : Bool
+  pub begins : BeginsWithHead input head rest
+  pub finding : finding_of path limit head ≡ Body len closes
+
+-- The text is the replies to the first requests of the input, none of which closes. What follows these requests is left.
+pub data RepliesUpTo {S : Type 0} (path : List ℕ) (limit : ℕ) (answers : S → List ℕ → ℕ → S → Type 0) (input : List ℕ) (old : S) : List ℕ → List ℕ → S → Type 0 where
+  nothing_yet : RepliesUpTo path limit answers input old [] input old
+  one_more : {text left first rest : List ℕ} {middle new : S} →
+      RepliesUpTo path limit answers input old text left middle →
+      Replies path limit answers left middle first rest false new →
+      RepliesUpTo path limit answers input old (text ++ first) rest new
+
+-- The first requests have their replies, and the next one asks for its body.
+pub record IsStoppedAtBody {S : Type 0} (path : List ℕ) (limit : ℕ) (answers : S → List ℕ → ℕ → S → Type 0) (input : List ℕ) (old : S) (before : List ℕ) (contents : Option (List ℕ)) (new : S) : Type 0 where
+  pub text : List ℕ
+  pub left : List ℕ
+  pub written : contents ≡ Some (before ++ text)
+  pub replied : RepliesUpTo path limit answers input old text left new
+  pub asks : AsksForBody path limit left

@@ -5,11 +5,9 @@ ghost use Rattle.rw_endpoint.specs.Reading.{Judges};
 
 use crate::fields::has_field;
 use crate::finding::{Finding, judge_body};
+use crate::pending::MAX_HEAD_BYTES;
 use httparse::Status;
 use httparse::spans::{EMPTY_HEADER_SPAN, HeaderSpan, parse_request};
-
-/// The most bytes of a head, its last line and the empty lines before it included.
-pub(crate) const MAX_HEAD_BYTES: usize = 8192;
 
 /// The most fields of a head.
 const MAX_FIELDS: usize = 64;

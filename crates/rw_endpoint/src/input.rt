@@ -1,25 +1,29 @@
 //! Heads and bodies, read from a connection.
 
-ghost use Rattle.std.specs.Prelude.{true, ◌≡◌, ◌≢◌, ◌+◌, ◌*◌, ◌<◌, ◌≤◌, max, length, drop, Some, Err, IfOk, OnOk, vec_len, vec_capacity, option_map};
+ghost use Rattle.std.specs.Prelude.{true, ◌≡◌, ◌≢◌, ◌+◌, ◌*◌, ◌<◌, ◌≤◌, max, length, Some, Err, IfOk, OnOk, OnErr, IsOk, vec_len, vec_capacity, option_map};
 ghost use Rattle.std.specs.Io.KnownBytes.{Keeps, IsAtEnd, prepend_known};
 ghost use Rattle.rw_endpoint.specs.Reading.{HasRead, HasBody};
 
 use crate::finding::Finding;
-use crate::head::{MAX_HEAD_BYTES, Reading, read_head};
-use rw_types::Source;
-use std::alloc::{AllocError, Global};
+use crate::head::{Reading, read_head};
+use crate::pending::{MAX_HEAD_BYTES, Pending};
+use rw_types::{Failed, Source};
+use std::alloc::Global;
 
-/// How many bytes one read asks for at most.
-const CHUNK: usize = 64 * 1024;
+/// How many bytes one read of a body asks for at most.
+const CHUNK: usize = 16 * 1024;
 
-/// Why nothing could be read.
+/// How many bytes of a body room is made for at first, at most.
+const FIRST_ROOM: usize = 64 * 1024;
+
+/// Why no body could be read.
 #[derive(Clone, Copy, Debug, PartialEq, Eq)]
 pub(crate) enum Stop {
     Device,
     OutOfMemory,
 }
 
-/// What stands at the front of the input.
+/// What is at the front of the input.
 #[derive(Clone, Copy, Debug, PartialEq, Eq)]
 pub(crate) enum Front {
     /// A whole head: what is found by it, and how many bytes it takes.
@@ -30,92 +34,90 @@ pub(crate) enum Front {
     End,
 }
 
-/// Room for one read.
-pub(crate) fn new_chunk(alloc: Global) -> Result<Vec<u8>, AllocError>
-    ensures { IfOk result (λ v. 0 < vec_len v) }
+/// Appends some bytes of a head to those that wait, and returns how many. None come only at the end
+/// of the input.
+fn read_pending<R: Source>(reader: &mut R, pending: &mut Pending) -> Result<usize, Failed>
+    requires { length pending.old < 8192 }
+    ensures kept { OnOk result
+        (Keeps (prepend_known pending.old (R.remaining reader.old))
+        (prepend_known pending.new (R.remaining reader.new))) }
+    ensures end { IfOk result (λ n. n ≡ 0 → IsAtEnd (R.remaining reader.new)
+        × (pending.new ≡ pending.old)) }
+    ensures len { IfOk result (λ n. length pending.new ≡ length pending.old + n) }
+    ensures bound { OnOk result (length pending.new ≤ 8192) }
+    ensures failed { OnErr result (R.has_failed reader.new ≡ true) }
+    ensures sure { R.is_sure reader.old ≡ true
+        → (R.is_sure reader.new ≡ true) × IsOk result }
 {
-    vec![in alloc; 0; CHUNK]
+    let mut chunk = [0; MAX_HEAD_BYTES];
+    let room = MAX_HEAD_BYTES - pending.len();
+    match reader.read(&mut chunk[..room]) {
+        Ok(n) => {
+            pending.append(&chunk[..n]);
+            Ok(n)
+        }
+        Err(failed) => Err(failed),
+    }
 }
 
-/// Appends some bytes to those that wait, at most `most`, and returns how many. None come only at the end of the input.
-fn read_more<R: Source>(
-    reader: &mut R,
-    chunk: &mut [u8],
-    pending: &mut Vec<u8>,
-    most: usize,
-) -> Result<usize, Stop>
-    requires some { 0 < most }
-    requires room { 0 < length chunk.old }
+/// Appends some bytes to those of a body, at most `most`, and returns how many. None come only at
+/// the end of the input.
+fn read_more<R: Source>(reader: &mut R, body: &mut Vec<u8>, most: usize) -> Result<usize, Stop>
+    requires { 0 < most }
     ensures kept { OnOk result
-        (Keeps (prepend_known pending.old.items (R.remaining reader.old))
-        (prepend_known pending.new.items (R.remaining reader.new))) }
+        (Keeps (prepend_known body.old.items (R.remaining reader.old))
+        (prepend_known body.new.items (R.remaining reader.new))) }
     ensures end { IfOk result (λ n. n ≡ 0 → IsAtEnd (R.remaining reader.new)
-        × (pending.new.items ≡ pending.old.items)) }
-    ensures len { IfOk result (λ n. vec_len pending.new ≡ vec_len pending.old + n) }
+        × (body.new.items ≡ body.old.items)) }
+    ensures len { IfOk result (λ n. vec_len body.new ≡ vec_len body.old + n) }
     ensures bound { IfOk result (λ n. n ≤ most) }
     ensures failed { result ≡ Err Stop.Device → R.has_failed reader.new ≡ true }
     ensures sure { R.is_sure reader.old ≡ true
         → (R.is_sure reader.new ≡ true) × (result ≢ Err Stop.Device) }
 {
-    let size = most.min(chunk.len());
+    let mut chunk = [0; CHUNK];
+    let size = most.min(CHUNK);
     let n = match reader.read(&mut chunk[..size]) {
         Ok(n) => n,
         Err(_) => return Err(Stop::Device),
     };
-    match pending.extend_from_slice(&chunk[..n]) {
+    match body.extend_from_slice(&chunk[..n]) {
         Ok(()) => Ok(n),
         Err(_) => Err(Stop::OutOfMemory),
     }
 }
 
-/// Reads until a head stands at the front of the input, or none can.
+/// Reads until a head is at the front of the input, or none can be. This takes no memory.
 pub(crate) fn read_front<R: Source>(
     reader: &mut R,
-    chunk: &mut [u8],
-    pending: &mut Vec<u8>,
+    pending: &mut Pending,
     path: &[u8],
     limit: u64,
-) -> Result<Front, Stop>
-    requires few { vec_len pending.old ≤ 8192 }
-    requires room { 0 < length chunk.old }
+) -> Result<Front, Failed>
     ensures kept { OnOk result
-        (Keeps (prepend_known pending.old.items (R.remaining reader.old))
-        (prepend_known pending.new.items (R.remaining reader.new))) }
+        (Keeps (prepend_known pending.old (R.remaining reader.old))
+        (prepend_known pending.new (R.remaining reader.new))) }
     ensures front { IfOk result
-        (HasRead path.now limit pending.new.items (R.remaining reader.new)) }
-    ensures len { OnOk result (vec_len pending.new ≤ 8192) }
-    ensures failed { result ≡ Err Stop.Device → R.has_failed reader.new ≡ true }
+        (HasRead path.now limit pending.new (R.remaining reader.new)) }
+    ensures failed { OnErr result (R.has_failed reader.new ≡ true) }
     ensures sure { R.is_sure reader.old ≡ true
-        → (R.is_sure reader.new ≡ true) × (result ≢ Err Stop.Device) }
+        → (R.is_sure reader.new ≡ true) × IsOk result }
 {
     loop {
         match read_head(pending.as_slice(), path, limit) {
             Reading::Head(finding, len) => return Ok(Front::Head(finding, len)),
             Reading::Never => return Ok(Front::Never),
-            Reading::More => {
-                let room = MAX_HEAD_BYTES - pending.len();
-                let n = read_more(reader, chunk, pending, room)?;
-                if n == 0 {
-                    return Ok(Front::End);
-                }
-            }
+            Reading::More => match read_pending(reader, pending) {
+                Ok(0) => return Ok(Front::End),
+                Ok(_) => {}
+                Err(failed) => return Err(failed),
+            },
         }
     }
 }
 
-/// Removes the first `n` bytes.
-pub(crate) fn drop_front(pending: &mut Vec<u8>, n: usize)
-    requires { n ≤ vec_len pending.old }
-    ensures items { pending.new.items ≡ drop n pending.old.items }
-    ensures len { vec_len pending.new + n ≡ vec_len pending.old }
-{
-    let len = pending.len();
-    pending.rotate_left(n);
-    pending.truncate(len - n);
-}
-
-/// Makes room for more of a body of `n` bytes where there is none: as much as has come, or one read, and never past its end.
-/// So a length that is only announced takes 64 KiB at most.
+/// Makes room for more of a body of `n` bytes if there is none: as much as has come, or 64 KiB, and
+/// never past its end. So a length that is only announced takes 64 KiB at most.
 fn make_room(body: &mut Vec<u8>, n: usize) -> Result<usize, Stop>
     requires { vec_len body.old < n }
     ensures items { body.new.items ≡ body.old.items }
@@ -132,42 +134,38 @@ fn make_room(body: &mut Vec<u8>, n: usize) -> Result<usize, Stop>
     if spare > 0 {
         return Ok(left.min(spare));
     }
-    let room = left.min(body.len().max(CHUNK));
+    let room = left.min(body.len().max(FIRST_ROOM));
     match body.reserve_exact(room) {
         Ok(()) => Ok(room),
         Err(_) => Err(Stop::OutOfMemory),
     }
 }
 
-/// Reads a body of `n` bytes; `None` where the input ends before.
+/// Reads a body of `n` bytes; `None` if the input ends before.
 pub(crate) fn read_body<R: Source>(
     alloc: Global,
     reader: &mut R,
-    chunk: &mut [u8],
-    pending: &mut Vec<u8>,
+    pending: &mut Pending,
     n: usize,
 ) -> Result<Option<Vec<u8>>, Stop>
-    requires few { vec_len pending.old ≤ 8192 }
-    requires room { 0 < length chunk.old }
     ensures body { IfOk result
-        (λ body. HasBody (prepend_known pending.old.items (R.remaining reader.old))
-        (prepend_known pending.new.items (R.remaining reader.new)) n
+        (λ body. HasBody (prepend_known pending.old (R.remaining reader.old))
+        (prepend_known pending.new (R.remaining reader.new)) n
         (option_map (λ v. v.items) body)) }
-    ensures len { vec_len pending.new ≤ 8192 }
     ensures failed { result ≡ Err Stop.Device → R.has_failed reader.new ≡ true }
     ensures sure { R.is_sure reader.old ≡ true
         → (R.is_sure reader.new ≡ true) × (result ≢ Err Stop.Device) }
 {
     let mut body = Vec::new(alloc);
     let front = n.min(pending.len());
-    match body.extend_from_slice(&pending[..front]) {
+    match body.extend_from_slice(&pending.as_slice()[..front]) {
         Ok(()) => {}
         Err(_) => return Err(Stop::OutOfMemory),
     }
-    drop_front(pending, front);
+    pending.drop_front(front);
     while body.len() < n {
         let room = make_room(&mut body, n)?;
-        let more = read_more(reader, chunk, &mut body, room)?;
+        let more = read_more(reader, &mut body, room)?;
         if more == 0 {
             return Ok(None);
         }

@@ -9,6 +9,7 @@ mod head_answer;
 mod input;
 mod laws;
 mod names;
+mod pending;
 mod reply;
 mod requests;
 mod serve_end;

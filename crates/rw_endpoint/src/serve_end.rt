@@ -11,6 +11,6 @@ pub enum ServeEnd {
     Torn,
     /// The reader or the writer failed.
     Device,
-    /// Memory ran out before a body was asked for its answer. That request has no reply.
+    /// Memory ran out for the body of a request, which has no reply; or 2^64 - 1 requests had theirs.
     OutOfMemory,
 }

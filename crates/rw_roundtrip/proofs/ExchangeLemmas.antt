@@ -43,10 +43,9 @@ heard_status answers body old new read status h e =
 
 -- the status of a refusal is read
 pub turned : {S : Type 0} (status : ℕ) (old : S) (bytes : List ℕ) (new : S) (how : ServeEnd) (read : ReplyRead) →
-    IsTurnedAway status old [] (Some bytes) new how → (how ≡ OutOfMemory → ⊥) → Reads 8192 bytes read → (read ≡ Status status) × (new ≡ old)
-turned status old bytes new how read (unasked, inl (closed, refusal, contents)) not r =
+    IsTurnedAway status old [] (Some bytes) new how → Reads 8192 bytes read → (read ≡ Status status) × (new ≡ old)
+turned status old bytes new how read (unasked, closed, refusal, contents) r =
     (read_of bytes status read contents (or_right (is_verdict status) (is_refusal status) refusal) r, unasked)
-turned status old bytes new how read (unasked, inr (e, contents)) not r = absurd (not e)
 
 -- where nothing was written, nothing was asked
 pub unheard : {S : Type 0} (answers : S → List ℕ → ℕ → S → Type 0) (body : List ℕ) (old : S) (contents : Option (List ℕ)) (new : S) (how : ServeEnd) →

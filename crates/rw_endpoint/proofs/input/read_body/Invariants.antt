@@ -4,9 +4,9 @@ use Rattle.rw_endpoint.proofs.input.read_body.Given as goal
 
 abbrev pub invariant-loop-body : goal.invariant-loop-body
 invariant-loop-body g l = record {
-  kept : Keeps (prepend_known l.fn.pending.items (g.R.Source.remaining l.fn.reader)) (prepend_known (l.body.items ++ l.pending.items) (g.R.Source.remaining l.reader));
+  kept : Keeps (prepend_known l.fn.pending (g.R.Source.remaining l.fn.reader)) (prepend_known (l.body.items ++ l.pending) (g.R.Source.remaining l.reader));
   bound : length l.body.items ≤ l.n;
-  empty : length l.body.items < l.n → l.pending.items ≡ [];
+  empty : length l.body.items < l.n → l.pending ≡ [];
   sure : g.R.Source.is_sure l.fn.reader ≡ true → g.R.Source.is_sure l.reader ≡ true;
 }
 

@@ -1,13 +1,12 @@
-use Rattle.std.proofs.Common.{◌≡◌, ◌≤◌, ◌-◌, true, length}
+use Rattle.std.proofs.Common.{◌≡◌, ◌-◌, true, length}
 use Rattle.std.specs.Io.KnownBytes.{Keeps, prepend_known}
 use Rattle.rw_endpoint.proofs.input.read_front.Given as goal
 
 abbrev pub invariant-loop-finding : goal.invariant-loop-finding
 invariant-loop-finding g l = record {
-  kept : Keeps (prepend_known l.fn.pending.items (g.R.Source.remaining l.fn.reader)) (prepend_known l.pending.items (g.R.Source.remaining l.reader));
-  bound : length l.pending.items ≤ 8192;
+  kept : Keeps (prepend_known l.fn.pending (g.R.Source.remaining l.fn.reader)) (prepend_known l.pending (g.R.Source.remaining l.reader));
   sure : g.R.Source.is_sure l.fn.reader ≡ true → g.R.Source.is_sure l.reader ≡ true;
 }
 
 abbrev pub decreases-loop-finding : goal.decreases-loop-finding
-decreases-loop-finding g l = 8192 - length l.pending.items
+decreases-loop-finding g l = 8192 - length l.pending

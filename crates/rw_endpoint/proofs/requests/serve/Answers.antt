@@ -1,14 +1,9 @@
-use Rattle.std.proofs.Common.{◌≡◌, ◌<◌, ◌-◌, ◌^◌, ℕ, List, [], length, Some, refl, sym, ◌∙◌, ap, subst, inr, arith}
-use Rattle.std.proofs.lemmas.List.{append-nil}
-use Rattle.rw_endpoint.specs.Serving.{HasWritten, IsTooSmall, ends}
+use Rattle.std.proofs.Common.{◌≡◌, ℕ, List, sym, subst}
+use Rattle.rw_endpoint.specs.Serving.{HasWritten, IsTooSmall, IsStoppedAtBody}
 use Rattle.rw_endpoint.specs.Alone.{IsOneRequest, IsOneRefusal}
-use Rattle.rw_endpoint.proofs.AloneLemmas.{few_bytes, served_alone}
+use Rattle.rw_endpoint.proofs.AloneLemmas.{served_alone}
 use Rattle.rw_endpoint.proofs.RefusedLemmas.{turned_away}
 use Rattle.rw_endpoint.proofs.requests.serve.Goals as goal
-
-pub returns-in-Err-clause-served : goal.returns-in-Err-clause-served
-returns-in-Err-clause-served g c = λ input before e w.
-    ([], w ∙ ap Some (sym (append-nil before)), ends (refl, refl))
 
 pub returns-clause-served : goal.returns-clause-served
 returns-clause-served g c = λ input before e w.
@@ -19,15 +14,12 @@ returns-clause-served g c = λ input before e w.
     (subst (λ (n : ℕ). HasWritten c.as_bytes-path.result.now n g.A.Answer.answers input c.args.answer.now before (g.W.Sink.contents c.serve_all.new.writer) c.serve_all.new.answer c.serve_all.result) limit h)
 
 pub returns-clause-fits : goal.returns-clause-fits
-returns-clause-fits g c = λ input before e w sure sound short is.
+returns-clause-fits g c = λ input before e w sure sound is.
     let path : c.as_bytes-path.result.now ≡ c.args.limits.now.path = cc in
     let limit : c.get-limit.result ≡ c.args.limits.now.max_body_bytes = cc in
-    let h = c.serve_all.ensures.fits input before e w sure sound short is in
+    let h = c.serve_all.ensures.fits input before e w sure sound is in
     subst (λ (p : List ℕ). IsTooSmall p c.args.limits.now.max_body_bytes g.A.Answer.answers input c.args.answer.now (g.W.Sink.room c.args.writer.now)) path
     (subst (λ (n : ℕ). IsTooSmall c.as_bytes-path.result.now n g.A.Answer.answers input c.args.answer.now (g.W.Sink.room c.args.writer.now)) limit h)
-
-pub returns-in-Err-clause-alone : goal.returns-in-Err-clause-alone
-returns-in-Err-clause-alone g c = λ input before body e w sure sound fits one. inr (refl, refl, w)
 
 pub returns-clause-alone : goal.returns-clause-alone
 returns-clause-alone g c = λ input before body e w sure sound fits one.
@@ -35,14 +27,8 @@ returns-clause-alone g c = λ input before body e w sure sound fits one.
     let limit : c.get-limit.result ≡ c.args.limits.now.max_body_bytes = cc in
     let same = subst (λ (p : List ℕ). IsOneRequest p c.get-limit.result input body) (sym path)
     (subst (λ (n : ℕ). IsOneRequest c.args.limits.now.path n input body) (sym limit) one) in
-    let few = few_bytes c.as_bytes-path.result.now c.get-limit.result input body same in
-    let high = c.get-limit.ensures.high in
-    let short : length input < 2 ^ 64 - 1 = omega (arith, few, high) in
     served_alone c.as_bytes-path.result.now c.get-limit.result g.A.Answer.answers input body c.args.answer.now before (g.W.Sink.contents c.serve_all.new.writer) c.serve_all.new.answer c.serve_all.result (g.W.Sink.room c.args.writer.now)
-    same (c.serve_all.ensures.served input before e w) fits (λ is. c.serve_all.ensures.fits input before e w sure sound short is)
-
-pub returns-in-Err-clause-refused : goal.returns-in-Err-clause-refused
-returns-in-Err-clause-refused g c = λ input before status e w sure sound fits short one. (refl, inr (refl, w))
+    same (c.serve_all.ensures.served input before e w) fits (λ is. c.serve_all.ensures.fits input before e w sure sound is)
 
 pub returns-clause-refused : goal.returns-clause-refused
 returns-clause-refused g c = λ input before status e w sure sound fits short one.
@@ -51,4 +37,13 @@ returns-clause-refused g c = λ input before status e w sure sound fits short on
     let same = subst (λ (p : List ℕ). IsOneRefusal p c.get-limit.result input status) (sym path)
     (subst (λ (n : ℕ). IsOneRefusal c.args.limits.now.path n input status) (sym limit) one) in
     turned_away c.as_bytes-path.result.now c.get-limit.result g.A.Answer.answers input status c.args.answer.now before (g.W.Sink.contents c.serve_all.new.writer) c.serve_all.new.answer c.serve_all.result (g.W.Sink.room c.args.writer.now)
-    same (c.serve_all.ensures.served input before e w) fits (λ is. c.serve_all.ensures.fits input before e w sure sound short is)
+    same (c.serve_all.ensures.served input before e w) fits (λ is. c.serve_all.ensures.fits input before e w sure sound is)
+    (λ is. c.serve_all.ensures.certain input before e w short is)
+
+pub returns-clause-certain : goal.returns-clause-certain
+returns-clause-certain g c = λ input before e w short is.
+    let path : c.as_bytes-path.result.now ≡ c.args.limits.now.path = cc in
+    let limit : c.get-limit.result ≡ c.args.limits.now.max_body_bytes = cc in
+    let h = c.serve_all.ensures.certain input before e w short is in
+    subst (λ (p : List ℕ). IsStoppedAtBody p c.args.limits.now.max_body_bytes g.A.Answer.answers input c.args.answer.now before (g.W.Sink.contents c.serve_all.new.writer) c.serve_all.new.answer) path
+    (subst (λ (n : ℕ). IsStoppedAtBody c.as_bytes-path.result.now n g.A.Answer.answers input c.args.answer.now before (g.W.Sink.contents c.serve_all.new.writer) c.serve_all.new.answer) limit h)

@@ -1,22 +1,21 @@
-use Rattle.std.proofs.Common.{Err, ℕ, List, [], ◌++◌, Some, refl, sym, ◌∙◌, ap, inl, append_assoc, length-append, arith, subst}
+use Rattle.std.proofs.Common.{Err, ℕ, List, [], ◌++◌, Some, refl, sym, ◌∙◌, ap, append_assoc, length-append, arith, subst}
 use Rattle.std.proofs.lemmas.List.{append-nil}
 use Rattle.std.specs.Io.KnownBytes.{prepend_known}
-use Rattle.rw_endpoint.specs.Serving.{Serves, ends, last}
-use Rattle.rw_endpoint.specs.declared.serve_end.ServeEnd.TheVariants.{Device}
+use Rattle.rw_endpoint.specs.Serving.{Serves, Ends, ends, last}
+use Rattle.rw_endpoint.specs.declared.serve_end.ServeEnd.{ServeEnd}
+use Rattle.rw_endpoint.specs.declared.serve_end.ServeEnd.TheVariants.{OutOfMemory}
 use Rattle.rw_endpoint.proofs.FrontLemmas.{shorter}
-use Rattle.rw_endpoint.proofs.ServingLemmas.{served_none, served_more}
+use Rattle.rw_endpoint.proofs.ServingLemmas.{served_none, served_more, stopped_at_body}
 use Rattle.rw_endpoint.proofs.requests.serve_all.Goals as goal
 
 pub loop-init : goal.loop-init
 loop-init g c = record {
-  few = omega (arith, c.new-pending.ensures.len);
-  reads = omega arith;
   sure = λ s. s;
   so_far = λ input before e w. (
     [],
     input,
     w ∙ ap Some (sym (append-nil before)),
-    ap (λ (t : List ℕ). prepend_known t (g.R.Source.remaining c.args.reader.now)) c.new-pending.ensures.items ∙ ap (prepend_known []) e,
+    ap (λ (t : List ℕ). prepend_known t (g.R.Source.remaining c.args.reader.now)) c.new-pending.ensures ∙ ap (prepend_known []) e,
     served_none c.args.path.now c.args.limit g.A.Answer.answers input c.args.answer.now,
     omega arith,
     λ sound. (sound, omega arith),
@@ -27,8 +26,6 @@ pub loop-preserved : goal.loop-preserved
 loop-preserved g c =
     let told = c.in-Ok.ensures {u = c.in-Ok.field-0} in
     record {
-      few = told.room;
-      reads = omega arith;
       sure = λ s. told.sure (c.loop.invariant.sure s);
       so_far = λ input before e w.
           let h = c.loop.invariant.so_far input before e w in
@@ -53,30 +50,36 @@ returns-in-Err-clause-served g c = λ input before e w.
     (h.0 ++ s.0, s.1 ∙ ap Some (append_assoc before h.0 s.0), h.4.serves s.0 c.in-Err.how c.serve_one.new.answer (ends s.2))
 
 pub returns-in-Err-clause-device : goal.returns-in-Err-clause-device
-returns-in-Err-clause-device g c = λ input before e w short is. c.in-Err.ensures.device (ap Err is)
+returns-in-Err-clause-device g c = λ is. c.in-Err.ensures.device (ap Err is)
 
 pub returns-in-Err-clause-fits : goal.returns-in-Err-clause-fits
-returns-in-Err-clause-fits g c = λ input before e w sure sound short is.
+returns-in-Err-clause-fits g c = λ input before e w sure sound is.
     let h = c.loop.invariant.so_far input before e w in
     let was = h.6 sound in
     let s = c.in-Err.ensures.fits h.1 h.3 (c.loop.invariant.sure sure) was.0 (ap Err is) in
     (h.0 ++ s.0, h.4.replies s.0 (last s.3), simp length-append (omega (arith, was.1, s.4)))
+
+pub returns-in-Err-clause-certain : goal.returns-in-Err-clause-certain
+returns-in-Err-clause-certain g c = λ input before e w short is.
+    let path = c.args.path.now in
+    let limit = c.args.limit in
+    let contents = g.W.Sink.contents c.serve_one.new.writer in
+    let h = c.loop.invariant.so_far input before e w in
+    let s = c.in-Err.ensures.served h.1 (before ++ h.0) h.3 h.2 in
+    let silent = subst (λ (how : ServeEnd). Ends path limit g.A.Answer.answers h.1 c.loop.answer s.0 c.serve_one.new.answer how) is s.2 in
+    let asks = c.in-Err.ensures.certain h.1 h.3 (ap Err is) in
+    stopped_at_body path limit g.A.Answer.answers input c.args.answer.now before h.0 h.1 s.0 contents c.loop.answer c.serve_one.new.answer h.4.replied silent asks s.1
 
 pub returns-clause-served : goal.returns-clause-served
 returns-clause-served g c = λ input before e w.
     let h = c.loop.invariant.so_far input before e w in (
       h.0,
       h.2,
-      subst (λ (t : List ℕ). Serves c.args.path.now c.args.limit g.A.Answer.answers input c.args.answer.now t c.loop.answer Device)
-          (append-nil h.0) (h.4.serves [] Device c.loop.answer (ends (inl (refl, refl)))),
+      subst (λ (t : List ℕ). Serves c.args.path.now c.args.limit g.A.Answer.answers input c.args.answer.now t c.loop.answer OutOfMemory)
+          (append-nil h.0) (h.4.serves [] OutOfMemory c.loop.answer (ends (refl, refl))),
     )
 
-pub returns-clause-device : goal.returns-clause-device
-returns-clause-device g c = λ input before e w short is.
-    let h = c.loop.invariant.so_far input before e w in
-    absurd (omega (arith, h.5, short))
-
-pub returns-clause-fits : goal.returns-clause-fits
-returns-clause-fits g c = λ input before e w sure sound short is.
+pub returns-clause-certain : goal.returns-clause-certain
+returns-clause-certain g c = λ input before e w short is.
     let h = c.loop.invariant.so_far input before e w in
     absurd (omega (arith, h.5, short))

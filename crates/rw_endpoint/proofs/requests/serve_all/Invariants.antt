@@ -1,16 +1,14 @@
-use Rattle.std.proofs.Common.{◌+◌, length, ◌≡◌, ℕ, ◌≤◌, ◌<◌, List, ◌++◌, vec_len, true, false, Some}
+use Rattle.std.proofs.Common.{◌+◌, length, ◌≡◌, ℕ, ◌≤◌, List, ◌++◌, true, false, Some}
 use Rattle.std.specs.Io.KnownBytes.{prepend_known}
 use Rattle.rw_endpoint.proofs.ServingLemmas.{IsServedUpTo}
 use Rattle.rw_endpoint.proofs.requests.serve_all.Given as goal
 
 abbrev pub invariant-loop : goal.invariant-loop
 invariant-loop g l = record {
-  few : vec_len l.pending ≤ 8192;
-  reads : 0 < length l.chunk;
   sure : g.R.Source.is_sure l.fn.reader ≡ true → g.R.Source.is_sure l.reader ≡ true;
   so_far : (input before : List ℕ) → g.R.Source.remaining l.fn.reader ≡ Some input → g.W.Sink.contents l.fn.writer ≡ Some before →
       (text : List ℕ) × (left : List ℕ) × (g.W.Sink.contents l.writer ≡ Some (before ++ text))
-      × (prepend_known l.pending.items (g.R.Source.remaining l.reader) ≡ Some left)
+      × (prepend_known l.pending (g.R.Source.remaining l.reader) ≡ Some left)
       × IsServedUpTo l.path l.limit g.A.Answer.answers input l.fn.answer text left l.answer
       × (l.counter + length left ≤ length input)
       × (g.W.Sink.has_failed l.fn.writer ≡ false →

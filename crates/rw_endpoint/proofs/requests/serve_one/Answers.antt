@@ -6,7 +6,7 @@ use Rattle.rw_endpoint.specs.declared.head.Reading.TheVariants.{Head}
 use Rattle.rw_endpoint.specs.Serving.{Replies}
 use Rattle.rw_endpoint.specs.Steps.{HasServed}
 use Rattle.rw_endpoint.proofs.KnownLemmas.{keeps_known, appends_known, prepend_split, prepend_known_is}
-use Rattle.rw_endpoint.proofs.FrontLemmas.{no_request, refused, body_answered, body_served, no_room}
+use Rattle.rw_endpoint.proofs.FrontLemmas.{no_request, refused, body_answered, body_served, asks_for_body, no_room}
 use Rattle.rw_endpoint.proofs.requests.serve_one.Goals as goal
 
 pub returns-in-Err-write_all-clause-served : goal.returns-in-Err-write_all-clause-served
@@ -14,14 +14,29 @@ returns-in-Err-write_all-clause-served g c = λ input before e w.
     let path = c.args.path.now in
     let limit = c.args.limit in
     let s = c.args.answer.now in
-    let pend = c.read_front.new.pending.items in
+    let pend = c.read_front.new.pending in
+    let left = g.R.Source.remaining c.read_front.new.reader in
+    let never = rw c.in-Never.is at c.in-Ok.ensures.front in
+    let known : prepend_known pend left ≡ Some input = keeps_known _ _ input c.in-Ok.ensures.kept e in
+    let part = c.in-Err-write_all.ensures.part in
+    let sent = c.closing_reply in
+    let whole = subst (λ (t : List ℕ). Replies path limit g.A.Answer.answers input s t [] true s) (sym sent.ensures)
+    (no_request path limit g.A.Answer.answers pend left input s never known) in
+    (take part.0 sent.result.now, appends_known _ _ before _ part.2 w, inr (sent.result.now, part.0, [], true, whole, refl), tt)
+
+pub returns-in-Err-write_all-2-clause-served : goal.returns-in-Err-write_all-2-clause-served
+returns-in-Err-write_all-2-clause-served g c = λ input before e w.
+    let path = c.args.path.now in
+    let limit = c.args.limit in
+    let s = c.args.answer.now in
+    let pend = c.read_front.new.pending in
     let left = g.R.Source.remaining c.read_front.new.reader in
     let arm = c.in-Refused in
     let len = c.in-Head.len in
     let read = rw c.in-Head.is at c.in-Ok.ensures.front in
     let j = subst (λ (f : Finding). Judges path limit pend (Head f len)) arm.is read.0 in
     let known : prepend_known pend left ≡ Some input = keeps_known _ _ input c.in-Ok.ensures.kept e in
-    let part = c.in-Err-write_all.ensures.part in
+    let part = c.in-Err-write_all-2.ensures.part in
     let sent = c.closing_reply-in-Refused in
     let whole = subst (λ (t : List ℕ). Replies path limit g.A.Answer.answers input s t [] true s) (sym sent.ensures)
     (refused path limit g.A.Answer.answers pend left input s arm.status len j known) in
@@ -31,7 +46,7 @@ pub returns-in-Body-clause-served : goal.returns-in-Body-clause-served
 returns-in-Body-clause-served g c = λ input before e w.
     let path = c.args.path.now in
     let limit = c.args.limit in
-    let pend = c.read_front.new.pending.items in
+    let pend = c.read_front.new.pending in
     let left = g.R.Source.remaining c.read_front.new.reader in
     let arm = c.in-Body in
     let len = c.in-Head.len in
@@ -40,12 +55,12 @@ returns-in-Body-clause-served g c = λ input before e w.
     let known : prepend_known pend left ≡ Some input = keeps_known _ _ input c.in-Ok.ensures.kept e in
     let split = prepend_split pend left input known in
     let rest = drop len pend ++ split.0 in
-    let after : prepend_known c.drop_front.new.pending.items left ≡ Some rest =
-    ap (λ (t : List ℕ). prepend_known t left) c.drop_front.ensures.items ∙ prepend_known_is (drop len pend) left split.0 split.1 in
+    let after : prepend_known c.drop_front.new.self left ≡ Some rest =
+    ap (λ (t : List ℕ). prepend_known t left) c.drop_front.ensures ∙ prepend_known_is (drop len pend) left split.0 split.1 in
     let done = c.serve_body.ensures.served rest before after w in
     let old = c.args.answer.now in
     let new = c.serve_body.new.answer in
-    let then = prepend_known c.serve_body.new.pending.items (g.R.Source.remaining c.serve_body.new.reader) in
+    let then = prepend_known c.serve_body.new.pending (g.R.Source.remaining c.serve_body.new.reader) in
     let how = c.serve_body.result in (
       done.0,
       done.1,
@@ -54,26 +69,26 @@ returns-in-Body-clause-served g c = λ input before e w.
       done.3,
     )
 
-pub returns-in-Err-clause-fits : goal.returns-in-Err-clause-fits
-returns-in-Err-clause-fits g c = λ input e sure sound is.
+pub returns-in-Err-write_all-clause-fits : goal.returns-in-Err-write_all-clause-fits
+returns-in-Err-write_all-clause-fits g c = λ input e sure sound is.
     let path = c.args.path.now in
     let limit = c.args.limit in
     let s = c.args.answer.now in
-    let pend = c.read_front.new.pending.items in
+    let pend = c.read_front.new.pending in
     let left = g.R.Source.remaining c.read_front.new.reader in
     let never = rw c.in-Never.is at c.in-Ok.ensures.front in
     let known : prepend_known pend left ≡ Some input = keeps_known _ _ input c.in-Ok.ensures.kept e in
     let sent = c.closing_reply in
     let whole = subst (λ (t : List ℕ). Replies path limit g.A.Answer.answers input s t [] true s) (sym sent.ensures)
     (no_request path limit g.A.Answer.answers pend left input s never known) in
-    (sent.result.now, [], true, whole, no_room _ _ (c.in-Err.ensures.fits sound))
+    (sent.result.now, [], true, whole, no_room _ _ (c.in-Err-write_all.ensures.fits sound))
 
-pub returns-in-Err-write_all-clause-fits : goal.returns-in-Err-write_all-clause-fits
-returns-in-Err-write_all-clause-fits g c = λ input e sure sound is.
+pub returns-in-Err-write_all-2-clause-fits : goal.returns-in-Err-write_all-2-clause-fits
+returns-in-Err-write_all-2-clause-fits g c = λ input e sure sound is.
     let path = c.args.path.now in
     let limit = c.args.limit in
     let s = c.args.answer.now in
-    let pend = c.read_front.new.pending.items in
+    let pend = c.read_front.new.pending in
     let left = g.R.Source.remaining c.read_front.new.reader in
     let arm = c.in-Refused in
     let len = c.in-Head.len in
@@ -83,13 +98,13 @@ returns-in-Err-write_all-clause-fits g c = λ input e sure sound is.
     let sent = c.closing_reply-in-Refused in
     let whole = subst (λ (t : List ℕ). Replies path limit g.A.Answer.answers input s t [] true s) (sym sent.ensures)
     (refused path limit g.A.Answer.answers pend left input s arm.status len j known) in
-    (sent.result.now, [], true, whole, no_room _ _ (c.in-Err-write_all.ensures.fits sound))
+    (sent.result.now, [], true, whole, no_room _ _ (c.in-Err-write_all-2.ensures.fits sound))
 
 pub returns-in-Body-clause-fits : goal.returns-in-Body-clause-fits
 returns-in-Body-clause-fits g c = λ input e sure sound is.
     let path = c.args.path.now in
     let limit = c.args.limit in
-    let pend = c.read_front.new.pending.items in
+    let pend = c.read_front.new.pending in
     let left = g.R.Source.remaining c.read_front.new.reader in
     let arm = c.in-Body in
     let len = c.in-Head.len in
@@ -98,8 +113,8 @@ returns-in-Body-clause-fits g c = λ input e sure sound is.
     let known : prepend_known pend left ≡ Some input = keeps_known _ _ input c.in-Ok.ensures.kept e in
     let split = prepend_split pend left input known in
     let rest = drop len pend ++ split.0 in
-    let after : prepend_known c.drop_front.new.pending.items left ≡ Some rest =
-    ap (λ (t : List ℕ). prepend_known t left) c.drop_front.ensures.items ∙ prepend_known_is (drop len pend) left split.0 split.1 in
+    let after : prepend_known c.drop_front.new.self left ≡ Some rest =
+    ap (λ (t : List ℕ). prepend_known t left) c.drop_front.ensures ∙ prepend_known_is (drop len pend) left split.0 split.1 in
     let done = c.serve_body.ensures.fits rest after (c.in-Ok.ensures.sure sure).0 sound is in
     let old = c.args.answer.now in
     let new = c.serve_body.new.answer in (
@@ -110,3 +125,15 @@ returns-in-Body-clause-fits g c = λ input e sure sound is.
           (body_answered path limit g.A.Answer.answers pend split.0 done.1 old new arm.n len arm.closes done.0 j done.2),
       done.3,
     )
+
+pub returns-in-Body-clause-certain : goal.returns-in-Body-clause-certain
+returns-in-Body-clause-certain g c = λ input e is.
+    let path = c.args.path.now in
+    let limit = c.args.limit in
+    let pend = c.read_front.new.pending in
+    let left = g.R.Source.remaining c.read_front.new.reader in
+    let arm = c.in-Body in
+    let len = c.in-Head.len in
+    let read = rw c.in-Head.is at c.in-Ok.ensures.front in
+    let j = subst (λ (f : Finding). Judges path limit pend (Head f len)) arm.is read.0 in
+    asks_for_body path limit pend left input arm.n len arm.closes j (keeps_known _ _ input c.in-Ok.ensures.kept e)

@@ -30,7 +30,7 @@ returns-in-Status g c =
           (heard g.A.Answer.answers body c.args.answer.now c.serve.new.writer.bytes c.serve.new.answer c.serve.result c.read_reply.result alone c.in_default.not-OutOfMemory reads) c.in-Status.is;
       refused = λ status one.
           let away = c.serve.ensures.refused c.args.request.now [] status refl (ap (λ (r : Reserved). Some r.bytes) new) refl (ap (λ (r : Reserved). r.has_failed) new) (omega (arith, ap (λ (r : Reserved). r.room) new)) short one in
-          let is = turned status c.args.answer.now c.serve.new.writer.bytes c.serve.new.answer c.serve.result c.read_reply.result away c.in_default.not-OutOfMemory reads in
+          let is = turned status c.args.answer.now c.serve.new.writer.bytes c.serve.new.answer c.serve.result c.read_reply.result away reads in
           (let same = is.0 in let read = c.in-Status.is in (cc), is.1);
     }
 
@@ -51,6 +51,6 @@ unreachable-requires g c =
           no_status c.read_reply.result h.status h.is c.in-Partial.is
       | inr one ↦
           let away = c.serve.ensures.refused c.args.request.now [] one.0 refl (ap (λ (r : Reserved). Some r.bytes) new) refl (ap (λ (r : Reserved). r.has_failed) new) (omega (arith, ap (λ (r : Reserved). r.room) new)) short one.1 in
-          let is = turned one.0 c.args.answer.now c.serve.new.writer.bytes c.serve.new.answer c.serve.result c.read_reply.result away c.in_default.not-OutOfMemory reads in
+          let is = turned one.0 c.args.answer.now c.serve.new.writer.bytes c.serve.new.answer c.serve.result c.read_reply.result away reads in
           no_status c.read_reply.result one.0 is.0 c.in-Partial.is
     ]
