@@ -130,7 +130,7 @@ unfolding still
 still_failed n left o d rest w x = refl
 
 module _ (ps : List Piece) (given : List Entry) (r : Reader) (f : Follows ps given r) where
-  all_read : reading page_size ps ≡ after given 0 (still_read r [])
+  pub all_read : reading page_size ps ≡ after given 0 (still_read r [])
   all_read = ap (reading page_size) (sym (append-nil ps)) ∙ f.reads []
 
   pub given_within : length given ≤ length (entries ps)

@@ -1,10 +1,10 @@
 -- What is held, after more was fed.
-use Rattle.std.proofs.Common.{◌≡◌, ℕ, zero, suc, ◌-◌, ◌<◌, List, [], ◌∷◌, ◌++◌, length, map, get_or, Result, Ok, Err, Bool, true, false, refl, sym, ap, ◌∙◌, arith, ◌==◌}
+use Rattle.std.proofs.Common.{◌≡◌, ℕ, zero, suc, ◌+◌, ◌-◌, ◌<◌, List, [], ◌∷◌, ◌++◌, length, map, get_or, Result, Ok, Err, Bool, true, false, refl, sym, ap, ◌∙◌, arith, ◌==◌, take}
 use Rattle.std.proofs.Math.ListN.{set}
 use Rattle.std.proofs.Math.Dec.{eqb-suc-zero}
 use Rattle.std.specs.Prelude.{OnOk, OnErr, is_ok, if◌then◌else◌}
-use Rattle.std.proofs.lemmas.List.{map-append}
-use Rattle.rw_wal_tail.specs.Held.{Held, extend_last, fed, fed_with}
+use Rattle.std.proofs.lemmas.List.{map-append, take_more}
+use Rattle.rw_wal_tail.specs.Held.{Held, extend_last, fed, fed_with, later_bytes}
 
 -- what an extension says at `Ok` and at `Err`
 pub extended_ok : {T E : Type 0} (r : Result T E) (old new b : List ℕ) → new ≡ (if is_ok r then old ++ b else old) → OnOk r (new ≡ old ++ b)
@@ -59,3 +59,18 @@ not_zero (suc n) b e h = omega arith
 pub is_zero : (n : ℕ) (b : Bool) → b ≡ (n == 0) → b ≡ true → n ≡ 0
 is_zero zero b e h = refl
 is_zero (suc n) b e h = let f : (suc n == 0) ≡ false = eqb-suc-zero n in absurd cc
+
+-- ---- bytes that wait
+
+pub later_bytes-append : (xs ys : List (ℕ × List ℕ)) → later_bytes (xs ++ ys) ≡ later_bytes xs + later_bytes ys
+later_bytes-append [] ys = omega arith
+later_bytes-append (x ∷ xs) ys = omega (arith, later_bytes-append xs ys)
+
+-- one more segment is added up
+pub added_more : (count total more i : ℕ) (xs : List (ℕ × List ℕ)) (x : ℕ × List ℕ) → total ≡ count + later_bytes (take i xs) → i < length xs → get_or xs i x ≡ x
+    → more ≡ total + length x.1 → more ≡ count + later_bytes (take (i + 1) xs)
+added_more count total more i xs x t lt at m =
+    let y = get_or xs i x in
+    let s : take (i + 1) xs ≡ take i xs ++ x ∷ [] = take_more xs i x lt ∙ ap (λ z. take i xs ++ z ∷ []) at in
+    let n : later_bytes (take (i + 1) xs) ≡ later_bytes (take i xs) + later_bytes (x ∷ []) = ap later_bytes s ∙ later_bytes-append (take i xs) (x ∷ []) in
+    omega (arith, t, m, n)

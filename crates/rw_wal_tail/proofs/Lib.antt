@@ -1,4 +1,5 @@
 mod ItemLaws
+mod FormLaws
 mod FoundLaws
 mod HeldLaws
 mod StillLaws
@@ -7,5 +8,6 @@ mod PlaceLaws
 mod PlaceSteps
 mod StepLaws
 mod FedLaws
+mod KeptLaws
 mod CopyLaws
 pub mod AnswerLemmas

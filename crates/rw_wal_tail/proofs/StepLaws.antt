@@ -53,7 +53,7 @@ pub record Advanced (old new : Reader) (n : ℕ) : Type 0 where
   pub zeros : new.zeros ≡ 0
   pub fault : new.fault ≡ old.fault
 
-data_length : (n : ℕ) (rest : List ℕ) → 7 + n ≤ length rest → length (take n (drop 7 rest)) ≡ n
+pub data_length : (n : ℕ) (rest : List ℕ) → 7 + n ≤ length rest → length (take n (drop 7 rest)) ≡ n
 data_length n rest h = omega (arith, length-take n (drop 7 rest), length-drop 7 rest)
 
 module _ (old new : Reader) (n : ℕ) (a : Advanced old new n) where

@@ -13,7 +13,7 @@ use Rattle.rw_wal_tail.specs.declared.reader.Reader.{Reader}
 use Rattle.rw_wal_tail.specs.Still.{after}
 use Rattle.rw_wal_tail.specs.Places.{stop_after}
 use Rattle.rw_wal_tail.specs.Placed.{ends_after}
-use Rattle.rw_wal_tail.specs.Steps.{IsReader, still_read, still_place, Counts}
+use Rattle.rw_wal_tail.specs.Steps.{IsReader, still_read, still_place, Counts, IsKept}
 
 -- the pieces that were fed, the number of entries that were given, and the number of records that were passed over
 pub record Fed : Type 0 where
@@ -50,6 +50,12 @@ abbrev pub CutsDoNotMatter : List pieces.Piece → List pieces.Piece → List �
 CutsDoNotMatter earlier all b =
     (front : List pieces.Piece) (a : List ℕ) → earlier ≡ front ++ pieces.bytes a ∷ [] → reading page_size all ≡ reading page_size (front ++ pieces.bytes (a ++ b) ∷ [])
 
+-- how many bytes and ends of segments these pieces are
+abbrev pub size_of : List pieces.Piece → ℕ
+size_of [] = 0
+size_of (pieces.bytes b ∷ ps) = length b + size_of ps
+size_of (pieces.next_segment ∷ ps) = 1 + size_of ps
+
 -- a piece, as the grammar has it
 abbrev pub piece_of : Piece → pieces.Piece
 piece_of (piece.Bytes b) = pieces.bytes b.items
@@ -77,3 +83,4 @@ pub record IsTail (r : Reader) (ps : List pieces.Piece) (given : List Entry) (co
   pub counted : count ≡ length given
   pub bound : count < 2 ^ 60
   pub stuck : IsStuck r told
+  pub kept : IsKept (size_of ps) r

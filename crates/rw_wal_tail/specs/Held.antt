@@ -72,6 +72,15 @@ fed_with b h (s ∷ ss) false = record h { later = extend_last b (s ∷ ss); end
 unfoldable pub fed : List ℕ → Held → Held
 fed b h = fed_with b h h.later h.ended
 
+-- how many bytes wait in the segments after the one at hand
+abbrev pub later_bytes : List (ℕ × List ℕ) → ℕ
+later_bytes [] = 0
+later_bytes (s ∷ ss) = length s.1 + later_bytes ss
+
+-- how many bytes are not read
+abbrev pub unread : Held → ℕ
+unread h = length h.rest + later_bytes h.later
+
 -- how many steps are left at most
 abbrev pub later_weight : List (ℕ × List ℕ) → ℕ
 later_weight [] = 0

@@ -1,4 +1,5 @@
 pub mod Unread
+pub mod Form
 pub mod Found
 pub mod Held
 pub mod Places

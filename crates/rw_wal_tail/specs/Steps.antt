@@ -1,5 +1,5 @@
 -- What a step of a reader may do.
-use Rattle.std.specs.Prelude.{◌≡◌, ℕ, ◌+◌, ◌<◌, ◌≤◌, ◌^◌, List, [], ◌∷◌, length, drop, take, Option, Some, None, Bool, true, false, ◌⊎◌}
+use Rattle.std.specs.Prelude.{◌≡◌, ℕ, ◌+◌, ◌<◌, ◌≤◌, ◌^◌, List, [], ◌∷◌, length, drop, take, Option, Some, None, Bool, true, false, ◌⊎◌, vec_capacity}
 use Rattle.rw_types.specs.declared.entry.Entry.{Entry}
 use Rattle.rw_wal_format.specs.Records.{record_entries}
 use Rattle.rw_wal_format.specs.Segments as grammar
@@ -12,7 +12,7 @@ use Rattle.rw_wal_tail.specs.declared.reader.Step.{Step}
 use Rattle.rw_wal_tail.specs.declared.reader.Step.TheVariants.{More, Waits, Failed}
 use Rattle.rw_wal_tail.specs.Found.{KnownZeros}
 use Rattle.rw_wal_tail.specs.declared.place.FaultPlace.{FaultPlace}
-use Rattle.rw_wal_tail.specs.Held.{waiting, held_weight, has_ended, can_count, unfed}
+use Rattle.rw_wal_tail.specs.Held.{waiting, held_weight, has_ended, can_count, unfed, unread}
 use Rattle.rw_wal_tail.specs.Placed.{place_from, ends_with}
 use Rattle.rw_wal_tail.specs.Still.{still, skip_of, open_data}
 
@@ -133,3 +133,18 @@ abbrev pub Ran : Step → Reader → Type 0
 Ran More r = 0 < length r.ready.items
 Ran Waits r = Ends r
 Ran (Failed f) r = (r.fault ≡ Some f) × (r.ready.items ≡ [])
+
+-- There is room for the data of a record in fragments, whatever is not read, and n bounds all counts.
+pub record IsKept (n : ℕ) (r : Reader) : Type 0 where
+  pub room : length r.begun.items + unread r.input ≤ vec_capacity r.begun
+  pub passed : r.passed + unread r.input ≤ n
+  pub offset : r.input.offset + length r.input.rest ≤ n
+  pub ends : r.input.ends ≤ n
+
+-- an entry comes next
+abbrev pub GivesNext : Reader → Type 0
+GivesNext r = 0 < length (still_read r []).entries
+
+-- memory may be refused: an entry comes next, or a count has come to its end
+abbrev pub MayLack : ℕ → Reader → Type 0
+MayLack n r = GivesNext r ⊎ (2 ^ 60 ≤ n)

@@ -1,7 +1,7 @@
 //! The bytes of a log that are not read yet.
 
-ghost use Rattle.std.specs.Prelude.{◌≡◌, ◌≤◌, ◌<◌, ◌+◌, ◌*◌, [], true, length, drop, map, IfOk, OnOk, OnErr};
-ghost use Rattle.rw_wal_tail.specs.Held.{has_ended, begun_with, extend_last, fed, unfed, passed, marked, can_count, waits_as};
+ghost use Rattle.std.specs.Prelude.{◌≡◌, ◌≤◌, ◌<◌, ◌+◌, ◌*◌, [], true, length, drop, map, IfOk, IfSome, OnOk, OnErr};
+ghost use Rattle.rw_wal_tail.specs.Held.{has_ended, begun_with, extend_last, fed, unfed, passed, marked, can_count, waits_as, later_bytes};
 
 use std::alloc::{AllocError, Global};
 use std::collections::VecDeque;
@@ -107,6 +107,20 @@ fn copy_all(alloc: Global, segments: &VecDeque<Segment>) -> Result<VecDeque<Segm
     Ok(copy)
 }
 
+/// How many bytes the segments and `count` more are; `None` if no `usize` has the number.
+fn add_bytes(count: usize, segments: &VecDeque<Segment>) -> Option<usize>
+    ensures { IfSome result (λ n. n ≡ count + later_bytes (map waits_as segments.now.items)) }
+{
+    let mut total = count;
+    for i in 0..segments.len() {
+        let Some(more) = total.checked_add(segments[i].bytes.len()) else {
+            return None;
+        };
+        total = more;
+    }
+    Some(total)
+}
+
 impl Input {
     pub(crate) fn new(alloc: Global) -> Input
         ensures { result ≡ unfed }
@@ -148,6 +162,17 @@ impl Input {
         ensures { result.now ≡ self.now.rest }
     {
         &self.buffer[self.at..]
+    }
+
+    /// How many bytes are not read, of all segments and of `more`; `None` if no `usize` has the number.
+    pub(crate) fn unread(&self, more: usize) -> Option<usize>
+        ensures { IfSome result
+            (λ n. n ≡ more + length self.now.rest + later_bytes self.now.later) }
+    {
+        match more.checked_add(self.rest().len()) {
+            Some(count) => add_bytes(count, &self.later),
+            None => None,
+        }
     }
 
     /// Advances past `count` bytes of the segment at hand.

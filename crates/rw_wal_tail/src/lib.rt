@@ -3,8 +3,10 @@
 //! No contract says how much memory a reader holds. By its code it does not keep what it gave out: between calls it holds what it was fed and has
 //! not read yet, in one buffer for each segment, of which the read part is let go when more of that segment comes, once it is no smaller than the
 //! rest, and the record that came last, as bytes or as entries.
+//! It has room for as many bytes again as are not read yet, for the data of a record in fragments.
 #![tactic(auto)]
 
+mod form;
 mod input;
 mod item;
 mod piece;

@@ -1,6 +1,6 @@
 //! The steps in which a log is read.
 
-ghost use Rattle.std.specs.Prelude.{◌≡◌, ◌+◌, ◌<◌, ◌≤◌, ◌^◌, [], ◌∷◌, true, length, drop, take, MatchResult, IfOk, OnOk, OnErr};
+ghost use Rattle.std.specs.Prelude.{◌≡◌, ◌⊎◌, ℕ, vec_capacity, ◌+◌, ◌<◌, ◌≤◌, ◌^◌, [], ◌∷◌, true, length, drop, take, MatchResult, IfOk, OnOk, OnErr};
 ghost use Rattle.rw_wal_format.specs.Records as grammar;
 ghost use Rattle.rw_wal_format.specs.Segments.{left_after, full, first, middle, last};
 ghost use Rattle.rw_wal_format.specs.Pieces.{page_size, bytes, next_segment};
@@ -8,12 +8,14 @@ ghost use Rattle.rw_wal_tail.specs.declared.reader.Step.TheVariants.{Failed};
 ghost use Rattle.rw_wal_format.specs.Types.{kind_of};
 ghost use Rattle.rw_wal_tail.specs.Held.{passed, can_count};
 ghost use Rattle.rw_wal_tail.specs.Placed.{front_of};
-ghost use Rattle.rw_wal_tail.specs.Steps.{Same, Takes, Stepped, PausesAt, FoundAt, FoundFragment, IsReader, IsUnfed, IsRead, Ran, is_failed_by};
+ghost use Rattle.rw_wal_tail.specs.Steps.{Same, Takes, Stepped, PausesAt, FoundAt, FoundFragment, IsReader, IsUnfed, IsRead, Ran, is_failed_by, IsKept, MayLack};
+ghost use Rattle.rw_wal_tail.specs.Form.{HasEntries};
 
+use crate::form::is_record;
 use crate::input::{COUNT_END, Input, copy_of};
 use crate::item::{Found, item};
 use crate::place::FaultPlace;
-use crate::record::{Unread, read_record};
+use crate::record::read_record;
 use rw_types::Entry;
 use rw_wal_format::{FragmentType, HEADER_BYTES, PAGE_BYTES, TailFault};
 use std::alloc::{AllocError, Global};
@@ -29,6 +31,7 @@ pub(crate) struct Reader {
     /// How many of the bytes at the front were seen to be zeros of the page's end.
     pub(crate) zeros: usize,
     /// The data so far of the record that is open. That of one that was read stays here until the next in fragments begins.
+    /// There is room for all bytes that are not read: `feed` makes it.
     pub(crate) begun: Vec<u8>,
     pub(crate) is_open: bool,
     pub(crate) ready: VecDeque<Entry>,
@@ -62,7 +65,8 @@ fn fragment_data(bytes: &[u8], len: usize) -> &[u8]
     &data[..len]
 }
 
-/// Reads a whole record into the queue; false where it is not of its form.
+/// Reads a whole record into the queue; false where it is not of its form, which is judged before
+/// memory is taken.
 fn read_whole(
     alloc: Global,
     bytes: &[u8],
@@ -73,26 +77,39 @@ fn read_whole(
     ensures ok { IfOk result (λ b. IsRead bytes.now passed.old ready.new.items passed.new b) }
     ensures err { OnErr result ((ready.new.items ≡ []) × (passed.new ≡ passed.old)) }
     ensures count { passed.new < 2 ^ 60 }
+    ensures certain { OnErr result (HasEntries bytes.now ⊎ (2 ^ 60 ≤ passed.old + 1)) }
 {
-    match read_record(alloc, bytes, ready) {
-        Ok(()) => {}
-        Err(Unread::BadForm) => {
-            ready.clear();
-            return Ok(false);
-        }
-        Err(Unread::OutOfMemory) => {
-            ready.clear();
-            return Err(AllocError);
-        }
+    ready.clear();
+    if !is_record(bytes) {
+        return Ok(false);
     }
     if is_skipped(bytes) {
         if *passed + 1 == COUNT_END {
-            ready.clear();
             return Err(AllocError);
         }
         *passed += 1;
+        return Ok(true);
     }
-    Ok(true)
+    if bytes.len() == 1 {
+        return Ok(true);
+    }
+    match read_record(alloc, bytes, ready) {
+        Ok(()) => Ok(true),
+        Err(_) => {
+            ready.clear();
+            Err(AllocError)
+        }
+    }
+}
+
+/// A copy of the bytes, with room for `more` bytes.
+fn copy_with_room(alloc: Global, bytes: &[u8], more: usize) -> Result<Vec<u8>, AllocError>
+    ensures items { IfOk result (λ v. v.items ≡ bytes.now) }
+    ensures room { IfOk result (λ v. length bytes.now + more ≤ vec_capacity v) }
+{
+    let mut copy = copy_of(alloc, bytes)?;
+    copy.reserve(more)?;
+    Ok(copy)
 }
 
 /// A copy of the entries.
@@ -110,6 +127,7 @@ impl Reader {
     pub(crate) fn new(alloc: Global) -> Reader
         ensures reader { IsReader result }
         ensures unfed { IsUnfed result }
+        ensures kept { IsKept 0 result }
     {
         Reader {
             alloc,
@@ -131,6 +149,9 @@ impl Reader {
         ensures err { OnErr result (Same self.old self.new) }
         ensures fault { self.new.fault ≡ self.old.fault }
         ensures ready { self.new.ready ≡ self.old.ready }
+        ensures kept { (n : ℕ) → IsKept n self.old
+            → MatchResult result (λ _. IsKept (n + length piece.now) self.new)
+            (λ _. IsKept n self.new) }
     {
         if let Some(_) = self.fault {
             return Ok(());
@@ -138,6 +159,11 @@ impl Reader {
         if !self.input.can_count() {
             return Err(AllocError);
         }
+        let Some(unread) = self.input.unread(piece.len()) else {
+            return Err(AllocError);
+        };
+        // Joining fragments takes no memory later, so that no fault waits for memory.
+        self.begun.reserve(unread)?;
         self.input.feed(piece)
     }
 
@@ -147,6 +173,7 @@ impl Reader {
         ensures takes { Takes next_segment self.old self.new }
         ensures fault { self.new.fault ≡ self.old.fault }
         ensures ready { self.new.ready ≡ self.old.ready }
+        ensures kept { (n : ℕ) → IsKept n self.old → IsKept (n + 1) self.new }
     {
         self.input.end_segment();
     }
@@ -184,6 +211,8 @@ impl Reader {
         ensures same { Same self.old self.new }
         ensures stepped { MatchResult result (λ s. Stepped s self.old self.new)
             (λ _. self.new.ready.items ≡ []) }
+        ensures kept { (n : ℕ) → IsKept n self.old → IsKept n self.new }
+        ensures certain { (n : ℕ) → IsKept n self.old → OnErr result (MayLack n self.new) }
     {
         self.begun.clear();
         self.begun
@@ -199,6 +228,8 @@ impl Reader {
         ensures same { Same self.old self.new }
         ensures stepped { MatchResult result (λ s. Stepped s self.old self.new)
             (λ _. self.new.ready.items ≡ []) }
+        ensures kept { (n : ℕ) → IsKept n self.old → IsKept n self.new }
+        ensures certain { (n : ℕ) → IsKept n self.old → OnErr result (MayLack n self.new) }
     {
         self.begun
             .extend_from_slice(fragment_data(self.input.rest(), len))?;
@@ -212,6 +243,8 @@ impl Reader {
         ensures same { Same self.old self.new }
         ensures stepped { MatchResult result (λ s. Stepped s self.old self.new)
             (λ _. self.new.ready.items ≡ []) }
+        ensures kept { (n : ℕ) → IsKept n self.old → IsKept n self.new }
+        ensures certain { (n : ℕ) → IsKept n self.old → OnErr result (MayLack n self.new) }
     {
         let data = fragment_data(self.input.rest(), len);
         if !read_whole(self.alloc, data, &mut self.ready, &mut self.passed)? {
@@ -227,6 +260,8 @@ impl Reader {
         ensures same { Same self.old self.new }
         ensures stepped { MatchResult result (λ s. Stepped s self.old self.new)
             (λ _. self.new.ready.items ≡ []) }
+        ensures kept { (n : ℕ) → IsKept n self.old → IsKept n self.new }
+        ensures certain { (n : ℕ) → IsKept n self.old → OnErr result (MayLack n self.new) }
     {
         let before = self.begun.len();
         self.begun
@@ -238,7 +273,10 @@ impl Reader {
             &mut self.passed,
         ) {
             Ok(true) => {}
-            Ok(false) => return Ok(self.fail(TailFault::BadRecord)),
+            Ok(false) => {
+                self.begun.truncate(before);
+                return Ok(self.fail(TailFault::BadRecord));
+            }
             Err(e) => {
                 self.begun.truncate(before);
                 return Err(e);
@@ -255,6 +293,8 @@ impl Reader {
         ensures same { Same self.old self.new }
         ensures stepped { MatchResult result (λ s. Stepped s self.old self.new)
             (λ _. self.new.ready.items ≡ []) }
+        ensures kept { (n : ℕ) → IsKept n self.old → IsKept n self.new }
+        ensures certain { (n : ℕ) → IsKept n self.old → OnErr result (MayLack n self.new) }
     {
         if self.is_open {
             match kind {
@@ -278,6 +318,7 @@ impl Reader {
         requires { PausesAt is_inside self.old }
         ensures same { Same self.old self.new }
         ensures stepped { Stepped result self.old self.new }
+        ensures kept { (n : ℕ) → IsKept n self.old → IsKept n self.new }
     {
         if !self.input.has_ended() {
             return Step::Waits;
@@ -298,6 +339,8 @@ impl Reader {
         ensures same { Same self.old self.new }
         ensures stepped { MatchResult result (λ s. Stepped s self.old self.new)
             (λ _. self.new.ready.items ≡ []) }
+        ensures kept { (n : ℕ) → IsKept n self.old → IsKept n self.new }
+        ensures certain { (n : ℕ) → IsKept n self.old → OnErr result (MayLack n self.new) }
     {
         if let Some(fault) = self.fault {
             return Ok(Step::Failed(fault));
@@ -327,6 +370,8 @@ impl Reader {
         requires { IsReader self.old }
         ensures same { Same self.old self.new }
         ensures ran { IfOk result (λ s. Ran s self.new) }
+        ensures kept { (n : ℕ) → IsKept n self.old → IsKept n self.new }
+        ensures certain { (n : ℕ) → IsKept n self.old → OnErr result (MayLack n self.new) }
     {
         while self.ready.is_empty() {
             match self.step()? {
@@ -362,13 +407,17 @@ impl Reader {
         ensures same { IfOk result (λ r. Same self.now r) }
         ensures fault { IfOk result (λ r. r.fault ≡ self.now.fault) }
         ensures ready { IfOk result (λ r. r.ready.items ≡ self.now.ready.items) }
+        ensures kept { (n : ℕ) → IsKept n self.now → IfOk result (λ r. IsKept n r) }
     {
+        let Some(unread) = self.input.unread(0) else {
+            return Err(AllocError);
+        };
         Ok(Reader {
             alloc: self.alloc,
             input: self.input.copy(self.alloc)?,
             left: self.left,
             zeros: self.zeros,
-            begun: copy_of(self.alloc, &self.begun)?,
+            begun: copy_with_room(self.alloc, &self.begun, unread)?,
             is_open: self.is_open,
             ready: copy_ready(self.alloc, &self.ready)?,
             passed: self.passed,

@@ -5,7 +5,7 @@ ghost use Rattle.rw_wal_format.specs.Laws.{Extends};
 ghost use Rattle.rw_wal_format.specs.Pieces.{bytes, next_segment, entries, fault, page_size, reading};
 ghost use Rattle.rw_wal_format.specs.declared.tail_fault.TailFault.{TailFault};
 ghost use Rattle.rw_wal_format.specs.declared.tail_fault.TailFault.TheVariants.{OutOfMemory};
-ghost use Rattle.rw_wal_tail.specs.Fed.{next_of, answered, piece_of, is_out_of_memory, CutsDoNotMatter};
+ghost use Rattle.rw_wal_tail.specs.Fed.{next_of, answered, size_of, piece_of, is_out_of_memory, CutsDoNotMatter};
 ghost use Rattle.rw_wal_tail.specs.Places.{told_place};
 
 use crate::input::COUNT_END;
@@ -127,6 +127,12 @@ impl Tail {
             ⊎ (result ≡ next_of self.old.pieces self.old.given) }
         ensures after { self.new ≡ answered self.old result }
         ensures stays { (f : TailFault) → self.old.fault ≡ Some f → result ≡ Err f }
+
+        // Memory is refused only if an entry comes next, or if a count has come to its end: neither a
+        // fault nor the end of the log waits for memory.
+        ensures certain { result ≡ Err OutOfMemory
+            → (self.old.given < length (entries self.old.pieces))
+            ⊎ (2 ^ 60 ≤ size_of self.old.pieces) }
     {
         if let Some(fault) = self.told {
             self.skipped = self.reader.passed;

@@ -1,6 +1,8 @@
-use Rattle.std.proofs.Common.{◌∙◌, ap, refl}
+use Rattle.std.proofs.Common.{◌∙◌, ap, refl, arith, length, ◌+◌, ◌≤◌, length-append}
 use Rattle.rw_wal_tail.specs.declared.reader.Reader.{Reader}
-use Rattle.rw_wal_tail.proofs.StepLaws.{Advanced, same_first, same_closed, joined, data_of}
+use Rattle.rw_wal_tail.proofs.StepLaws.{Advanced, same_first, same_closed, joined, data_of, data_length}
+use Rattle.std.specs.Prelude.{vec_capacity}
+use Rattle.rw_wal_tail.proofs.KeptLaws.{kept_same, kept_passed, has_room}
 use Rattle.rw_wal_tail.proofs.reader.Reader.first.Goals as goal
 
 pub returns-in_err-extend_from_slice-clause-same : goal.returns-in_err-extend_from_slice-clause-same
@@ -14,3 +16,21 @@ returns-clause-same c =
     let d = data_of c.args.len c.args.self.now.input.rest c.rest.result.now c.fragment_data.result.now c.fragment_data.ensures c.rest.ensures in
     same_first c.args.self.now c.advance.new.self c.args.len a (ap (λ (r : Reader). r.ready.items) e) (ap (λ (r : Reader). r.passed) e) (ap (λ (r : Reader). r.is_open) e) c.requires
     (ap (λ (r : Reader). r.begun.items) e ∙ joined c.clear.new.self.items c.fragment_data.result.now c.extend_from_slice.new.self.items _ c.in_ok-extend_from_slice.ensures.items c.clear.ensures.items d)
+
+pub returns-in_err-extend_from_slice-clause-kept : goal.returns-in_err-extend_from_slice-clause-kept
+returns-in_err-extend_from_slice-clause-kept c n k =
+    kept_same c.args.self.now _ n refl (omega (arith, ap length c.in_err-extend_from_slice.ensures.items, ap length c.clear.ensures.items)) (omega (arith, c.extend_from_slice.ensures.capacity, c.clear.ensures.capacity)) refl k
+
+pub returns-in_err-extend_from_slice-clause-certain : goal.returns-in_err-extend_from_slice-clause-certain
+returns-in_err-extend_from_slice-clause-certain c n k =
+    let d = data_of c.args.len c.args.self.now.input.rest c.rest.result.now c.fragment_data.result.now c.fragment_data.ensures c.rest.ensures in
+    absurd (omega (arith, has_room c.args.self.now c.args.len n c.fragment_data.result.now c.requires.whole d k, c.in_err-extend_from_slice.ensures.full, c.clear.ensures.len, c.clear.ensures.capacity))
+
+pub returns-clause-kept : goal.returns-clause-kept
+returns-clause-kept c n k =
+    let e = c.advance.ensures in
+    let d = data_of c.args.len c.args.self.now.input.rest c.rest.result.now c.fragment_data.result.now c.fragment_data.ensures c.rest.ensures in
+    let l : length c.advance.new.self.begun.items ≤ length c.args.self.now.begun.items + c.args.len =
+    omega (arith, ap (λ (r : Reader). length r.begun.items) e, ap length c.in_ok-extend_from_slice.ensures.items, length-append c.clear.new.self.items c.fragment_data.result.now, ap length c.clear.ensures.items, ap length d, data_length c.args.len c.args.self.now.input.rest c.requires.whole) in
+    kept_passed c.args.self.now c.advance.new.self (7 + c.args.len) c.args.len n (ap (λ (r : Reader). r.input) e) c.requires.whole (omega arith) l
+    (omega (arith, ap (λ (r : Reader). vec_capacity r.begun) e, c.extend_from_slice.ensures.capacity, c.clear.ensures.capacity)) (omega (arith, ap (λ (r : Reader). r.passed) e)) k

@@ -1,7 +1,9 @@
-use Rattle.std.proofs.Common.{◌≡◌, ◌∙◌, ap, sym, refl, inr}
+use Rattle.std.proofs.Common.{◌≡◌, ◌∙◌, length, ap, sym, refl, inr, arith}
 use Rattle.rw_wal_format.specs.Segments.{nothing, zeros, wrong, item_at}
 use Rattle.rw_wal_tail.specs.declared.reader.Reader.{Reader}
 use Rattle.rw_wal_tail.specs.Steps.{CanStep}
+use Rattle.std.specs.Prelude.{vec_capacity}
+use Rattle.rw_wal_tail.proofs.KeptLaws.{kept_same, kept_passed, lacks_count}
 use Rattle.rw_wal_tail.proofs.FoundLaws.{wrong_of_log, nothing_known}
 use Rattle.rw_wal_tail.proofs.StepLaws.{Failing, found_item, same_zeros, bad_item}
 use Rattle.rw_wal_tail.proofs.reader.Reader.step.Goals as goal
@@ -32,3 +34,18 @@ pause-requires c =
       };
       ends = inr (n, refl);
     })
+
+pub returns-then-not-can_count-clause-certain : goal.returns-then-not-can_count-clause-certain
+returns-then-not-can_count-clause-certain c n k = inr (lacks_count c.args.self.now n (sym c.can_count.ensures ∙ c.if-not-can_count.true) k)
+
+pub returns-in-Zeros-clause-kept : goal.returns-in-Zeros-clause-kept
+returns-in-Zeros-clause-kept c n k =
+    kept_passed c.args.self.now _ c.args.self.now.left 0 n c.pass.ensures (omega (arith, c.in-Zeros.ensures.fits, ap length c.rest.ensures)) c.requires.reader.page (omega arith) (omega arith) (omega arith) k
+
+pub returns-in-Wrong-clause-kept : goal.returns-in-Wrong-clause-kept
+returns-in-Wrong-clause-kept c n k =
+    let e = c.fail.ensures.new in
+    kept_same c.args.self.now c.fail.new.self n (ap (λ (r : Reader). r.input) e) (omega (arith, ap (λ (r : Reader). length r.begun.items) e)) (omega (arith, ap (λ (r : Reader). vec_capacity r.begun) e)) (ap (λ (r : Reader). r.passed) e) k
+
+pub returns-in-Nothing-clause-kept : goal.returns-in-Nothing-clause-kept
+returns-in-Nothing-clause-kept c n k = c.pause.ensures.kept n (kept_same c.args.self.now _ n refl (omega arith) (omega arith) refl k)

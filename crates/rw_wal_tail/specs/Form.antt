@@ -1,0 +1,12 @@
+-- What is read of a record whose form is judged.
+use Rattle.std.specs.Prelude.{◌≡◌, ℕ, ◌<◌, List, length, Option, Some}
+use Rattle.rw_types.specs.declared.entry.Entry.{Entry}
+use Rattle.rw_wal_format.specs.Records.{record_entries}
+
+-- something is read, and these are the bytes after it
+abbrev pub Leaves : {A : Type 0} → Option (A × List ℕ) → List ℕ → Type 0
+Leaves {A} found rest = (x : A) × (found ≡ Some (x, rest))
+
+-- these are the bytes of a record with at least one entry
+abbrev pub HasEntries : List ℕ → Type 0
+HasEntries bytes = (es : List Entry) × (record_entries bytes ≡ Some es) × (0 < length es)
