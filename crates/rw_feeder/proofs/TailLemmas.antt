@@ -1,5 +1,5 @@
 -- What is taken from a reader of a log.
-use Rattle.std.proofs.Common.{◌≡◌, ◌+◌, ◌≤◌, true, false, List, [], ◌∷◌, ◌++◌, length, Option, None, Some, Result, Ok, Err, ◌⊎◌, ⊎_elim, sym, ap, ◌∙◌, append_assoc, append-nil, length-append, arith}
+use Rattle.std.proofs.Common.{◌≡◌, ◌+◌, ◌^◌, ◌<◌, ◌≤◌, true, false, List, [], ◌∷◌, ◌++◌, length, Option, None, Some, Result, Ok, Err, ◌⊎◌, ⊎_elim, inl, inr, refl, subst, sym, ap, ◌∙◌, append_assoc, append-nil, length-append, arith}
 use Rattle.std.proofs.lemmas.Bool.Decides.{nat_tests}
 use Rattle.std.specs.Prelude.{slice_get, nat_lt}
 use Rattle.std.proofs.lemmas.List.{nil_from_length}
@@ -7,8 +7,9 @@ use Rattle.rw_types.specs.declared.entry.Entry.{Entry}
 use Rattle.rw_wal_format.specs.Pieces.{entries, fault}
 use Rattle.rw_wal_format.specs.declared.tail_fault.TailFault.{TailFault}
 use Rattle.rw_wal_format.specs.declared.tail_fault.TailFault.TheVariants.{OutOfMemory}
-use Rattle.rw_wal_tail.specs.Fed.{Fed, next_of, answered, is_out_of_memory}
-use Rattle.rw_feeder.specs.Feeders.{HasTaken, HasRead}
+use Rattle.rw_wal_tail.specs.Fed.{Fed, next_of, answered, size_of, is_out_of_memory}
+use Rattle.rw_feeder.specs.Feeders.{Sorting, HasTaken, HasRead}
+use Rattle.rw_relabel.specs.declared.choice.Choice.{Choice}
 use Rattle.rw_wal_tail.proofs.AnswerLemmas.{next_is, end_is, fault_is, has_some, answered_same}
 
 -- what a reader may answer
@@ -77,6 +78,21 @@ read_fault t taken said f d is plain a = ⊎_elim
     let e = fault_is (nat_lt t.given (length (entries t.pieces))) (slice_get (entries t.pieces) t.given) (fault t.pieces) f (sym is ∙ r) in
     record { all = all_taken t taken d e.0; fault_is = e.1 })
     a
+
+refused : (f : TailFault) → is_out_of_memory f ≡ true → f ≡ OutOfMemory
+refused OutOfMemory e = refl
+refused f e = absurd cc
+
+-- memory is refused only where an entry comes next, or at the end of a count
+pub read_refused : (choice : Choice) (t : Fed) (placed hand : List Entry) (s : Sorting) (said : Said) (f : TailFault) → record { choice = choice; pieces = t.pieces; placed = placed; hand = hand } ≡ s
+    → HasTaken t (placed ++ hand) → said ≡ Err f → is_out_of_memory f ≡ true → (said ≡ Err OutOfMemory → (t.given < length (entries t.pieces)) ⊎ (2 ^ 60 ≤ size_of t.pieces))
+    → (length s.placed < length (entries s.pieces)) ⊎ (2 ^ 60 ≤ size_of s.pieces)
+read_refused choice t placed hand s said f v h is out certain =
+    subst (λ (x : Sorting). (length x.placed < length (entries x.pieces)) ⊎ (2 ^ 60 ≤ size_of x.pieces)) v
+    (elim (certain (is ∙ ap Err (refused f out))) [
+      | inl more ↦ inl (omega (arith, more, h.count, length-append placed hand))
+      | inr end ↦ inr end
+    ])
 
 -- one more piece
 pub took_again : (t after : Fed) (taken more : List Entry) → HasTaken t taken → after.given ≡ t.given → entries after.pieces ≡ entries t.pieces ++ more → HasTaken after taken

@@ -52,6 +52,10 @@ pub record IsDropped (s : Sorting) (reason : Reason) : Type 0 where
   pub hand : s.hand ≡ Sample reference t word ∷ []
   pub fate_is : fate s.choice s.placed reference t ≡ Drops reason
 
+-- the next entry is a sample that is dropped, for some reason
+abbrev pub IsDroppedSample : Sorting → Type 0
+IsDroppedSample s = (reason : Reason) × IsDropped s reason
+
 -- the next entry is a sample that is sent, in the series of this number, at this time
 pub record IsToBeSent (s : Sorting) (series : ℕ) (t : ℤ) : Type 0 where
   pub entry : Entry

@@ -1,12 +1,13 @@
 //! The entries of a log, one after the other.
 
-ghost use Rattle.std.specs.Prelude.{◌≡◌, ◌++◌, ◌∷◌, [], length, OnOk, OnErr, IfOk};
+ghost use Rattle.std.specs.Prelude.{◌≡◌, ◌⊎◌, ◌<◌, ◌≤◌, ◌^◌, ◌++◌, ◌∷◌, [], length, OnOk, OnErr, IfOk};
 ghost use Rattle.rw_types.specs.Beginnings.{Begins};
 ghost use Rattle.rw_types.specs.declared.entry.Entry.{Entry};
 ghost use Rattle.rw_wal_format.specs.Pieces.{entries};
-ghost use Rattle.rw_wal_tail.specs.Fed.{piece_of};
+ghost use Rattle.rw_wal_tail.specs.Fed.{piece_of, size_of};
+ghost use Rattle.rw_router.specs.Routing.{TakesMemory};
 ghost use Rattle.rw_feeder.specs.Logs.{named, dropped, filtered};
-ghost use Rattle.rw_feeder.specs.Feeders.{Reads, IsDropped, IsToBeSent, Judges, HasPlaced};
+ghost use Rattle.rw_feeder.specs.Feeders.{Reads, IsDropped, IsDroppedSample, IsToBeSent, Judges, HasPlaced};
 
 use rw_history::History;
 use rw_ledger::{Ledger, Reason};
@@ -87,6 +88,8 @@ impl Feeder {
         requires { self.old.hand ≡ [] }
         ensures ok { IfOk result (λ next. Reads self.old self.new next) }
         ensures err { OnErr result (self.new ≡ self.old) }
+        ensures certain { OnErr result ((length self.old.placed < length (entries self.old.pieces))
+            ⊎ (2 ^ 60 ≤ size_of self.old.pieces)) }
     {
         match self.tail.next_entry() {
             Ok(Some(entry)) => {
@@ -129,6 +132,8 @@ impl Feeder {
         requires { self.old.hand ≡ entry ∷ [] }
         ensures ok { IfOk result (λ found. Judges self.old self.new entry found) }
         ensures err { OnErr result (self.new ≡ self.old) }
+        ensures sound { OnErr result (TakesMemory self.old.choice self.old.placed entry
+            ⊎ IsDroppedSample self.old) }
     {
         let read = self.tail.entries_read();
         match self.router.place(self.count, entry)? {

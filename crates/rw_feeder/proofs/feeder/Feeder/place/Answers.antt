@@ -1,10 +1,11 @@
-use Rattle.std.proofs.Common.{◌≡◌, ◌∙◌, ◌∷◌, [], take, sym, ap, subst, arith}
+use Rattle.std.proofs.Common.{◌≡◌, ◌∙◌, ◌∷◌, [], take, sym, ap, subst, arith, inl, inr, ◌⊎◌}
 use Rattle.std.specs.Prelude.{fold, drop}
 use Rattle.rw_router.specs.Fates.{fate}
-use Rattle.rw_router.specs.Routing.{Routing, Routes, KnowsMore}
+use Rattle.rw_router.specs.Routing.{Routing, Routes, KnowsMore, TakesMemory}
 use Rattle.rw_feeder.specs.Logs.{with_name, sent_of}
-use Rattle.rw_feeder.specs.Feeders.{Sorting, IsFeeder, IsToBeSent, sent_by}
+use Rattle.rw_feeder.specs.Feeders.{Sorting, IsFeeder, IsDropped, IsDroppedSample, IsToBeSent, sent_by}
 use Rattle.rw_router.proofs.RouteLemmas.{told_dropped}
+use Rattle.rw_wal_tail.proofs.AnswerLemmas.{err_holds}
 use Rattle.rw_feeder.proofs.FeederLemmas.{placed_held, placed_seen, router_placed, router_sends}
 use Rattle.rw_feeder.proofs.feeder.Feeder.place.Goals as goal
 
@@ -70,3 +71,21 @@ returns-in-Sample-clause-ok c =
       subst (λ (x : Sorting). sent_of x.choice x.placed c.args.entry ≡ sent_by c.in-Sample.sample ∷ []) c.self.view_is sends.1,
       subst (λ (x : Sorting). IsToBeSent x c.in-Sample.sample.series c.in-Sample.sample.t) c.self.view_is (record { entry = c.args.entry; hand = hand; next = sends.2 }),
     )
+
+pub returns-in_err-place-clause-sound : goal.returns-in_err-place-clause-sound
+returns-in_err-place-clause-sound c =
+    let s = c.self.inside in
+    err_holds c.from_residual.result (subst (λ (x : Sorting). TakesMemory x.choice x.placed c.args.entry ⊎ IsDroppedSample x) c.self.view_is
+    (inl (c.in_err-place.ensures.sound (take s.count s.read) c.self.invariant.knows)))
+
+pub returns-in_err-name-in-Dropped-clause-sound : goal.returns-in_err-name-in-Dropped-clause-sound
+returns-in_err-name-in-Dropped-clause-sound c =
+    let s = c.self.inside in
+    let i = c.self.invariant in
+    let ps = take s.count s.read in
+    let hand = ap (λ (x : Sorting). x.hand) c.self.view_is ∙ c.requires in
+    let routes = subst (Routes s.router ps s.count c.args.entry c.place.new.self) c.in-Dropped.is (c.in_ok-place.ensures.ok ps i.knows) in
+    let d = told_dropped s.router c.place.new.self ps s.count c.args.entry c.in-Dropped.reason routes in
+    let dropped : IsDropped (record { choice = s.router.cache.choice; pieces = s.tail.pieces; placed = ps; hand = drop s.count s.read }) c.in-Dropped.reason =
+    record { reference = d.1.0; t = d.1.1; word = d.1.2; hand = hand ∙ ap (λ e. e ∷ []) d.1.3; fate_is = d.1.4 } in
+    err_holds c.from_residual-in_err-name-in-Dropped.result (inr (c.in-Dropped.reason, subst (λ (x : Sorting). IsDropped x c.in-Dropped.reason) c.self.view_is dropped))

@@ -1,7 +1,7 @@
 use Rattle.std.proofs.Common.{◌∙◌, ◌++◌, Ok, take, sym, ap}
 use Rattle.std.specs.Prelude.{drop}
 use Rattle.rw_feeder.specs.Feeders.{Sorting}
-use Rattle.rw_feeder.proofs.TailLemmas.{took_entry, took_none, took_fault, read_fault}
+use Rattle.rw_feeder.proofs.TailLemmas.{took_entry, took_none, took_fault, read_fault, read_refused}
 use Rattle.rw_feeder.proofs.FeederLemmas.{same_tail, read_next, next_seen, end_seen, read_all}
 use Rattle.rw_feeder.proofs.feeder.Feeder.read.Goals as goal
 
@@ -60,3 +60,9 @@ returns-else-is_out_of_memory-clause-ok c =
     let took = took_fault s.tail c.next_entry.new.self c.next_entry.result c.in-Err.fault c.in-Err.is c.next_entry.ensures.after in
     let found = read_fault s.tail (take s.count s.read ++ drop s.count s.read) c.next_entry.result c.in-Err.fault i.taken c.in-Err.is (sym c.is_out_of_memory.ensures ∙ c.if-is_out_of_memory.false) c.next_entry.ensures.answer in
     (end_seen s.router.cache.choice s.tail.pieces c.next_entry.new.self.pieces (take s.count s.read) (drop s.count s.read) _ took.0 c.self.view_is, read_all s.router.cache.choice s.tail.pieces (take s.count s.read) (drop s.count s.read) _ _ found none c.self.view_is)
+
+pub returns-then-is_out_of_memory-clause-certain : goal.returns-then-is_out_of_memory-clause-certain
+returns-then-is_out_of_memory-clause-certain c =
+    let s = c.self.inside in
+    read_refused s.router.cache.choice s.tail (take s.count s.read) (drop s.count s.read) _ c.next_entry.result c.in-Err.fault c.self.view_is c.self.invariant.taken c.in-Err.is
+    (sym c.is_out_of_memory.ensures ∙ c.if-is_out_of_memory.true) c.next_entry.ensures.certain
