@@ -1,5 +1,5 @@
 -- The laws of the machine whose receiver is free.
-use Rattle.std.proofs.Common.{ℕ, List, Option, Some, None, slice_get}
+use Rattle.std.proofs.Common.{ℕ, List, [], Option, Some, None, slice_get}
 use Rattle.rw_machine.specs.Worlds.{Setup, Request, World, start, log}
 use Rattle.rw_machine.specs.Steps.{turned_away}
 use Rattle.rw_machine.proofs.Counts.{Count, count_act, count_start}
