@@ -1,6 +1,14 @@
--- What holds of every outcome that is fine.
-use Rattle.std.proofs.Common.{Result, Ok, Err, OnOk}
+-- What a receiver has received, and what holds of every outcome that is fine.
+use Rattle.std.proofs.Common.{◌≡◌, ℕ, Result, Ok, Err, OnOk, subst}
+use Rattle.rw_head.specs.declared.limits.Limits.{Limits}
+use Rattle.rw_head.specs.Head.{State}
+use Rattle.rw_head.specs.Store.{Store}
+use Rattle.rw_receive.specs.Receiving.{IsNew, HasReceived, IsReceived}
 
 pub on_ok : {T E P Q : Type 0} (r : Result T E) → (P → Q) → OnOk r P → OnOk r Q
 on_ok (Ok x) f h = f h
 on_ok (Err e) f h = tt
+
+-- the head that was asked is a new one
+pub received_so : (limits : Limits) (opening : State) (n count : ℕ) (store : Store) → IsNew limits opening → n ≡ count → HasReceived opening n store → IsReceived limits count store
+received_so limits opening n count store new same h = (opening, new, subst (λ k. HasReceived opening k store) same h)

@@ -1,18 +1,42 @@
 -- What a run of the command `receive` does to its writer.
-use Rattle.std.specs.Prelude.{ℕ, ◌≤◌, List, length, take, Option}
+use Rattle.std.specs.Prelude.{◌≡◌, ℕ, ◌≤◌, List, length, take, Option}
+use Rattle.std.specs.FinMap.{empty}
 use Rattle.std.specs.Io.KnownBytes.{Appends}
+use Rattle.rw_head.specs.declared.limits.Limits.{Limits}
+use Rattle.rw_head.specs.Head.{State}
 use Rattle.rw_head.specs.Store.{Store}
 use Rattle.rw_head.specs.Growth.{EachRises}
+use Rattle.rw_shared_head.specs.Seats.{Seated, HasGathered}
 use Rattle.rw_state_text.specs.StateText.{store_text}
 
--- a beginning of the text was written
+-- a prefix of the text was written
 abbrev pub AppendsPart : Option (List ℕ) → Option (List ℕ) → List ℕ → Type 0
 AppendsPart before after text = (n : ℕ) × (n ≤ length text) × Appends before after (take n text)
 
--- what a head holds was written, in whose lists the timestamps rise
-abbrev pub WritesHeld : Option (List ℕ) → Option (List ℕ) → Type 0
-WritesHeld before after = (store : Store) × EachRises store × Appends before after (store_text store)
+-- a head without samples, with these limits
+pub record IsNew (limits : Limits) (opening : State) : Type 0 where
+  pub store : opening.store ≡ empty
+  pub names : opening.limits.names ≡ limits.names
+  pub max_labels : opening.limits.max_labels ≡ limits.max_labels
+  pub max_label_bytes : opening.limits.max_label_bytes ≡ limits.max_label_bytes
+  pub busy : opening.busy ≡ limits.busy_first
 
--- a beginning of it was written
-abbrev pub WritesHeldPart : Option (List ℕ) → Option (List ℕ) → Type 0
-WritesHeldPart before after = (store : Store) × EachRises store × AppendsPart before after (store_text store)
+-- The head that was `opening` was asked from that many seats. It holds what it takes of all that it
+-- was asked, and nothing else. The timestamps of each of its lists rise.
+pub record HasReceived (opening : State) (count : ℕ) (store : Store) : Type 0 where
+  pub seats : List Seated
+  pub all : length seats ≡ count
+  pub gathered : HasGathered opening seats store
+  pub rises : EachRises store
+
+-- a new head with these limits has received so
+abbrev pub IsReceived : Limits → ℕ → Store → Type 0
+IsReceived limits count store = (opening : State) × IsNew limits opening × HasReceived opening count store
+
+-- what such a head holds was written
+abbrev pub WritesHeld : Limits → ℕ → Option (List ℕ) → Option (List ℕ) → Type 0
+WritesHeld limits count before after = (store : Store) × IsReceived limits count store × Appends before after (store_text store)
+
+-- a prefix of it was written
+abbrev pub WritesHeldPart : Limits → ℕ → Option (List ℕ) → Option (List ℕ) → Type 0
+WritesHeldPart limits count before after = (store : Store) × IsReceived limits count store × AppendsPart before after (store_text store)

@@ -1,9 +1,10 @@
 //! Connections, each served in a thread of its own.
 
 ghost use Rattle.std.specs.Prelude.{◌≡◌, ◌+◌, ◌<◌, ◌⊎◌, IfOk, IfErr, vec_len};
-ghost use Rattle.rw_head.specs.Growth.{EachRises};
+ghost use Rattle.rw_receive.specs.Receiving.{HasReceived};
 ghost use Rattle.rw_fault.specs.declared.tool_fault.ToolFault.TheVariants.{OutOfMemory, Device};
 
+use crate::final_head::FinalHead;
 use rw_fault::ToolFault;
 use rw_head::Head;
 use rw_serving::{Post, served};
@@ -111,18 +112,18 @@ pub(crate) fn receive_all<L: Naming + Send + Sync, R: Threads + Wait + Clock + S
     head: Head,
     connections: usize,
     listener: TcpListener,
-) -> Result<Head, ToolFault>
+) -> Result<FinalHead, ToolFault>
     requires some { 0 < connections }
     requires name { blank.name ≡ L.name }
     requires parts { (blank.parts ≡ connections + 1) × (L.parts ≡ connections + 1) }
     requires table { blank.table ≡ L.table }
     requires opening { head ≡ L.opening }
-    ensures rises { IfOk result (λ head. EachRises head.store) }
+    ensures received { IfOk result (λ head. HasReceived L.opening connections head.store) }
     ensures faults { IfErr result (λ e. (e ≡ OutOfMemory) ⊎ (e ≡ Device)) }
 {
     let Ok((shared, seats)) = SharedHead::<L>::seats(post.alloc, blank, head, connections) else {
         return Err(ToolFault::OutOfMemory);
     };
     let seats = serve_each(rt, listener, post, &shared, seats)?;
-    Ok(shared.gather(seats))
+    Ok(FinalHead::gather(shared, seats))
 }

@@ -2,6 +2,7 @@
 #![tactic(auto)]
 
 mod connections;
+mod final_head;
 mod receive;
 mod service;
 

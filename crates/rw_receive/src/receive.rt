@@ -1,9 +1,7 @@
 //! The command `receive`, over any listener and writer.
 
 ghost use Rattle.std.specs.Prelude.{◌≡◌, ◌⊎◌, true, false, Err, IfErr, OnOk};
-ghost use Rattle.std.specs.Io.KnownBytes.{Appends};
-ghost use Rattle.rw_state_text.specs.StateText.{store_text};
-ghost use Rattle.rw_receive.specs.Receiving.{AppendsPart, WritesHeld, WritesHeldPart};
+ghost use Rattle.rw_receive.specs.Receiving.{WritesHeld, WritesHeldPart};
 ghost use Rattle.rw_fault.specs.declared.tool_fault.ToolFault.TheVariants.{OutOfMemory, Device};
 
 use crate::connections::receive_all;
@@ -14,32 +12,14 @@ use rw_metrics::ReceiveCounters;
 use rw_serving::Post;
 use rw_settings::Settings;
 use rw_shared_head::Blank;
-use rw_state_text::push_store;
 use rw_stop::Sign;
-use rw_types::{Bounded, Sink, write_all};
+use rw_types::{Bounded, Sink};
 use std::alloc::Global;
 use std::marker::Brand;
 use std::net::TcpListener;
 use std::sync::Wait;
 use std::thread::Threads;
 use std::time::Clock;
-
-/// Prints what a head holds.
-fn print_held<W: Sink>(alloc: Global, head: &Head, writer: &mut W) -> Result<(), ToolFault>
-    ensures ok { OnOk result
-        (Appends (W.contents writer.old) (W.contents writer.new) (store_text head.now.store)) }
-    ensures sound { OnOk result
-        (W.has_failed writer.old ≡ false → W.has_failed writer.new ≡ false) }
-    ensures faults { IfErr result (λ e. (e ≡ OutOfMemory) ⊎ (e ≡ Device)) }
-    ensures memory { result ≡ Err OutOfMemory → writer.new ≡ writer.old }
-    ensures device { result ≡ Err Device → (W.has_failed writer.new ≡ true)
-        × AppendsPart (W.contents writer.old) (W.contents writer.new) (store_text head.now.store) }
-{
-    let mut text = Vec::new(alloc);
-    push_store(&mut text, head)?;
-    write_all(writer, &text)?;
-    Ok(())
-}
 
 /// Bounds of a service, and what counts its work.
 #[derive(Clone, Copy, Drop)]
@@ -70,7 +50,8 @@ pub fn run_receive<R: Threads + Wait + Clock + Sync, W: Sink>(
     listener: TcpListener,
     writer: &mut W,
 ) -> Result<(), ToolFault>
-    ensures ok { OnOk result (WritesHeld (W.contents writer.old) (W.contents writer.new)) }
+    ensures ok { OnOk result (WritesHeld settings.now.limits service.entry.most
+        (W.contents writer.old) (W.contents writer.new)) }
     ensures sound { OnOk result
         (W.has_failed writer.old ≡ false → W.has_failed writer.new ≡ false) }
     ensures faults { IfErr result (λ e. (e ≡ OutOfMemory) ⊎ (e ≡ Device)) }
@@ -79,7 +60,8 @@ pub fn run_receive<R: Threads + Wait + Clock + Sync, W: Sink>(
     // A failed accept has written nothing. Where the writer fails, it holds a beginning of the text.
     ensures device { result ≡ Err Device → (writer.new ≡ writer.old)
         ⊎ ((W.has_failed writer.new ≡ true)
-        × WritesHeldPart (W.contents writer.old) (W.contents writer.new)) }
+        × WritesHeldPart settings.now.limits service.entry.most
+        (W.contents writer.old) (W.contents writer.new)) }
 {
     let count = service.most.get();
     let blank = Blank::new(alloc, count + 1)?;
@@ -93,7 +75,7 @@ pub fn run_receive<R: Threads + Wait + Clock + Sync, W: Sink>(
         counters: service.counters,
     };
     let head = receive_all::<Brand, R>(rt, &post, blank, head, count as usize, listener)?;
-    print_held(alloc, &head, writer)
+    head.print(alloc, writer)
 }
 
 /// Serves any number of connections over one head until the sign is set, and then prints what the head holds, as `run_receive` does. A seat is used again
@@ -113,7 +95,8 @@ pub fn run_receive_until<R: Threads + Wait + Clock + Sync, W: Sink>(
     listener: TcpListener,
     writer: &mut W,
 ) -> Result<(), ToolFault>
-    ensures ok { OnOk result (WritesHeld (W.contents writer.old) (W.contents writer.new)) }
+    ensures ok { OnOk result (WritesHeld settings.now.limits service.entry.most
+        (W.contents writer.old) (W.contents writer.new)) }
     ensures sound { OnOk result
         (W.has_failed writer.old ≡ false → W.has_failed writer.new ≡ false) }
     ensures faults { IfErr result (λ e. (e ≡ OutOfMemory) ⊎ (e ≡ Device)) }
@@ -122,7 +105,8 @@ pub fn run_receive_until<R: Threads + Wait + Clock + Sync, W: Sink>(
     // A listener that cannot be set has written nothing. Where the writer fails, it holds a beginning of the text.
     ensures device { result ≡ Err Device → (writer.new ≡ writer.old)
         ⊎ ((W.has_failed writer.new ≡ true)
-        × WritesHeldPart (W.contents writer.old) (W.contents writer.new)) }
+        × WritesHeldPart settings.now.limits service.entry.most
+        (W.contents writer.old) (W.contents writer.new)) }
 {
     let most = service.most.get();
     let blank = Blank::new(alloc, most + 1)?;
@@ -135,5 +119,5 @@ pub fn run_receive_until<R: Threads + Wait + Clock + Sync, W: Sink>(
         counters: service.counters,
     };
     let head = receive_until::<Brand, R>(rt, &post, blank, head, most as usize, listener)?;
-    print_held(alloc, &head, writer)
+    head.print(alloc, writer)
 }

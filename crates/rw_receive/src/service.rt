@@ -1,10 +1,10 @@
 //! Connections that are served until a sign is set.
 
-ghost use Rattle.std.specs.Prelude.{◌≡◌, ◌+◌, ◌<◌, ◌⊎◌, sum_by, IfOk, IfErr, vec_len};
-ghost use Rattle.rw_head.specs.Store.{total};
-ghost use Rattle.rw_head.specs.Growth.{EachRises};
+ghost use Rattle.std.specs.Prelude.{◌≡◌, ◌+◌, ◌<◌, ◌⊎◌, IfOk, IfErr, vec_len};
+ghost use Rattle.rw_receive.specs.Receiving.{HasReceived};
 ghost use Rattle.rw_fault.specs.declared.tool_fault.ToolFault.TheVariants.{OutOfMemory, Device};
 
+use crate::final_head::FinalHead;
 use rw_fault::ToolFault;
 use rw_head::Head;
 use rw_places::{Places, serve_on};
@@ -41,15 +41,6 @@ fn serve_until<L: Naming + Send + Sync, R: Threads + Wait + Clock + Sync>(
     )
 }
 
-/// The head once all seats are back. It holds what it held at first, and what was stored from each seat over all its connections.
-fn gathered<L: Naming>(shared: SharedHead<L>, seats: Vec<Seat<L>>) -> Head
-    requires { vec_len seats ≡ shared.seats }
-    ensures adds_up { total result.store ≡ shared.start + sum_by (λ s. s.stored) seats.items }
-    ensures rises { EachRises result.store }
-{
-    shared.gather(seats)
-}
-
 /// Serves at most so many connections at once over one head, until the sign is set. Gives the head that they leave.
 pub(crate) fn receive_until<L: Naming + Send + Sync, R: Threads + Wait + Clock + Sync>(
     rt: &R,
@@ -58,13 +49,13 @@ pub(crate) fn receive_until<L: Naming + Send + Sync, R: Threads + Wait + Clock +
     head: Head,
     most: usize,
     listener: TcpListener,
-) -> Result<Head, ToolFault>
+) -> Result<FinalHead, ToolFault>
     requires some { 0 < most }
     requires name { blank.name ≡ L.name }
     requires parts { (blank.parts ≡ most + 1) × (L.parts ≡ most + 1) }
     requires table { blank.table ≡ L.table }
     requires opening { head ≡ L.opening }
-    ensures rises { IfOk result (λ head. EachRises head.store) }
+    ensures received { IfOk result (λ head. HasReceived L.opening most head.store) }
     ensures faults { IfErr result (λ e. (e ≡ OutOfMemory) ⊎ (e ≡ Device)) }
 {
     if accept_in_ticks(&listener).is_err() {
@@ -74,5 +65,5 @@ pub(crate) fn receive_until<L: Naming + Send + Sync, R: Threads + Wait + Clock +
         return Err(ToolFault::OutOfMemory);
     };
     let seats = serve_until(rt, listener, post, &shared, seats)?;
-    Ok(gathered(shared, seats))
+    Ok(FinalHead::gather(shared, seats))
 }

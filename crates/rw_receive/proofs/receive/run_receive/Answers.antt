@@ -1,11 +1,18 @@
 use Rattle.std.proofs.Common.{inr}
-use Rattle.rw_receive.proofs.HeldLemmas.{on_ok}
+use Rattle.rw_receive.proofs.HeldLemmas.{on_ok, received_so}
 use Rattle.rw_receive.proofs.receive.run_receive.Goals as goal
 
 pub returns-clause-ok : goal.returns-clause-ok
-returns-clause-ok g c = on_ok c.print_held.result (λ written. (c.in_ok-head.head.store, c.in_ok-head.ensures.rises, written)) c.print_held.ensures.ok
+returns-clause-ok g c =
+    let new = c.new-head.ensures in
+    let received = received_so c.args.settings.now.limits c.new-head.result _ c.args.service.most c.in_ok-head.head.store
+    (record { store = new.store; names = new.names; max_labels = new.max_labels; max_label_bytes = new.max_label_bytes; busy = new.busy }) c.get-count.ensures.number c.in_ok-head.ensures.received in
+    on_ok c.print.result (λ written. (c.in_ok-head.head.store, received, written)) c.print.ensures.ok
 
 pub returns-clause-device : goal.returns-clause-device
 returns-clause-device g c = λ failed.
-    let ended = c.print_held.ensures.device failed in
-    inr (ended.0, (c.in_ok-head.head.store, c.in_ok-head.ensures.rises, ended.1))
+    let new = c.new-head.ensures in
+    let received = received_so c.args.settings.now.limits c.new-head.result _ c.args.service.most c.in_ok-head.head.store
+    (record { store = new.store; names = new.names; max_labels = new.max_labels; max_label_bytes = new.max_label_bytes; busy = new.busy }) c.get-count.ensures.number c.in_ok-head.ensures.received in
+    let ended = c.print.ensures.device failed in
+    inr (ended.0, (c.in_ok-head.head.store, received, ended.1))
