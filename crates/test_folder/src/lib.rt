@@ -1,4 +1,5 @@
-//! Tests of folders: which files of a log are read, and what a crash leaves of a journal.
+//! Tests of folders: which files of a log are read, and what a crash leaves of a journal; and of the
+//! pages for people.
 #![tactic(auto)]
 
 #[cfg(test)]
@@ -7,3 +8,5 @@ mod files;
 mod journals;
 #[cfg(test)]
 mod order;
+#[cfg(test)]
+mod pages;
