@@ -1,6 +1,6 @@
 //! The queue between threads: both ends in one thread, and each in a thread of its own.
 
-ghost use Rattle.std.specs.Prelude.{◌≡◌, ◌<◌, IfSome};
+ghost use Rattle.std.specs.Prelude.{◌≡◌, IfSome};
 
 use crate::feeding::two;
 use crate::rows::holds;
@@ -111,39 +111,6 @@ fn takes_in_two_threads<R: Threads + Wait + Sync>(
 #[test]
 fn two_threads(rt: HostRuntime) {
     holds(&rt, takes_in_two_threads(&rt, rt.alloc()) == Ok(true));
-}
-
-/// Whether each of many Flushes is taken as soon as it was put, and the End after them.
-fn goes_round<R: Wait>(rt: &R, feed: Feed<Open>, drain: Drain<Open>) -> bool {
-    let mut feed = feed;
-    let mut drain = drain;
-    for _ in 0..100 {
-        if feed.put(rt, Item::Flush).is_err() {
-            return false;
-        }
-        let Taken::Item(Item::Flush, next) = drain.take(rt) else {
-            return false;
-        };
-        drain = next;
-    }
-    feed.end(rt, Kind::Orderly).is_ok() && matches!(drain.take(rt), Taken::End(Kind::Orderly, _))
-}
-
-/// Whether a queue of this capacity goes round, if there is memory to open it.
-fn needs_no_more_memory<R: Wait>(rt: &R, alloc: Global, capacity: usize) -> bool
-    requires { 0 < capacity }
-{
-    match open(alloc, 3, 1, capacity) {
-        Ok((feed, drain)) => goes_round(rt, feed, drain),
-        Err(_) => true,
-    }
-}
-
-/// Holds if memory is refused from any growth on; `tools/refuse-each` tries each.
-#[test]
-fn an_open_queue_needs_no_memory(rt: HostRuntime) {
-    holds(&rt, needs_no_more_memory(&rt, rt.alloc(), 1));
-    holds(&rt, needs_no_more_memory(&rt, rt.alloc(), 40));
 }
 
 /// Whether an end that waits for room is told when the other end is given up.
