@@ -103,7 +103,7 @@ positions_samples (item.Sample p t w l ∷ xs) = ap suc (positions_samples xs)
 positions_samples (item.Flush ∷ xs) = positions_samples xs
 positions_samples (item.End kind ∷ xs) = positions_samples xs
 
-cut_cases : {A : Type 0} (compared : Bool) (stopped : Option ℕ) (resolved : Bool) → (compared ≡ false → A) → (compared ≡ true → stopped ≡ None → resolved ≡ true) → resolved ≡ false → A ⊎ IsSome stopped
+cut_cases : {A B : Type 0} (compared : Bool) (stopped : Option B) (resolved : Bool) → (compared ≡ false → A) → (compared ≡ true → stopped ≡ None → resolved ≡ true) → resolved ≡ false → A ⊎ IsSome stopped
 cut_cases false stopped resolved apart h e = inl (apart refl)
 cut_cases true (Some flag) resolved apart h e = inr refl
 cut_cases true None resolved apart h e = let all : resolved ≡ true = h refl refl in absurd (cc)

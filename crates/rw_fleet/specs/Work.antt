@@ -1,5 +1,5 @@
 -- What a shard did, once its worker's thread has ended.
-use Rattle.std.specs.Prelude.{◌≡◌, ◌⊎◌, ℕ, ◌+◌, ◌≤◌, ◌==◌, ◌&&◌, Bool, true, false, List, [], ◌∷◌, ◌++◌, length, map, drop, Some, None, IsSome, slice_get, vec_capacity, ⊤}
+use Rattle.std.specs.Prelude.{◌≡◌, ◌⊎◌, ℕ, ◌+◌, ◌≤◌, ◌==◌, ◌&&◌, Bool, true, false, List, [], ◌∷◌, ◌++◌, length, map, drop, Option, Some, None, IsSome, slice_get, vec_capacity, ⊤}
 use Rattle.rw_types.specs.declared.place.Place.{Place}
 use Rattle.rw_plain_queue.specs.Items.{places_in}
 use Rattle.rw_plain_queue.specs.History.{IsHistory, IsEnded}
@@ -99,12 +99,13 @@ IsEndTaken (taking.Killed d) = ⊥
 pub record IsWorked {T : Type 0} (tells : T → Type 0) (seen : T → List Exchange) (is_for : ℕ → ℕ → T → Type 0) (j : StoppedShard T) : Type 0 where
   pub begun : T
   pub end : TakingEnd
+  pub gone : Option ℕ
   pub none : seen begun ≡ []
   pub made : is_for j.worker.value.queue.epoch j.worker.value.queue.shard begun
   pub queue : queue_of j.finished.ends ≡ j.worker.value.queue
   pub taken : taken_of j.finished.ends ≡ (drain_of end).taken
   pub begins : IsTakenOf j.finished.ends
-  pub report : IsReport tells seen j.worker.value begun (record { end = end; resolved = j.finished.resolved; stopped = j.finished.stopped; ledger = j.part; transport = j.finished.transport })
+  pub report : IsReport tells seen j.worker.value begun (record { end = end; resolved = j.finished.resolved; stopped = j.finished.stopped; gone = gone; ledger = j.part; transport = j.finished.transport })
   pub abandoned : j.abandoned.items ≡ drop j.finished.resolved (positions_in (put_of j.finished.ends))
   pub few : length j.abandoned.items ≤ j.worker.value.queue.capacity + j.worker.value.batch
   pub freed : length j.abandoned.items ≡ 0 → vec_capacity j.abandoned ≡ 0

@@ -260,6 +260,7 @@ impl<T: Transport + Send + Drop + 'static> StoppingShard<T> {
             end,
             resolved,
             stopped,
+            gone: _,
             ledger,
             transport,
         } = handle.join(rt);

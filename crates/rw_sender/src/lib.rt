@@ -11,6 +11,6 @@ pub use rw_shipper::{
     FeedFault, Report, Shipper, batches_are_short, queues_stay_within, samples_are_spread,
 };
 pub use rw_worker::{
-    Begun, Lost, Pause, Reply, StopFlag, Stopped, TakingEnd, Tally, Transport, Worker,
+    Begun, FeederGone, Lost, Pause, Reply, StopFlag, Stopped, TakingEnd, Tally, Transport, Worker,
     WorkerReport, spawn,
 };

@@ -1,5 +1,5 @@
 -- A worker that made one step more, and what it reports.
-use Rattle.std.proofs.Common.{◌≡◌, ℕ, ◌+◌, ◌<◌, ◌≤◌, ◌^◌, Bool, true, false, true≢false, not, ◌&&◌, ◌||◌, nat_le, List, [], ◌∷◌, ◌++◌, length, Option, None, Some, refl, sym, ap, ◌∙◌, subst, append-nil, length-append, arith, cond}
+use Rattle.std.proofs.Common.{◌≡◌, ◌⊎◌, ℕ, ◌+◌, ◌<◌, ◌≤◌, ◌^◌, Bool, true, false, true≢false, not, ◌&&◌, ◌||◌, nat_le, List, [], ◌∷◌, ◌++◌, length, Option, None, Some, IsSome, inl, refl, sym, ap, ◌∙◌, subst, append-nil, length-append, arith, cond}
 use Rattle.std.proofs.lemmas.List.{length-map}
 use Rattle.std.specs.Ordering.{nat_cmp}
 use Rattle.std.specs.FinMap.{FinMap, get, empty, get-empty}
@@ -22,6 +22,7 @@ use Rattle.rw_worker.specs.declared.state.Intake.{Intake}
 use Rattle.rw_worker.specs.declared.state.Intake.TheVariants as intake
 use Rattle.rw_worker.specs.declared.state.Sending.{Sending}
 use Rattle.rw_worker.specs.declared.state.Progress.TheVariants.{Stops}
+use Rattle.rw_worker.specs.Stops.{StopRead, IsStill, HasReason}
 use Rattle.rw_worker.specs.Transcript.{Exchange, exchange_of, Adds}
 use Rattle.rw_worker.specs.Steps.{Working, working, Step, Takes, Freezes, Sends, Waits, MayStep, after, after_step, items_of, exchanges_of, WasSent}
 use Rattle.rw_worker.specs.Pauses.{pause_after, retries_after, retries_of}
@@ -385,8 +386,8 @@ module _ {T P : Type 0} (tells : T → Type 0) (seen : T → List Exchange) (wai
 
   -- a report of these steps
   reports : (r : WorkerReport T) (p : P) (ss : List Step) → 0 < setup.batch → HasMade tells seen setup begun (drain_of r.end) r.transport ss → r.resolved ≡ length (after (start_of setup) ss).core.resolved → r.ledger.names ≡ (after (start_of setup) ss).ledger.names
-      → (r.stopped ≡ None → IsOrderly r.end → (after (start_of setup) ss).core.resolved ≡ samples_in (drain_of r.end).taken) → StopsAtHard r.end ss → IsLast r.end → Paused p ss → Ran r p
-  reports r p ss some made counted names whole hard last waited = let k = keeps-made (drain_of r.end) r.transport ss some made in record {
+      → (r.stopped ≡ None → IsOrderly r.end → (after (start_of setup) ss).core.resolved ≡ samples_in (drain_of r.end).taken) → StopsAtHard r.end ss → IsStill r.stopped r.gone r.resolved → HasReason r.end r.stopped r.gone → IsLast r.end → Paused p ss → Ran r p
+  reports r p ss some made counted names whole hard still reason last waited = let k = keeps-made (drain_of r.end) r.transport ss some made in record {
     report = record {
       steps = ss;
       made = made;
@@ -398,36 +399,40 @@ module _ {T P : Type 0} (tells : T → Type 0) (seen : T → List Exchange) (wai
       last = last;
       whole = whole;
       hard = hard;
+      still = still;
+      reason = reason;
     };
     waited = waited;
   }
 
-  stops : (e : TakingEnd) (stopped : Option ℕ) (s : Sending T) (p : P) (h : Going (drain_of e) s p) → (stopped ≡ None → IsOrderly e → s.core.resolved ≡ samples_in (drain_of e).taken) → StopsAtHard e h.steps → IsLast e
-      → Ran (report_of e stopped s) p
-  stops e stopped s p h whole hard last =
-      reports (report_of e stopped s) p h.steps h.some h.made (h.counted ∙ ap (λ (w : Working). length w.core.resolved) (sym h.now)) (ap (λ (w : Working). w.ledger.names) (sym h.now))
-      (λ going orderly. ap (λ (w : Working). w.core.resolved) h.now ∙ whole going orderly) hard last h.waited
+  stops : (e : TakingEnd) (stopped : Option StopRead) (gone : Option ℕ) (s : Sending T) (p : P) (h : Going (drain_of e) s p) → (stopped ≡ None → IsOrderly e → s.core.resolved ≡ samples_in (drain_of e).taken) → StopsAtHard e h.steps → IsStill stopped gone s.resolved → HasReason e stopped gone → IsLast e
+      → Ran (report_of e stopped gone s) p
+  stops e stopped gone s p h whole hard still reason last =
+      reports (report_of e stopped gone s) p h.steps h.some h.made (h.counted ∙ ap (λ (w : Working). length w.core.resolved) (sym h.now)) (ap (λ (w : Working). w.ledger.names) (sym h.now))
+      (λ going orderly. ap (λ (w : Working). w.core.resolved) h.now ∙ whole going orderly) hard still reason last h.waited
 
   -- the state where the end is open
   pub opened : (i : Intake) (d : Draining) (s : Sending T) (p : P) → At i s p → i ≡ intake.Open d → Going d s p
   opened i d s p h is = subst (λ (x : Draining). Going x s p) (ap intake_drain is) h.sending
 
   -- the end was given up
-  pub report-killed : (drain killed : Draining) (stopped : Option ℕ) (s : Sending T) (p : P) → Going drain s p → killed ≡ drain → Ran (report_of (end.Killed killed) stopped s) p
-  report-killed drain killed stopped s p h same = subst (λ (d : Draining). Ran (report_of (end.Killed d) stopped s) p) (sym same) (stops (end.Killed drain) stopped s p h (λ going orderly. absurd orderly) tt tt)
+  pub report-killed : (drain killed : Draining) (stopped : Option StopRead) (gone : Option ℕ) (s : Sending T) (p : P) → Going drain s p → killed ≡ drain → IsStill stopped gone s.resolved → IsSome stopped ⊎ IsSome gone
+      → Ran (report_of (end.Killed killed) stopped gone s) p
+  report-killed drain killed stopped gone s p h same still reason =
+      subst (λ (d : Draining). Ran (report_of (end.Killed d) stopped gone s) p) (sym same) (stops (end.Killed drain) stopped gone s p h (λ going orderly. absurd orderly) tt still reason tt)
 
   -- the stop flag was set
-  pub report-stopped : (i : Intake) (e : TakingEnd) (flag : ℕ) (s : Sending T) (p : P) → At i s p → e ≡ given_back i → Ran (report_of e (Some flag) s) p
-  report-stopped i e flag s p h same = subst (λ (x : TakingEnd). Ran (report_of x (Some flag) s) p) (sym same) (at i h)
+  pub report-stopped : (i : Intake) (e : TakingEnd) (flag : StopRead) (s : Sending T) (p : P) → At i s p → e ≡ given_back i → flag.resolved ≡ s.resolved → Ran (report_of e (Some flag) None s) p
+  report-stopped i e flag s p h same still = subst (λ (x : TakingEnd). Ran (report_of x (Some flag) None s) p) (sym same) (at i h)
     where
-      at : (j : Intake) → At j s p → Ran (report_of (given_back j) (Some flag) s) p
-      at (intake.Open d) k = stops (end.Killed d) (Some flag) s p k.sending (λ going orderly. absurd orderly) tt tt
+      at : (j : Intake) → At j s p → Ran (report_of (given_back j) (Some flag) None s) p
+      at (intake.Open d) k = stops (end.Killed d) (Some flag) None s p k.sending (λ going orderly. absurd orderly) tt (still, tt) (inl refl) tt
       at (intake.Ended Hard d) k = absurd k.closed
-      at (intake.Ended Orderly d) k = stops (end.Ended Orderly d) (Some flag) s p k.sending (λ going. absurd (cc)) tt k.last
-      at (intake.Ended Reshard d) k = stops (end.Ended Reshard d) (Some flag) s p k.sending (λ going. absurd (cc)) tt k.last
+      at (intake.Ended Orderly d) k = stops (end.Ended Orderly d) (Some flag) None s p k.sending (λ going. absurd (cc)) tt (still, tt) tt k.last
+      at (intake.Ended Reshard d) k = stops (end.Ended Reshard d) (Some flag) None s p k.sending (λ going. absurd (cc)) tt (still, tt) tt k.last
 
   -- everything was sent
-  pub report-whole : (i : Intake) (kind : Kind) (d : Draining) (s : Sending T) (p : P) → At i s p → i ≡ intake.Ended kind d → can_take s.core ≡ true → Ran (report_of (end.Ended kind d) None s) p
+  pub report-whole : (i : Intake) (kind : Kind) (d : Draining) (s : Sending T) (p : P) → At i s p → i ≡ intake.Ended kind d → can_take s.core ≡ true → Ran (report_of (end.Ended kind d) None None s) p
   report-whole i kind d s p h ended can = at kind (subst (λ (j : Intake). At j s p) ended h)
     where
       all : Going d s p → s.core.builder ≡ [] → s.core.resolved ≡ samples_in d.taken
@@ -436,22 +441,22 @@ module _ {T P : Type 0} (tells : T → Type 0) (seen : T → List Exchange) (wai
           let batch = nil_from_empty s.core.batch (can_take-parts s.core can).0 in
           sym (append-nil s.core.resolved) ∙ ap (λ xs. s.core.resolved ++ xs) (sym none) ∙ ap (λ xs. s.core.resolved ++ (xs ++ s.core.builder)) (sym batch) ∙ sym kept.whole ∙ kept.taken_is
 
-      at : (j : Kind) → At (intake.Ended j d) s p → Ran (report_of (end.Ended j d) None s) p
+      at : (j : Kind) → At (intake.Ended j d) s p → Ran (report_of (end.Ended j d) None None s) p
       at Hard k = absurd k.closed
-      at Orderly k = stops (end.Ended Orderly d) None s p k.sending (λ going orderly. all k.sending (k.closed (can_take-not_due s.core can))) tt k.last
-      at Reshard k = stops (end.Ended Reshard d) None s p k.sending (λ going orderly. all k.sending (k.closed (can_take-not_due s.core can))) tt k.last
+      at Orderly k = stops (end.Ended Orderly d) None None s p k.sending (λ going orderly. all k.sending (k.closed (can_take-not_due s.core can))) tt (tt, tt) tt k.last
+      at Reshard k = stops (end.Ended Reshard d) None None s p k.sending (λ going orderly. all k.sending (k.closed (can_take-not_due s.core can))) tt (tt, tt) tt k.last
 
   -- a hard End was taken
   pub report-hard : (kind : Kind) (drain later : Draining) (s : Sending T) (p : P) → is_hard kind ≡ true → Going drain s p → can_take s.core ≡ true → later.queue ≡ drain.queue → later.taken ≡ drain.taken ++ item.End kind ∷ []
-      → IsHistory drain.queue.epoch drain.queue.shard later.taken → Ran (report_of (end.Ended kind later) None s) p
+      → IsHistory drain.queue.epoch drain.queue.shard later.taken → Ran (report_of (end.Ended kind later) None None s) p
   unfolding sending-taken sending-more steps-taken
   report-hard Orderly drain later s p hard h can queue taken history = absurd (true≢false (sym hard))
   report-hard Reshard drain later s p hard h can queue taken history = absurd (true≢false (sym hard))
   report-hard Hard drain later s p hard h can queue taken history =
       let more = sending-taken drain later s p (item.End Hard) (take_item (item.End Hard) s.core) h can queue taken history refl in
-      stops (end.Ended Hard later) None (record s { core = take_item (item.End Hard) s.core }) p more (λ going orderly. absurd orderly) (h.steps, refl) (drain.taken, taken)
+      stops (end.Ended Hard later) None None (record s { core = take_item (item.End Hard) s.core }) p more (λ going orderly. absurd orderly) (h.steps, refl) (tt, tt) tt (drain.taken, taken)
 
 -- a stop flag that was read
 module _ {T : Type 0} where
-  pub stopped-at : (flag : ℕ) (i : Intake) (s : Sending T) (e : TakingEnd) (f : ℕ) → e ≡ given_back i → f ≡ flag → IsStoppedAt flag i s (Stops e (Some f)) s
+  pub stopped-at : (flag : ℕ) (i : Intake) (s : Sending T) (e : TakingEnd) (f : StopRead) → e ≡ given_back i → f ≡ record { flag = flag; resolved = s.resolved } → IsStoppedAt flag i s (Stops e (Some f) None) s
   stopped-at flag i s e f same one = (one, same, refl)

@@ -3,4 +3,5 @@ pub mod Transcript
 pub mod Steps
 pub mod Pauses
 pub mod Setups
+pub mod Stops
 pub mod Report

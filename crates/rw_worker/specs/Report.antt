@@ -17,6 +17,7 @@ use Rattle.rw_worker.specs.declared.state.Sending.{Sending}
 use Rattle.rw_worker.specs.declared.state.Start.{Start}
 use Rattle.rw_worker.specs.declared.state.Progress.{Progress}
 use Rattle.rw_worker.specs.declared.state.Progress.TheVariants.{Goes, Stops}
+use Rattle.rw_worker.specs.Stops.{StopRead, IsStill, HasReason}
 use Rattle.rw_worker.specs.Transcript.{Exchange, Adds}
 use Rattle.rw_worker.specs.Setups.{Setup, start_of}
 use Rattle.rw_worker.specs.Steps.{Step, Takes, working, MayStep, AreSteps, after_step, after, items_of, exchanges_of, IsWorked}
@@ -61,8 +62,8 @@ given_back (intake.Open d) = end.Killed d
 given_back (intake.Ended kind d) = end.Ended kind d
 
 -- what a worker reports that stops as it is
-abbrev pub report_of : {T : Type 0} → TakingEnd → Option ℕ → Sending T → WorkerReport T
-report_of end stopped s = record { end = end; resolved = s.resolved; stopped = stopped; ledger = s.ledger; transport = s.transport }
+abbrev pub report_of : {T : Type 0} → TakingEnd → Option StopRead → Option ℕ → Sending T → WorkerReport T
+report_of end stopped gone s = record { end = end; resolved = s.resolved; stopped = stopped; gone = gone; ledger = s.ledger; transport = s.transport }
 
 -- behind an End that is not hard, what was taken is closed: a builder that is not due is empty
 abbrev pub IsClosed : Intake → Core → Type 0
@@ -92,6 +93,8 @@ module _ {T : Type 0} (tells : T → Type 0) (seen : T → List Exchange) (setup
     pub last : IsLast r.end
     pub whole : r.stopped ≡ None → IsOrderly r.end → (after (start_of setup) steps).core.resolved ≡ samples_in (drain_of r.end).taken
     pub hard : StopsAtHard r.end steps
+    pub still : IsStill r.stopped r.gone r.resolved
+    pub reason : HasReason r.end r.stopped r.gone
 
 -- a count of 64 bits, which stays where it is greatest
 abbrev pub counted_to : ℕ → ℕ
@@ -111,7 +114,7 @@ module _ {T P : Type 0} (tells : T → Type 0) (seen : T → List Exchange) (wai
   -- a worker that goes on made a step
   abbrev pub StepsOn : Sending T → Progress → Sending T → P → P → Type 0
   StepsOn s (Goes i) v p q = HasStepped s v p q
-  StepsOn s (Stops end stopped) v p q = ⊤
+  StepsOn s (Stops end stopped _) v p q = ⊤
 
   module _ (setup : Setup) (begun : T) (first : P) where
     -- these pauses were made, which are those after the steps
@@ -143,7 +146,7 @@ module _ {T P : Type 0} (tells : T → Type 0) (seen : T → List Exchange) (wai
     -- so far after a step, or what is then to be reported
     abbrev pub IsProgress : Progress → Sending T → P → Type 0
     IsProgress (Goes i) s pause = IsState i s pause
-    IsProgress (Stops end stopped) s pause = HasRun (report_of end stopped s) pause
+    IsProgress (Stops end stopped gone) s pause = HasRun (report_of end stopped gone s) pause
 
   -- the same of what a worker began with
   abbrev pub IsSendingFrom : Start T P → Draining → Sending T → P → Type 0
@@ -158,9 +161,9 @@ module _ {T P : Type 0} (tells : T → Type 0) (seen : T → List Exchange) (wai
 -- no stop flag was read as set
 abbrev pub IsNotStopped : Progress → Type 0
 IsNotStopped (Goes i) = ⊤
-IsNotStopped (Stops end stopped) = stopped ≡ None
+IsNotStopped (Stops end stopped _) = stopped ≡ None
 
 -- a worker that tells of a stop flag read this one, and has done nothing since
 abbrev pub IsStoppedAt : {T : Type 0} → ℕ → Intake → Sending T → Progress → Sending T → Type 0
 IsStoppedAt flag i s (Goes j) v = ⊤
-IsStoppedAt flag i s (Stops end stopped) v = IfSome stopped (λ (f : ℕ). (f ≡ flag) × (end ≡ given_back i) × (v ≡ s))
+IsStoppedAt flag i s (Stops end stopped _) v = IfSome stopped (λ (f : StopRead). (f ≡ record { flag = flag; resolved = s.resolved }) × (end ≡ given_back i) × (v ≡ s))

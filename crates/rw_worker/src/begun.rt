@@ -25,7 +25,7 @@ impl<T: Transport> Promise<WorkerReport<T>> for Begun<T> {
     ghost use Rattle.std.specs.Prelude.{◌≡◌, IfSome};
     ghost use Rattle.rw_worker.specs.Report.{IsReport};
 
-    ghost kept_by = { λ b r. IsReport T.tells T.seen b.worker.value b.transport.value r × IfSome r.stopped (λ flag. flag ≡ b.stop.value) };
+    ghost kept_by = { λ b r. IsReport T.tells T.seen b.worker.value b.transport.value r × IfSome r.stopped (λ stopped. stopped.flag ≡ b.stop.value) };
 }
 
 /// Runs a worker in a thread of its own. Its report comes when the thread is joined.
@@ -57,7 +57,7 @@ pub fn spawn<
         begun,
         move || -> WorkerReport<T>
             ensures report { IsReport T.tells T.seen worker transport result }
-            ensures flag { IfSome result.stopped (λ flag. flag ≡ stop) }
+            ensures flag { IfSome result.stopped (λ stopped. stopped.flag ≡ stop) }
         { worker.run(&own, transport, &mut pause, &stop) },
     )?;
     Ok(handle)

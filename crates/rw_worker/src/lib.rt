@@ -3,6 +3,8 @@
 
 mod backoff;
 mod begun;
+mod exchanged;
+mod gone;
 mod report;
 mod send;
 mod state;
@@ -13,6 +15,8 @@ mod transport;
 mod worker;
 
 pub use begun::{Begun, spawn};
+pub use exchanged::Exchanged;
+pub use gone::FeederGone;
 pub use report::{TakingEnd, WorkerReport};
 pub use stop::{StopFlag, Stopped};
 pub use tally::Tally;

@@ -1,5 +1,6 @@
 //! What a worker reports.
 
+use crate::gone::FeederGone;
 use crate::stop::Stopped;
 use rw_ledger::Ledger;
 use rw_shard_channel::{Drain, Ended, Killed, Kind};
@@ -19,8 +20,10 @@ pub struct WorkerReport<T> {
     pub end: TakingEnd,
     /// How many samples are resolved: the receiver has them, or has refused them.
     pub resolved: u64,
-    /// There where the worker read the stop flag as set.
+    /// Present if the worker read the stop flag as set.
     pub stopped: Option<Stopped>,
+    /// Present if the worker found its feeder gone.
+    pub gone: Option<FeederGone>,
     /// The refused samples, each with the status of its batch.
     pub ledger: Ledger,
     pub transport: T,

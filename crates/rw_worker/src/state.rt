@@ -4,6 +4,7 @@ ghost use Rattle.std.specs.Prelude.{◌≡◌};
 ghost use Rattle.rw_worker.specs.Report.{given_back, report_of};
 
 use crate::backoff::Backoff;
+use crate::gone::FeederGone;
 use crate::report::{TakingEnd, WorkerReport};
 use crate::stop::Stopped;
 use crate::tally::Tally;
@@ -57,8 +58,13 @@ pub(crate) struct Sending<T> {
 }
 
 impl<T: Drop> Sending<T> {
-    pub(crate) fn report(self, end: TakingEnd, stopped: Option<Stopped>) -> WorkerReport<T>
-        ensures { result ≡ report_of end stopped self }
+    pub(crate) fn report(
+        self,
+        end: TakingEnd,
+        stopped: Option<Stopped>,
+        gone: Option<FeederGone>,
+    ) -> WorkerReport<T>
+        ensures { result ≡ report_of end stopped gone self }
     {
         let Sending {
             resolved,
@@ -70,6 +76,7 @@ impl<T: Drop> Sending<T> {
             end,
             resolved,
             stopped,
+            gone,
             ledger,
             transport,
         }
@@ -81,6 +88,6 @@ impl<T: Drop> Sending<T> {
 pub(crate) enum Progress {
     /// There is more to do.
     Goes(Intake),
-    /// The worker reports this end, and the stop flag that it read as set.
-    Stops(TakingEnd, Option<Stopped>),
+    /// The worker reports this end, and what made it stop: the stop flag, or a feeder that is gone.
+    Stops(TakingEnd, Option<Stopped>, Option<FeederGone>),
 }

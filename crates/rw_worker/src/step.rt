@@ -1,16 +1,17 @@
 //! The steps of a worker.
 
-ghost use Rattle.std.specs.Prelude.{◌≡◌, Some, true, false};
+ghost use Rattle.std.specs.Prelude.{◌≡◌, None, Some, true, false};
 ghost use Rattle.rw_shard_core.specs.Shard.{IsCore, can_take, is_empty};
 ghost use Rattle.rw_worker.specs.Report.{is_hard, given_back, IsSendingFrom, IsStateFrom, IsProgressFrom, HasStepped, StepsOn, IsNotStopped, IsStoppedAt};
 ghost use Rattle.rw_worker.specs.declared.state.Progress.TheVariants as progress;
 
+use crate::gone::{Next, take_next};
 use crate::report::TakingEnd;
 use crate::send::send_once;
 use crate::state::{Intake, Progress, Sending, Start};
 use crate::stop::{StopFlag, Stopped};
 use crate::transport::{Pause, Transport};
-use rw_shard_channel::{Drain, Item, Kind, Open, Taken};
+use rw_shard_channel::{Drain, Item, Kind, Open};
 use std::sync::Wait;
 
 /// Freezes the builder, which is due. Where memory is refused it waits.
@@ -80,13 +81,14 @@ fn give_up<T: Transport, P: Pause>(
     _pause: &P,
     stopped: Stopped,
 ) -> Progress
-    requires { IsStateFrom T.tells T.seen P.tells P.paused _start.now
+    requires state { IsStateFrom T.tells T.seen P.tells P.paused _start.now
         intake _sending.now _pause.now }
+    requires still { stopped.resolved ≡ _sending.now.resolved }
     ensures report { IsProgressFrom T.tells T.seen P.tells P.paused _start.now
         result _sending.now _pause.now }
-    ensures still { result ≡ progress.Stops (given_back intake) (Some stopped) }
+    ensures still { result ≡ progress.Stops (given_back intake) (Some stopped) None }
 {
-    Progress::Stops(intake.close(), Some(stopped))
+    Progress::Stops(intake.close(), Some(stopped), None)
 }
 
 fn is_hard(kind: Kind) -> bool
@@ -112,19 +114,19 @@ fn take<T: Transport, P: Pause, R: Wait>(
         sending.new _pause.now _pause.now }
     ensures goes { IsNotStopped result }
 {
-    match drain.take(rt) {
-        Taken::Item(item, drain) => {
+    match take_next(rt, drain, sending) {
+        Next::Item(item, drain) => {
             sending.core.take(item);
             Progress::Goes(Intake::Open(drain))
         }
-        Taken::End(kind, drain) => {
+        Next::End(kind, drain) => {
             if is_hard(kind) {
-                return Progress::Stops(TakingEnd::Ended(kind, drain), None);
+                return Progress::Stops(TakingEnd::Ended(kind, drain), None, None);
             }
             sending.core.take(Item::End(kind));
             Progress::Goes(Intake::Ended(kind, drain))
         }
-        Taken::Gone(drain) => Progress::Stops(TakingEnd::Killed(drain.kill()), None),
+        Next::Gone(drain, gone) => Progress::Stops(TakingEnd::Killed(drain), None, Some(gone)),
     }
 }
 
@@ -147,10 +149,10 @@ fn go_on<T: Transport, P: Pause, R: Wait>(
     ensures stopped { IsStoppedAt stop.now intake sending.old result sending.new }
 {
     match intake {
-        Intake::Ended(kind, drain) => Progress::Stops(TakingEnd::Ended(kind, drain), None),
+        Intake::Ended(kind, drain) => Progress::Stops(TakingEnd::Ended(kind, drain), None, None),
         Intake::Open(drain) => {
-            if let Some(stopped) = stop.read() {
-                return Progress::Stops(TakingEnd::Killed(drain.kill()), Some(stopped));
+            if let Some(stopped) = stop.read(sending) {
+                return Progress::Stops(TakingEnd::Killed(drain.kill()), Some(stopped), None);
             }
             take(rt, start, drain, sending, pause)
         }
@@ -176,7 +178,7 @@ pub(crate) fn step<T: Transport, P: Pause, R: Wait>(
     if sending.core.can_take() {
         return go_on(rt, start, intake, sending, pause, stop);
     }
-    if let Some(stopped) = stop.read() {
+    if let Some(stopped) = stop.read(sending) {
         return give_up(start, intake, sending, pause, stopped);
     }
     if sending.core.batch_id().is_some() {

@@ -2,6 +2,7 @@
 
 ghost use Rattle.std.specs.Prelude.{◌≡◌, IfOk, IfSome};
 
+use crate::state::Sending;
 use std::alloc::{AllocError, Global};
 use std::marker::Model;
 use std::sync::Arc;
@@ -15,10 +16,12 @@ pub struct StopFlag {
     name: u64,
 }
 
-/// A stop flag was read as set. Contracts see which one.
+/// A stop flag was read as set. Contracts see which flag, and how many samples the worker that read
+/// it had resolved then.
 #[derive(Drop)]
 pub struct Stopped {
     flag: u64,
+    resolved: u64,
 }
 
 impl Model for StopFlag {
@@ -30,11 +33,11 @@ impl Model for StopFlag {
 }
 
 impl Model for Stopped {
-    ghost use Rattle.std.specs.Prelude.{ℕ};
+    ghost use Rattle.rw_worker.specs.Stops.{StopRead};
 
-    ghost Value = { ℕ };
+    ghost Value = { StopRead };
 
-    ghost view = { λ s. s.flag };
+    ghost view = { λ s. record { flag = s.flag; resolved = s.resolved } };
 }
 
 impl StopFlag {
@@ -60,12 +63,16 @@ impl StopFlag {
         self.is_set.store(true, Ordering::SeqCst);
     }
 
-    /// Reads the flag.
-    pub(crate) fn read(&self) -> Option<Stopped>
-        ensures { IfSome result (λ s. s ≡ self.now) }
+    /// Reads the flag for a worker. This alone makes a `Stopped`.
+    pub(crate) fn read<T>(&self, sending: &Sending<T>) -> Option<Stopped>
+        ensures { IfSome result
+            (λ s. s ≡ record { flag = self.now; resolved = sending.now.resolved }) }
     {
         if self.is_set.load(Ordering::SeqCst) {
-            return Some(Stopped { flag: self.name });
+            return Some(Stopped {
+                flag: self.name,
+                resolved: sending.resolved,
+            });
         }
         None
     }

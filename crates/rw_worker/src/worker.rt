@@ -2,6 +2,7 @@
 
 ghost use Rattle.std.specs.Prelude.{◌≡◌, [], IfOk, IfErr, IfSome};
 ghost use Rattle.rw_worker.specs.Report.{IsState, HasRun};
+ghost use Rattle.rw_worker.specs.Stops.{IsStill, HasReason};
 
 use crate::backoff::Backoff;
 use crate::report::WorkerReport;
@@ -91,10 +92,11 @@ impl Worker {
         self.tally.share()
     }
 
-    /// Sends what comes out of the queue, batch by batch, until an End, a set stop flag or a lost feeder.
+    /// Sends what comes out of the queue, batch by batch, until an End, a set stop flag or a lost
+    /// feeder. After it has read the stop flag as set or found its feeder gone, it resolves nothing
+    /// more.
     ///
     /// It waits between two attempts of a batch, twice as long each time up to the longest pause, and for the least one where memory was refused.
-    /// Once it has read the stop flag as set it sends nothing more.
     pub fn run<T: Transport + Drop, P: Pause, R: Wait>(
         self,
         rt: &R,
@@ -104,7 +106,9 @@ impl Worker {
     ) -> WorkerReport<T>
         ensures report { HasRun T.tells T.seen P.tells P.paused self transport pause.old result
             pause.new }
-        ensures flag { IfSome result.stopped (λ flag. flag ≡ stop.now) }
+        ensures flag { IfSome result.stopped (λ stopped. stopped.flag ≡ stop.now) }
+        ensures still { IsStill result.stopped result.gone result.resolved }
+        ensures reason { HasReason result.end result.stopped result.gone }
     {
         let start = Start {
             worker: Snapshot::of(&self),
@@ -115,7 +119,7 @@ impl Worker {
         for _ in rt.forever() {
             match step(rt, &start, intake, &mut sending, pause, stop) {
                 Progress::Goes(next) => intake = next,
-                Progress::Stops(end, stopped) => return sending.report(end, stopped),
+                Progress::Stops(end, stopped, gone) => return sending.report(end, stopped, gone),
             }
         }
         unreachable!()

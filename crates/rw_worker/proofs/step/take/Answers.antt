@@ -1,17 +1,17 @@
-use Rattle.std.proofs.Common.{None, sym, refl, ◌∙◌}
+use Rattle.std.proofs.Common.{None, Some, inr, sym, refl}
 use Rattle.rw_worker.proofs.StateLemmas.{may-take-of, steps-taken, state-taken, state-ended, report-hard, report-killed}
 use Rattle.rw_worker.proofs.step.take.Goals as goal
 
-pub take-requires-in-Item-clause-item : goal.take-requires-in-Item-clause-item
-take-requires-in-Item-clause-item g c =
+pub take-requires-clause-item : goal.take-requires-clause-item
+take-requires-clause-item g c =
     let h = c.in-Item.ensures in
     may-take-of _ _ _ _ _ _ _ c.args.drain c.in-Item.drain c.args.sending.now c.args._pause.now c.in-Item.item c.requires.sending h.3 h.1
 
 pub returns-in-Item : goal.returns-in-Item
 returns-in-Item g c =
     let h = c.in-Item.ensures in record {
-      progress = state-taken _ _ _ _ _ _ _ c.args.drain c.in-Item.drain c.args.sending.now c.args._pause.now c.in-Item.item c.take-in-Item.new.self c.requires.sending c.requires.can h.0 h.1 h.3 c.take-in-Item.ensures;
-      steps = steps-taken _ _ _ _ _ _ _ c.args.drain c.in-Item.drain c.args.sending.now c.args._pause.now c.in-Item.item c.take-in-Item.new.self c.requires.sending c.requires.can h.1 h.3 c.take-in-Item.ensures;
+      progress = state-taken _ _ _ _ _ _ _ c.args.drain c.in-Item.drain c.args.sending.now c.args._pause.now c.in-Item.item c.take.new.self c.requires.sending c.requires.can h.0 h.1 h.3 c.take.ensures;
+      steps = steps-taken _ _ _ _ _ _ _ c.args.drain c.in-Item.drain c.args.sending.now c.args._pause.now c.in-Item.item c.take.new.self c.requires.sending c.requires.can h.1 h.3 c.take.ensures;
       goes = tt;
     }
 
@@ -33,7 +33,7 @@ returns-else-is_hard g c =
 
 pub returns-in-Gone : goal.returns-in-Gone
 returns-in-Gone g c = record {
-  progress = report-killed _ _ _ _ _ _ _ c.args.drain c.kill.result None c.args.sending.now c.args._pause.now c.requires.sending (c.kill.ensures ∙ c.in-Gone.ensures);
+  progress = report-killed _ _ _ _ _ _ _ c.args.drain c.in-Gone.drain None (Some c.in-Gone.gone) c.args.sending.now c.args._pause.now c.requires.sending c.in-Gone.ensures.0 (tt, c.in-Gone.ensures.1) (inr refl);
   steps = tt;
   goes = refl;
 }

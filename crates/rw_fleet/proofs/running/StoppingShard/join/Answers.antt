@@ -27,6 +27,7 @@ returns-clause-worked g c =
     record {
       begun = c.self.inside.handle.promise.transport.value;
       end = c.join-end.result.end;
+      gone = c.join-end.result.gone;
       none = i.3;
       made = i.5;
       queue = m.queue ∙ sym i.1;
