@@ -1,6 +1,6 @@
 //! Connections over TCP for all workers.
 
-ghost use Rattle.std.specs.Prelude.{◌≡◌, ◌*◌, IfOk};
+ghost use Rattle.std.specs.Prelude.{◌≡◌, ◌*◌, [], IfOk};
 
 use rw_metrics::SendCounters;
 use rw_shipper::Connect;
@@ -60,7 +60,8 @@ impl<N> TcpConnect<N> {
 impl<N: Net<Stream = TcpStream> + Clock + Copy> TcpConnect<N> {
     /// A transport to the addresses, with the timeout.
     fn to_receiver(&self) -> Result<TcpTransport<N>, AllocError>
-        ensures { IfOk result (λ transport. transport ≡ self.now) }
+        ensures receiver { IfOk result (λ transport. transport.receiver ≡ self.now) }
+        ensures unused { IfOk result (λ transport. transport.seen ≡ []) }
     {
         let addresses = self.addresses.clone()?;
         let counters = Arc::try_clone(&self.counters)?;
@@ -78,7 +79,8 @@ impl<N: Net<Stream = TcpStream> + Clock + Copy + Send + 'static> Connect for Tcp
         _epoch: u64,
         _shard: u32,
     ) -> Result<(TcpTransport<N>, Sleep<N>), AllocError>
-        ensures receiver { IfOk result (λ r. r.0 ≡ self.old) }
+        ensures receiver { IfOk result (λ r. r.0.receiver ≡ self.old) }
+        ensures unused { IfOk result (λ r. r.0.seen ≡ []) }
         ensures stays { self.new ≡ self.old }
     {
         Ok((self.to_receiver()?, Sleep::new(self.net)))

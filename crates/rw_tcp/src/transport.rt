@@ -1,6 +1,6 @@
 //! A transport over TCP connections.
 
-ghost use Rattle.std.specs.Prelude.{◌≡◌, ◌<◌, ◌*◌, Ok, IfOk, IsOk, IsSome, vec_len};
+ghost use Rattle.std.specs.Prelude.{◌≡◌, ◌<◌, ◌*◌, [], Ok, IfOk, IsOk, IsSome, vec_len};
 ghost use Rattle.std.specs.Io.KnownBytes.{Appends};
 ghost use Rattle.rw_retry.specs.Judgements.{judgement_of};
 ghost use Rattle.rw_shard_core.specs.declared.replies.ReplyRead.TheVariants as read;
@@ -8,11 +8,12 @@ ghost use Rattle.rw_retry.specs.declared.judgement.Judgement.TheVariants as judg
 ghost use Rattle.rw_tcp.specs.Hearing.{Hears};
 
 use crate::reply::{Heard, NoReply, hear_answer};
+use rw_history::History;
 use rw_metrics::{Cause, SendCounters};
 use rw_retry::{Judgement, judge};
 use rw_socket::{Deadline, Timely};
 use rw_types::{Bounded, Sink, Source, Std};
-use rw_worker::{Lost, Reply, Transport};
+use rw_worker::{Exchanged, Lost, Reply, Transport};
 use std::alloc::Global;
 use std::io;
 use std::marker::Model;
@@ -40,9 +41,10 @@ pub fn look_up<N: Net>(net: &N, alloc: Global, host: &str, port: u16) -> io::Res
 
 /// Sends each request over a connection of its own, to the first of the addresses that answers.
 ///
-/// Whatever fails is `Lost`: a connect, a write or a read, whatever is not done when the timeout has passed since the attempt began, and bytes
-/// that are not a reply. The transport tells of no exchange, since nobody can know what a socket really took. Contracts see the addresses and the
-/// timeout.
+/// Whatever fails is `Lost`: a connect, a write or a read, whatever is not done when the timeout
+/// has passed since the attempt began, and bytes that are not a reply. Contracts see the addresses,
+/// the timeout, and the exchanges so far: each request that `exchange` was given, with the answer
+/// that it returned. They say nothing about what went over a connection.
 #[derive(Drop)]
 pub struct TcpTransport<N> {
     alloc: Global,
@@ -50,15 +52,19 @@ pub struct TcpTransport<N> {
     addresses: Vec<SocketAddr>,
     timeout: Duration,
     counters: Arc<SendCounters, Global>,
+    seen: History<Exchanged>,
 }
 
 impl<N> Model for TcpTransport<N> {
     ghost use Rattle.std.specs.Duration.{as_nanos};
-    ghost use Rattle.rw_tcp.specs.Receivers.{Receiver};
+    ghost use Rattle.rw_tcp.specs.Receivers.{TcpTransport};
 
-    ghost Value = { Receiver };
+    ghost Value = { TcpTransport };
 
-    ghost view = { λ t. record { addresses = t.addresses.items; timeout = as_nanos t.timeout } };
+    ghost view = { λ t. record {
+      receiver = record { addresses = t.addresses.items; timeout = as_nanos t.timeout };
+      seen = t.seen;
+    } };
 }
 
 impl<N: Net<Stream = TcpStream> + Clock + Copy> TcpTransport<N> {
@@ -71,8 +77,9 @@ impl<N: Net<Stream = TcpStream> + Clock + Copy> TcpTransport<N> {
         timeout_ms: Bounded<1, 3_600_000>,
         counters: Arc<SendCounters, Global>,
     ) -> TcpTransport<N>
-        ensures addresses { result.addresses ≡ addresses.items }
-        ensures timeout { result.timeout ≡ timeout_ms * 1_000_000 }
+        ensures addresses { result.receiver.addresses ≡ addresses.items }
+        ensures timeout { result.receiver.timeout ≡ timeout_ms * 1_000_000 }
+        ensures unused { result.seen ≡ [] }
     {
         TcpTransport {
             alloc,
@@ -80,6 +87,7 @@ impl<N: Net<Stream = TcpStream> + Clock + Copy> TcpTransport<N> {
             addresses,
             timeout: Duration::from_millis(timeout_ms.get()),
             counters,
+            seen: History::new(),
         }
     }
 
@@ -94,6 +102,15 @@ impl<N: Net<Stream = TcpStream> + Clock + Copy> TcpTransport<N> {
             untried = untried.saturating_sub(1);
         }
         None
+    }
+
+    /// Sends a request over a connection of its own, and counts the attempt and its outcome.
+    fn attempt(&self, request: &[u8]) -> Result<Reply, Lost> {
+        self.counters.attempt();
+        let deadline = Deadline::new(self.net, self.timeout);
+        let stream = self.connect(&deadline);
+        let answer = exchange_through(self.alloc, stream, deadline, request);
+        counted(&self.counters, &deadline, answer)
     }
 }
 
@@ -180,19 +197,17 @@ fn counted<C: Clock>(
 }
 
 impl<N: Net<Stream = TcpStream> + Clock + Copy> Transport for TcpTransport<N> {
-    ghost use Rattle.std.specs.Prelude.{[], ⊤};
+    ghost use Rattle.std.specs.Prelude.{⊤};
 
     ghost is_for = { λ _ _ _. ⊤ };
 
-    ghost tells = { λ _. ⊥ };
+    ghost tells = { λ _. ⊤ };
 
-    ghost seen = { λ _. [] };
+    ghost seen = { λ transport. transport.seen };
 
     fn exchange(&mut self, request: &[u8]) -> Result<Reply, Lost> {
-        self.counters.attempt();
-        let deadline = Deadline::new(self.net, self.timeout);
-        let stream = self.connect(&deadline);
-        let answer = exchange_through(self.alloc, stream, deadline, request);
-        counted(&self.counters, &deadline, answer)
+        let answer = self.attempt(request);
+        self.seen.push(&Exchanged::of(request, &answer));
+        answer
     }
 }
