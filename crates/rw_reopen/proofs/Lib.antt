@@ -1,0 +1,3 @@
+mod OpeningLemmas
+mod ReadingLemmas
+mod Runs

@@ -1,0 +1,33 @@
+//! What takes the entries of a log.
+
+ghost use Rattle.std.specs.Prelude.{◌≡◌, ◌++◌, ◌∷◌, [], List, OnOk};
+ghost use Rattle.rw_types.specs.declared.entry.Entry.{Entry};
+
+use rw_history::History;
+use rw_types::Entry;
+use std::alloc::AllocError;
+
+/// Takes the entries of a log, in their order. Contracts see all entries that it has taken.
+pub trait EntrySink {
+    /// The entries that were taken.
+    ghost taken: { Self → List Entry };
+
+    /// Takes the next entry.
+    fn take(&mut self, entry: Entry) -> Result<(), AllocError>
+        ensures { OnOk result (taken self.new ≡ taken self.old ++ entry ∷ []) };
+}
+
+/// Drops the entries that it takes. Only contracts see them.
+#[derive(Drop)]
+pub(crate) struct Discard {
+    pub(crate) past: History<Entry>,
+}
+
+impl EntrySink for Discard {
+    ghost taken = { λ d. d.past };
+
+    fn take(&mut self, entry: Entry) -> Result<(), AllocError> {
+        self.past.push(&entry);
+        Ok(())
+    }
+}

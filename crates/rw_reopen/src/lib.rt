@@ -1,0 +1,15 @@
+//! Opens a log after a crash: reads its segments again, finds where the last one is torn, refuses
+//! damage, and closes the torn end.
+#![tactic(auto)]
+
+mod cutting;
+mod entry_sink;
+mod error;
+mod opening;
+mod reading;
+mod walking;
+
+pub use entry_sink::EntrySink;
+pub use error::{Damage, ReopenError};
+pub use opening::{LogEnd, read_log, reopen};
+pub use walking::whole_len;
