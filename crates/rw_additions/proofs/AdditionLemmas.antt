@@ -29,7 +29,7 @@ samples_after-append l before (Sample r t w ∷ es) more =
     (samples_after-append l (before ++ Sample r t w ∷ []) es more
     ∙ ap (λ (b : List Entry). samples_after l (before ++ Sample r t w ∷ []) es ++ samples_after l b more) (append_assoc before (Sample r t w ∷ []) es))
 
-samples_in-append : (l : Labels) (es more : List Entry) → samples_in (es ++ more) l ≡ samples_in es l ++ map without_position (samples_after l es more)
+pub samples_in-append : (l : Labels) (es more : List Entry) → samples_in (es ++ more) l ≡ samples_in es l ++ map without_position (samples_after l es more)
 samples_in-append l es more = ap (map without_position) (samples_after-append l [] es more) ∙ map-append without_position (samples_after l [] es) (samples_after l es more)
 
 -- ---- what a reference stands for
@@ -37,7 +37,7 @@ samples_in-append l es more = ap (map without_position) (samples_after-append l 
 labels_of-all : (es : List Entry) (r : ℕ) → labels_of es r (length es) ≡ fold (defines r) None es
 labels_of-all es r = ap (fold (defines r) None) (take-length es)
 
-labels_of-push : (es : List Entry) (e : Entry) (r : ℕ) → labels_of (es ++ e ∷ []) r (length (es ++ e ∷ [])) ≡ defines r (labels_of es r (length es)) e
+pub labels_of-push : (es : List Entry) (e : Entry) (r : ℕ) → labels_of (es ++ e ∷ []) r (length (es ++ e ∷ [])) ≡ defines r (labels_of es r (length es)) e
 labels_of-push es e r =
     labels_of-all (es ++ e ∷ []) r ∙ fold-append (defines r) None es (e ∷ []) ∙ ap (λ (k : Option Labels). defines r k e) (sym (labels_of-all es r))
 

@@ -3,7 +3,7 @@ use Rattle.std.specs.Prelude.{◌≡◌, ℕ, ℤ, List, [], ◌∷◌, ◌++◌
 use Rattle.rw_types.specs.Labels.{Labels}
 use Rattle.rw_types.specs.LabelOrder.{labels_eq}
 use Rattle.rw_types.specs.declared.entry.Entry.{Entry}
-use Rattle.rw_types.specs.declared.entry.Entry.TheVariants.{Sample}
+use Rattle.rw_types.specs.declared.entry.Entry.TheVariants.{Def, Sample}
 use Rattle.rw_wal_format.specs.Series.{labels_of, samples_after}
 
 -- a sample of a known series: its timestamp and the 64-bit word of its value
@@ -17,6 +17,10 @@ without_position s = (s.1, s.2)
 -- the samples of a label set among the entries of a log, in their order
 abbrev pub samples_in : List Entry → Labels → List Point
 samples_in es l = map without_position (samples_after l [] es)
+
+-- the entry of a definition: a reference and its labels
+abbrev pub definition_entry : ℕ × Labels → Entry
+definition_entry d = Def d.0 d.1
 
 -- what is added of one label set: the reference that it has in the log, and its new samples
 pub record Addition : Type 0 where

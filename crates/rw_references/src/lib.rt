@@ -1,0 +1,4 @@
+//! The references that stand for label sets in a log that is being written.
+#![tactic(auto)]
+
+pub mod laws;
