@@ -3,6 +3,7 @@
 ghost use Rattle.std.specs.Prelude.{◌≡◌, ◌<◌, ℕ, length, suc, true, Ok, Err, IfErr, IfOk};
 ghost use Rattle.rw_follow.specs.Growth.{HadAll, HasGap, IsFollowed, IsGivenAt, Known, Meal};
 ghost use Rattle.rw_follow.specs.Turns.{IsWithin, Moves, given_by, wish_of};
+ghost use Rattle.rw_types.specs.declared.transfer.ReadFault.{ReadFault};
 ghost use Rattle.rw_follow.specs.declared.follower.Broken.TheVariants as Broken;
 ghost use Rattle.rw_follow.specs.declared.follower.Stop.{Stop};
 ghost use Rattle.rw_follow.specs.declared.follower.Stop.TheVariants as Stop;
@@ -117,6 +118,8 @@ impl Follower {
         ensures missing { (n : ℕ) → result ≡ Err (Broken.Missing n)
             → Known (S.now segments.new) (HasGap n) }
         ensures followed { self.new ≡ true → Known (S.now segments.new) IsFollowed }
+        ensures sure { S.is_sure segments.old ≡ true → (S.is_sure segments.new ≡ true)
+            × ((f : ReadFault) → result ≡ Err (Broken.Unreadable f) → ⊥) }
         ensures room { length buf.new ≡ length buf.old }
     {
         if self.is_waiting && watch.is_flush_due() {

@@ -149,9 +149,11 @@ impl Listed {
 }
 
 impl Segments for Listed {
-    ghost use Rattle.std.specs.Prelude.{Some};
+    ghost use Rattle.std.specs.Prelude.{Some, false};
 
     ghost now = { λ l. Some l };
+
+    ghost is_sure = { λ _. false };
 
     fn read(&mut self, buf: &mut [u8]) -> Result<usize, ReadFault> {
         self.play()?;

@@ -1,6 +1,6 @@
 //! The segments of a log that grows while it is read.
 
-ghost use Rattle.std.specs.Prelude.{◌≡◌, ◌<◌, ℕ, [], Option, Ok, OnOk, OnErr};
+ghost use Rattle.std.specs.Prelude.{◌≡◌, ◌<◌, ℕ, [], Bool, true, Option, Ok, IsOk, OnOk, OnErr};
 ghost use Rattle.std.specs.Io.{ReadsAtMost};
 ghost use Rattle.rw_follow.specs.Growth.{HasGap, IsFollowed, IsLast, IsRead, Known, Moment, Passes, Reads, Steps};
 ghost use Rattle.rw_follow.specs.declared.segments.Ahead.TheVariants as Ahead;
@@ -23,11 +23,15 @@ pub trait Segments {
     /// What is there, and what was given of it, where that is known.
     ghost now: { Self → Option Moment };
 
+    /// Whether no call from here on fails.
+    ghost is_sure: { Self → Bool };
+
     /// Reads some bytes of the current segment into the front of the buffer, and answers how many. `Ok(0)` into a buffer that is not empty: nothing is
     /// left of it now.
     fn read(&mut self, buf: &mut [u8]) -> Result<usize, ReadFault>
         ensures bound { ReadsAtMost result buf.new }
-        ensures reads { Reads (now self.old) (now self.new) result buf.new };
+        ensures reads { Reads (now self.old) (now self.new) result buf.new }
+        ensures sure { is_sure self.old ≡ true → (is_sure self.new ≡ true) × IsOk result };
 
     /// What comes after the current segment.
     fn look(&mut self) -> Result<Ahead, ReadFault>
@@ -35,12 +39,14 @@ pub trait Segments {
         ensures nothing { result ≡ Ok Ahead.Nothing → Known (now self.new) IsLast }
         ensures followed { result ≡ Ok Ahead.Segment → Known (now self.new) IsFollowed }
         ensures missing { (n : ℕ) → result ≡ Ok (Ahead.Missing n)
-            → Known (now self.new) (HasGap n) };
+            → Known (now self.new) (HasGap n) }
+        ensures sure { is_sure self.old ≡ true → (is_sure self.new ≡ true) × IsOk result };
 
     /// Goes to the next segment. An `Err` stays at the current one.
     fn advance(&mut self) -> Result<(), ReadFault>
         requires read { Known (now self.old) IsRead }
         requires followed { Known (now self.old) IsFollowed }
         ensures steps { OnOk result (Steps (now self.old) (now self.new)) }
-        ensures stays { OnErr result (Passes (now self.old) [] (now self.new)) };
+        ensures stays { OnErr result (Passes (now self.old) [] (now self.new)) }
+        ensures sure { is_sure self.old ≡ true → (is_sure self.new ≡ true) × IsOk result };
 }

@@ -1,3 +1,5 @@
+pub mod EpochLemmas
+pub mod HaltLemmas
 pub mod PartLemmas
 pub mod SegmentLemmas
 pub mod ShortLemmas

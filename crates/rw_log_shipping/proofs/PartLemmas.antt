@@ -1,12 +1,14 @@
 -- A log that was fed in part.
-use Rattle.std.proofs.Common.{◌≡◌, ℕ, Bool, true, false, List, [], ◌∷◌, ◌++◌, map, Option, None, Some, Err, inl, inr, ◌⊎◌, refl, sym, ap, ◌∙◌, subst, append_assoc, append-nil}
+use Rattle.std.proofs.Common.{◌≡◌, ℕ, ◌<◌, Bool, true, false, List, [], ◌∷◌, ◌++◌, map, Option, None, Some, Err, inl, inr, ◌⊎◌, refl, sym, ap, ◌∙◌, subst, append_assoc, append-nil, length, arith}
+use Rattle.std.proofs.lemmas.List.{length-append}
+use Rattle.rw_types.proofs.KnownLemmas.{consumes_consumes}
 use Rattle.std.specs.Io.KnownBytes.{Consumes}
 use Rattle.rw_wal_format.specs.Pieces.{Piece, bytes, next_segment}
 use Rattle.rw_feeder.specs.Feeders.{Sorting}
 use Rattle.rw_shipper.specs.Shipping.{Joins}
 use Rattle.rw_shipper.specs.declared.shipper.FeedFault.{FeedFault}
 use Rattle.rw_shipper.specs.declared.shipper.FeedFault.TheVariants as feed
-use Rattle.rw_log_shipping.specs.Segments.{IsAllOf, IsLogOf, IsBeginningOf, OpensSegment, IsFed, IsFedPart, IsFedMore}
+use Rattle.rw_log_shipping.specs.Segments.{IsAllOf, IsLogOf, IsBeginningOf, OpensSegment, IsFed, IsFedLess, IsFedPart, IsFedMore, HasMoreBytes, IsSomeRead}
 use Rattle.rw_log_shipping.proofs.SegmentLemmas.{IsFeeding, IsGoing, more_none, more_bytes, feeding_more, going_more, going_to_end}
 
 -- ---- a segment
@@ -24,6 +26,16 @@ part_of left now old new f =
 pub part_halted : (left now next : Option (List ℕ)) (old ps new : List Piece) → IsFeeding left now old ps → (new ≡ ps) ⊎ IsFedMore now next ps new → IsFedPart left old new
 part_halted left now next old ps new f (inl e) = part_of left now old new (subst (λ (qs : List Piece). IsFeeding left now old qs) (sym e) f)
 part_halted left now next old ps new f (inr m) = part_of left next old new (feeding_more left now next old ps new f m)
+
+-- memory for a piece was refused
+pub less_of : (left now next : Option (List ℕ)) (old ps new : List Piece) → IsFeeding left now old ps → (new ≡ ps) × IsSomeRead now next → IsFedLess left old new
+less_of left now next old ps new f h =
+    let g = h.1 in
+    let rest = rest_of left next (f.text ++ g.0) (consumes_consumes left now next f.text g.0 f.consumed g.2) in
+    let long : 0 < length (g.0 ++ rest.0) = omega (arith, length-append g.0 rest.0, g.1) in (
+      record { text = f.text; rest = g.0 ++ rest.0; more = f.more; pieces = h.0 ∙ f.pieces; is_more = f.is_more; part = subst (IsAllOf left) (append_assoc f.text g.0 rest.0) rest.1 },
+      long,
+    )
 
 -- a refused piece has joined or not
 pub joins_or_not : (old new : Sorting) (p : Piece) (e : FeedFault) → Joins old new p (Err e) → (new.pieces ≡ old.pieces) ⊎ (new.pieces ≡ old.pieces ++ p ∷ [])
@@ -81,17 +93,29 @@ begin_halted : (all : List (Option (List ℕ))) (l : Option (List ℕ)) (ls : Li
 begin_halted all l ls first ps new g (inl e) = subst (IsBeginningOf all) (sym e) (begins_on all (l ∷ ls) first ps g)
 begin_halted all l ls first ps new g (inr b) = from_next all l ls first ps new (begins_on all ls false) g b
 
+-- with the bytes that are left
+with_rest : (l : Option (List ℕ)) (begun new : List Piece) (h : IsFedPart l begun new) → IsFed l begun (new ++ bytes h.rest ∷ [])
+with_rest l begun new h = record {
+  text = h.text ++ h.rest;
+  more = h.more ++ bytes h.rest ∷ [];
+  pieces = ap (λ (qs : List Piece). qs ++ bytes h.rest ∷ []) h.pieces ∙ append_assoc begun h.more (bytes h.rest ∷ []);
+  is_more = more_bytes h.text h.rest h.more h.is_more;
+  all = h.part;
+}
+
+begins_with_rest : (all : List (Option (List ℕ))) (l : Option (List ℕ)) (ls : List (Option (List ℕ))) (first : Bool) (ps begun new : List Piece) → IsGoing all (l ∷ ls) first ps → OpensSegment first ps begun
+    → (h : IsFedPart l begun new) → IsBeginningOf all (new ++ bytes h.rest ∷ [])
+begins_with_rest all l ls first ps begun new g b h = begins_on all ls false _ (going_more all l ls first ps begun _ g b (with_rest l begun new h))
+
 segment_halted : (all : List (Option (List ℕ))) (l : Option (List ℕ)) (ls : List (Option (List ℕ))) (first : Bool) (ps begun new : List Piece) → IsGoing all (l ∷ ls) first ps → OpensSegment first ps begun → IsFedPart l begun new
     → IsBeginningOf all new
-segment_halted all l ls first ps begun new g b h =
-    let whole : IsFed l begun (new ++ bytes h.rest ∷ []) = record {
-      text = h.text ++ h.rest;
-      more = h.more ++ bytes h.rest ∷ [];
-      pieces = ap (λ (qs : List Piece). qs ++ bytes h.rest ∷ []) h.pieces ∙ append_assoc begun h.more (bytes h.rest ∷ []);
-      is_more = more_bytes h.text h.rest h.more h.is_more;
-      all = h.part;
-    } in
-    begins_fewer all new (bytes h.rest ∷ []) (begins_on all ls false _ (going_more all l ls first ps begun _ g b whole))
+segment_halted all l ls first ps begun new g b h = begins_fewer all new (bytes h.rest ∷ []) (begins_with_rest all l ls first ps begun new g b h)
+
+segment_lacks : (all : List (Option (List ℕ))) (l : Option (List ℕ)) (ls : List (Option (List ℕ))) (first : Bool) (ps begun new : List Piece) → IsGoing all (l ∷ ls) first ps → OpensSegment first ps begun → IsFedLess l begun new
+    → HasMoreBytes all new
+segment_lacks all l ls first ps begun new g b h =
+    let on = begins_with_rest all l ls first ps begun new g b h.0 in
+    (h.0.rest, on.0, h.1, subst (IsLogOf all) (append_assoc new (bytes h.0.rest ∷ []) on.0) on.1)
 
 -- ---- the same of readers
 
@@ -103,6 +127,11 @@ pub halted_at_begin : {S : Type 0} (remaining : S → Option (List ℕ)) (all it
     → IsGoing (map remaining all) (map remaining items) first ps → (new ≡ ps) ⊎ OpensSegment first ps new → IsBeginningOf (map remaining all) new
 halted_at_begin remaining all items rest x first ps new steps g h =
     begin_halted (map remaining all) (remaining x) (map remaining rest) first ps new (here remaining all items rest x first ps steps g) h
+
+pub lacks_within : {S : Type 0} (remaining : S → Option (List ℕ)) (all items rest : List S) (x : S) (first : Bool) (ps begun new : List Piece) → items ≡ x ∷ rest
+    → IsGoing (map remaining all) (map remaining items) first ps → OpensSegment first ps begun → IsFedLess (remaining x) begun new → HasMoreBytes (map remaining all) new
+lacks_within remaining all items rest x first ps begun new steps g b h =
+    segment_lacks (map remaining all) (remaining x) (map remaining rest) first ps begun new (here remaining all items rest x first ps steps g) b h
 
 pub halted_within : {S : Type 0} (remaining : S → Option (List ℕ)) (all items rest : List S) (x : S) (first : Bool) (ps begun new : List Piece) → items ≡ x ∷ rest
     → IsGoing (map remaining all) (map remaining items) first ps → OpensSegment first ps begun → IsFedPart (remaining x) begun new → IsBeginningOf (map remaining all) new

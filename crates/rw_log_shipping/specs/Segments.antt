@@ -1,5 +1,5 @@
 -- The pieces of a log that stands in several segments.
-use Rattle.std.specs.Prelude.{◌≡◌, ℕ, ◌≤◌, Bool, true, false, List, [], ◌∷◌, ◌++◌, length, Option, Some, None, ⊤}
+use Rattle.std.specs.Prelude.{◌≡◌, ℕ, ◌<◌, ◌≤◌, Bool, true, false, List, [], ◌∷◌, ◌++◌, length, Option, Some, None, ⊤}
 use Rattle.std.specs.Io.KnownBytes.{Consumes}
 use Rattle.rw_wal_format.specs.Pieces.{Piece, bytes, next_segment}
 
@@ -42,6 +42,11 @@ IsLogOf (left ∷ lefts) pieces = AreAllOf (left ∷ lefts) (texts pieces)
 abbrev pub IsBeginningOf : List (Option (List ℕ)) → List Piece → Type 0
 IsBeginningOf lefts pieces = (later : List Piece) × IsLogOf lefts (pieces ++ later)
 
+-- some bytes follow
+abbrev pub HasMoreBytes : List (Option (List ℕ)) → List Piece → Type 0
+HasMoreBytes lefts pieces = (rest : List ℕ) × (later : List Piece) × (0 < length rest)
+    × IsLogOf lefts (pieces ++ bytes rest ∷ later)
+
 -- before a segment's bytes stands word of it, unless it is the first
 abbrev pub OpensSegment : Bool → List Piece → List Piece → Type 0
 OpensSegment true old new = new ≡ old
@@ -67,6 +72,14 @@ pub record IsFedPart (left : Option (List ℕ)) (old new : List Piece) : Type 0 
   pub pieces : new ≡ old ++ more
   pub is_more : IsMore text more
   pub part : IsAllOf left (text ++ rest)
+
+-- a prefix of it was fed, and there is more
+abbrev pub IsFedLess : Option (List ℕ) → List Piece → List Piece → Type 0
+IsFedLess left old new = (part : IsFedPart left old new) × (0 < length part.rest)
+
+-- a reader gave some bytes
+abbrev pub IsSomeRead : Option (List ℕ) → Option (List ℕ) → Type 0
+IsSomeRead before after = (text : List ℕ) × (0 < length text) × Consumes before after text
 
 -- a reader gave some bytes more, and they were fed
 pub record IsFedMore (left_before left_after : Option (List ℕ)) (old new : List Piece) : Type 0 where

@@ -1,7 +1,7 @@
 -- How the segments of a log are shipped one after another, and how many shards there are for each.
-use Rattle.std.specs.Prelude.{◌≡◌, ◌⊎◌, ℕ, ◌+◌, ◌-◌, Bool, true, false, List, [], ◌∷◌, Option, None, length, map}
+use Rattle.std.specs.Prelude.{◌≡◌, ◌⊎◌, ℕ, ◌≤◌, ◌+◌, ◌-◌, Bool, true, false, List, [], ◌∷◌, Option, None, length, map}
 use Rattle.rw_wal_format.specs.Pieces.{Piece, entries}
-use Rattle.rw_fleet.specs.Fleets.{Shards}
+use Rattle.rw_fleet.specs.Fleets.{Shards, AreAll}
 use Rattle.rw_fleet.specs.ShardHistories.{AreFresh, marks_of}
 use Rattle.rw_fleet.specs.Loads.{IsLoad}
 use Rattle.rw_fleet.specs.Work.{AreResolved}
@@ -94,3 +94,14 @@ pub record HasStarted {T : Type 0} (c : ConfigFields) (limit : Option ℕ) (s : 
   pub shards : length s.fleet.current ≡ c.shards
   pub fresh : AreFresh 0 s.fleet.current
   pub limit_is : s.limit ≡ limit
+
+-- The fleet before its last shards were ended: that of the shipper; or, if a change of the number
+-- of shards failed that had ended them and begun no others, the fleet before it. All that was put in
+-- the epochs before is resolved.
+pub record HasLastEpoch {T : Type 0} (s : Shipping T) : Type 0 where
+  pub before : Shards T
+  pub resolved : AreResolved before.ended
+  pub some : 1 ≤ length before.current
+  pub few : length s.fleet.current ≤ 1000 → length before.current ≤ 1000
+  pub is : (before ≡ s.fleet)
+      ⊎ ((s.fleet.current ≡ []) × AreAll before s.fleet.ended × PlacesAll s.log before)

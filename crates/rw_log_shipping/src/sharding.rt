@@ -1,8 +1,8 @@
 //! How many shards a sender works with.
 
-ghost use Rattle.std.specs.Prelude.{◌≡◌, ◌≤◌, ◌-◌, ◌⊎◌, true, false, None, IfOk, OnOk, OnErr, length};
+ghost use Rattle.std.specs.Prelude.{◌≡◌, ◌≤◌, ◌-◌, ◌⊎◌, true, false, None, IfOk, IsSome, OnOk, OnErr, length};
 ghost use Rattle.rw_reshard.specs.Wanted.{wanted};
-ghost use Rattle.rw_shipper.specs.Shipping.{HasCompared};
+ghost use Rattle.rw_shipper.specs.Shipping.{HasCompared, PlacesAll};
 ghost use Rattle.rw_fleet.specs.Loads.{IsLoad};
 ghost use Rattle.rw_fleet.specs.declared.load.Load.{Load};
 ghost use Rattle.rw_log_shipping.specs.Steps.{HasPutAll, IsSet, wanted_since};
@@ -26,6 +26,7 @@ pub struct Sharding {
     /// How many had been resolved then.
     pub resolved: u64,
     ghost some: { 1 ≤ shards },
+    ghost few: { shards ≤ 1000 },
     ghost range: { (1 ≤ fewest) × (fewest ≤ most) × (most ≤ 1000) },
 }
 
@@ -37,8 +38,12 @@ impl Sharding {
         ensures shards { result.shards ≡ config.now.shards }
         ensures fewest { result.fewest ≡ config.now.min_shards }
         ensures most { result.most ≡ config.now.max_shards }
+        ensures capacity { 1 ≤ config.now.capacity }
+        ensures batch { 1 ≤ config.now.batch }
     {
         let fields = config.fields();
+        // What their types say of these two is in the contract.
+        let _ = (fields.capacity.get(), fields.batch.get());
         Sharding {
             shards: fields.shards.get() as u32,
             fewest: fields.min_shards.get() as u32,
@@ -139,6 +144,7 @@ pub fn resharded<R: Threads + Wait + Clock + Copy + Send + 'static, C: Connect +
     ensures config { shipper.new.fleet.config ≡ shipper.old.fleet.config }
     ensures sound { shipper.old.fault ≡ None → OnOk result (shipper.new.fault ≡ None) }
     ensures err { OnErr result (result ≡ Err Halt.Failed) }
+    ensures failed { OnErr result (IsSome shipper.new.fault) }
 {
     if is_more && sharding.fewest < sharding.most {
         let_catch_up(rt, shipper);
@@ -177,6 +183,8 @@ pub fn retuned<R: Threads + Wait + Clock + Copy + Send + 'static, C: Connect + D
         ⊎ HasCompared shipper.old.fleet shipper.new.fleet }
     ensures sound { shipper.old.fault ≡ None → OnOk result (shipper.new.fault ≡ None) }
     ensures err { OnErr result (result ≡ Err Halt.Failed) }
+    ensures failed { OnErr result (IsSome shipper.new.fault) }
+    ensures placed { OnErr result (PlacesAll shipper.old.log shipper.old.fleet) }
 {
     if !is_due {
         return Ok(sharding);

@@ -1,10 +1,12 @@
 //! The segments of a log are fed to a shipper.
 
-ghost use Rattle.std.specs.Prelude.{◌≡◌, ◌≤◌, ◌⊎◌, [], length, map, true, false, None, Ok, Err, IfOk, IfErr, OnOk, OnErr, vec_len};
+ghost use Rattle.std.specs.Prelude.{◌≡◌, ◌<◌, ◌≤◌, ◌⊎◌, [], length, map, true, false, None, Ok, Err, IfOk, IfErr, IsSome, OnOk, OnErr, vec_len};
 ghost use Rattle.std.specs.Io.KnownBytes.{Consumes, IsAtEnd};
-ghost use Rattle.rw_log_shipping.specs.Segments.{AreShort, AreSure, OpensSegment, IsBeginningOf, IsFed, IsFedMore, IsFedPart, IsLogOf};
+ghost use Rattle.rw_fleet.specs.Work.{AreResolved};
+ghost use Rattle.rw_shipper.specs.Placement.{IsShardCount};
+ghost use Rattle.rw_log_shipping.specs.Segments.{AreShort, AreSure, HasMoreBytes, OpensSegment, IsBeginningOf, IsFed, IsFedLess, IsFedMore, IsFedPart, IsLogOf, IsSomeRead};
 ghost use Rattle.rw_log_shipping.specs.Halting.{IsHalted};
-ghost use Rattle.rw_log_shipping.specs.Steps.{AreShipped, AreShippedPart, IsKept, StaysOpen};
+ghost use Rattle.rw_log_shipping.specs.Steps.{AreShipped, AreShippedPart, HasLastEpoch, IsKept, StaysOpen};
 ghost use Rattle.rw_log_shipping.specs.declared.halt.Halt.TheVariants.{Unreadable};
 
 use crate::halt::Halt;
@@ -28,8 +30,12 @@ pub fn zeros(alloc: Global) -> Result<Vec<u8>, AllocError>
     vec![in alloc; 0; PIECE_BYTES]
 }
 
-/// Reads some bytes of a segment; none at its end.
-fn read_piece<S: Source>(alloc: Global, segment: &mut S) -> Result<Vec<u8>, Halt>
+/// Reads some bytes of a segment, through `buf`; none at its end. So memory is taken only for bytes
+/// that are there.
+fn read_piece<S: Source>(alloc: Global, segment: &mut S, buf: &mut [u8]) -> Result<Vec<u8>, Halt>
+    requires buffer { 0 < length buf.old }
+    requires small { length buf.old ≤ PIECE_BYTES }
+    ensures room { length buf.new ≡ length buf.old }
     ensures bytes { IfOk result
         (λ v. Consumes (S.remaining segment.old) (S.remaining segment.new) v.items) }
     ensures short { IfOk result (λ v. length v.items ≤ PIECE_BYTES) }
@@ -38,13 +44,16 @@ fn read_piece<S: Source>(alloc: Global, segment: &mut S) -> Result<Vec<u8>, Halt
         → (S.is_sure segment.new ≡ true) × (result ≡ Err Unreadable → ⊥) }
     ensures sound { OnOk result (S.has_failed segment.new ≡ false) }
     ensures failed { result ≡ Err Unreadable → S.has_failed segment.new ≡ true }
-    ensures memory { result ≡ Err Halt.Failed
-        → S.has_failed segment.new ≡ S.has_failed segment.old }
+    ensures memory { result ≡ Err Halt.Failed → S.has_failed segment.new ≡ false }
+    ensures refused { result ≡ Err Halt.Failed
+        → IsSomeRead (S.remaining segment.old) (S.remaining segment.new) }
     ensures err { IfErr result (λ h. (h ≡ Halt.Failed) ⊎ (h ≡ Unreadable)) }
 {
-    let mut piece = zeros(alloc)?;
-    let count = segment.read(&mut piece)?;
-    piece.truncate(count);
+    let count = segment.read(buf)?;
+    if count == 0 {
+        return Ok(Vec::new(alloc));
+    }
+    let piece = Vec::from_slice(alloc, &buf[..count])?;
     Ok(piece)
 }
 
@@ -54,8 +63,12 @@ fn ship_piece<R: Wait, S: Source, C: Connect + Drop>(
     means: Means<'_>,
     shipper: &mut Shipper<C>,
     segment: &mut S,
+    buf: &mut [u8],
 ) -> Result<bool, Halt>
-    requires { shipper.old.fault ≡ None }
+    requires sound { shipper.old.fault ≡ None }
+    requires buffer { 0 < length buf.old }
+    requires small { length buf.old ≤ PIECE_BYTES }
+    ensures room { length buf.new ≡ length buf.old }
     ensures stays { StaysOpen shipper.old shipper.new }
     ensures short { AreShort shipper.old.log.pieces → AreShort shipper.new.log.pieces }
     ensures sound { OnOk result (shipper.new.fault ≡ None) }
@@ -74,8 +87,11 @@ fn ship_piece<R: Wait, S: Source, C: Connect + Drop>(
     ensures failed { result ≡ Err Unreadable → S.has_failed segment.new ≡ true }
     ensures memory { result ≡ Err Halt.Failed → S.has_failed segment.old ≡ false
         → S.has_failed segment.new ≡ false }
+    ensures refused { result ≡ Err Halt.Failed → IsSome shipper.new.fault
+        ⊎ ((shipper.new.log.pieces ≡ shipper.old.log.pieces)
+        × IsSomeRead (S.remaining segment.old) (S.remaining segment.new)) }
 {
-    let piece = read_piece(means.alloc, segment)?;
+    let piece = read_piece(means.alloc, segment, buf)?;
     if piece.is_empty() {
         return Ok(false);
     }
@@ -91,8 +107,12 @@ fn ship_segment<R: Wait, S: Source + Drop, C: Connect + Drop>(
     means: Means<'_>,
     shipper: &mut Shipper<C>,
     segment: S,
+    buf: &mut [u8],
 ) -> Result<(), Halt>
-    requires { shipper.old.fault ≡ None }
+    requires sound { shipper.old.fault ≡ None }
+    requires buffer { 0 < length buf.old }
+    requires small { length buf.old ≤ PIECE_BYTES }
+    ensures room { length buf.new ≡ length buf.old }
     ensures stays { StaysOpen shipper.old shipper.new }
     ensures short { AreShort shipper.old.log.pieces → AreShort shipper.new.log.pieces }
     ensures sound { OnOk result (shipper.new.fault ≡ None) }
@@ -102,10 +122,12 @@ fn ship_segment<R: Wait, S: Source + Drop, C: Connect + Drop>(
         (IsFedPart (S.remaining segment) shipper.old.log.pieces shipper.new.log.pieces) }
     ensures halted { IfErr result (IsHalted shipper.new) }
     ensures sure { S.is_sure segment ≡ true → result ≡ Err Unreadable → ⊥ }
+    ensures refused { result ≡ Err Halt.Failed → IsSome shipper.new.fault
+        ⊎ IsFedLess (S.remaining segment) shipper.old.log.pieces shipper.new.log.pieces }
 {
     let mut segment = segment;
     for _ in rt.forever() {
-        if !ship_piece(rt, means, shipper, &mut segment)? {
+        if !ship_piece(rt, means, shipper, &mut segment, buf)? {
             return Ok(());
         }
     }
@@ -127,6 +149,7 @@ pub fn begin_segment<R: Wait, C: Connect + Drop>(
         ⊎ OpensSegment is_first shipper.old.log.pieces shipper.new.log.pieces) }
     ensures halted { IfErr result (IsHalted shipper.new) }
     ensures unread { result ≡ Err Unreadable → ⊥ }
+    ensures refused { result ≡ Err Halt.Failed → IsSome shipper.new.fault }
 {
     if is_first {
         return Ok(());
@@ -135,7 +158,8 @@ pub fn begin_segment<R: Wait, C: Connect + Drop>(
     Ok(())
 }
 
-/// Feeds the segments of a log one after the other. Between two of them the number of shards is changed to what is wanted under the load.
+/// Feeds the segments of a log one after the other, each through `buf`. Between two of them the
+/// number of shards is changed to what is wanted under the load.
 pub fn ship_all<
     R: Threads + Wait + Clock + Copy + Send + 'static,
     S: Source + Drop,
@@ -146,10 +170,13 @@ pub fn ship_all<
     shipper: &mut Shipper<C>,
     sharding: Sharding,
     segments: Vec<S>,
+    buf: &mut [u8],
 ) -> Result<(), Halt>
     requires begun { shipper.old.log.pieces ≡ [] }
     requires sound { shipper.old.fault ≡ None }
     requires shards { length shipper.old.fleet.current ≡ sharding.shards }
+    requires buffer { 0 < length buf.old }
+    requires small { length buf.old ≤ PIECE_BYTES }
     ensures kept { IsKept shipper.old shipper.new }
     ensures limit { shipper.new.limit ≡ shipper.old.limit }
     ensures short { AreShort shipper.new.log.pieces }
@@ -163,6 +190,12 @@ pub fn ship_all<
     ensures begins { IsBeginningOf (map S.remaining segments.items) shipper.new.log.pieces }
     ensures halted { IfErr result (IsHalted shipper.new) }
     ensures sure { AreSure (map S.is_sure segments.items) → result ≡ Err Unreadable → ⊥ }
+
+    // Memory for a piece is refused only if the log has more bytes.
+    ensures refused { result ≡ Err Halt.Failed → IsSome shipper.new.fault
+        ⊎ HasMoreBytes (map S.remaining segments.items) shipper.new.log.pieces }
+    ensures number { shipper.new.fault ≡ None → IsShardCount (length shipper.new.fleet.current) }
+    ensures last { AreResolved shipper.old.fleet.ended → HasLastEpoch shipper.new }
 {
     let mut sharding = sharding;
     let mut is_first = true;
@@ -170,7 +203,7 @@ pub fn ship_all<
     means.counters.set_shards(sharding.shards);
     for segment in segments {
         begin_segment(rt, shipper, is_first)?;
-        ship_segment(rt, means, shipper, segment)?;
+        ship_segment(rt, means, shipper, segment, buf)?;
         is_first = false;
         left -= 1;
         sharding = resharded(rt, shipper, sharding, left > 0)?;

@@ -1,5 +1,9 @@
 //! Counters are told what a shipper does.
 
+ghost use Rattle.std.specs.Prelude.{◌≡◌, None};
+ghost use Rattle.rw_wal_format.specs.Pieces.{entries};
+ghost use Rattle.rw_shipper.specs.Shipping.{PlacesAll};
+
 use rw_metrics::SendCounters;
 use rw_shipper::{Connect, Shipper};
 use std::alloc::Global;
@@ -11,8 +15,13 @@ pub struct Means<'a> {
     pub counters: &'a SendCounters,
 }
 
-/// Tells how far a shipper has come, and what it has dropped and filtered of the log so far.
-pub fn tell<C: Connect + Drop>(counters: &SendCounters, shipper: &Shipper<C>) {
+/// Tells how far a shipper has come, and what it has dropped and filtered of the log so far. By its
+/// contract the shards have what was placed.
+pub fn tell<C: Connect + Drop>(counters: &SendCounters, shipper: &Shipper<C>)
+    ensures placed { PlacesAll shipper.now.log shipper.now.fleet }
+    ensures read { shipper.now.fault ≡ None
+        → shipper.now.log.placed ≡ entries shipper.now.log.pieces }
+{
     let load = shipper.load();
     counters.set_entries(shipper.entries_read());
     counters.set_load(load.placed, load.resolved, load.backlog);

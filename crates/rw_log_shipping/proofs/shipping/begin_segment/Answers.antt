@@ -1,5 +1,6 @@
 use Rattle.std.proofs.Common.{Ok, Err}
 use Rattle.rw_wal_format.specs.Pieces.{next_segment}
+use Rattle.rw_log_shipping.proofs.HaltLemmas.{feed_failed}
 use Rattle.rw_log_shipping.proofs.PartLemmas.{begun_or_not}
 use Rattle.rw_log_shipping.proofs.ShortLemmas.{short_fed}
 use Rattle.rw_log_shipping.proofs.shipping.begin_segment.Goals as goal
@@ -13,3 +14,6 @@ returns-in_err-feed-clause-short g c = short_fed c.args.shipper.now.log c.feed.n
 
 pub returns-clause-short : goal.returns-clause-short
 returns-clause-short g c = short_fed c.args.shipper.now.log c.feed.new.self.log next_segment (Ok tt) (c.in_ok-feed.ensures.pieces c.requires) tt
+
+pub returns-in_err-feed-clause-refused : goal.returns-in_err-feed-clause-refused
+returns-in_err-feed-clause-refused g c = λ e. feed_failed c.feed.new.self c.in_err-feed.field-0.0 _ c.from_residual.ensures.1 (c.in_err-feed.ensures.fed c.requires) e

@@ -1,9 +1,11 @@
-use Rattle.std.proofs.Common.{◌≡◌, ◌-◌, ◌∷◌, Bool, nat_lt, length, map, sym, ap, ◌∙◌, subst, arith}
+use Rattle.std.proofs.Common.{inl, ◌≡◌, ◌<◌, ◌≤◌, ℕ, ◌-◌, ◌∷◌, Bool, nat_lt, length, map, sym, ap, ◌∙◌, subst, arith}
 use Rattle.std.specs.Vec.Iter.{into_iter_items}
 use Rattle.rw_feeder.specs.Feeders.{Sorting}
 use Rattle.rw_log_shipping.specs.Segments.{AreShort}
 use Rattle.rw_log_shipping.specs.Steps.{IsSet, is_some_more}
-use Rattle.rw_log_shipping.proofs.PartLemmas.{begins_on, halted_at_begin, halted_within}
+use Rattle.rw_log_shipping.proofs.EpochLemmas.{last_compared, last_same, last_stays, next_resolved, still_resolved, still_some}
+use Rattle.rw_log_shipping.proofs.HaltLemmas.{count_so, lacks, live_no_more, same_halt}
+use Rattle.rw_log_shipping.proofs.PartLemmas.{begins_on, halted_at_begin, halted_within, lacks_within}
 use Rattle.rw_log_shipping.proofs.SegmentLemmas.{going_step}
 use Rattle.rw_log_shipping.proofs.StepLemmas.{between, halts_at_begin, halts_behind, halts_within, is_shipped, part_first, part_halts, ships_first, some_more, stays_kept, stays_on}
 use Rattle.rw_log_shipping.proofs.SureLemmas.{sure_rest}
@@ -32,6 +34,9 @@ loop-segment-preserved g c =
       going = going_step _ _ _ _ _ _ _ _ _ _ steps c.loop-segment.invariant.going c.in_ok-begin_segment.ensures.begun c.in_ok-ship_segment.ensures.whole
           (ap (λ (l : Sorting). l.pieces) c.in_ok-sharding.ensures.log);
       sound = c.in_ok-sharding.ensures.sound c.in_ok-ship_segment.ensures.sound;
+      resolved = λ done. next_resolved _ _ c.in_ok-sharding.ensures.set.epoch (still_resolved _ _ stays (c.loop-segment.invariant.resolved done));
+      buffer = subst (λ (n : ℕ). 0 < n) (sym c.in_ok-ship_segment.ensures.room) c.loop-segment.invariant.buffer;
+      small = subst (λ (n : ℕ). n ≤ 65536) (sym c.in_ok-ship_segment.ensures.room) c.loop-segment.invariant.small;
       left = left;
       sure = sure_rest _ _ _ _ _ steps c.loop-segment.invariant.sure;
       counted = let counted = c.loop-segment.invariant.counted in
@@ -67,3 +72,46 @@ pub returns-in_err-sharding-clause-part : goal.returns-in_err-sharding-clause-pa
 returns-in_err-sharding-clause-part g c = c.loop-segment.invariant.part _ (part_halts _ _ _ _ _ _ _ _ _ c.in-Some.ensures.steps.0
     (halts_behind _ _ _ _ _ _ c.in_ok-begin_segment.ensures.begun c.in_ok-ship_segment.ensures.whole (stays_on _ _ _ c.in_ok-begin_segment.ensures.stays c.in_ok-ship_segment.ensures.stays)
     c.in_err-sharding.ensures.log c.in_err-sharding.ensures.limit c.in_err-sharding.ensures.compared))
+
+pub returns-in_err-begin_segment-clause-refused : goal.returns-in_err-begin_segment-clause-refused
+returns-in_err-begin_segment-clause-refused g c = λ e. inl (c.in_err-begin_segment.ensures.refused (same_halt _ _ c.from_residual.ensures.1 e))
+
+pub returns-in_err-ship_segment-clause-refused : goal.returns-in_err-ship_segment-clause-refused
+returns-in_err-ship_segment-clause-refused g c = λ e.
+    lacks (c.in_err-ship_segment.ensures.refused (same_halt _ _ c.from_residual-in_err-ship_segment.ensures.1 e))
+    (lacks_within _ _ _ _ _ _ _ _ _ c.in-Some.ensures.steps.0 c.loop-segment.invariant.going c.in_ok-begin_segment.ensures.begun)
+
+pub returns-in_err-sharding-clause-refused : goal.returns-in_err-sharding-clause-refused
+returns-in_err-sharding-clause-refused g c = λ _. inl c.in_err-sharding.ensures.failed
+
+pub returns-in_err-begin_segment-clause-number : goal.returns-in_err-begin_segment-clause-number
+returns-in_err-begin_segment-clause-number g c = λ _.
+    count_so (c.in_err-begin_segment.ensures.stays.shards ∙ c.loop-segment.invariant.shards) c.loop-segment.sharding.some c.loop-segment.sharding.few
+
+pub returns-in_err-ship_segment-clause-number : goal.returns-in_err-ship_segment-clause-number
+returns-in_err-ship_segment-clause-number g c = λ _.
+    count_so (c.in_err-ship_segment.ensures.stays.shards ∙ c.in_ok-begin_segment.ensures.stays.shards ∙ c.loop-segment.invariant.shards) c.loop-segment.sharding.some c.loop-segment.sharding.few
+
+pub returns-in_err-sharding-clause-number : goal.returns-in_err-sharding-clause-number
+returns-in_err-sharding-clause-number g c = λ none. live_no_more _ c.in_err-sharding.ensures.failed none
+
+pub returns-clause-number : goal.returns-clause-number
+returns-clause-number g c = λ _. count_so c.loop-segment.invariant.shards c.loop-segment.sharding.some c.loop-segment.sharding.few
+
+pub returns-in_err-begin_segment-clause-last : goal.returns-in_err-begin_segment-clause-last
+returns-in_err-begin_segment-clause-last g c = λ done.
+    last_stays _ _ c.in_err-begin_segment.ensures.stays (c.loop-segment.invariant.resolved done) (count_so c.loop-segment.invariant.shards c.loop-segment.sharding.some c.loop-segment.sharding.few)
+
+pub returns-in_err-ship_segment-clause-last : goal.returns-in_err-ship_segment-clause-last
+returns-in_err-ship_segment-clause-last g c = λ done.
+    last_stays _ _ (stays_on _ _ _ c.in_ok-begin_segment.ensures.stays c.in_err-ship_segment.ensures.stays) (c.loop-segment.invariant.resolved done)
+    (count_so c.loop-segment.invariant.shards c.loop-segment.sharding.some c.loop-segment.sharding.few)
+
+pub returns-in_err-sharding-clause-last : goal.returns-in_err-sharding-clause-last
+returns-in_err-sharding-clause-last g c = λ done.
+    let stays = stays_on _ _ _ c.in_ok-begin_segment.ensures.stays c.in_ok-ship_segment.ensures.stays in
+    last_compared c.ship_segment.new.shipper c.resharded.new.shipper (still_resolved _ _ stays (c.loop-segment.invariant.resolved done)) (still_some _ _ stays (count_so c.loop-segment.invariant.shards c.loop-segment.sharding.some c.loop-segment.sharding.few))
+    (c.in_err-sharding.ensures.put c.in_ok-ship_segment.ensures.sound).1 c.in_err-sharding.ensures.log c.in_err-sharding.ensures.compared
+
+pub returns-clause-last : goal.returns-clause-last
+returns-clause-last g c = λ done. last_same _ (c.loop-segment.invariant.resolved done) (count_so c.loop-segment.invariant.shards c.loop-segment.sharding.some c.loop-segment.sharding.few)

@@ -1,5 +1,6 @@
-use Rattle.std.proofs.Common.{◌≡◌, None, true, map, length}
+use Rattle.std.proofs.Common.{◌≡◌, ◌<◌, ◌≤◌, None, true, map, length}
 use Rattle.std.specs.Vec.Iter.{into_iter_items, into_iter_len}
+use Rattle.rw_fleet.specs.Work.{AreResolved}
 use Rattle.rw_log_shipping.specs.Segments.{AreShort, AreSure}
 use Rattle.rw_log_shipping.specs.Steps.{AreShipped, AreShippedPart, IsKept}
 use Rattle.rw_shipper.specs.Shipping.{Shipping}
@@ -19,6 +20,9 @@ invariant-loop-segment g l = record {
       → AreShippedPart l.fn.sharding.fewest l.fn.sharding.most true (map g.S.Source.remaining l.fn.segments.items) l.fn.shipper last;
   going : IsGoing (map g.S.Source.remaining l.fn.segments.items) (map g.S.Source.remaining (into_iter_items l.segment-iterator)) l.is_first l.shipper.log.pieces;
   sound : l.shipper.fault ≡ None;
+  resolved : AreResolved l.fn.shipper.fleet.ended → AreResolved l.shipper.fleet.ended;
+  buffer : 0 < length l.buf;
+  small : length l.buf ≤ 65536;
   left : l.left ≡ length (into_iter_items l.segment-iterator);
   sure : AreSure (map g.S.Source.is_sure l.fn.segments.items) → AreSure (map g.S.Source.is_sure (into_iter_items l.segment-iterator));
   counted : into_iter_len l.segment-iterator ≡ length (into_iter_items l.segment-iterator);

@@ -1,4 +1,4 @@
-use Rattle.std.proofs.Common.{◌≡◌, true, None}
+use Rattle.std.proofs.Common.{◌≡◌, ◌<◌, ◌≤◌, length, true, None}
 use Rattle.rw_log_shipping.specs.Segments.{AreShort}
 use Rattle.rw_log_shipping.specs.Steps.{StaysOpen}
 use Rattle.rw_log_shipping.proofs.SegmentLemmas.{IsFeeding}
@@ -10,5 +10,8 @@ invariant-loop g l = record {
   short : AreShort l.fn.shipper.log.pieces → AreShort l.shipper.log.pieces;
   feeding : IsFeeding (g.S.Source.remaining l.fn.segment) (g.S.Source.remaining l.segment) l.fn.shipper.log.pieces l.shipper.log.pieces;
   sound : l.shipper.fault ≡ None;
+  room : length l.buf ≡ length l.fn.buf;
+  buffer : 0 < length l.buf;
+  small : length l.buf ≤ 65536;
   sure : g.S.Source.is_sure l.fn.segment ≡ true → g.S.Source.is_sure l.segment ≡ true;
 }
