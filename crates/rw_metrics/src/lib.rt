@@ -3,6 +3,7 @@
 
 mod asking;
 mod cause;
+mod client;
 mod codes;
 mod counters;
 mod exposition;

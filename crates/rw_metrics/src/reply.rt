@@ -1,11 +1,28 @@
-//! The reply that carries a page.
+//! The replies to requests for pages.
 
 ghost use Rattle.std.specs.Prelude.{◌≡◌, IfOk};
 ghost use Rattle.rw_metrics.specs.Exposition.{reply};
 
+use crate::asking::Asked;
+use crate::counters::Counters;
 use crate::exposition::push_text;
 use rw_text::push_number;
+use rw_types::{Sink, write_all};
 use std::alloc::{AllocError, Global};
+
+/// The type of the contents of the page for Prometheus.
+const TEXT: &str = "text/plain; version=0.0.4";
+
+/// The type of the contents of the page for people.
+const HTML: &str = "text/html; charset=utf-8";
+
+const NOT_FOUND: &[u8] =
+    b"HTTP/1.1 404 Not Found\r\nConnection: close\r\nContent-Length: 0\r\n\r\n";
+
+const NOT_ALLOWED: &[u8] =
+    b"HTTP/1.1 405 Method Not Allowed\r\nAllow: GET\r\nConnection: close\r\nContent-Length: 0\r\n\r\n";
+
+const BAD: &[u8] = b"HTTP/1.1 400 Bad Request\r\nConnection: close\r\nContent-Length: 0\r\n\r\n";
 
 /// Returns the reply that carries this page, with the type of its contents.
 pub(crate) fn reply_of(alloc: Global, kind: &str, page: &[u8]) -> Result<Vec<u8>, AllocError>
@@ -19,4 +36,52 @@ pub(crate) fn reply_of(alloc: Global, kind: &str, page: &[u8]) -> Result<Vec<u8>
     push_text(&mut out, "\r\n\r\n")?;
     out.extend_from_slice(page)?;
     Ok(out)
+}
+
+/// Writes the page for Prometheus. Writes nothing if out of memory.
+fn write_page<W: Sink>(
+    alloc: Global,
+    writer: &mut W,
+    counters: &Counters,
+) -> Result<(), AllocError> {
+    let page = counters.page(alloc)?;
+    let reply = reply_of(alloc, TEXT, &page)?;
+    let _ = write_all(writer, &reply);
+    Ok(())
+}
+
+/// Writes the page for people. Writes nothing if out of memory.
+fn write_html<W: Sink>(
+    alloc: Global,
+    writer: &mut W,
+    counters: &Counters,
+) -> Result<(), AllocError> {
+    let page = counters.html(alloc)?;
+    let reply = reply_of(alloc, HTML, &page)?;
+    let _ = write_all(writer, &reply);
+    Ok(())
+}
+
+/// Writes the reply to what was asked for.
+pub(crate) fn write_reply<W: Sink>(
+    alloc: Global,
+    writer: &mut W,
+    asked: Asked,
+    counters: &Counters,
+) {
+    let refusal = match asked {
+        Asked::More => return,
+        Asked::Page => {
+            let _ = write_page(alloc, writer, counters);
+            return;
+        }
+        Asked::Html => {
+            let _ = write_html(alloc, writer, counters);
+            return;
+        }
+        Asked::Elsewhere => NOT_FOUND,
+        Asked::Otherwise => NOT_ALLOWED,
+        Asked::Bad => BAD,
+    };
+    let _ = write_all(writer, refusal);
 }

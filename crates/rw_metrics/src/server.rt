@@ -1,129 +1,96 @@
 //! The endpoint of the pages.
 
-use crate::asking::{Asked, wanted};
+ghost use Rattle.std.specs.Prelude.{◌≤◌};
+ghost use Rattle.std.specs.VecDeque.{deque_len};
+
+use crate::client::Client;
 use crate::counters::Counters;
-use crate::reply::reply_of;
-use rw_types::{Sink, Source, Std, write_all};
+use rw_socket::{accept, limit_accepts};
 use std::alloc::{AllocError, Global};
-use std::net::{Shutdown, TcpListener, TcpStream};
+use std::collections::VecDeque;
+use std::net::TcpListener;
 use std::thread;
 use std::thread::Threads;
 use std::time::{Clock, Duration};
 
-/// How many bytes of a head are read.
-const LONGEST_HEAD: usize = 4_096;
+/// How many clients are waited for at once. The oldest of them is closed if one more comes.
+const MOST_CLIENTS: usize = 16;
 
-/// For how many milliseconds nothing is accepted where an accept has failed, as for want of descriptors.
+/// For how many milliseconds an accept waits before the clients that are waited for are looked at.
+const TICK_MS: u64 = 20;
+
+/// For how many milliseconds nothing is accepted after an accept that failed, for example because
+/// no descriptor was left.
 const NAP_MS: u64 = 200;
 
-/// For how many seconds a read or a write waits.
-const PATIENCE_SECONDS: u64 = 2;
+/// Adds a client after those that are waited for. If they are as many as may be, the oldest is
+/// closed; if out of memory, the new one is.
+fn admit<C: Clock + Copy>(clients: &mut VecDeque<Client<C>>, client: Client<C>)
+    requires few { deque_len clients.old ≤ 16 }
+    ensures few { deque_len clients.new ≤ 16 }
+{
+    if clients.len() >= MOST_CLIENTS {
+        drop(clients.pop_front());
+    }
+    let _ = clients.push_back(client);
+}
 
-/// The type of the contents of the page for Prometheus.
-const TEXT: &str = "text/plain; version=0.0.4";
-
-/// The type of the contents of the page for people.
-const HTML: &str = "text/html; charset=utf-8";
-
-const NOT_FOUND: &[u8] =
-    b"HTTP/1.1 404 Not Found\r\nConnection: close\r\nContent-Length: 0\r\n\r\n";
-
-const NOT_ALLOWED: &[u8] =
-    b"HTTP/1.1 405 Method Not Allowed\r\nAllow: GET\r\nConnection: close\r\nContent-Length: 0\r\n\r\n";
-
-const BAD: &[u8] = b"HTTP/1.1 400 Bad Request\r\nConnection: close\r\nContent-Length: 0\r\n\r\n";
-
-/// Reads a head, and says what it asks for; nothing where it does not come.
-fn asked_by<S: Source>(reader: &mut S) -> Option<Asked> {
-    let mut buf = [0; LONGEST_HEAD];
-    let mut len = 0;
-    for _ in 0..LONGEST_HEAD {
-        if len >= LONGEST_HEAD {
+/// Looks at each client that is waited for, and keeps those that are still to be waited for.
+fn serve_each<C: Clock + Copy>(
+    alloc: Global,
+    clients: &mut VecDeque<Client<C>>,
+    counters: &Counters,
+)
+    requires few { deque_len clients.old ≤ 16 }
+    ensures few { deque_len clients.new ≤ 16 }
+{
+    for _ in 0..clients.len() {
+        let Some(client) = clients.pop_front() else {
             break;
-        }
-        match reader.read(&mut buf[len..]) {
-            Ok(0) | Err(_) => return None,
-            Ok(count) => len += count,
-        }
-        match wanted(&buf[..len]) {
-            Asked::More => {}
-            asked => return Some(asked),
+        };
+        if let Some(client) = client.serve(alloc, counters) {
+            admit(clients, client);
         }
     }
-    Some(Asked::Bad)
 }
 
-/// Writes the page for Prometheus. Writes nothing if out of memory.
-fn write_page<W: Sink>(
+/// Accepts a client, if one comes within a tick, and looks at all that are waited for.
+fn serve_round<C: Clock + Copy>(
+    clock: C,
     alloc: Global,
-    writer: &mut W,
+    listener: &TcpListener,
+    clients: &mut VecDeque<Client<C>>,
     counters: &Counters,
-) -> Result<(), AllocError> {
-    let page = counters.page(alloc)?;
-    let reply = reply_of(alloc, TEXT, &page)?;
-    let _ = write_all(writer, &reply);
-    Ok(())
-}
-
-/// Writes the page for people. Writes nothing if out of memory.
-fn write_html<W: Sink>(
-    alloc: Global,
-    writer: &mut W,
-    counters: &Counters,
-) -> Result<(), AllocError> {
-    let page = counters.html(alloc)?;
-    let reply = reply_of(alloc, HTML, &page)?;
-    let _ = write_all(writer, &reply);
-    Ok(())
-}
-
-/// Answers one request over a connection, and nothing where its head does not come whole.
-fn answer<S: Source, W: Sink>(alloc: Global, reader: &mut S, writer: &mut W, counters: &Counters) {
-    let refusal = match asked_by(reader) {
-        None | Some(Asked::More) => return,
-        Some(Asked::Page) => {
-            let _ = write_page(alloc, writer, counters);
-            return;
+)
+    requires few { deque_len clients.old ≤ 16 }
+    ensures few { deque_len clients.new ≤ 16 }
+{
+    match accept(listener) {
+        Ok(Some(stream)) => {
+            if let Some(client) = Client::new(clock, alloc, stream) {
+                admit(clients, client);
+            }
         }
-        Some(Asked::Html) => {
-            let _ = write_html(alloc, writer, counters);
-            return;
-        }
-        Some(Asked::Elsewhere) => NOT_FOUND,
-        Some(Asked::Otherwise) => NOT_ALLOWED,
-        Some(Asked::Bad) => BAD,
-    };
-    let _ = write_all(writer, refusal);
-}
-
-/// Serves one connection. A read or a write waits for some seconds at most.
-fn serve_one(alloc: Global, stream: &TcpStream, counters: &Counters) {
-    let patience = Some(Duration::from_secs(PATIENCE_SECONDS));
-    if stream.set_read_timeout(patience).is_err() || stream.set_write_timeout(patience).is_err() {
-        return;
+        Ok(None) => {}
+        Err(_) => thread::sleep(&clock, Duration::from_millis(NAP_MS)),
     }
-    answer(
-        alloc,
-        &mut Std::new(stream),
-        &mut Std::new(stream),
-        counters,
-    );
-    let _ = stream.shutdown(Shutdown::Write);
+    serve_each(alloc, clients, counters);
 }
 
-/// Serves one connection after another, as long as the listener accepts.
-fn serve<C: Clock>(clock: &C, alloc: Global, listener: &TcpListener, counters: &Counters) {
-    for stream in listener.incoming() {
-        match stream {
-            Ok(stream) => serve_one(alloc, &stream, counters),
-            Err(_) => thread::sleep(clock, Duration::from_millis(NAP_MS)),
-        }
+/// Serves clients until the process ends. None of them waits for another. If no tick can be set for
+/// the listener, those that are waited for are looked at when the next one comes.
+fn serve<C: Clock + Copy>(clock: C, alloc: Global, listener: &TcpListener, counters: &Counters) {
+    let _ = limit_accepts(listener, Duration::from_millis(TICK_MS));
+    let mut clients = VecDeque::new(alloc);
+    for _ in 0..u64::MAX {
+        serve_round(clock, alloc, listener, &mut clients, counters);
     }
 }
 
 /// Answers `GET /metrics` with the page of the counters for Prometheus, and `GET /` with their page
-/// for people, over one connection after another, in a thread that nobody joins: it ends with the
-/// process. After an accept that fails it sleeps for a moment and accepts again.
+/// for people, in a thread that nobody joins: it ends with the process. A client has 2 seconds in
+/// all, and no other one waits for it. After an accept that fails the thread sleeps for a moment
+/// and accepts again.
 pub fn serve_metrics<R: Threads, C: Clock + Copy + Send + 'static>(
     rt: &R,
     clock: C,
@@ -131,7 +98,7 @@ pub fn serve_metrics<R: Threads, C: Clock + Copy + Send + 'static>(
     listener: TcpListener,
     counters: Counters,
 ) -> Result<(), AllocError> {
-    match thread::spawn(rt, move || serve(&clock, alloc, &listener, &counters)) {
+    match thread::spawn(rt, move || serve(clock, alloc, &listener, &counters)) {
         Ok(server) => {
             drop(server);
             Ok(())

@@ -15,8 +15,11 @@ use std::thread;
 use std::thread::{Scope, Threads};
 use std::time::{Clock, Duration};
 
-/// How long is waited for a seat where all are taken.
-const NAP_MS: u64 = 10;
+/// For how many milliseconds it sleeps between two looks for a free seat, while a client waits.
+const NAP_MS: u64 = 2;
+
+/// How many connections are looked at for their end before each accept.
+const SOME: usize = 16;
 
 /// Seats, each free or with a connection. Contracts see how many there are.
 #[derive(Drop)]
@@ -47,11 +50,12 @@ impl<L: Naming> Places<L> {
         Ok(Places { free: seats, busy })
     }
 
-    /// Frees the seats whose connections have ended. Each keeps what it stored.
-    fn free_ended<R: Threads>(&mut self, rt: &R)
+    /// Looks at some connections, those that were not looked at for longest, and frees the seats of
+    /// those that have ended. Each keeps what it stored.
+    fn free_ended<R: Threads>(&mut self, rt: &R, most: usize)
         ensures { self.new ≡ self.old }
     {
-        for _ in 0..self.busy.len() {
+        for _ in 0..self.busy.len().min(most) {
             let Some(busy) = self.busy.pop_front() else {
                 break;
             };
@@ -60,6 +64,31 @@ impl<L: Naming> Places<L> {
                 Connection::Ended(seat) => self.free.push_reserved(seat),
             }
         }
+    }
+
+    /// Returns whether a seat is free. If none is known to be, it looks at all connections.
+    fn has_free<R: Threads>(&mut self, rt: &R) -> bool
+        ensures { self.new ≡ self.old }
+    {
+        if self.free.is_empty() {
+            self.free_ended(rt, usize::MAX);
+        }
+        !self.free.is_empty()
+    }
+
+    /// Waits until a seat is free, or a stop is wished. While all are taken it asks connections that
+    /// are silent or behind their rates to end.
+    fn wait_for_seat<R: Threads + Wait + Clock>(&mut self, rt: &R, post: &Post<'_>)
+        ensures { self.new ≡ self.old }
+    {
+        for _ in rt.forever() {
+            if self.has_free(rt) || post.sign.wish() != Wish::Work {
+                break;
+            }
+            post.place_request.make();
+            thread::sleep(rt, Duration::from_millis(NAP_MS));
+        }
+        post.place_request.withdraw();
     }
 
     /// Waits for the connections, and gives all seats back.
@@ -75,7 +104,8 @@ impl<L: Naming> Places<L> {
     }
 }
 
-/// Serves the next connection from a free seat, in a thread of the scope, where one comes within a tick. Where no seat is free it waits a little.
+/// Serves the next connection, in a thread of the scope, if one comes within a tick. If no seat is
+/// free, it waits for one; if a stop is wished before, the connection is closed.
 fn serve_next<'s, E, L: Naming + Send + Sync + 's, R: Threads + Wait + Clock + Sync>(
     places: &mut Places<L>,
     scope: &Scope<'s, E>,
@@ -86,13 +116,12 @@ fn serve_next<'s, E, L: Naming + Send + Sync + 's, R: Threads + Wait + Clock + S
 )
     ensures { places.new ≡ places.old }
 {
-    places.free_ended(rt);
-    let Some(seat) = places.free.pop() else {
-        thread::sleep(rt, Duration::from_millis(NAP_MS));
+    places.free_ended(rt, SOME);
+    let Some(stream) = next_connection(rt, listener, post.counters) else {
         return;
     };
-    let Some(stream) = next_connection(rt, listener, post.counters) else {
-        places.free.push_reserved(seat);
+    places.wait_for_seat(rt, post);
+    let Some(seat) = places.free.pop() else {
         return;
     };
     match begin(scope, rt, post, shared, stream, seat) {

@@ -9,7 +9,7 @@ use crate::service::receive_until;
 use rw_fault::ToolFault;
 use rw_head::Head;
 use rw_metrics::ReceiveCounters;
-use rw_serving::Post;
+use rw_serving::{PlaceRequest, Post};
 use rw_settings::Settings;
 use rw_shared_head::Blank;
 use rw_stop::Sign;
@@ -24,10 +24,13 @@ use std::time::Clock;
 /// Bounds of a service, and what counts its work.
 #[derive(Clone, Copy, Drop)]
 pub struct Service<'a> {
-    /// How many connections are served at once, and one more waits to be accepted; for `run_receive`, how many are served in all.
+    /// How many connections are served at once, and one more waits until one of them ends; for
+    /// `run_receive`, how many are served in all.
     pub most: Bounded<1, 1_000>,
     /// For how many milliseconds a connection may be silent.
     pub idle_ms: Bounded<10, 3_600_000>,
+    /// How many milliseconds a request may take, and a reply; one more for each byte of a request.
+    pub request_ms: Bounded<10, 3_600_000>,
     /// They are told of each connection and each answer of the head. Nothing is claimed of them.
     pub counters: &'a ReceiveCounters,
 }
@@ -40,8 +43,10 @@ pub struct Service<'a> {
 /// counts as refused memory. Waits until so many connections have come and ended. Once the last one has come, or none can be accepted any
 /// more, the listener is closed, so that further clients are refused at once.
 ///
-/// A connection from which no byte comes for `idle_ms` milliseconds is closed. A connection is ended by its writing side; what the client still writes is read and forgotten until it ends its own, for a second at
-/// most, so that it sees the last reply.
+/// A connection from which no byte comes for `idle_ms` milliseconds is closed, and so is one whose
+/// request is not complete after `request_ms` milliseconds and one more for each byte of it. A
+/// connection is ended by its writing side; what the client still writes is read and forgotten until
+/// it ends its own, for a second at most, so that it sees the last reply.
 pub fn run_receive<R: Threads + Wait + Clock + Sync, W: Sink>(
     rt: &R,
     alloc: Global,
@@ -67,11 +72,14 @@ pub fn run_receive<R: Threads + Wait + Clock + Sync, W: Sink>(
     let blank = Blank::new(alloc, count + 1)?;
     let head = Head::new(alloc, &settings.limits);
     let never = Sign::new();
+    let place_request = PlaceRequest::new();
     let post = Post {
         alloc,
         limits: &settings.limits,
         sign: &never,
         idle_ms: service.idle_ms,
+        request_ms: service.request_ms,
+        place_request: &place_request,
         counters: service.counters,
     };
     let head = receive_all::<Brand, R>(rt, &post, blank, head, count as usize, listener)?;
@@ -84,7 +92,11 @@ pub fn run_receive<R: Threads + Wait + Clock + Sync, W: Sink>(
 /// Once an end is wished, the listener is closed. A connection that is in a request finishes it, and each other one is closed; once an end at once is
 /// wished, each is. The sign is looked at five times a second.
 ///
-/// A connection from which no byte comes for `idle_ms` milliseconds is closed. An accept that fails is made again, after a nap where it
+/// A connection from which no byte comes for `idle_ms` milliseconds is closed, and so is one whose
+/// request is not complete after `request_ms` milliseconds and one more for each byte of it: nothing
+/// of that request is taken. If all places are taken and a client waits for one, a connection is
+/// closed that has been silent for a second, or whose request is more than a second behind 1,000
+/// bytes a second. An accept that fails is made again, after a nap where it
 /// failed for want of something, as of descriptors. A listener whose accepts cannot be given a time is `Device`.
 pub fn run_receive_until<R: Threads + Wait + Clock + Sync, W: Sink>(
     rt: &R,
@@ -111,11 +123,14 @@ pub fn run_receive_until<R: Threads + Wait + Clock + Sync, W: Sink>(
     let most = service.most.get();
     let blank = Blank::new(alloc, most + 1)?;
     let head = Head::new(alloc, &settings.limits);
+    let place_request = PlaceRequest::new();
     let post = Post {
         alloc,
         limits: &settings.limits,
         sign,
         idle_ms: service.idle_ms,
+        request_ms: service.request_ms,
+        place_request: &place_request,
         counters: service.counters,
     };
     let head = receive_until::<Brand, R>(rt, &post, blank, head, most as usize, listener)?;

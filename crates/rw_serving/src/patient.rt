@@ -1,13 +1,16 @@
-//! A connection that may be silent for so long, and that ends once a stop is wished.
+//! A connection that may be silent for so long, whose requests have a deadline, and that ends once
+//! a stop is wished.
 
 ghost use Rattle.std.specs.Prelude.{◌+◌, ◌*◌, ◌<◌, ◌≤◌};
 
-use rw_stop::{Sign, Wish};
+use crate::pace::{GRACE_MS, Pace};
+use crate::serving::Post;
+use rw_stop::Wish;
 use rw_types::Bounded;
 use std::cell::Cell;
 use std::io::{self, ErrorKind, Read, Write};
 use std::net::TcpStream;
-use std::time::Duration;
+use std::time::{Clock, Duration};
 
 /// For how many milliseconds a read or a write waits before the sign is looked at.
 pub(crate) const TICK_MS: u64 = 200;
@@ -41,15 +44,42 @@ impl Patience {
     }
 }
 
-/// A connection as its reader and its writer. A read or a write from which no byte comes for the time of the patience fails with `TimedOut`. Once
-/// an end is wished, so does a read outside a request, and once an end at once is wished each of them. A request begins with a byte that is
-/// read, and ends with the bytes that are written. Nothing is claimed of the bytes.
+/// Where a connection is in its requests.
 #[derive(Clone, Copy, Drop)]
-pub(crate) struct Patient<'s> {
+pub(crate) struct Stage<C> {
+    /// Whether a request has begun, and has no reply yet.
+    is_inside: bool,
+    /// Whether the connection was closed because it took too long, or for another one.
+    is_cut: bool,
+    /// The pace of the request inside of one, else of the last replies.
+    pace: Pace<C>,
+}
+
+impl<C: Clock + Copy> Stage<C> {
+    /// Returns the stage of a connection on which nothing has come.
+    pub(crate) fn new(clock: C) -> Stage<C> {
+        Stage {
+            is_inside: false,
+            is_cut: false,
+            pace: Pace::new(clock),
+        }
+    }
+}
+
+/// A connection as its reader and its writer. A read or a write from which no byte comes for the
+/// time of the patience fails with `TimedOut`, and so does each of them once the request or the
+/// reply has had its time (`Pace`). Once an end is wished, so does a read outside a request, and
+/// once an end at once is wished each of them. While another client waits for a place, so does a
+/// read or a write of a few connections that are silent or behind their rates. A request begins
+/// with a byte that is read, and ends with the bytes that are written. Nothing is claimed of the
+/// bytes.
+#[derive(Clone, Copy, Drop)]
+pub(crate) struct Patient<'s, C> {
     stream: &'s TcpStream,
-    sign: &'s Sign,
-    is_inside: &'s Cell<bool>,
-    ticks: u64,
+    post: &'s Post<'s>,
+    stage: &'s Cell<Stage<C>>,
+    clock: C,
+    patience: Patience,
 }
 
 /// Whether a call gave up because its tick was over, or was interrupted.
@@ -60,51 +90,104 @@ fn is_passing(error: &io::Error) -> bool {
     )
 }
 
-impl<'s> Patient<'s> {
+impl<'s, C: Clock + Copy> Patient<'s, C> {
     /// A connection outside a request.
     pub(crate) fn new(
         stream: &'s TcpStream,
-        sign: &'s Sign,
-        is_inside: &'s Cell<bool>,
-        patience: Patience,
-    ) -> io::Result<Patient<'s>>
-        requires some { 0 < patience.tick_ms }
-        requires short { patience.tick_ms ≤ 200 }
-    {
+        post: &'s Post<'s>,
+        stage: &'s Cell<Stage<C>>,
+        clock: C,
+    ) -> io::Result<Patient<'s, C>> {
+        let patience = Patience::of(post.idle_ms);
         let tick = Some(Duration::from_millis(patience.tick_ms));
         stream.set_read_timeout(tick)?;
         stream.set_write_timeout(tick)?;
-        is_inside.set(false);
         Ok(Patient {
             stream,
-            sign,
-            is_inside,
-            ticks: patience.ticks,
+            post,
+            stage,
+            clock,
+            patience,
         })
+    }
+
+    /// Whether the connection was closed because it took too long, or for another one.
+    pub(crate) fn is_cut(&self) -> bool {
+        self.stage.get().is_cut
     }
 
     /// Whether nothing more is waited for.
     fn is_over(&self) -> bool {
-        match self.sign.wish() {
+        match self.post.sign.wish() {
             Wish::Work => false,
-            Wish::End => !self.is_inside.get(),
+            Wish::End => !self.stage.get().is_inside,
             Wish::Hard => true,
+        }
+    }
+
+    /// Whether the request or the reply has had its time, or is behind its rate while another client
+    /// waits for a place.
+    fn is_late(&self) -> bool {
+        let pace = self.stage.get().pace;
+        if !pace.is_within(self.post.request_ms.get()) {
+            return true;
+        }
+        !pace.is_within(GRACE_MS) && self.post.place_request.meet()
+    }
+
+    /// Whether a read is to be given up that has waited for these ticks.
+    fn is_cut_after(&self, ticks: u64) -> bool {
+        if self.stage.get().is_inside {
+            return self.is_late();
+        }
+        ticks.saturating_mul(self.patience.tick_ms) >= GRACE_MS && self.post.place_request.meet()
+    }
+
+    /// Gives up: nothing more is read and written.
+    fn cut(&self) -> io::Error {
+        let mut stage = self.stage.get();
+        stage.is_cut = true;
+        self.stage.set(stage);
+        io::Error::from(ErrorKind::TimedOut)
+    }
+
+    /// Counts bytes that were read. The first ones begin a request.
+    fn count_read(&self, count: usize) {
+        let mut stage = self.stage.get();
+        if !stage.is_inside {
+            stage.is_inside = true;
+            stage.pace = Pace::new(self.clock);
+        }
+        stage.pace.add(count);
+        self.stage.set(stage);
+    }
+
+    /// Ends the request, if there is one: its reply begins.
+    fn begin_reply(&self) {
+        let mut stage = self.stage.get();
+        if stage.is_inside {
+            stage.is_inside = false;
+            stage.pace = Pace::new(self.clock);
+            self.stage.set(stage);
         }
     }
 }
 
-impl Read for Patient<'_> {
+impl<C: Clock + Copy> Read for Patient<'_, C> {
     fn read(&mut self, buf: &mut [u8]) -> io::Result<usize> {
         let mut stream = self.stream;
-        for _ in 0..self.ticks {
+        for ticks in 0..self.patience.ticks {
             if self.is_over() {
                 break;
+            }
+            if self.is_cut_after(ticks) {
+                return Err(self.cut());
             }
             match stream.read(buf) {
                 Err(e) if is_passing(&e) => {}
                 Err(e) => return Err(e),
                 Ok(n) => {
-                    self.is_inside.set(true);
+                    self.count_read(n);
                     return Ok(n);
                 }
             }
@@ -113,20 +196,21 @@ impl Read for Patient<'_> {
     }
 }
 
-impl Write for Patient<'_> {
+impl<C: Clock + Copy> Write for Patient<'_, C> {
     fn write(&mut self, buf: &[u8]) -> io::Result<usize> {
         let mut stream = self.stream;
-        for _ in 0..self.ticks {
-            if self.sign.wish() == Wish::Hard {
+        self.begin_reply();
+        for _ in 0..self.patience.ticks {
+            if self.post.sign.wish() == Wish::Hard {
                 break;
+            }
+            if self.is_late() {
+                return Err(self.cut());
             }
             match stream.write(buf) {
                 Err(e) if is_passing(&e) => {}
                 Err(e) => return Err(e),
-                Ok(n) => {
-                    self.is_inside.set(false);
-                    return Ok(n);
-                }
+                Ok(n) => return Ok(n),
             }
         }
         Err(io::Error::from(ErrorKind::TimedOut))

@@ -2,7 +2,8 @@
 
 use crate::counting::Counting;
 use crate::parting::part;
-use crate::patient::{Patience, Patient};
+use crate::patient::{Patient, Stage};
+use crate::place_request::PlaceRequest;
 use rw_endpoint::serve;
 use rw_head::Limits;
 use rw_metrics::ReceiveCounters;
@@ -26,6 +27,10 @@ pub struct Post<'a> {
     pub sign: &'a Sign,
     /// For how many milliseconds a connection may be silent.
     pub idle_ms: Bounded<10, 3_600_000>,
+    /// How many milliseconds a request may take, and a reply; one more for each byte of a request.
+    pub request_ms: Bounded<10, 3_600_000>,
+    /// Made while a client waits for a place. Nothing is claimed of it.
+    pub place_request: &'a PlaceRequest,
     /// They are told of each connection and each answer of the head. Nothing is claimed of them.
     pub counters: &'a ReceiveCounters,
 }
@@ -44,7 +49,8 @@ pub fn served<L: Naming, R: Wait + Clock>(
     seat
 }
 
-/// Serves a connection to its end, and gives its seat back. It is not counted here.
+/// Serves a connection to its end, and gives its seat back. It is not counted here. A connection
+/// that took too long is closed at once: its client is not waited for.
 fn served_to_end<L: Naming, R: Wait + Clock>(
     rt: &R,
     post: &Post<'_>,
@@ -53,9 +59,8 @@ fn served_to_end<L: Naming, R: Wait + Clock>(
     seat: Seat<L>,
 ) -> Seat<L> {
     let mut seat = seat;
-    let is_inside = Cell::new(false);
-    let patience = Patience::of(post.idle_ms);
-    let Ok(patient) = Patient::new(&stream, post.sign, &is_inside, patience) else {
+    let stage = Cell::new(Stage::new(rt));
+    let Ok(patient) = Patient::new(&stream, post, &stage, rt) else {
         return seat;
     };
     let mut reader = Std::new(patient);
@@ -73,6 +78,8 @@ fn served_to_end<L: Naming, R: Wait + Clock>(
         &mut asking,
         post.limits,
     );
-    part(rt, &stream);
+    if !patient.is_cut() {
+        part(rt, &stream);
+    }
     seat
 }

@@ -100,9 +100,11 @@ Example:
 
 With --until-eof it serves any number of connections, at most 1000 at once, until standard input ends
 or, with --stop-file, until FILE exists. Requests that have begun are finished, unless the line 'hard'
-comes, on standard input or as the first line of FILE. With --connections N it ends when N connections
-have ended; each attempt of a sender is one. What it holds is in memory only, and is printed at the
-end. docs/OPERATING.md explains more, and docs/SETTINGS.md the settings.
+comes, on standard input or as the first line of FILE. If one more client comes, a few connections are
+closed that are silent for a second, or whose requests come slower than 1000 bytes a second. With
+--connections N it ends when N connections have ended; each attempt of a sender is one. What it holds
+is in memory only, and is printed at the end. docs/OPERATING.md explains more, and docs/SETTINGS.md the
+settings.
 
 Exit status: 0; 2 for bad options or settings; 3 out of memory; 4 if a file, the network or standard
 output failed.";

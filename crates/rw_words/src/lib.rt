@@ -99,6 +99,8 @@ pub struct Receiving<'a> {
     pub until: Until<'a>,
     /// For how many milliseconds a connection may be silent.
     pub idle_ms: Bounded<10, 3_600_000>,
+    /// How many milliseconds a request may take, and a reply; one more for each byte of a request.
+    pub request_ms: Bounded<10, 3_600_000>,
     pub reporting: Reporting<'a>,
 }
 

@@ -22,6 +22,7 @@ pub(crate) fn receive_task<'a>(
 ) -> Option<Task<'a>> {
     let listen = address_of(options, "listen")?;
     let idle_ms = number_of(options, "idle-ms")?;
+    let request_ms = number_of(options, "request-ms")?;
     let Some(until) = until_of(options) else {
         return None;
     };
@@ -34,6 +35,7 @@ pub(crate) fn receive_task<'a>(
             listen,
             until,
             idle_ms,
+            request_ms,
             reporting,
         },
     })

@@ -337,6 +337,12 @@ static RECEIVE: Words = Words {
             bonds: &[],
             help: "Close a connection that sends nothing for N milliseconds, 10 to 3600000",
         },
+        Opt {
+            name: "request-ms",
+            takes: Takes::NumberOr(10, 3_600_000, "60000"),
+            bonds: &[],
+            help: "Close a connection whose request takes more than N milliseconds and 1 more for each byte, 10 to 3600000",
+        },
         PROGRESS,
         METRICS,
     ],
