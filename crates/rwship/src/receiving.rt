@@ -23,17 +23,11 @@ fn serve_until<R: Threads + Wait + Clock + Sync>(
     threads: &R,
     settings: &Settings,
     listener: TcpListener,
-    idle_ms: Bounded<10, 3_600_000>,
+    service: Service<'_>,
     stop_file: Option<&str>,
-    counters: &ReceiveCounters,
 ) -> Result<(), ToolFault> {
     let sign = sign_of(rt, threads, stop_file, None)?;
     let mut output = Std::new(rt.stdout());
-    let service = Service {
-        most: Bounded::new(1_000),
-        idle_ms,
-        counters,
-    };
     run_receive_until(
         threads,
         rt.alloc(),
@@ -51,16 +45,9 @@ fn serve_some<R: Threads + Wait + Clock + Sync>(
     threads: &R,
     settings: &Settings,
     listener: TcpListener,
-    idle_ms: Bounded<10, 3_600_000>,
-    most: Bounded<1, 1_000>,
-    counters: &ReceiveCounters,
+    service: Service<'_>,
 ) -> Result<(), ToolFault> {
     let mut output = Std::new(rt.stdout());
-    let service = Service {
-        most,
-        idle_ms,
-        counters,
-    };
     run_receive(
         threads,
         rt.alloc(),
@@ -69,6 +56,20 @@ fn serve_some<R: Threads + Wait + Clock + Sync>(
         listener,
         &mut output,
     )
+}
+
+/// Returns the bounds of a service of so many connections.
+fn service_of<'a>(
+    receiving: &Receiving<'_>,
+    most: Bounded<1, 1_000>,
+    counters: &'a ReceiveCounters,
+) -> Service<'a> {
+    Service {
+        most,
+        idle_ms: receiving.idle_ms,
+        request_ms: receiving.request_ms,
+        counters,
+    }
 }
 
 /// Serves connections for as long as is asked for, and prints what they left.
@@ -80,17 +81,16 @@ fn serve<R: Threads + Wait + Clock + Sync>(
     receiving: &Receiving<'_>,
     counters: &ReceiveCounters,
 ) -> Result<(), ToolFault> {
-    let idle_ms = receiving.idle_ms;
     let stop_file = match &receiving.until {
         Until::Connections(most) => {
-            return serve_some(rt, threads, settings, listener, idle_ms, *most, counters);
+            let service = service_of(receiving, *most, counters);
+            return serve_some(rt, threads, settings, listener, service);
         }
         Until::InputEnds => None,
         Until::FileIs(path) => Some(*path),
     };
-    serve_until(
-        rt, threads, settings, listener, idle_ms, stop_file, counters,
-    )
+    let service = service_of(receiving, Bounded::new(1_000), counters);
+    serve_until(rt, threads, settings, listener, service, stop_file)
 }
 
 /// Returns counters that have counted nothing.

@@ -208,6 +208,7 @@ fn are_served<
             let service = Service {
                 most,
                 idle_ms: Bounded::new(60_000),
+                request_ms: Bounded::new(60_000),
                 counters: &counters,
             };
             run_receive(rt, alloc, settings, service, listener, printed)
@@ -442,6 +443,7 @@ fn fails_without_waiting<
     let service = Service {
         most: Bounded::new(1_000),
         idle_ms: Bounded::new(60_000),
+        request_ms: Bounded::new(60_000),
         counters: &counters,
     };
     let ended = run_receive(rt, alloc, settings, service, listener, &mut printed);

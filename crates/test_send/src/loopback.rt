@@ -98,6 +98,7 @@ fn receives<R: Threads + Wait + Clock + Sync>(
     let service = Service {
         most,
         idle_ms: Bounded::new(60_000),
+        request_ms: Bounded::new(60_000),
         counters: &counters,
     };
     let has_ended = match read_settings(alloc, row.0) {

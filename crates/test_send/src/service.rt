@@ -59,6 +59,7 @@ fn service_of(
     Service {
         most,
         idle_ms,
+        request_ms: Bounded::new(60_000),
         counters,
     }
 }
