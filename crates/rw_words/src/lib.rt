@@ -131,10 +131,14 @@ pub enum Task<'a> {
     Inspect {
         dir: Option<LogDir<'a>>,
         json: bool,
+        /// Whether it is explained what cannot be read.
+        is_explained: bool,
     },
     /// All segments of `dir` in; the entries at the positions that `positions_of` gives out.
     Find {
         dir: LogDir<'a>,
+        /// Whether it is explained what cannot be read.
+        is_explained: bool,
     },
     /// An event script in; the state at its end out.
     Replay {
@@ -184,11 +188,13 @@ pub fn bad_address<'a>(words: &ArgMatches<'a>) -> Option<(&'static str, &'a str)
 /// What the options of `inspect` ask for.
 fn inspect_task<'a>(options: &ArgMatches<'a>) -> Task<'a> {
     let dir = dir_of(options);
+    let is_explained = options.get_flag("explain");
     match dir {
-        Some(dir) if options.get_str("at").is_some() => Task::Find { dir },
+        Some(dir) if options.get_str("at").is_some() => Task::Find { dir, is_explained },
         _ => Task::Inspect {
             dir,
             json: options.get_flag("json"),
+            is_explained,
         },
     }
 }

@@ -175,6 +175,12 @@ static INSPECT: Words = Words {
         SEGMENTS,
         CHECKPOINT,
         Opt {
+            name: "explain",
+            takes: Takes::Nothing,
+            bonds: &[Bond::Needs("dir")],
+            help: "With --dir: explain what cannot be read",
+        },
+        Opt {
             name: "json",
             takes: Takes::Nothing,
             bonds: &[],

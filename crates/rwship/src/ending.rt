@@ -12,7 +12,7 @@ use rw_fault::ToolFault;
 use rw_send::FollowFault;
 use rw_settings::SettingsNote;
 use rw_words::bad_address;
-use std::io::Error;
+use std::io::{Error, IsTerminal};
 use std::process::ExitCode;
 
 /// The exit status for words and settings that the program does not take.
@@ -84,6 +84,13 @@ pub fn missing(rt: &HostRuntime, count: u64) -> ExitCode
     ExitCode::from(NOT_THERE)
 }
 
+/// On a terminal, says that `--explain` tells more.
+pub fn point_to_explain(rt: &HostRuntime) {
+    if rt.stderr().is_terminal() {
+        let _ = eprintln!(rt; "  run again with --explain for details");
+    }
+}
+
 /// Tells what could not be done with what, and what the system said.
 pub fn tell_device(rt: &HostRuntime, action: &str, name: &str, error: &Error) {
     let _ = eprintln!(rt; "  cannot {action} {name}: {error}");
@@ -107,12 +114,17 @@ pub fn unset(rt: &HostRuntime, fault: Unset) -> ExitCode
         Unset::Settings(fault, notes) => {
             let number = fault.number();
             let _ = eprintln!(rt; "rwship: settings fault {number}");
+            if notes.is_empty() {
+                point_to_explain(rt);
+            }
             tell(rt, notes.as_slice());
             ExitCode::from(BAD_WORDS)
         }
         Unset::Unreadable(said) => {
             let status = ended(rt, Err(ToolFault::Device));
-            if !said.is_empty() {
+            if said.is_empty() {
+                point_to_explain(rt);
+            } else {
                 let _ = eprintln!(rt; "  {said}");
             }
             status

@@ -1,6 +1,6 @@
 //! What `--explain` prints of an input that has a fault, after the one line.
 
-use crate::ending::ended;
+use crate::ending::{ended, point_to_explain};
 use crate::input::{Form, Input, Reader};
 use crate::inspecting::{inspect_segment, tell_report};
 use rw_fault::ToolFault;
@@ -68,8 +68,12 @@ pub fn explained(rt: &HostRuntime, input: &Input, outcome: Result<(), ToolFault>
         Ok(()) => ended(rt, Ok(())),
         Err(fault) => {
             let status = ended(rt, Err(fault));
-            if let Some(text) = &input.text {
-                let _ = tell_input(rt, input.form, text, fault);
+            match (&input.text, fault) {
+                (Some(text), _) => {
+                    let _ = tell_input(rt, input.form, text, fault);
+                }
+                (None, ToolFault::Log(_) | ToolFault::Line(_)) => point_to_explain(rt),
+                _ => {}
             }
             status
         }

@@ -1,6 +1,6 @@
 //! The command `inspect`, and what other commands print of a log that they could not read.
 
-use crate::ending::{followed, tell_device};
+use crate::ending::{followed, point_to_explain, tell_device};
 use crate::input::Reader;
 use rw_fault::ToolFault;
 use rw_inspect::{Damage, Named, Report, find_entries, inspect, json_of, plan_segments, table_of};
@@ -220,10 +220,10 @@ pub fn log_fault(
     is_explained: bool,
 ) -> ExitCode {
     let status = followed(rt, fault);
-    if let FollowFault::Tool(fault) = fault {
-        if is_explained {
-            tell_log(rt, dir, fault);
-        }
+    match fault {
+        FollowFault::Tool(fault) if is_explained => tell_log(rt, dir, fault),
+        FollowFault::Tool(ToolFault::Log(_) | ToolFault::Device) => point_to_explain(rt),
+        _ => {}
     }
     status
 }

@@ -15,7 +15,7 @@ mod sign;
 use clap::ArgMatches;
 use ending::{bad_words, ended, followed, missing, no_address, unparsed, unset};
 use engines::{body, log, plan, replay};
-use inspecting::{print_found, print_inspected};
+use inspecting::{log_fault, print_found, print_inspected};
 use receiving::receive;
 use rw_fault::ToolFault;
 use rw_send::FollowFault;
@@ -42,16 +42,31 @@ fn print_settings(rt: &HostRuntime, settings: SettingsFile<'_>) -> ExitCode {
     }
 }
 
-/// Prints the entries at positions of the log in a folder.
-fn find(
+/// Prints what a log holds, the one in a folder or the segment on standard input.
+fn inspect(rt: &HostRuntime, dir: Option<LogDir<'_>>, json: bool, is_explained: bool) -> ExitCode {
+    match (print_inspected(rt, dir, json), dir) {
+        (Ok(()), _) => ExitCode::SUCCESS,
+        (Err(fault), Some(dir)) => log_fault(rt, dir, fault, is_explained),
+        (Err(fault), None) => followed(rt, fault),
+    }
+}
+
+/// Returns how many of the positions that the arguments name have no entry, and prints the others.
+fn find_positions(
     rt: &HostRuntime,
     dir: LogDir<'_>,
     words: &ArgMatches<'_>,
-) -> Result<ExitCode, FollowFault> {
+) -> Result<u64, FollowFault> {
     let positions = positions_of(rt.alloc(), words)?;
-    match print_found(rt, dir, positions)? {
-        0 => Ok(ExitCode::SUCCESS),
-        count => Ok(missing(rt, count)),
+    print_found(rt, dir, positions)
+}
+
+/// Prints the entries at positions of the log in a folder.
+fn find(rt: &HostRuntime, dir: LogDir<'_>, words: &ArgMatches<'_>, is_explained: bool) -> ExitCode {
+    match find_positions(rt, dir, words) {
+        Ok(0) => ExitCode::SUCCESS,
+        Ok(count) => missing(rt, count),
+        Err(fault) => log_fault(rt, dir, fault, is_explained),
     }
 }
 
@@ -71,14 +86,12 @@ fn perform<R: Threads + Wait + Clock + Copy + Send + Sync + 'static>(
             is_explained,
         } => log(rt, *hex, *pages, *dir, *is_explained),
         Task::Plan { settings, hex, dir } => plan(rt, *settings, *hex, *dir),
-        Task::Inspect { dir, json } => match print_inspected(rt, *dir, *json) {
-            Ok(()) => ExitCode::SUCCESS,
-            Err(fault) => followed(rt, fault),
-        },
-        Task::Find { dir } => match find(rt, *dir, words) {
-            Ok(status) => status,
-            Err(fault) => followed(rt, fault),
-        },
+        Task::Inspect {
+            dir,
+            json,
+            is_explained,
+        } => inspect(rt, *dir, *json, *is_explained),
+        Task::Find { dir, is_explained } => find(rt, *dir, words, *is_explained),
         Task::Replay { settings } => replay(rt, *settings),
         Task::Settings { settings } => print_settings(rt, *settings),
         Task::Send { settings, sending } => send(rt, threads, *settings, sending),

@@ -1,6 +1,6 @@
 //! The command `receive`.
 
-use crate::ending::{ended, unset};
+use crate::ending::{ended, point_to_explain, unset};
 use crate::reporting::{begin_reporting, end_reporting, tell_unheard};
 use crate::settings::settings_in;
 use crate::sign::sign_of;
@@ -143,6 +143,8 @@ fn receive_by<R: Threads + Wait + Clock + Sync>(
             let status = ended(rt, Err(ToolFault::Device));
             if is_explained {
                 tell_unheard(rt, listen, &error);
+            } else {
+                point_to_explain(rt);
             }
             status
         }

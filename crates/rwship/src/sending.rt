@@ -1,6 +1,6 @@
 //! The command `send`.
 
-use crate::ending::{dropped, empty, ended, tell_device, unset};
+use crate::ending::{dropped, empty, ended, point_to_explain, tell_device, unset};
 use crate::inspecting::{files_of, log_fault, note_checkpoint, passes_checkpoint_over};
 use crate::reporting::{begin_reporting, end_reporting, is_watched};
 use crate::settings::settings_in;
@@ -231,6 +231,8 @@ fn not_found(rt: &HostRuntime, name: &str, error: &Error, is_explained: bool) ->
     let status = ended(rt, Err(ToolFault::Device));
     if is_explained {
         tell_device(rt, "look up", name, error);
+    } else {
+        point_to_explain(rt);
     }
     status
 }
