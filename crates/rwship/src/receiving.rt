@@ -23,11 +23,18 @@ fn serve_until<R: Threads + Wait + Clock + Sync>(
     threads: &R,
     settings: &Settings,
     listener: TcpListener,
-    service: Service<'_>,
+    receiving: &Receiving<'_>,
     stop_file: Option<&str>,
+    counters: &ReceiveCounters,
 ) -> Result<(), ToolFault> {
     let sign = sign_of(rt, threads, stop_file, None)?;
     let mut output = Std::new(rt.stdout());
+    let service = Service {
+        most: Bounded::new(1_000),
+        idle_ms: receiving.idle_ms,
+        request_ms: receiving.request_ms,
+        counters,
+    };
     run_receive_until(
         threads,
         rt.alloc(),
@@ -45,9 +52,17 @@ fn serve_some<R: Threads + Wait + Clock + Sync>(
     threads: &R,
     settings: &Settings,
     listener: TcpListener,
-    service: Service<'_>,
+    receiving: &Receiving<'_>,
+    most: Bounded<1, 1_000>,
+    counters: &ReceiveCounters,
 ) -> Result<(), ToolFault> {
     let mut output = Std::new(rt.stdout());
+    let service = Service {
+        most,
+        idle_ms: receiving.idle_ms,
+        request_ms: receiving.request_ms,
+        counters,
+    };
     run_receive(
         threads,
         rt.alloc(),
@@ -56,20 +71,6 @@ fn serve_some<R: Threads + Wait + Clock + Sync>(
         listener,
         &mut output,
     )
-}
-
-/// Returns the bounds of a service of so many connections.
-fn service_of<'a>(
-    receiving: &Receiving<'_>,
-    most: Bounded<1, 1_000>,
-    counters: &'a ReceiveCounters,
-) -> Service<'a> {
-    Service {
-        most,
-        idle_ms: receiving.idle_ms,
-        request_ms: receiving.request_ms,
-        counters,
-    }
 }
 
 /// Serves connections for as long as is asked for, and prints what they left.
@@ -83,14 +84,14 @@ fn serve<R: Threads + Wait + Clock + Sync>(
 ) -> Result<(), ToolFault> {
     let stop_file = match &receiving.until {
         Until::Connections(most) => {
-            let service = service_of(receiving, *most, counters);
-            return serve_some(rt, threads, settings, listener, service);
+            return serve_some(rt, threads, settings, listener, receiving, *most, counters);
         }
         Until::InputEnds => None,
         Until::FileIs(path) => Some(*path),
     };
-    let service = service_of(receiving, Bounded::new(1_000), counters);
-    serve_until(rt, threads, settings, listener, service, stop_file)
+    serve_until(
+        rt, threads, settings, listener, receiving, stop_file, counters,
+    )
 }
 
 /// Returns counters that have counted nothing.
