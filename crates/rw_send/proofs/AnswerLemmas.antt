@@ -1,16 +1,23 @@
 -- How a run answers.
-use Rattle.std.proofs.Common.{◌≡◌, List, Option, None, Some, Result, Ok, Err, IsOk, IfErr, IfOk, OnOk, refl, sym, subst}
+use Rattle.std.proofs.Common.{◌≡◌, ◌⊎◌, inl, inr, List, ℕ, Bool, Option, None, Some, Result, Ok, Err, IsOk, IfErr, IfOk, IfSome, OnOk, refl, sym, ap, subst}
+use Rattle.std.specs.Prelude.{IsSome, is_some}
+use Rattle.std.proofs.lemmas.Option.{same_Some}
+use Rattle.rw_wal_format.specs.Pieces.{Piece}
+use Rattle.rw_fleet.specs.Fleets.{EndBy}
+use Rattle.rw_fleet.specs.declared.running.Fault.{Fault}
 use Rattle.rw_fleet.specs.declared.joined.StoppedShard.{StoppedShard}
 use Rattle.rw_shard_core.specs.declared.outcome.Outcome.{Outcome}
 use Rattle.rw_shard_core.specs.declared.outcome.Outcome.TheVariants as outcome
-use Rattle.rw_shipper.specs.Reports.{IsAbandoned}
+use Rattle.rw_shipper.specs.Reports.{IsAbandoned, ListsCut, kind_of}
+use Rattle.rw_shipper.specs.declared.report.Report.{Report}
 use Rattle.rw_shipper.specs.Shipping.{Shipping, Ends}
 use Rattle.rw_fault.specs.declared.tool_fault.ToolFault.{ToolFault}
 use Rattle.rw_fault.specs.declared.tool_fault.ToolFault.TheVariants as fault
 use Rattle.rw_log_shipping.specs.declared.halt.Halt.{Halt}
 use Rattle.rw_log_shipping.specs.declared.halt.Halt.TheVariants as halt
 use Rattle.rw_log_shipping.specs.Halting.{IsHalted}
-use Rattle.rw_send.specs.Sending.{answer_to, hard_fault, Answers}
+use Rattle.rw_log_shipping.specs.Segments.{AreSure, HasMoreBytes}
+use Rattle.rw_send.specs.Sending.{answer_to, hard_fault, Answers, EndsFor, IsCutFor, StopsAtOnce}
 
 some_is_not_none : {A B : Type 0} (found : Option A) (x : A) → found ≡ Some x → found ≡ None → B
 some_is_not_none found x some none = let no : ⊥ = cc in absurd no
@@ -66,3 +73,61 @@ at_ok (Err e) h ok = let no : ⊥ = cc in absurd no
 pub IfOk-always : {T E : Type 0} (r : Result T E) (P : T → Type 0) → ((x : T) → P x) → IfOk r P
 IfOk-always (Ok x) P h = h x
 IfOk-always (Err e) P h = tt
+
+-- ---- how the shards were ended, and why
+
+-- what a halt says of why the shipper is stopped at once
+abbrev pub HasCause : (cause : Type 0) → Result (Unit {0}) Halt → Type 0
+HasCause cause shipped = (shipped ≡ Err halt.Failed → cause) × (shipped ≡ Err halt.Unreadable → cause)
+
+pub ends_for : {T : Type 0} (cause : Type 0) (s : Shipping T) (r : Report T) (shipped : Result (Unit {0}) Halt)
+    → EndBy (kind_of (is_some (hard_fault shipped))) s.fleet r.workers.items → ((f : ToolFault) → hard_fault shipped ≡ Some f → IsAbandoned r.outcome) → HasCause (IsSome s.fault ⊎ cause) shipped → EndsFor cause s r
+ends_for cause s r (Ok u) by hard why = inl by
+ends_for cause s r (Err (halt.Damaged f)) by hard why = inl by
+ends_for cause s r (Err halt.Failed) by hard why = inr (by, hard fault.OutOfMemory refl, why.0 refl)
+ends_for cause s r (Err halt.Unreadable) by hard why = inr (by, hard fault.Device refl, why.1 refl)
+
+pub cut_for : {T : Type 0} (cause : Type 0) (s : Shipping T) (r : Report T) (shipped : Result (Unit {0}) Halt)
+    → (hard_fault shipped ≡ None → IsAbandoned r.outcome → ListsCut r.workers.items) → HasCause (IsSome s.fault ⊎ cause) shipped → IsCutFor cause s r
+cut_for cause s r (Ok u) soft why left = inl (soft refl left)
+cut_for cause s r (Err (halt.Damaged f)) soft why left = inl (soft refl left)
+cut_for cause s r (Err halt.Failed) soft why left = inr (why.0 refl)
+cut_for cause s r (Err halt.Unreadable) soft why left = inr (why.1 refl)
+
+refused_so : (failed refused unsure : Type 0) (answer : Result (Unit {0}) ToolFault) → answer ≡ Err fault.OutOfMemory → failed ⊎ refused → failed ⊎ StopsAtOnce refused unsure answer
+refused_so failed refused unsure answer e (inl f) = inl f
+refused_so failed refused unsure answer e (inr h) = inr (subst (StopsAtOnce refused unsure) (sym e) h)
+
+-- of `run_send`
+pub cause_of : (failed refused unsure : Type 0) (shipped : Result (Unit {0}) Halt) (answer : Result (Unit {0}) ToolFault) → ((f : ToolFault) → hard_fault shipped ≡ Some f → answer ≡ Err f)
+    → (shipped ≡ Err halt.Failed → failed ⊎ refused) → (shipped ≡ Err halt.Unreadable → unsure) → HasCause (failed ⊎ StopsAtOnce refused unsure answer) shipped
+cause_of failed refused unsure shipped answer is memory read = (
+  λ e. refused_so failed refused unsure answer (is fault.OutOfMemory (ap hard_fault e)) (memory e),
+  λ e. inr (subst (StopsAtOnce refused unsure) (sym (is fault.Device (ap hard_fault e))) (read e)),
+)
+
+abbrev pub SendCause : List (Option (List ℕ)) → List Bool → List Piece → Result (Unit {0}) ToolFault → Type 0
+SendCause lefts sures pieces answer = StopsAtOnce (HasMoreBytes lefts pieces) (AreSure sures → ⊥) answer
+
+pub send_ends : {T : Type 0} (lefts : List (Option (List ℕ))) (sures : List Bool) (pieces : List Piece) (s : Shipping T) (r : Report T) (shipped : Result (Unit {0}) Halt) (answer : Result (Unit {0}) ToolFault)
+    → EndBy (kind_of (is_some (hard_fault shipped))) s.fleet r.workers.items → ((f : ToolFault) → hard_fault shipped ≡ Some f → IsAbandoned r.outcome)
+    → (hard_fault shipped ≡ None → IsAbandoned r.outcome → ListsCut r.workers.items) → ((f : ToolFault) → hard_fault shipped ≡ Some f → answer ≡ Err f)
+    → (shipped ≡ Err halt.Failed → IsSome s.fault ⊎ HasMoreBytes lefts pieces) → (AreSure sures → shipped ≡ Err halt.Unreadable → ⊥)
+    → EndsFor (SendCause lefts sures pieces answer) s r × IsCutFor (SendCause lefts sures pieces answer) s r
+send_ends lefts sures pieces s r shipped answer by hard soft is memory read =
+    let why = cause_of (IsSome s.fault) (HasMoreBytes lefts pieces) (AreSure sures → ⊥) shipped answer is memory (λ e. λ sure. read sure e) in
+    (ends_for (SendCause lefts sures pieces answer) s r shipped by hard why, cut_for (SendCause lefts sures pieces answer) s r shipped soft why)
+
+pub failed_so : (found : Option Fault) (o : Outcome) → IfSome found (λ _. IsAbandoned o) → IsSome found → IsAbandoned o
+failed_so None o failed some = let no : ⊥ = cc in absurd no
+failed_so (Some f) o failed some = failed
+
+pub abandons_so : (found : Option Fault) (o : Outcome) → IsAbandoned o → IfSome found (λ _. IsAbandoned o)
+abandons_so None o h = tt
+abandons_so (Some f) o h = h
+
+abbrev pub fails_with : ToolFault → Result (Unit {0}) ToolFault
+fails_with f = Err f
+
+pub same_answer : (x y : ToolFault) → Some x ≡ Some y → fails_with x ≡ fails_with y
+same_answer x y e = ap fails_with (same_Some x y e)

@@ -1,13 +1,15 @@
 -- A log that is followed.
-use Rattle.std.proofs.Common.{◌≡◌, ◌⊎◌, inl, inr, ℕ, List, [], ◌∷◌, ◌++◌, take, Option, None, Some, Result, Ok, Err, IsOk, IfErr, IfOk, OnOk, refl, sym, ap, ◌∙◌, subst, arith}
+use Rattle.std.proofs.Common.{◌≡◌, ◌<◌, ◌≤◌, ◌⊎◌, inl, inr, ℕ, Bool, List, [], ◌∷◌, ◌++◌, length, take, Option, None, Some, Result, Ok, Err, IsOk, IfErr, IfOk, OnOk, refl, sym, ap, ◌∙◌, subst, arith}
 use Rattle.std.proofs.lemmas.Grind.{common_steps}
-use Rattle.std.specs.Prelude.{⊤}
+use Rattle.std.specs.Prelude.{IsSome, ⊤}
+use Rattle.std.proofs.lemmas.List.{length-take-le}
 use Rattle.std.specs.Io.KnownBytes.{Appends}
 use Rattle.std.specs.Result.{IsErrAnd}
 use Rattle.rw_wal_format.specs.Pieces.{Piece, bytes, next_segment}
 use Rattle.rw_follow.specs.Growth as growth
 use Rattle.rw_follow.specs.Growth.{HadAll, IsBeginning, IsGivenAt, Known, Meal, Moment, with_next, with_piece}
-use Rattle.rw_follow.specs.Turns.{Moves, given_by, wish_of}
+use Rattle.rw_follow.specs.Turns.{IsWithin, Moves, given_by, wish_of}
+use Rattle.rw_follow.specs.declared.follower.Broken.{Broken}
 use Rattle.rw_follow.specs.declared.follower.Broken.TheVariants as broken
 use Rattle.rw_follow.specs.declared.follower.Stop.{Stop}
 use Rattle.rw_follow.specs.declared.follower.Stop.TheVariants as stop
@@ -19,10 +21,13 @@ use Rattle.rw_shard_core.specs.declared.config.ConfigFields.{ConfigFields}
 use Rattle.rw_shard_core.specs.declared.outcome.Outcome.{Outcome}
 use Rattle.rw_worker.specs.Transcript.{Exchange}
 use Rattle.rw_shipper.specs.Reports.{IsAbandoned}
-use Rattle.rw_shipper.specs.Shipping.{Shipping}
+use Rattle.rw_shipper.specs.Shipping.{FailsBy, Feeds, Shipping}
 use Rattle.rw_shipper.specs.declared.report.Report.{Report}
+use Rattle.rw_shipper.specs.declared.shipper.FeedFault.{FeedFault}
+use Rattle.rw_shipper.specs.declared.shipper.FeedFault.TheVariants as feed
 use Rattle.rw_fault.specs.declared.tool_fault.ToolFault.{ToolFault}
 use Rattle.rw_fault.specs.declared.tool_fault.ToolFault.TheVariants as tool
+use Rattle.rw_types.specs.declared.transfer.ReadFault.{ReadFault}
 use Rattle.rw_types.specs.declared.transfer.ReadFault.TheVariants as read
 use Rattle.rw_send.specs.declared.follow_fault.FollowFault.{FollowFault}
 use Rattle.rw_send.specs.declared.follow_fault.FollowFault.TheVariants as fault
@@ -30,11 +35,13 @@ use Rattle.rw_log_shipping.specs.declared.halt.Halt.{Halt}
 use Rattle.rw_log_shipping.specs.declared.halt.Halt.TheVariants as halt
 use Rattle.rw_send.specs.declared.live.Cut.{Cut}
 use Rattle.rw_send.specs.declared.live.Cut.TheVariants as cut
-use Rattle.rw_send.specs.Following.{FollowAnswers, HasRead, IsCut, IsFollowPrinted, IsFollowPrintedPart, IsFollowed, IsUnread, answer_by, left_undone, meal_after, meal_of, no_meal, shipped_by, told}
+use Rattle.rw_send.specs.Following.{FailsWith, FollowAnswers, FollowStopsAtOnce, HaltsAt, HaltsFor, HasGivenMore, HasRead, IsCut, IsFollowPrinted, IsFollowPrintedPart, IsFollowed, IsUnread, answer_by, left_undone, meal_after, meal_of, no_meal, shipped_by, told}
 use Rattle.rw_send.specs.ReportText.{IsTextOf, WritesPart}
-use Rattle.rw_log_shipping.specs.Halting.{IsHalted}
-use Rattle.rw_send.specs.Sending.{Answers, hard_fault}
-use Rattle.rw_send.proofs.AnswerLemmas.{answers_too}
+use Rattle.rw_log_shipping.specs.Halting.{IsHalted, halt_of}
+use Rattle.rw_send.specs.Sending.{Answers, StopsAtOnce, hard_fault}
+use Rattle.rw_send.proofs.AnswerLemmas.{HasCause, answers_too}
+use Rattle.rw_feeder.specs.Feeders.{Sorting}
+use Rattle.rw_log_shipping.proofs.HaltLemmas.{failed_of, fails_so, halts}
 use Rattle.rw_send.proofs.PrintLemmas.{failed}
 
 -- ---- what pieces tell
@@ -110,13 +117,13 @@ given_turn old new t buf meal fed move h e = subst (λ (f : Meal). Known new (λ
 
 -- ---- how the reading ended
 
-pub halted_by : {T : Type 0} (s : Shipping T) (now : Option Moment) (ended : Result Stop Cut) → IfErr ended (IsCut s now) → IfErr (shipped_by ended) (IsHalted s)
-halted_by s now (Ok stop.Orderly) c = tt
-halted_by s now (Ok stop.Hard) c = tt
-halted_by s now (Err (cut.Broken (broken.Missing n))) c = tt
-halted_by s now (Err (cut.Broken (broken.Unreadable read.OutOfMemory))) c = tt
-halted_by s now (Err (cut.Broken (broken.Unreadable read.Failed))) c = tt
-halted_by s now (Err (cut.Halted h)) c = c
+pub halted_by : {T : Type 0} (s : Shipping T) (now : Option Moment) (unsure : Type 0) (ended : Result Stop Cut) → IfErr ended (IsCut s now unsure) → IfErr (shipped_by ended) (IsHalted s)
+halted_by s now unsure (Ok stop.Orderly) c = tt
+halted_by s now unsure (Ok stop.Hard) c = tt
+halted_by s now unsure (Err (cut.Broken (broken.Missing n))) c = tt
+halted_by s now unsure (Err (cut.Broken (broken.Unreadable read.OutOfMemory))) c = tt
+halted_by s now unsure (Err (cut.Broken (broken.Unreadable read.Failed))) c = tt
+halted_by s now unsure (Err (cut.Halted h)) c = c.0
 
 pub live_by : (P : Type 0) (ended : Result Stop Cut) → OnOk ended P → OnOk (shipped_by ended) P
 live_by P (Ok stop.Orderly) p = p
@@ -152,34 +159,31 @@ as_told : (now : Option Moment) (said : Wish) (fed : Meal) (o : Outcome) (answer
 as_told now said fed o (Ok u) h = h
 as_told now said fed o (Err f) h = h
 
-abbrev halts : Halt → Result (Unit {0}) Halt
-halts h = Err h
-
-not_ok : {P : Type 0} (h : Halt) → IsOk (halts h) → P
+not_ok : {P : Type 0} (h : Halt) → IsOk (halts {X = Unit {0}} h) → P
 not_ok h ok = let no : ⊥ = cc in absurd no
 
-as_halted : (E : Type 0) (now : Option Moment) (said : Wish) (fed : Meal) (o : Outcome) (h : Halt) (answer : Result (Unit {0}) ToolFault) → Answers (IsOk (halts h)) E o answer
+as_halted : (E : Type 0) (now : Option Moment) (said : Wish) (fed : Meal) (o : Outcome) (h : Halt) (answer : Result (Unit {0}) ToolFault) → Answers (IsOk (halts {X = Unit {0}} h)) E o answer
     → FollowAnswers now said fed o (told answer)
 as_halted E now said fed o h answer a = as_told now said fed o answer (answers_too o answer (not_ok h) (λ _. tt) a)
 
-pub follow_answers : {T : Type 0} (s : Shipping T) (now : Option Moment) (said : Wish) (fed : Meal) (o : Outcome) (ended : Result Stop Cut) (answer : Result (Unit {0}) ToolFault)
-    → (ended ≡ ends_orderly → Known now (HadAll fed)) → IfOk ended (λ stopped. said ≡ wish_of stopped) → IfErr ended (IsCut s now)
+pub follow_answers : {T : Type 0} (s : Shipping T) (now : Option Moment) (unsure : Type 0) (said : Wish) (fed : Meal) (o : Outcome) (ended : Result Stop Cut) (answer : Result (Unit {0}) ToolFault)
+    → (ended ≡ ends_orderly → Known now (HadAll fed)) → IfOk ended (λ stopped. said ≡ wish_of stopped) → IfErr ended (IsCut s now unsure)
     → Answers (IsOk (shipped_by ended)) (shipped_by ended ≡ Err halt.Unreadable) o answer → ((f : ToolFault) → hard_fault (shipped_by ended) ≡ Some f → IsAbandoned o) → FollowAnswers now said fed o (answer_by ended answer)
-follow_answers s now said fed o (Ok stop.Orderly) answer whole signed c a hard = as_told now said fed o answer (answers_too o answer (λ _. (signed, whole refl)) (λ _. tt) a)
-follow_answers s now said fed o (Ok stop.Hard) answer whole signed c a hard = (hard tool.Device refl, signed)
-follow_answers s now said fed o (Err (cut.Broken (broken.Missing n))) answer whole signed c a hard = (hard tool.Device refl, c)
-follow_answers s now said fed o (Err (cut.Broken (broken.Unreadable read.OutOfMemory))) answer whole signed c a hard = as_halted _ now said fed o halt.Failed answer a
-follow_answers s now said fed o (Err (cut.Broken (broken.Unreadable read.Failed))) answer whole signed c a hard = as_halted _ now said fed o halt.Unreadable answer a
-follow_answers s now said fed o (Err (cut.Halted h)) answer whole signed c a hard = as_halted _ now said fed o h answer a
+follow_answers s now unsure said fed o (Ok stop.Orderly) answer whole signed c a hard = as_told now said fed o answer (answers_too o answer (λ _. (signed, whole refl)) (λ _. tt) a)
+follow_answers s now unsure said fed o (Ok stop.Hard) answer whole signed c a hard = (hard tool.Device refl, signed)
+follow_answers s now unsure said fed o (Err (cut.Broken (broken.Missing n))) answer whole signed c a hard = (hard tool.Device refl, c)
+follow_answers s now unsure said fed o (Err (cut.Broken (broken.Unreadable read.OutOfMemory))) answer whole signed c a hard = as_halted _ now said fed o halt.Failed answer a
+follow_answers s now unsure said fed o (Err (cut.Broken (broken.Unreadable read.Failed))) answer whole signed c a hard = as_halted _ now said fed o halt.Unreadable answer a
+follow_answers s now unsure said fed o (Err (cut.Halted h)) answer whole signed c a hard = as_halted _ now said fed o h answer a
 
-pub follow_so : {T : Type 0} (s : Shipping T) (now : Option Moment) (said : Wish) (fed : Meal) (o : Outcome) (ended : Result Stop Cut) (shipped : Result (Unit {0}) Halt) (answer : Result (Unit {0}) ToolFault) (so : Result (Unit {0}) FollowFault)
+pub follow_so : {T : Type 0} (s : Shipping T) (now : Option Moment) (unsure : Type 0) (said : Wish) (fed : Meal) (o : Outcome) (ended : Result Stop Cut) (shipped : Result (Unit {0}) Halt) (answer : Result (Unit {0}) ToolFault) (so : Result (Unit {0}) FollowFault)
     → shipped ≡ shipped_by ended → so ≡ answer_by ended answer
-    → (ended ≡ ends_orderly → Known now (HadAll fed)) → IfOk ended (λ stopped. said ≡ wish_of stopped) → IfErr ended (IsCut s now)
+    → (ended ≡ ends_orderly → Known now (HadAll fed)) → IfOk ended (λ stopped. said ≡ wish_of stopped) → IfErr ended (IsCut s now unsure)
     → Answers (IsOk shipped) (shipped ≡ Err halt.Unreadable) o answer → ((f : ToolFault) → hard_fault shipped ≡ Some f → IsAbandoned o) → FollowAnswers now said fed o so
-follow_so s now said fed o ended shipped answer so e f whole signed c a hard =
+follow_so s now unsure said fed o ended shipped answer so e f whole signed c a hard =
     let answers = subst (λ (r : Result (Unit {0}) Halt). Answers (IsOk r) (r ≡ Err halt.Unreadable) o answer) e a in
     let is_hard = subst (λ (r : Result (Unit {0}) Halt). (t : ToolFault) → hard_fault r ≡ Some t → IsAbandoned o) e hard in
-    subst (λ (r : Result (Unit {0}) FollowFault). FollowAnswers now said fed o r) (sym f) (follow_answers s now said fed o ended answer whole signed c answers is_hard)
+    subst (λ (r : Result (Unit {0}) FollowFault). FollowAnswers now said fed o r) (sym f) (follow_answers s now unsure said fed o ended answer whole signed c answers is_hard)
 
 -- what was left is told so whatever the sign says
 err_answers : (W V : Type 0) (o : Outcome) (f : ToolFault) → Answers W ⊤ o (Err f) → Answers V ⊤ o (Err f)
@@ -207,29 +211,168 @@ signed_answers now old new fed o answer result (inr (e, stopped, hard)) same h =
 
 -- where a following ends early, the shipper has halted so
 
-pub halts_so : {T : Type 0} (s : Shipping T) (now : Option Moment) (ended : Result Stop Cut) (shipped : Result (Unit {0}) Halt)
-    → shipped ≡ shipped_by ended → IfErr ended (IsCut s now) → IfErr shipped (IsHalted s)
-halts_so s now ended shipped e c = subst (λ (r : Result (Unit {0}) Halt). IfErr r (IsHalted s)) (sym e) (halted_by s now ended c)
+pub halts_so : {T : Type 0} (s : Shipping T) (now : Option Moment) (unsure : Type 0) (ended : Result Stop Cut) (shipped : Result (Unit {0}) Halt)
+    → shipped ≡ shipped_by ended → IfErr ended (IsCut s now unsure) → IfErr shipped (IsHalted s)
+halts_so s now unsure ended shipped e c = subst (λ (r : Result (Unit {0}) Halt). IfErr r (IsHalted s)) (sym e) (halted_by s now unsure ended c)
+
+pub live_so : (P : Type 0) (ended : Result Stop Cut) (shipped : Result (Unit {0}) Halt) → shipped ≡ shipped_by ended → OnOk ended P → OnOk shipped P
+live_so P ended shipped e p = subst (λ (r : Result (Unit {0}) Halt). OnOk r P) (sym e) (live_by P ended p)
+
+-- ---- why a following stops at once
+
+-- the error of a call is that which it returns
+pub err_so : {X : Type 0} (P : Halt → Type 0) (r : Result X Halt) (h : Halt) → IsErrAnd r (λ y. y ≡ h) → P h → IfErr r P
+err_so P (Ok x) h is p = absurd is
+err_so P (Err y) h is p = subst P (sym is) p
+
+pub feed_fails : {T : Type 0} (s : Shipping T) (e : FeedFault) → Feeds s (Err e) → FailsWith s (halt_of e)
+feed_fails s feed.OutOfMemory h = subst IsSome (sym h) refl
+feed_fails s (feed.Damaged f) h = tt
+feed_fails s feed.Gone h = subst IsSome (sym h) refl
+
+-- the same of a flush
+pub flush_fails : {T : Type 0} (s : Shipping T) (e : FeedFault) → FailsBy s.fault e → FailsWith s (halt_of e)
+flush_fails s feed.OutOfMemory h = fails_so s.fault feed.OutOfMemory h
+flush_fails s (feed.Damaged f) h = tt
+flush_fails s feed.Gone h = fails_so s.fault feed.Gone h
+
+-- of word of a next segment
+pub begin_fails : {X T : Type 0} (s : Shipping T) (h : Halt) → (halts {X = X} h ≡ halts halt.Failed → IsSome s.fault) → (halts {X = X} h ≡ halts halt.Unreadable → ⊥) → FailsWith s h
+begin_fails s (halt.Damaged f) failed unread = tt
+begin_fails s halt.Failed failed unread = failed refl
+begin_fails s halt.Unreadable failed unread = unread refl
+
+-- and of a number of shards that could not be set
+pub set_fails : {X T : Type 0} (s : Shipping T) (h : Halt) → halts {X = X} h ≡ halts halt.Failed → IsSome s.fault → FailsWith s h
+set_fails {X} s h e some = subst (FailsWith s) (sym (failed_of (halts {X = X} h) h refl e)) some
+
+fails_halts : {T : Type 0} (t : Turn) (old new : Shipping T) (h : Halt) → FailsWith new h → HaltsAt t old new h
+fails_halts t old new (halt.Damaged f) h = tt
+fails_halts t old new halt.Failed h = inl h
+fails_halts t old new halt.Unreadable h = h
+
+pub all_halt : {X T : Type 0} (t : Turn) (old new : Shipping T) (r : Result X Halt) → IfErr r (FailsWith new) → IfErr r (HaltsAt t old new)
+all_halt t old new (Ok x) h = tt
+all_halt t old new (Err y) h = fails_halts t old new y h
+
+halts_from : {T : Type 0} (t : Turn) (old between new : Shipping T) (h : Halt) → between.log ≡ old.log → HaltsAt t between new h → HaltsAt t old new h
+halts_from t old between new (halt.Damaged f) same h = tt
+halts_from t old between new halt.Failed same (inl f) = inl f
+halts_from t old between new halt.Failed same (inr (is, e)) = inr (is, e ∙ ap (λ (l : Sorting). l.pieces) same)
+halts_from t old between new halt.Unreadable same h = h
+
+-- what was fed before is the same
+pub all_halt_from : {X T : Type 0} (t : Turn) (old between new : Shipping T) (r : Result X Halt) → between.log ≡ old.log → IfErr r (HaltsAt t between new) → IfErr r (HaltsAt t old new)
+all_halt_from t old between new (Ok x) same h = tt
+all_halt_from t old between new (Err y) same h = halts_from t old between new y same h
+
+given_more : (old new : Option Moment) (buf : List ℕ) (n : ℕ) (meal fed : Meal) → fed ≡ meal → 0 < n → n ≤ length buf → Moves old new (given_by (turn.Piece n) buf) → Known old (λ m. IsGivenAt meal m)
+    → HasGivenMore new fed
+given_more old new buf n meal fed same some within move given =
+    let given_here : Known new (λ m. IsGivenAt (with_piece meal (take n buf)) m) = move meal given in (
+      take n buf,
+      subst (λ (k : ℕ). 0 < k) (sym (length-take-le n buf within)) some,
+      subst (λ (f : Meal). Known new (λ m. IsGivenAt (with_piece f (take n buf)) m)) (sym same) given_here,
+    )
+
+pub halts_for : {T : Type 0} (s : Shipping T) (next : Shipping T) (old new : Option Moment) (t : Turn) (buf : List ℕ) (h : Halt) → HaltsAt t s next h → Moves old new (given_by t buf)
+    → Known old (λ m. IsGivenAt (meal_of s.log.pieces) m) → IsWithin t (length buf) → ((n : ℕ) → t ≡ turn.Piece n → 0 < n) → HaltsFor next new h
+halts_for s next old new t buf (halt.Damaged f) at move given within some = tt
+halts_for s next old new t buf halt.Failed (inl f) move given within some = inl f
+halts_for s next old new (turn.Piece n) buf halt.Failed (inr (is, same)) move given within some =
+    inr (given_more old new buf n (meal_of s.log.pieces) (meal_of next.log.pieces) (ap meal_of same) (some n refl) within move given)
+halts_for s next old new turn.Over buf halt.Failed (inr (is, same)) move given within some = absurd is
+halts_for s next old new turn.Flush buf halt.Failed (inr (is, same)) move given within some = absurd is
+halts_for s next old new turn.Nothing buf halt.Failed (inr (is, same)) move given within some = absurd is
+halts_for s next old new (turn.Stopped e) buf halt.Failed (inr (is, same)) move given within some = absurd is
+halts_for s next old new t buf halt.Unreadable at move given within some = absurd at
+
+-- a turn failed
+pub cut_broken : {T : Type 0} (s : Shipping T) (now : Option Moment) (unsure : Type 0) (r : Result Stop Cut) (b : Broken) → IsErrAnd r (λ e. e ≡ cut.Broken b)
+    → ((n : ℕ) → b ≡ broken.Missing n → Known now (growth.HasGap n)) → ((f : ReadFault) → b ≡ broken.Unreadable f → unsure) → IfErr r (IsCut s now unsure)
+cut_broken s now unsure (Ok x) b is missing fails = absurd is
+cut_broken s now unsure (Err e) (broken.Missing n) is missing fails = subst (IsCut s now unsure) (sym is) (missing n refl)
+cut_broken s now unsure (Err e) (broken.Unreadable f) is missing fails = subst (IsCut s now unsure) (sym is) (fails f refl)
+
+stops_so : (now : Option Moment) (said : Wish) (unsure : Type 0) (fed : Meal) (answer : Result (Unit {0}) ToolFault) (f : ToolFault) → answer ≡ Err f
+    → StopsAtOnce (HasGivenMore now fed ⊎ unsure) unsure (Err f) → FollowStopsAtOnce now said unsure fed (told answer)
+stops_so now said unsure fed (Ok u) f e h = let no : ⊥ = cc in absurd no
+stops_so now said unsure fed (Err g) f e h = subst (λ (r : Result (Unit {0}) ToolFault). StopsAtOnce (HasGivenMore now fed ⊎ unsure) unsure r) (sym e) h
+
+-- the cause of a hard stop, by how the reading ended
+pub follow_cause : {T : Type 0} (s : Shipping T) (now : Option Moment) (said : Wish) (unsure : Type 0) (ended : Result Stop Cut) (answer : Result (Unit {0}) ToolFault)
+    → IfOk ended (λ stopped. said ≡ wish_of stopped) → IfErr ended (IsCut s now unsure) → ((f : ToolFault) → hard_fault (shipped_by ended) ≡ Some f → answer ≡ Err f)
+    → IsSome (hard_fault (shipped_by ended)) → IsSome s.fault ⊎ FollowStopsAtOnce now said unsure (meal_of s.log.pieces) (answer_by ended answer)
+follow_cause s now said unsure (Ok stop.Orderly) answer signed c is hard = let no : ⊥ = cc in absurd no
+follow_cause s now said unsure (Ok stop.Hard) answer signed c is hard = inr signed
+follow_cause s now said unsure (Err (cut.Broken (broken.Missing n))) answer signed c is hard = inr c
+follow_cause s now said unsure (Err (cut.Broken (broken.Unreadable read.OutOfMemory))) answer signed c is hard =
+    inr (stops_so now said unsure (meal_of s.log.pieces) answer tool.OutOfMemory (is tool.OutOfMemory refl) (inr c))
+follow_cause s now said unsure (Err (cut.Broken (broken.Unreadable read.Failed))) answer signed c is hard =
+    inr (stops_so now said unsure (meal_of s.log.pieces) answer tool.Device (is tool.Device refl) c)
+follow_cause s now said unsure (Err (cut.Halted (halt.Damaged f))) answer signed c is hard = let no : ⊥ = cc in absurd no
+follow_cause s now said unsure (Err (cut.Halted halt.Failed)) answer signed (c, inl f) is hard = inl f
+follow_cause s now said unsure (Err (cut.Halted halt.Failed)) answer signed (c, inr more) is hard =
+    inr (stops_so now said unsure (meal_of s.log.pieces) answer tool.OutOfMemory (is tool.OutOfMemory refl) (inl more))
+follow_cause s now said unsure (Err (cut.Halted halt.Unreadable)) answer signed (c, never) is hard = absurd never
+
+-- whatever was said when the sign was looked at once more
+said_stops : (now : Option Moment) (old new : Wish) (unsure : Type 0) (fed : Meal) (answer : Result (Unit {0}) FollowFault) → ((answer ≡ left_undone → ⊥) → new ≡ old)
+    → FollowStopsAtOnce now old unsure fed answer → FollowStopsAtOnce now new unsure fed answer
+said_stops now old new unsure fed (Ok u) same h = absurd h
+said_stops now old new unsure fed (Err (fault.Tool f)) same h = h
+said_stops now old new unsure fed (Err (fault.Missing n)) same h = h
+said_stops now old new unsure fed (Err fault.Stopped) same h = same (λ bad. cc) ∙ h
+
+signed_stops : (now : Option Moment) (old new : Wish) (unsure : Type 0) (fed : Meal) (answer result : Result (Unit {0}) FollowFault)
+    → (result ≡ answer) ⊎ ((answer ≡ left_undone) × (result ≡ Err fault.Stopped) × (new ≡ wish.Hard)) → ((answer ≡ left_undone → ⊥) → new ≡ old)
+    → FollowStopsAtOnce now old unsure fed answer → FollowStopsAtOnce now new unsure fed result
+signed_stops now old new unsure fed answer result (inl e) same h =
+    subst (λ (r : Result (Unit {0}) FollowFault). FollowStopsAtOnce now new unsure fed r) (sym e) (said_stops now old new unsure fed answer same h)
+signed_stops now old new unsure fed answer result (inr (e, stopped, hard)) same h = subst (λ (r : Result (Unit {0}) FollowFault). FollowStopsAtOnce now new unsure fed r) (sym stopped) hard
+
+with_stops : {F A B : Type 0} → (A → B) → F ⊎ A → F ⊎ B
+with_stops go (inl f) = inl f
+with_stops go (inr a) = inr (go a)
+
+is_hard_fault : (found : Option ToolFault) (f : ToolFault) → found ≡ Some f → IsSome found
+is_hard_fault found f e = subst IsSome (sym e) refl
+
+-- so it is of the shipping that was stopped by it, and of the answer in the end
+pub follow_why : {T : Type 0} (s : Shipping T) (now : Option Moment) (old new : Wish) (unsure : Type 0) (ended : Result Stop Cut) (shipped : Result (Unit {0}) Halt) (answer : Result (Unit {0}) ToolFault) (so result : Result (Unit {0}) FollowFault)
+    → shipped ≡ shipped_by ended → so ≡ answer_by ended answer
+    → (result ≡ so) ⊎ ((so ≡ left_undone) × (result ≡ Err fault.Stopped) × (new ≡ wish.Hard)) → ((so ≡ left_undone → ⊥) → new ≡ old)
+    → IfOk ended (λ stopped. old ≡ wish_of stopped) → IfErr ended (IsCut s now unsure) → ((f : ToolFault) → hard_fault shipped ≡ Some f → answer ≡ Err f)
+    → HasCause (IsSome s.fault ⊎ FollowStopsAtOnce now new unsure (meal_of s.log.pieces) result) shipped
+follow_why s now old new unsure ended shipped answer so result e f which same signed c is =
+    let answered = subst (λ (r : Result (Unit {0}) Halt). (t : ToolFault) → hard_fault r ≡ Some t → answer ≡ Err t) e is in
+    let stops = signed_stops now old new unsure (meal_of s.log.pieces) so result which same in
+    let first : IsSome (hard_fault shipped) → IsSome s.fault ⊎ FollowStopsAtOnce now old unsure (meal_of s.log.pieces) so = λ hard.
+    subst (λ (r : Result (Unit {0}) FollowFault). IsSome s.fault ⊎ FollowStopsAtOnce now old unsure (meal_of s.log.pieces) r) (sym f)
+    (follow_cause s now old unsure ended answer signed c answered (subst (λ (r : Result (Unit {0}) Halt). IsSome (hard_fault r)) e hard)) in (
+      λ failed. with_stops stops (first (is_hard_fault _ tool.OutOfMemory (ap hard_fault failed))),
+      λ unread. with_stops stops (first (is_hard_fault _ tool.Device (ap hard_fault unread))),
+    )
 
 -- ---- a report is printed
 
-pub printed : {T : Type 0} {tells : T → Type 0} {seen : T → List Exchange} {is_for : ℕ → ℕ → T → Type 0} {c : ConfigFields} {limit : Option ℕ} {now : Option Moment} {said : Wish} {r : Report T} {answer : Result (Unit {0}) FollowFault}
-    (before after : Option (List ℕ)) → IsFollowed tells seen is_for c limit now said r answer → (text : List ℕ) × IsTextOf r text × Appends before after text → IsFollowPrinted tells seen is_for c limit now said before after answer
+pub printed : {T : Type 0} {tells : T → Type 0} {seen : T → List Exchange} {is_for : ℕ → ℕ → T → Type 0} {c : ConfigFields} {limit : Option ℕ} {is_sure : Bool} {now : Option Moment} {said : Wish} {r : Report T} {answer : Result (Unit {0}) FollowFault}
+    (before after : Option (List ℕ)) → IsFollowed tells seen is_for c limit is_sure now said r answer → (text : List ℕ) × IsTextOf r text × Appends before after text → IsFollowPrinted tells seen is_for c limit is_sure now said before after answer
 printed {r = r} before after s p = record { report = r; followed = s; text = p.0; text_of = p.1; written = p.2 }
 
-pub printed_part : {T : Type 0} {tells : T → Type 0} {seen : T → List Exchange} {is_for : ℕ → ℕ → T → Type 0} {c : ConfigFields} {limit : Option ℕ} {now : Option Moment} {said : Wish} {r : Report T} {answer : Result (Unit {0}) FollowFault}
-    {before after : Option (List ℕ)} → IsFollowed tells seen is_for c limit now said r answer → WritesPart r before after → IsFollowPrintedPart tells seen is_for c limit now said before after
+pub printed_part : {T : Type 0} {tells : T → Type 0} {seen : T → List Exchange} {is_for : ℕ → ℕ → T → Type 0} {c : ConfigFields} {limit : Option ℕ} {is_sure : Bool} {now : Option Moment} {said : Wish} {r : Report T} {answer : Result (Unit {0}) FollowFault}
+    {before after : Option (List ℕ)} → IsFollowed tells seen is_for c limit is_sure now said r answer → WritesPart r before after → IsFollowPrintedPart tells seen is_for c limit is_sure now said before after
 printed_part {r = r} {answer = answer} s p = record { answer = answer; report = r; followed = s; part = p }
 
-pub printed_whole : {T : Type 0} {tells : T → Type 0} {seen : T → List Exchange} {is_for : ℕ → ℕ → T → Type 0} {c : ConfigFields} {limit : Option ℕ} {now : Option Moment} {said : Wish} {before after : Option (List ℕ)}
-    (answer : Result (Unit {0}) FollowFault) → IsFollowPrinted tells seen is_for c limit now said before after answer → OnOk answer (IsFollowPrinted tells seen is_for c limit now said before after (Ok tt))
+pub printed_whole : {T : Type 0} {tells : T → Type 0} {seen : T → List Exchange} {is_for : ℕ → ℕ → T → Type 0} {c : ConfigFields} {limit : Option ℕ} {is_sure : Bool} {now : Option Moment} {said : Wish} {before after : Option (List ℕ)}
+    (answer : Result (Unit {0}) FollowFault) → IsFollowPrinted tells seen is_for c limit is_sure now said before after answer → OnOk answer (IsFollowPrinted tells seen is_for c limit is_sure now said before after (Ok tt))
 printed_whole (Ok u) h = h
 printed_whole (Err e) h = tt
 
-pub printed_so : {T : Type 0} {tells : T → Type 0} {seen : T → List Exchange} {is_for : ℕ → ℕ → T → Type 0} {c : ConfigFields} {limit : Option ℕ} {now : Option Moment} {said : Wish} {before after : Option (List ℕ)}
-    {answer : Result (Unit {0}) FollowFault} (other : Result (Unit {0}) FollowFault) → answer ≡ other → IsFollowPrinted tells seen is_for c limit now said before after answer → IsFollowPrinted tells seen is_for c limit now said before after other
-printed_so {tells = tells} {seen = seen} {is_for = is_for} {c = c} {limit = limit} {now = now} {said = said} {before = before} {after = after} other e h =
-    subst (λ (a : Result (Unit {0}) FollowFault). IsFollowPrinted tells seen is_for c limit now said before after a) e h
+pub printed_so : {T : Type 0} {tells : T → Type 0} {seen : T → List Exchange} {is_for : ℕ → ℕ → T → Type 0} {c : ConfigFields} {limit : Option ℕ} {is_sure : Bool} {now : Option Moment} {said : Wish} {before after : Option (List ℕ)}
+    {answer : Result (Unit {0}) FollowFault} (other : Result (Unit {0}) FollowFault) → answer ≡ other → IsFollowPrinted tells seen is_for c limit is_sure now said before after answer → IsFollowPrinted tells seen is_for c limit is_sure now said before after other
+printed_so {tells = tells} {seen = seen} {is_for = is_for} {c = c} {limit = limit} {is_sure = is_sure} {now = now} {said = said} {before = before} {after = after} other e h =
+    subst (λ (a : Result (Unit {0}) FollowFault). IsFollowPrinted tells seen is_for c limit is_sure now said before after a) e h
 
 tool_of : FollowFault → ToolFault
 tool_of (fault.Tool f) = f

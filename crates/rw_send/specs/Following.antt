@@ -1,9 +1,9 @@
 -- What a run of the command `send --follow` does.
-use Rattle.std.specs.Prelude.{◌≡◌, ℕ, List, [], ◌∷◌, map, Option, None, Result, Ok, Err, ⊤}
+use Rattle.std.specs.Prelude.{◌≡◌, ◌⊎◌, ℕ, ◌<◌, Bool, true, List, [], ◌∷◌, length, map, Option, None, IsSome, Result, Ok, Err, ⊤}
 use Rattle.std.specs.Io.KnownBytes.{Appends}
 use Rattle.rw_wal_format.specs.Pieces.{Piece, bytes, next_segment}
 use Rattle.rw_follow.specs.Growth as growth
-use Rattle.rw_follow.specs.Growth.{HadAll, HasGap, IsBeginning, Known, Meal, Moment, with_next, with_piece}
+use Rattle.rw_follow.specs.Growth.{HadAll, HasGap, IsBeginning, IsGivenAt, Known, Meal, Moment, with_next, with_piece}
 use Rattle.rw_follow.specs.declared.follower.Broken.TheVariants as broken
 use Rattle.rw_follow.specs.declared.follower.Stop.{Stop}
 use Rattle.rw_follow.specs.declared.follower.Stop.TheVariants as stop
@@ -30,7 +30,7 @@ use Rattle.rw_send.specs.declared.live.Cut.TheVariants as cut
 use Rattle.rw_send.specs.ReportText.{IsTextOf, WritesPart}
 use Rattle.rw_log_shipping.specs.Segments.{AreShort}
 use Rattle.rw_log_shipping.specs.Halting.{IsHalted}
-use Rattle.rw_send.specs.Sending.{Answers, IsReportOf}
+use Rattle.rw_send.specs.Sending.{Answers, IsReportOf, StopsAtOnce}
 
 -- nothing was given of the log, of which no segment is over
 pub record IsUnread (m : Moment) : Type 0 where
@@ -57,11 +57,44 @@ MarksBy turn.Flush old new = new.fleet.current ≡ map marked old.fleet.current
 MarksBy turn.Nothing old new = new ≡ old
 MarksBy (turn.Stopped s) old new = new ≡ old
 
--- Where the shipper takes no more, the log has the fault for which it does not. A segment is missing that the log says is.
-abbrev pub IsCut : {T : Type 0} → Shipping T → Option Moment → Cut → Type 0
-IsCut s now (cut.Broken (broken.Unreadable f)) = ⊤
-IsCut s now (cut.Broken (broken.Missing n)) = Known now (HasGap n)
-IsCut s now (cut.Halted h) = IsHalted s h
+-- the turn gave some bytes
+abbrev pub IsPiece : Turn → Type 0
+IsPiece (turn.Piece n) = ⊤
+IsPiece turn.Over = ⊥
+IsPiece turn.Flush = ⊥
+IsPiece turn.Nothing = ⊥
+IsPiece (turn.Stopped s) = ⊥
+
+-- The shipper failed, or the log is damaged. A shipper reads no segment.
+abbrev pub FailsWith : {T : Type 0} → Shipping T → Halt → Type 0
+FailsWith s (halt.Damaged f) = ⊤
+FailsWith s halt.Failed = IsSome s.fault
+FailsWith s halt.Unreadable = ⊥
+
+-- or memory was refused for the bytes of this turn, which were not fed
+abbrev pub HaltsAt : {T : Type 0} → Turn → Shipping T → Shipping T → Halt → Type 0
+HaltsAt turn old new (halt.Damaged f) = ⊤
+HaltsAt turn old new halt.Failed =
+    IsSome new.fault ⊎ (IsPiece turn × (new.log.pieces ≡ old.log.pieces))
+HaltsAt turn old new halt.Unreadable = ⊥
+
+-- the log has given more bytes than were fed
+abbrev pub HasGivenMore : Option Moment → Meal → Type 0
+HasGivenMore now fed =
+    (more : List ℕ) × (0 < length more) × Known now (λ m. IsGivenAt (with_piece fed more) m)
+
+-- The shipper failed, the log is damaged, or memory was refused for bytes that the log has given.
+abbrev pub HaltsFor : {T : Type 0} → Shipping T → Option Moment → Halt → Type 0
+HaltsFor s now (halt.Damaged f) = ⊤
+HaltsFor s now halt.Failed = IsSome s.fault ⊎ HasGivenMore now (meal_of s.log.pieces)
+HaltsFor s now halt.Unreadable = ⊥
+
+-- Where the shipper takes no more, the log has the fault for which it does not. A call that failed
+-- was one of a log of which calls may fail (`unsure`). A segment is missing that the log says is.
+abbrev pub IsCut : {T : Type 0} → Shipping T → Option Moment → (unsure : Type 0) → Cut → Type 0
+IsCut s now unsure (cut.Broken (broken.Unreadable f)) = unsure
+IsCut s now unsure (cut.Broken (broken.Missing n)) = Known now (HasGap n)
+IsCut s now unsure (cut.Halted h) = IsHalted s h × HaltsFor s now h
 
 -- how the reading ended: by a hard sign, and where a segment is missing, as where it cannot be read
 abbrev pub shipped_by : Result Stop Cut → Result (Unit {0}) Halt
@@ -100,26 +133,47 @@ FollowAnswers now said fed o (Err (fault.Tool f)) = Answers (HasRead now said fe
 FollowAnswers now said fed o (Err (fault.Missing n)) = IsAbandoned o × Known now (HasGap n)
 FollowAnswers now said fed o (Err fault.Stopped) = IsAbandoned o × (said ≡ wish.Hard)
 
--- A beginning of the segments' texts was shipped in order, in short pieces, with word of a next segment between two, and nothing else; with this report and
--- this answer.
-pub record IsFollowed {T : Type 0} (tells : T → Type 0) (seen : T → List Exchange) (is_for : ℕ → ℕ → T → Type 0) (c : ConfigFields) (limit : Option ℕ) (now : Option Moment) (said : Wish) (r : Report T) (answer : Result (Unit {0}) FollowFault) : Type 0 where
+-- Why a following that answers so was stopped at once: it was asked to, a segment is missing, a
+-- call failed of a log of which calls may fail (`unsure`), or memory was refused for bytes that the
+-- log has given.
+abbrev pub FollowStopsAtOnce : Option Moment → Wish → (unsure : Type 0) → Meal
+    → Result (Unit {0}) FollowFault → Type 0
+FollowStopsAtOnce now said unsure fed (Ok u) = ⊥
+FollowStopsAtOnce now said unsure fed (Err (fault.Tool f)) =
+    StopsAtOnce (HasGivenMore now fed ⊎ unsure) unsure (Err f)
+FollowStopsAtOnce now said unsure fed (Err (fault.Missing n)) = Known now (HasGap n)
+FollowStopsAtOnce now said unsure fed (Err fault.Stopped) = said ≡ wish.Hard
+
+-- A prefix of the segments' texts was shipped in order, in short pieces, with word of a next
+-- segment between two, and nothing else; with this report and this answer. `is_sure` says whether no
+-- call of the log fails.
+pub record IsFollowed {T : Type 0} (tells : T → Type 0) (seen : T → List Exchange)
+    (is_for : ℕ → ℕ → T → Type 0) (c : ConfigFields) (limit : Option ℕ) (is_sure : Bool)
+    (now : Option Moment) (said : Wish) (r : Report T) (answer : Result (Unit {0}) FollowFault)
+    : Type 0 where
   pub pieces : List Piece
   pub begins : Known now (λ m. IsBeginning (meal_of pieces) (growth.texts m))
   pub short : AreShort pieces
-  pub report : IsReportOf tells seen is_for c limit pieces r
+  pub report : IsReportOf tells seen is_for c limit
+      (FollowStopsAtOnce now said (is_sure ≡ true → ⊥) (meal_of pieces) answer) pieces r
   pub answers : FollowAnswers now said (meal_of pieces) r.outcome answer
 
 -- and the text of the report was written
-pub record IsFollowPrinted {T : Type 0} (tells : T → Type 0) (seen : T → List Exchange) (is_for : ℕ → ℕ → T → Type 0) (c : ConfigFields) (limit : Option ℕ) (now : Option Moment) (said : Wish) (before after : Option (List ℕ)) (answer : Result (Unit {0}) FollowFault) : Type 0 where
+pub record IsFollowPrinted {T : Type 0} (tells : T → Type 0) (seen : T → List Exchange)
+    (is_for : ℕ → ℕ → T → Type 0) (c : ConfigFields) (limit : Option ℕ) (is_sure : Bool)
+    (now : Option Moment) (said : Wish) (before after : Option (List ℕ))
+    (answer : Result (Unit {0}) FollowFault) : Type 0 where
   pub report : Report T
-  pub followed : IsFollowed tells seen is_for c limit now said report answer
+  pub followed : IsFollowed tells seen is_for c limit is_sure now said report answer
   pub text : List ℕ
   pub text_of : IsTextOf report text
   pub written : Appends before after text
 
--- a beginning of it was written
-pub record IsFollowPrintedPart {T : Type 0} (tells : T → Type 0) (seen : T → List Exchange) (is_for : ℕ → ℕ → T → Type 0) (c : ConfigFields) (limit : Option ℕ) (now : Option Moment) (said : Wish) (before after : Option (List ℕ)) : Type 0 where
+-- a prefix of it was written
+pub record IsFollowPrintedPart {T : Type 0} (tells : T → Type 0) (seen : T → List Exchange)
+    (is_for : ℕ → ℕ → T → Type 0) (c : ConfigFields) (limit : Option ℕ) (is_sure : Bool)
+    (now : Option Moment) (said : Wish) (before after : Option (List ℕ)) : Type 0 where
   pub answer : Result (Unit {0}) FollowFault
   pub report : Report T
-  pub followed : IsFollowed tells seen is_for c limit now said report answer
+  pub followed : IsFollowed tells seen is_for c limit is_sure now said report answer
   pub part : WritesPart report before after

@@ -166,9 +166,11 @@ impl<R: Files<File = File> + AllocGlobal + Copy> Folder<R> {
 }
 
 impl<R: Files<File = File> + AllocGlobal + Copy> Segments for Folder<R> {
-    ghost use Rattle.std.specs.Prelude.{None};
+    ghost use Rattle.std.specs.Prelude.{None, false};
 
     ghost now = { λ _. None };
+
+    ghost is_sure = { λ _. false };
 
     fn read(&mut self, buf: &mut [u8]) -> Result<usize, ReadFault> {
         if self.current.is_none() {

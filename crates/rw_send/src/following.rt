@@ -104,7 +104,7 @@ fn ship_on<
     requires unread { Known (S.now segments.old) IsUnread }
     ensures { IfOk result
         (λ f. IsFollowed C.T.tells C.T.seen C.T.is_for config line.entry.max_batch_bytes
-        (S.now segments.new) (W.said watch.new) f.report f.answer) }
+        (S.is_sure segments.old) (S.now segments.new) (W.said watch.new) f.report f.answer) }
 {
     let sharding = Sharding::of(&config);
     let mut buf = zeros(alloc)?;
@@ -149,35 +149,42 @@ pub fn run_follow<
     requires unread { Known (S.now segments.old) IsUnread }
     ensures complete { OnOk result
         (IsFollowPrinted C.T.tells C.T.seen C.T.is_for settings.config line.entry.max_batch_bytes
-        (S.now segments.new) (W.said watch.new) (K.contents writer.old) (K.contents writer.new)
+        (S.is_sure segments.old) (S.now segments.new) (W.said watch.new)
+        (K.contents writer.old) (K.contents writer.new)
         (Ok tt)) }
     ensures sound { OnOk result
         (K.has_failed writer.old ≡ false → K.has_failed writer.new ≡ false) }
     ensures damaged { (f : TailFault) → result ≡ Err (Tool (Log f))
         → IsFollowPrinted C.T.tells C.T.seen C.T.is_for settings.config line.entry.max_batch_bytes
-        (S.now segments.new) (W.said watch.new) (K.contents writer.old) (K.contents writer.new)
+        (S.is_sure segments.old) (S.now segments.new) (W.said watch.new)
+        (K.contents writer.old) (K.contents writer.new)
         (Err (Tool (Log f))) }
     ensures missing { (n : ℕ) → result ≡ Err (Missing n)
         → IsFollowPrinted C.T.tells C.T.seen C.T.is_for settings.config line.entry.max_batch_bytes
-        (S.now segments.new) (W.said watch.new) (K.contents writer.old) (K.contents writer.new)
+        (S.is_sure segments.old) (S.now segments.new) (W.said watch.new)
+        (K.contents writer.old) (K.contents writer.new)
         (Err (Missing n)) }
     ensures stopped { result ≡ Err Stopped
         → IsFollowPrinted C.T.tells C.T.seen C.T.is_for settings.config line.entry.max_batch_bytes
-        (S.now segments.new) (W.said watch.new) (K.contents writer.old) (K.contents writer.new)
+        (S.is_sure segments.old) (S.now segments.new) (W.said watch.new)
+        (K.contents writer.old) (K.contents writer.new)
         (Err Stopped) }
     ensures memory { result ≡ Err (Tool OutOfMemory) → (writer.new ≡ writer.old)
         ⊎ IsFollowPrinted C.T.tells C.T.seen C.T.is_for settings.config line.entry.max_batch_bytes
-        (S.now segments.new) (W.said watch.new) (K.contents writer.old) (K.contents writer.new)
+        (S.is_sure segments.old) (S.now segments.new) (W.said watch.new)
+        (K.contents writer.old) (K.contents writer.new)
         (Err (Tool OutOfMemory)) }
 
     // A segment cannot be read, or the writer holds a beginning of the report.
     ensures device { result ≡ Err (Tool Device)
         → IsFollowPrinted C.T.tells C.T.seen C.T.is_for settings.config line.entry.max_batch_bytes
-        (S.now segments.new) (W.said watch.new) (K.contents writer.old) (K.contents writer.new)
+        (S.is_sure segments.old) (S.now segments.new) (W.said watch.new)
+        (K.contents writer.old) (K.contents writer.new)
         (Err (Tool Device))
         ⊎ ((K.has_failed writer.new ≡ true)
         × IsFollowPrintedPart C.T.tells C.T.seen C.T.is_for settings.config line.entry.max_batch_bytes
-        (S.now segments.new) (W.said watch.new) (K.contents writer.old) (K.contents writer.new)) }
+        (S.is_sure segments.old) (S.now segments.new) (W.said watch.new)
+        (K.contents writer.old) (K.contents writer.new)) }
     ensures no_line { (n : ℕ) → result ≡ Err (Tool (Line n)) → ⊥ }
     ensures no_full { result ≡ Err (Tool SegmentFull) → ⊥ }
 {

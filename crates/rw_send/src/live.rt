@@ -1,17 +1,19 @@
 //! A log is fed to a shipper as it grows.
 
-ghost use Rattle.std.specs.Prelude.{◌≡◌, ◌<◌, ◌≤◌, ◌⊎◌, [], length, map, true, false, None, Ok, IfErr, IfOk, OnOk, OnErr};
+ghost use Rattle.std.specs.Prelude.{◌≡◌, ◌<◌, ◌≤◌, ◌⊎◌, [], length, map, true, false, None, Ok, IfErr, IfOk, IsSome, OnOk, OnErr};
 ghost use Rattle.rw_follow.specs.Growth as growth;
 ghost use Rattle.rw_follow.specs.Growth.{HadAll, IsBeginning, Known, with_next, with_piece};
 ghost use Rattle.rw_follow.specs.Turns.{IsWithin, given_by, wish_of};
 ghost use Rattle.rw_follow.specs.declared.follower.Stop.TheVariants as Stop;
 ghost use Rattle.rw_fleet.specs.ShardHistories.{marked, marks_of};
+ghost use Rattle.rw_fleet.specs.Work.{AreResolved};
 ghost use Rattle.rw_fleet.specs.Loads.{IsLoad};
 ghost use Rattle.rw_fleet.specs.declared.load.Load.{Load};
-ghost use Rattle.rw_send.specs.Following.{IsCut, IsUnread, MarksBy, meal_of};
+ghost use Rattle.rw_shipper.specs.Placement.{IsShardCount};
+ghost use Rattle.rw_send.specs.Following.{FailsWith, HaltsAt, IsCut, IsUnread, MarksBy, meal_of};
 ghost use Rattle.rw_log_shipping.specs.Segments.{AreShort};
 ghost use Rattle.rw_log_shipping.specs.Halting.{IsHalted};
-ghost use Rattle.rw_log_shipping.specs.Steps.{IsKept};
+ghost use Rattle.rw_log_shipping.specs.Steps.{HasLastEpoch, IsKept};
 
 use rw_follow::{Broken, Follower, Segments, Stop, Turn, Watch};
 use rw_log_shipping::{Halt, Means, Sharding, begin_segment, resharded, retuned, tell};
@@ -75,6 +77,8 @@ fn feed_bytes<R: Wait, C: Connect + Drop>(
         ≡ with_piece (meal_of shipper.old.log.pieces) piece.items)) }
 
     ensures halted { IfErr result (IsHalted shipper.new) }
+    ensures fails { IfErr result (FailsWith shipper.new) }
+    ensures ended { shipper.new.fleet.ended ≡ shipper.old.fleet.ended }
 {
     shipper.feed(rt, Piece::Bytes(piece))?;
     Ok(())
@@ -91,6 +95,7 @@ fn feed_next<R: Threads + Wait + Clock + Copy + Send + 'static, C: Connect + Dro
     ensures kept { IsKept shipper.old shipper.new }
     ensures limit { shipper.new.limit ≡ shipper.old.limit }
     ensures shards { IfOk result (λ s. length shipper.new.fleet.current ≡ s.shards) }
+    ensures number { shipper.new.fault ≡ None → IsShardCount (length shipper.new.fleet.current) }
     ensures start { IfOk result
         (λ s. (s.placed ≡ sharding.placed) × (s.resolved ≡ sharding.resolved)) }
     ensures short { AreShort shipper.old.log.pieces → AreShort shipper.new.log.pieces }
@@ -101,6 +106,10 @@ fn feed_next<R: Threads + Wait + Clock + Copy + Send + 'static, C: Connect + Dro
         ⊎ (meal_of shipper.new.log.pieces ≡ with_next (meal_of shipper.old.log.pieces))) }
 
     ensures halted { IfErr result (IsHalted shipper.new) }
+    ensures fails { IfErr result (FailsWith shipper.new) }
+    ensures last { AreResolved shipper.old.fleet.ended → HasLastEpoch shipper.new }
+    ensures resolved { AreResolved shipper.old.fleet.ended
+        → OnOk result (AreResolved shipper.new.fleet.ended) }
 {
     let next = resharded(rt, shipper, sharding, true)?;
     begin_segment(rt, shipper, false)?;
@@ -114,11 +123,13 @@ fn flush<R: Wait, C: Connect + Drop>(rt: &R, shipper: &mut Shipper<C>) -> Result
     ensures limit { shipper.new.fault ≡ None → shipper.new.limit ≡ shipper.old.limit }
     ensures marked { OnOk result
         (shipper.new.fleet.current ≡ map marked shipper.old.fleet.current) }
-    ensures shards { OnOk result
-        (length shipper.new.fleet.current ≡ length shipper.old.fleet.current) }
+    ensures shards { length shipper.new.fleet.current ≡ length shipper.old.fleet.current }
     ensures log { shipper.new.log ≡ shipper.old.log }
     ensures live { OnOk result (shipper.new.fault ≡ None) }
+    ensures failed { OnErr result (IsSome shipper.new.fault) }
     ensures halted { IfErr result (IsHalted shipper.new) }
+    ensures fails { IfErr result (FailsWith shipper.new) }
+    ensures ended { shipper.new.fleet.ended ≡ shipper.old.fleet.ended }
 {
     shipper.flush(rt)?;
     Ok(())
@@ -141,6 +152,7 @@ fn obey<R: Threads + Wait + Clock + Copy + Send + 'static, C: Connect + Drop>(
     ensures limit { shipper.new.fault ≡ None → shipper.new.limit ≡ shipper.old.limit }
     ensures marks { OnOk result (MarksBy turn shipper.old shipper.new) }
     ensures shards { IfOk result (λ s. length shipper.new.fleet.current ≡ s.shards) }
+    ensures number { shipper.new.fault ≡ None → IsShardCount (length shipper.new.fleet.current) }
     ensures start { IfOk result
         (λ s. (s.placed ≡ sharding.placed) × (s.resolved ≡ sharding.resolved)) }
     ensures short { AreShort shipper.old.log.pieces → AreShort shipper.new.log.pieces }
@@ -152,6 +164,10 @@ fn obey<R: Threads + Wait + Clock + Copy + Send + 'static, C: Connect + Drop>(
         ≡ given_by turn buf.now (meal_of shipper.old.log.pieces))) }
 
     ensures halted { IfErr result (IsHalted shipper.new) }
+    ensures halts { IfErr result (HaltsAt turn shipper.old shipper.new) }
+    ensures last { AreResolved shipper.old.fleet.ended → HasLastEpoch shipper.new }
+    ensures resolved { AreResolved shipper.old.fleet.ended
+        → OnOk result (AreResolved shipper.new.fleet.ended) }
 {
     match turn {
         Turn::Piece(count) => {
@@ -190,6 +206,7 @@ fn step<R: Threads + Wait + Clock + Copy + Send + 'static, C: Connect + Drop>(
     ensures start { is_reshard_due ≡ false → IfOk result
         (λ s. (s.placed ≡ sharding.placed) × (s.resolved ≡ sharding.resolved)) }
     ensures shards { IfOk result (λ s. length shipper.new.fleet.current ≡ s.shards) }
+    ensures number { shipper.new.fault ≡ None → IsShardCount (length shipper.new.fleet.current) }
     ensures short { AreShort shipper.old.log.pieces → AreShort shipper.new.log.pieces }
     ensures live { OnOk result (shipper.new.fault ≡ None) }
     ensures fed { OnOk result (meal_of shipper.new.log.pieces
@@ -199,6 +216,10 @@ fn step<R: Threads + Wait + Clock + Copy + Send + 'static, C: Connect + Drop>(
         ≡ given_by turn buf.now (meal_of shipper.old.log.pieces))) }
 
     ensures halted { IfErr result (IsHalted shipper.new) }
+    ensures halts { IfErr result (HaltsAt turn shipper.old shipper.new) }
+    ensures last { AreResolved shipper.old.fleet.ended → HasLastEpoch shipper.new }
+    ensures resolved { AreResolved shipper.old.fleet.ended
+        → OnOk result (AreResolved shipper.new.fleet.ended) }
 {
     let next = retuned(rt, shipper, sharding, is_reshard_due)?;
     obey(rt, alloc, shipper, next, turn, buf)
@@ -236,6 +257,7 @@ pub(crate) fn ship_live<
     requires short { length buf.old ≤ 65_536 }
     ensures kept { IsKept shipper.old shipper.new }
     ensures limit { shipper.new.fault ≡ None → shipper.new.limit ≡ shipper.old.limit }
+    ensures number { shipper.new.fault ≡ None → IsShardCount (length shipper.new.fleet.current) }
     ensures short { AreShort shipper.new.log.pieces }
     ensures live { OnOk result (shipper.new.fault ≡ None) }
     ensures begins { Known (S.now segments.new)
@@ -243,7 +265,9 @@ pub(crate) fn ship_live<
     ensures whole { result ≡ Ok Stop.Orderly
         → Known (S.now segments.new) (HadAll (meal_of shipper.new.log.pieces)) }
     ensures signed { IfOk result (λ stop. W.said watch.new ≡ wish_of stop) }
-    ensures cut { IfErr result (IsCut shipper.new (S.now segments.new)) }
+    ensures cut { IfErr result (IsCut shipper.new (S.now segments.new)
+        (S.is_sure segments.old ≡ true → ⊥)) }
+    ensures last { AreResolved shipper.old.fleet.ended → HasLastEpoch shipper.new }
 {
     let mut sharding = sharding;
     let mut follower = Follower::new();

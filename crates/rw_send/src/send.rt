@@ -1,8 +1,9 @@
 //! The command `send`, over any readers, connections and writer.
 
-ghost use Rattle.std.specs.Prelude.{◌≡◌, ◌⊎◌, ℕ, None, Some, map, Ok, Err, true, false, IfOk, IfErr, IsOk, OnOk};
+ghost use Rattle.std.specs.Prelude.{◌≡◌, ◌⊎◌, ℕ, None, Some, map, Ok, Err, true, false, IfOk, IfErr, IfSome, IsOk, OnOk, is_some};
 ghost use Rattle.rw_wal_format.specs.declared.tail_fault.TailFault.{TailFault};
-ghost use Rattle.rw_shipper.specs.Reports.{IsAbandoned, ListsCut};
+ghost use Rattle.rw_fleet.specs.Fleets.{EndBy};
+ghost use Rattle.rw_shipper.specs.Reports.{IsAbandoned, ListsCut, kind_of};
 ghost use Rattle.rw_shipper.specs.Shipping.{HasStopped};
 ghost use Rattle.rw_fault.specs.declared.tool_fault.ToolFault.{ToolFault};
 ghost use Rattle.rw_fault.specs.declared.tool_fault.ToolFault.TheVariants.{OutOfMemory, Log, Line, SegmentFull, Device};
@@ -12,7 +13,7 @@ ghost use Rattle.rw_send.specs.Sending.{answer_to, hard_fault, Answers, IsPrinte
 use crate::printing::print_report;
 use crate::telling::{Counted, tell_report};
 use rw_fault::ToolFault;
-use rw_log_shipping::{Halt, Means, Sharding, ship_all, tell};
+use rw_log_shipping::{Halt, Means, Sharding, ship_all, tell, zeros};
 use rw_settings::Settings;
 use rw_shard_core::Config;
 use rw_shipper::{Connect, Outcome, Report, Shipper};
@@ -60,12 +61,16 @@ pub(crate) fn stopped<R: Threads + Wait, C: Connect + Drop>(
     requires halted { IfErr shipped (IsHalted shipper) }
     requires live { OnOk shipped (shipper.fault ≡ None) }
     ensures stopped { HasStopped C.T.tells C.T.seen C.T.is_for shipper result.report }
+    ensures ended { EndBy (kind_of (is_some (hard_fault shipped))) shipper.fleet
+        result.report.workers.items }
     ensures cut { hard_fault shipped ≡ None → IsAbandoned result.report.outcome
         → ListsCut result.report.workers.items }
     ensures answers { Answers (IsOk shipped)
         (shipped ≡ Err Halt.Unreadable) result.report.outcome result.answer }
     ensures hard { (f : ToolFault) → hard_fault shipped ≡ Some f
         → IsAbandoned result.report.outcome }
+    ensures failed { IfSome shipper.fault (λ _. IsAbandoned result.report.outcome) }
+    ensures answer { (f : ToolFault) → hard_fault shipped ≡ Some f → result.answer ≡ Err f }
 {
     match hard_fault(shipped) {
         None => {
@@ -94,6 +99,7 @@ fn ship<R: Threads + Wait + Clock + Copy + Send + 'static, S: Source + Drop, C: 
         (map S.remaining segments.items) (map S.is_sure segments.items) s.report s.answer) }
 {
     let sharding = Sharding::of(&config);
+    let mut buf = zeros(alloc)?;
     let Counted {
         connect,
         counters,
@@ -102,7 +108,7 @@ fn ship<R: Threads + Wait + Clock + Copy + Send + 'static, S: Source + Drop, C: 
     } = line;
     let mut shipper = Shipper::start_within(rt, alloc, config, connect, max_batch_bytes, stop)?;
     let means = Means { alloc, counters };
-    let shipped = ship_all(rt, means, &mut shipper, sharding, segments);
+    let shipped = ship_all(rt, means, &mut shipper, sharding, segments, &mut buf);
     tell(counters, &shipper);
     let sent = stopped(rt, shipper, shipped);
     tell_report(counters, &sent.report);

@@ -1,8 +1,9 @@
 use Rattle.std.proofs.Common.{Ok, Err}
 use Rattle.rw_wal_format.specs.Pieces.{bytes}
-use Rattle.rw_send.proofs.FollowLemmas.{fed_piece, part_piece}
+use Rattle.rw_send.proofs.FollowLemmas.{err_so, fed_piece, feed_fails, part_piece}
 use Rattle.rw_log_shipping.proofs.PartLemmas.{joins_or_not}
 use Rattle.rw_log_shipping.proofs.ShortLemmas.{short_fed}
+use Rattle.rw_send.specs.Following.{FailsWith}
 use Rattle.rw_send.proofs.live.feed_bytes.Goals as goal
 use Rattle.rw_types.proofs.AnswerLemmas.{OnErr-always}
 
@@ -19,3 +20,6 @@ returns-clause-short g c = short_fed c.args.shipper.now.log c.feed.new.self.log 
 
 pub returns-clause-fed : goal.returns-clause-fed
 returns-clause-fed g c = fed_piece _ _ _ (c.in_ok-feed.ensures.pieces c.requires.live)
+
+pub returns-in_err-feed-clause-fails : goal.returns-in_err-feed-clause-fails
+returns-in_err-feed-clause-fails g c = err_so (FailsWith c.feed.new.self) _ _ c.from_residual.ensures.1 (feed_fails c.feed.new.self _ (c.in_err-feed.ensures.fed c.requires.live))

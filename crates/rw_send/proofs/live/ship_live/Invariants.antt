@@ -1,5 +1,6 @@
 use Rattle.std.proofs.Common.{◌≡◌, ◌<◌, ◌≤◌, length, true, None}
 use Rattle.rw_follow.specs.Growth.{IsFollowed, IsGivenAt, Known}
+use Rattle.rw_fleet.specs.Work.{AreResolved}
 use Rattle.rw_send.specs.Following.{meal_of}
 use Rattle.rw_log_shipping.specs.Segments.{AreShort}
 use Rattle.rw_log_shipping.specs.Steps.{IsKept}
@@ -14,6 +15,8 @@ invariant-loop g l = record {
   shards : length l.shipper.fleet.current ≡ l.sharding.shards;
   given : Known (g.S.Segments.now l.segments) (λ m. IsGivenAt (meal_of l.shipper.log.pieces) m);
   followed : l.follower ≡ true → Known (g.S.Segments.now l.segments) IsFollowed;
+  sure : g.S.Segments.is_sure l.fn.segments ≡ true → g.S.Segments.is_sure l.segments ≡ true;
+  resolved : AreResolved l.fn.shipper.fleet.ended → AreResolved l.shipper.fleet.ended;
   room : 0 < length l.buf;
   small : length l.buf ≤ 65536;
 }

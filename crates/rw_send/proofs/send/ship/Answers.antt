@@ -1,32 +1,47 @@
 use Rattle.std.proofs.Common.{true, map, refl, ap, ◌∙◌}
 use Rattle.rw_feeder.specs.Feeders.{Sorting}
 use Rattle.rw_log_shipping.specs.Steps.{AreShipped, AreShippedPart}
-use Rattle.rw_send.proofs.AnswerLemmas.{answers_too, at_ok}
+use Rattle.rw_send.proofs.AnswerLemmas.{answers_too, at_ok, failed_so, send_ends}
+use Rattle.rw_log_shipping.proofs.EpochLemmas.{none_ended}
 use Rattle.rw_log_shipping.proofs.StepLemmas.{between}
 use Rattle.rw_send.proofs.send.ship.Goals as goal
 
 pub returns : goal.returns
-returns g c = record {
-  pieces = c.ship_all-shipped.new.shipper.log.pieces;
-  begins = c.ship_all-shipped.ensures.begins;
-  short = c.ship_all-shipped.ensures.short;
-  report = record {
-    shipping = c.ship_all-shipped.new.shipper;
-    choice = c.ship_all-shipped.ensures.kept.0 ∙ ap (λ (l : Sorting). l.choice) c.in_ok-shipper.ensures.log;
-    config = c.ship_all-shipped.ensures.kept.1 ∙ c.in_ok-shipper.ensures.config;
-    limit_is = λ _. c.ship_all-shipped.ensures.limit ∙ c.in_ok-shipper.ensures.limit;
-    pieces_are = refl;
-    stopped = c.stopped-sent.ensures.stopped;
-  };
-  started = c.in_ok-shipper.shipper;
-  start = record {
-    pieces = ap (λ (l : Sorting). l.pieces) c.in_ok-shipper.ensures.log;
-    ended = c.in_ok-shipper.ensures.opened.1;
-    epoch = c.in_ok-shipper.ensures.opened.0;
-    shards = c.in_ok-shipper.ensures.opened.2;
-    fresh = c.in_ok-shipper.ensures.opened.3;
-    limit_is = c.in_ok-shipper.ensures.limit;
-  };
-  part = between (λ fewest most. AreShippedPart fewest most true (map g.S.Source.remaining c.args.segments.items) c.in_ok-shipper.shipper c.ship_all-shipped.new.shipper) c.of-sharding.ensures.fewest c.of-sharding.ensures.most c.ship_all-shipped.ensures.part;
-  answers = answers_too _ _ (λ ok. (at_ok c.ship_all-shipped.result c.ship_all-shipped.ensures.whole ok, between (λ fewest most. AreShipped fewest most true (map g.S.Source.remaining c.args.segments.items) c.in_ok-shipper.shipper c.ship_all-shipped.new.shipper) c.of-sharding.ensures.fewest c.of-sharding.ensures.most (at_ok c.ship_all-shipped.result c.ship_all-shipped.ensures.steps ok))) (λ unread. λ sure. c.ship_all-shipped.ensures.sure sure unread) c.stopped-sent.ensures.answers;
-}
+returns g c =
+    let all = c.ship_all-shipped in
+    let sent = c.stopped-sent in
+    let ends = send_ends (map g.S.Source.remaining c.args.segments.items) (map g.S.Source.is_sure c.args.segments.items) all.new.shipper.log.pieces all.new.shipper sent.result.report all.result sent.result.answer
+    sent.ensures.ended sent.ensures.hard sent.ensures.cut sent.ensures.answer all.ensures.refused all.ensures.sure in
+    record {
+      pieces = c.ship_all-shipped.new.shipper.log.pieces;
+      begins = c.ship_all-shipped.ensures.begins;
+      short = c.ship_all-shipped.ensures.short;
+      report = record {
+        shipping = c.ship_all-shipped.new.shipper;
+        choice = c.ship_all-shipped.ensures.kept.0 ∙ ap (λ (l : Sorting). l.choice) c.in_ok-shipper.ensures.log;
+        config = c.ship_all-shipped.ensures.kept.1 ∙ c.in_ok-shipper.ensures.config;
+        limit_is = λ _. c.ship_all-shipped.ensures.limit ∙ c.in_ok-shipper.ensures.limit;
+        pieces_are = refl;
+        stopped = c.stopped-sent.ensures.stopped;
+        placed = c.tell.ensures.placed;
+        read = c.tell.ensures.read;
+        ended = ends.0;
+        cut = ends.1;
+        failed = failed_so all.new.shipper.fault sent.result.report.outcome sent.ensures.failed;
+        number = all.ensures.number;
+        last = all.ensures.last (none_ended _ c.in_ok-shipper.ensures.opened.1);
+        capacity = c.of-sharding.ensures.capacity;
+        batch = c.of-sharding.ensures.batch;
+      };
+      started = c.in_ok-shipper.shipper;
+      start = record {
+        pieces = ap (λ (l : Sorting). l.pieces) c.in_ok-shipper.ensures.log;
+        ended = c.in_ok-shipper.ensures.opened.1;
+        epoch = c.in_ok-shipper.ensures.opened.0;
+        shards = c.in_ok-shipper.ensures.opened.2;
+        fresh = c.in_ok-shipper.ensures.opened.3;
+        limit_is = c.in_ok-shipper.ensures.limit;
+      };
+      part = between (λ fewest most. AreShippedPart fewest most true (map g.S.Source.remaining c.args.segments.items) c.in_ok-shipper.shipper c.ship_all-shipped.new.shipper) c.of-sharding.ensures.fewest c.of-sharding.ensures.most c.ship_all-shipped.ensures.part;
+      answers = answers_too _ _ (λ ok. (at_ok c.ship_all-shipped.result c.ship_all-shipped.ensures.whole ok, between (λ fewest most. AreShipped fewest most true (map g.S.Source.remaining c.args.segments.items) c.in_ok-shipper.shipper c.ship_all-shipped.new.shipper) c.of-sharding.ensures.fewest c.of-sharding.ensures.most (at_ok c.ship_all-shipped.result c.ship_all-shipped.ensures.steps ok))) (λ unread. λ sure. c.ship_all-shipped.ensures.sure sure unread) c.stopped-sent.ensures.answers;
+    }
