@@ -1,5 +1,5 @@
 -- What one receiver holds of a shipper that was stopped, by its report.
-use Rattle.std.proofs.Common.{◌≡◌, ◌⊎◌, inl, inr, ℕ, suc, ◌≤◌, List, [], ◌∷◌, ◌++◌, length, map, take, Option, None, Some, refl, sym, ap, ◌∙◌, subst, append-nil, arith}
+use Rattle.std.proofs.Common.{◌≡◌, ◌⊎◌, inl, inr, ℕ, suc, ◌≤◌, List, [], ◌∷◌, ◌++◌, length, map, Option, None, Some, refl, sym, ap, ◌∙◌, subst, append-nil, arith}
 use Rattle.std.specs.Prelude.{IsSome}
 use Rattle.std.specs.Global.{Global}
 use Rattle.std.specs.Vec.{vec_allocator}
@@ -21,7 +21,7 @@ use Rattle.rw_shard_core.specs.declared.config.ConfigFields.{ConfigFields}
 use Rattle.rw_shard_core.specs.declared.outcome.Outcome.{Outcome}
 use Rattle.rw_shard_core.specs.declared.outcome.Outcome.TheVariants.{Complete, Abandoned, Damaged}
 use Rattle.rw_head.specs.Head.{State}
-use Rattle.rw_head.specs.Store.{Store, list_of}
+use Rattle.rw_head.specs.Store.{Store}
 use Rattle.rw_machine.specs.Worlds.{Setup}
 use Rattle.rw_machine.specs.declared.event.How.{How}
 use Rattle.rw_machine.specs.declared.event.How.TheVariants.{Plain, Busy, OutOfMemory}
@@ -40,7 +40,6 @@ use Rattle.rw_simulation.specs.Arrivals.{Arrival, IsOneReceiver, Receives}
 use Rattle.rw_simulation.specs.Received.{IsHeld, ReceivesAbandoned, ReceivesInOrder}
 use Rattle.rw_simulation.specs.StoppedRuns.{IsMachineOf, first_number}
 use Rattle.rw_log_shipping.specs.Segments.{AreShort, IsShort}
-use Rattle.rw_log_shipping.specs.Steps.{HasLastEpoch}
 use Rattle.rw_send.specs.Sending.{EndsFor, IsReportOf}
 use Rattle.rw_sent_held.specs.Held.{ComesToOne, Holds, HoldsAllOf, machine_of}
 
@@ -75,8 +74,8 @@ first_some [] current turned number = number.0
 first_some (lanes ∷ later) current turned number = turned.0.0
 
 none_of : (found : Option Fault) → (IsSome found → ⊥) → found ≡ None
-none_of None no = refl
-none_of (Some f) no = absurd (no refl)
+none_of None never = refl
+none_of (Some f) never = absurd (never refl)
 
 -- ---- a receiver does not look at the number of shards
 
@@ -104,7 +103,7 @@ all_below choice es l placed same =
 
 none_more : {T : Type 0} (lanes : List ShardHistory) (more : List (StoppedShard T)) → lanes ≡ [] → AreSame lanes (map lane_of more) → more ≡ []
 none_more lanes [] none same = refl
-none_more {T} lanes (j ∷ js) none same = let no : ⊥ = subst (λ (ls : List ShardHistory). AreSame ls (map lane_of (j ∷ js))) none same in absurd no
+none_more {T} lanes (j ∷ js) none same = let never : ⊥ = subst (λ (ls : List ShardHistory). AreSame ls (map lane_of (j ∷ js))) none same in absurd never
 
 -- there are no others than those that had ended
 all_ended : {T : Type 0} (s : Shards T) (js : List (StoppedShard T)) → s.current ≡ [] → AreAll s js → js ≡ s.ended
