@@ -1,0 +1,5 @@
+//! Tests of what is appended to a log: its bytes, and what is read of them.
+#![tactic(auto)]
+
+#[cfg(test)]
+mod appends;
