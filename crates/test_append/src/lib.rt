@@ -3,3 +3,5 @@
 
 #[cfg(test)]
 mod appends;
+#[cfg(test)]
+mod messages;
