@@ -67,7 +67,7 @@ found_at : (b : Bool) (r first : ℕ) (x : Option Labels) (l : Labels) → ltb r
 found_at true r first x l t e = absurd (cc)
 found_at false r first x l t e = (ltb-false r first t, e)
 
-at_place : (n : Named) (r : ℕ) (l : Labels) → labels_at n r ≡ Some l → (n.first ≤ r) × (slice_get n.sets (r - n.first) ≡ Some l)
+pub at_place : (n : Named) (r : ℕ) (l : Labels) → labels_at n r ≡ Some l → (n.first ≤ r) × (slice_get n.sets (r - n.first) ≡ Some l)
 at_place n r l e = found_at (ltb r n.first) r n.first (slice_get n.sets (r - n.first)) l refl e
 
 stands : (es : List Entry) (n : Named) (r : ℕ) (l : Labels) → StandFor es n.first n.sets → labels_at n r ≡ Some l → labels_of es r (length es) ≡ Some l

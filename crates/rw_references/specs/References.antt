@@ -1,5 +1,5 @@
 -- References that stand for label sets in a log.
-use Rattle.std.specs.Prelude.{◌≡◌, ℕ, suc, ◌+◌, ◌-◌, ℤ, List, [], ◌∷◌, length, take, drop, nat_lt, Option, Some, None, slice_get, if◌then◌else◌}
+use Rattle.std.specs.Prelude.{◌≡◌, ◌⊎◌, ℕ, suc, ◌+◌, ◌-◌, ℤ, List, [], ◌∷◌, ◌++◌, length, take, drop, nat_lt, Option, Some, None, slice_get, if◌then◌else◌}
 use Rattle.rw_types.specs.Labels.{Labels}
 use Rattle.rw_types.specs.declared.entry.Entry.{Entry}
 use Rattle.rw_wal_format.specs.Series.{has_labels, labels_of}
@@ -15,6 +15,18 @@ pub record Named : Type 0 where
 -- the label set of a reference
 abbrev pub labels_at : Named → ℕ → Option Labels
 labels_at n r = if nat_lt r n.first then None else slice_get n.sets (r - n.first)
+
+-- one more label set, which is not defined
+abbrev pub with_set : Labels → Named → Named
+with_set l n = record n { sets = n.sets ++ l ∷ [] }
+
+-- this label set has come, or nothing has changed
+abbrev pub Grows : Labels → Named → Named → Type 0
+Grows l old new = (new ≡ old) ⊎ (new ≡ with_set l old)
+
+-- those without a definition are gone
+abbrev pub only_defined : Named → Named
+only_defined n = record n { sets = take n.defined n.sets }
 
 -- label sets with the references from one on
 abbrev pub numbered : ℕ → List Labels → List (ℕ × Labels)
@@ -33,6 +45,11 @@ StandFor es r (l ∷ ls) = (labels_of es r (length es) ≡ Some l) × StandFor e
 -- the log has the definitions that it is said to have
 abbrev pub AreDefined : List Entry → Named → Type 0
 AreDefined es n = StandFor es n.first (take n.defined n.sets)
+
+-- samples of one reference
+abbrev pub with_reference : ℕ → List Point → List (ℕ × ℤ × ℕ)
+with_reference r [] = []
+with_reference r (p ∷ ps) = (r, p.0, p.1) ∷ with_reference r ps
 
 -- the reference of each sample is one of these
 abbrev pub AreOf : Named → List (ℕ × ℤ × ℕ) → Type 0

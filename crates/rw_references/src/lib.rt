@@ -2,3 +2,6 @@
 #![tactic(auto)]
 
 pub mod laws;
+mod references;
+
+pub use references::References;
