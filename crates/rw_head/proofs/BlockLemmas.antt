@@ -5,10 +5,10 @@ use Rattle.std.specs.List.{AllByRecursion, AllWithin}
 use Rattle.std.specs.List.Sorted.{IsNonDecreasingBy}
 use Rattle.std.specs.Ordering.{int_cmp, is_eq, ordering_index}
 use Rattle.std.specs.declared.cmp.Ordering.TheVariants.{Less, Equal, Greater}
-use Rattle.std.proofs.Math.Seq.{take-append_seam, drop-append_seam, take-append-add}
+use Rattle.std.proofs.Math.Seq.{take-append_seam, drop-append_seam, take-append-add, take-length}
 use Rattle.std.proofs.lemmas.Bool.{cases_lt}
 use Rattle.std.proofs.lemmas.Bool.Decides.{Decides-int_eq}
-use Rattle.std.proofs.lemmas.List.{append-nil, length-append, length-drop, length_push, take-append-drop}
+use Rattle.std.proofs.lemmas.List.{append-nil, drop-append-le, length-append, length-drop, length_push, take-append-drop}
 use Rattle.std.proofs.lemmas.List.Sorted.{searchable_from_sorted}
 use Rattle.std.proofs.lemmas.Nat.{div-mul-add}
 use Rattle.std.proofs.Math.Bool.{or-false}
@@ -483,3 +483,71 @@ sealed_none xs e = ap (λ ys. first_blocks (length ys / 120) ys) e
 pub open_none : (xs : List Point) → [] ≡ xs → [] ≡ open_of xs
 unfolding open_of
 open_none xs e = ap (λ ys. drop (length ys / 120 * 120) ys) e
+
+-- ---- the samples from a number on
+drop_on : (xs ys : List Point) (n : ℕ) → drop (length xs + n) (xs ++ ys) ≡ drop n ys
+drop_on [] ys n = ap (λ k. drop k ys) (none_more n)
+  where
+    none_more : (n : ℕ) → 0 + n ≡ n
+    none_more n = omega arith
+drop_on (x ∷ xs) ys n = ap (λ k. drop k (x ∷ (xs ++ ys))) (one_more (length xs) n) ∙ drop_on xs ys n
+  where
+    one_more : (k n : ℕ) → suc k + n ≡ suc (k + n)
+    one_more k n = omega arith
+
+drop_inside : (n j : ℕ) (bs : List (List Point)) (rest : List Point) → AreFull bs → n < length bs → j ≤ 120
+    → drop (n * 120 + j) (joined bs ++ rest) ≡ drop j (get_or bs n []) ++ (joined (drop (suc n) bs) ++ rest)
+drop_inside n j [] rest h lt le = absurd (omega arith)
+drop_inside zero j (b ∷ bs) rest h lt le =
+    ap (λ k. drop k ((b ++ joined bs) ++ rest)) (none_before j) ∙ ap (drop j) (append_assoc b (joined bs) rest) ∙ drop-append-le j b (joined bs ++ rest) (omega (arith, h.0))
+  where
+    none_before : (j : ℕ) → 0 * 120 + j ≡ j
+    none_before j = omega arith
+drop_inside (suc n) j (b ∷ bs) rest h lt le =
+    ap (drop (suc n * 120 + j)) (append_assoc b (joined bs) rest)
+    ∙ ap (λ k. drop k (b ++ (joined bs ++ rest))) (length_on n j (length b) h.0)
+    ∙ drop_on b (joined bs ++ rest) (n * 120 + j)
+    ∙ drop_inside n j bs rest h.1 (omega arith) le
+  where
+    length_on : (n j k : ℕ) → k ≡ 120 → suc n * 120 + j ≡ k + (n * 120 + j)
+    length_on n j k e = omega arith
+
+map-last : {X : Type 0} (f : X → List Point) (n : ℕ) (xs : List X) → map f (drop n xs) ≡ drop n (map f xs)
+map-last f zero xs = refl
+map-last f (suc n) [] = refl
+map-last f (suc n) (x ∷ xs) = map-last f n xs
+
+-- what is copied from the middle of a full block on
+pub copied_inside : {X : Type 0} (f : X → List Point) (xs ys : List X) (x : X) (rest all old one two : List Point) (start n j : ℕ) → AreFull (map f xs) → n < length xs → start ≡ n * 120 + j → j < 120
+    → x ≡ get_or xs n x → ys ≡ drop (n + 1) xs → one ≡ old ++ drop j (f x) → two ≡ one ++ joined (map f ys) → joined (map f xs) ++ rest ≡ all → two ++ rest ≡ old ++ drop start all
+copied_inside f xs ys x rest all old one two start n j h lt at small here after first second whole =
+    let block : List Point = drop j (f x) in
+    let more : List Point = joined (map f ys) in
+    let next : n + 1 ≡ suc n = omega arith in
+    let left : map f ys ≡ drop (suc n) (map f xs) = ap (map f) (after ∙ ap (λ k. drop k xs) next) ∙ map-last f (suc n) xs in
+    let tail : drop start all ≡ block ++ (more ++ rest) =
+    ap (drop start) (sym whole) ∙ ap (λ k. drop k (joined (map f xs) ++ rest)) at
+    ∙ drop_inside n j (map f xs) rest h (omega (arith, length-map-of f xs)) (omega arith)
+    ∙ ap (λ b. drop j b ++ (joined (drop (suc n) (map f xs)) ++ rest)) (sym (map_at f xs n x lt here))
+    ∙ ap (λ bs. block ++ (joined bs ++ rest)) (sym left) in
+    ap (λ zs. zs ++ rest) (second ∙ ap (λ zs. zs ++ more) first ∙ append_assoc old block more)
+    ∙ append_assoc old (block ++ more) rest ∙ ap (λ zs. old ++ zs) (append_assoc block more rest ∙ sym tail)
+
+-- what is copied of the open block
+pub copied_open : {X : Type 0} (f : X → List Point) (xs : List X) (rest all : List Point) (start n j : ℕ) → AreFull (map f xs) → length rest < 120 → length xs ≤ n → start ≡ n * 120 + j
+    → start ≤ length all → joined (map f xs) ++ rest ≡ all → drop j rest ≡ drop start all
+copied_open f xs rest all start n j h few above at le whole =
+    let count : length all ≡ length xs * 120 + length rest = length-blocks f xs rest all h whole in
+    let same : n ≡ length (map f xs) = omega (arith, length-map-of f xs, count, few, above, at, le) in
+    let seam : length (map f xs) * 120 + j ≡ length (joined (map f xs)) + j = ap (λ k. k + j) (sym (length-joined (map f xs) h)) in
+    sym (ap (drop start) (sym whole) ∙ ap (λ k. drop k (joined (map f xs) ++ rest)) (at ∙ ap (λ m. m * 120 + j) same ∙ seam) ∙ drop_on (joined (map f xs)) rest j)
+
+pub long_enough : {X : Type 0} (f : X → List Point) (xs : List X) (rest all : List Point) (start n j : ℕ) → AreFull (map f xs) → length rest < 120 → length xs ≤ n → start ≡ n * 120 + j
+    → start ≤ length all → joined (map f xs) ++ rest ≡ all → j ≤ length rest
+long_enough f xs rest all start n j h few above at le whole =
+    let count : length all ≡ length xs * 120 + length rest = length-blocks f xs rest all h whole in
+    omega (arith, count, few, above, at, le)
+
+-- a part without an end is all that is left
+pub all_taken : {X : Type 0} (k : ℕ) (xs : List X) → take (length xs - k) (drop k xs) ≡ drop k xs
+all_taken k xs = ap (λ n. take n (drop k xs)) (sym (length-drop k xs)) ∙ take-length (drop k xs)

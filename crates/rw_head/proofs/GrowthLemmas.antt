@@ -1,5 +1,5 @@
 -- A message that is taken adds samples, at most its own, and keeps each list in order.
-use Rattle.std.proofs.Common.{◌≡◌, ℕ, ◌+◌, ◌≤◌, List, [], ◌∷◌, ◌++◌, length, Option, Some, None, Bool, true, false, cond, Result, Ok, Err, refl, sym, ◌∙◌, ap, subst, arith}
+use Rattle.std.proofs.Common.{◌≡◌, ℕ, ◌+◌, ◌-◌, ◌≤◌, nat_lt, List, [], ◌∷◌, ◌++◌, length, Option, Some, None, Bool, true, false, cond, Result, Ok, Err, refl, sym, ◌∙◌, ap, subst, arith}
 use Rattle.std.specs.FinMap.{empty}
 use Rattle.std.proofs.lemmas.List.{length_push, length-map}
 use Rattle.std.proofs.lemmas.List.Sums.{sum_by-cons}
@@ -12,8 +12,10 @@ use Rattle.rw_write_request.specs.Message.{TimeSeries, WriteRequest}
 use Rattle.rw_head.specs.declared.verdict.Verdict.{Verdict}
 use Rattle.rw_head.specs.Order.{Point, point_of, points, is_later, holds, accept_one, accept}
 use Rattle.rw_head.specs.Store.{Store, list_of, with_list, total, HasNoEmptyList}
-use Rattle.rw_head.specs.Verdicts.{LabelLimits, refusal, accepted, taken_unless, taken, taken_all}
+use Rattle.rw_head.specs.Verdicts.{LabelLimits, judged, refusal, accepted, taken_unless, taken, taken_all}
 use Rattle.rw_head.specs.Lists.{IsEarlier, Stores, has_samples}
+use Rattle.rw_head.specs.Head.{State, answered, judged_body, answer_to}
+use Rattle.rw_write_request.specs.declared.fault.WireFault.{WireFault}
 use Rattle.rw_head.specs.Growth.{sample_count, EachRises, IsReady, HoldsNoneRefused}
 use Rattle.rw_types.proofs.OrderLemmas.{same_if_equal}
 use Rattle.rw_head.specs.Blocks.{KeepsBlocks}
@@ -167,7 +169,7 @@ none_refused_empty : (limits : LabelLimits) → HoldsNoneRefused limits empty
 none_refused_empty limits l e = let none : has_samples (list_of empty l) ≡ false = ap has_samples (list_of-empty l) in absurd cc
 
 -- a head begins so
-pub ready_first : (limits : LabelLimits) (stores : Stores) → stores ≡ record { kept = empty; staged = empty; noted = 0 }
+pub ready_first : (limits : LabelLimits) (stores : Stores) → stores ≡ record { kept = empty; staged = empty; added = []; noted = 0 }
     → IsReady stores × HoldsNoneRefused limits stores.kept
 ready_first limits stores e = (
   subst IsReady (sym e) (record { settled = refl; rises = EachRises-empty; filled = HasNoEmptyList-empty; unnoted = refl }),
@@ -195,3 +197,36 @@ unless_within limits s next x None h e given = accepted_within limits x.labels s
 -- a series that is taken is not
 pub taken_within : (limits : LabelLimits) (x : TimeSeries) (s next : Store) → HoldsNoneRefused limits s → taken limits s x ≡ Ok next → HoldsNoneRefused limits next
 taken_within limits x s next h given = unless_within limits s next x (refusal limits x.labels) h refl given
+
+-- ---- a head that answers keeps a prefix of each list
+
+judged_begins : (limits : LabelLimits) (m : WriteRequest) (s : Store) (r : Result Store Verdict)
+    (l : Labels) → EachRises s → HasNoEmptyList s → taken_all limits (Ok s) m ≡ r
+    → Begins (list_of s l) (list_of (judged s r).store l)
+judged_begins limits m s (Ok next) l h k e = (taken_grown limits m s next h k e).begins l
+judged_begins limits m s (Err v) l h k e = begins_itself (list_of s l)
+
+body_begins : (h : State) (found : Result WriteRequest WireFault) (l : Labels)
+    → EachRises h.store → HasNoEmptyList h.store
+    → Begins (list_of h.store l) (list_of (judged_body h found).store l)
+body_begins h (Ok m) l rises filled =
+    judged_begins h.limits m h.store (taken_all h.limits (Ok h.store) m) l rises filled refl
+body_begins h (Err e) l rises filled = begins_itself (list_of h.store l)
+
+pub answer_begins : (h : State) (found : Result WriteRequest WireFault) (l : Labels)
+    → EachRises h.store → HasNoEmptyList h.store
+    → Begins (list_of h.store l) (list_of (answer_to h found).head.store l)
+answer_begins h found l rises filled = by_busy (nat_lt 0 h.busy)
+  where
+    by_busy : (b : Bool) → Begins (list_of h.store l) (list_of
+        (cond b (record { status = 429; head = record h { busy = h.busy - 1 } })
+        (answered h (judged_body h found))).head.store l)
+    by_busy true = begins_itself (list_of h.store l)
+    by_busy false = body_begins h found l rises filled
+
+-- a message that was staged is forgotten
+pub ready_still : (old staged new : Stores) → IsReady old → staged.kept ≡ old.kept → new.kept ≡ staged.kept → new.staged ≡ staged.kept
+    → new.noted ≡ 0 → IsReady new
+ready_still old staged new h e k s none =
+    let same : old.kept ≡ new.kept = sym (k ∙ e) in
+    record { settled = s ∙ sym k; rises = subst EachRises same h.rises; filled = subst HasNoEmptyList same h.filled; unnoted = none }

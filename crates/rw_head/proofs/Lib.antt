@@ -1,8 +1,10 @@
+pub mod AddedLemmas
 pub mod BlockLemmas
 pub mod BodyLemmas
 pub mod GrowthLemmas
 pub mod KeyLemmas
 pub mod NameLemmas
+pub mod NotedLemmas
 pub mod OrderLemmas
 pub mod PartLemmas
 pub mod PlaceLemmas

@@ -1,5 +1,5 @@
 -- The stores that lists at places are.
-use Rattle.std.proofs.Common.{◌≡◌, ◌≢◌, ℕ, ◌+◌, ◌<◌, ◌≤◌, ◌^◌, suc, zero, List, [], ◌∷◌, ◌++◌, length, map, set, get_or, nat_eq, eq-eqb, Option, Some, None, Bool, true, false, cond, ◌||◌, ◌&&◌, unwrap_or, ⊎_elim, refl, sym, ◌∙◌, ap, subst, arith}
+use Rattle.std.proofs.Common.{◌≡◌, ◌≢◌, ℕ, ◌+◌, ◌<◌, ◌≤◌, ◌^◌, suc, zero, List, [], ◌∷◌, ◌++◌, length, map, set, get_or, Option, Some, None, Bool, true, false, cond, ◌||◌, ◌&&◌, unwrap_or, ⊎_elim, refl, sym, ◌∙◌, ap, subst, arith}
 use Rattle.std.specs.BTreeMap.{BTreeMap, get, Updates}
 use Rattle.std.specs.List.{list_any, AllByRecursion}
 use Rattle.std.specs.Map.{lookup, keys_of}
@@ -22,10 +22,11 @@ use Rattle.rw_head.specs.Order.{Point}
 use Rattle.rw_head.specs.Store.{Store, list_of, with_list, total, label_sets, held_series, AreListsOf, HasNoEmptyList}
 use Rattle.rw_head.specs.Verdicts.{LabelLimits}
 use Rattle.rw_head.specs.Growth.{HoldsNoneRefused}
-use Rattle.rw_head.specs.Lists.{Lists, no_lists, IsSound, IsFresh, IsAdded, AllFilled, has_samples, with_samples, AreWithin, listed, store_of_lists, kept_store, staged_store, HasPlaces, Settled}
+use Rattle.rw_head.specs.Lists.{Lists, no_lists, IsSound, IsFresh, IsAdded, AllFilled, has_samples, with_samples, AreWithin, listed, store_of_lists, kept_store, staged_store, HasPlaces}
 use Rattle.rw_head.specs.Names.{below, HasNoneRefused}
 use Rattle.rw_head.proofs.StoreLemmas.{list_of-empty, list_of-with_list, HasNoEmptyList-empty, HasNoEmptyList-with_list, same_store, with_list-same, total-with_list, list_of-few, is_less, find_below}
 use Rattle.rw_head.proofs.NameLemmas.{get_or_any}
+use Rattle.rw_head.proofs.NotedLemmas.{Settled-added, AreNoted-added}
 
 -- the list at a place, if there is one
 abbrev pub at : (Lists → List Point) → List Lists → Option ℕ → List Point
@@ -171,52 +172,6 @@ HasPlaces-added lists index new l x h u = record {
   apart = λ p q n e k. apart_grown lists index l p q n (labels_eq l p) (labels_eq l q) h refl refl (sym (u.0 p) ∙ e) (sym (u.0 q) ∙ k);
 }
 
--- ---- lists that differ from what is kept
--- what does not stand in a list to which n was added is not n, and does not stand in the list
-not_touched : (touched : List ℕ) (m n : ℕ) (b : Bool) → nat_eq m n ≡ b → list_any (nat_eq m) (touched ++ n ∷ []) ≡ false → (b ≡ false) × (list_any (nat_eq m) touched ≡ false)
-not_touched touched m n b k e = parts (list_any (nat_eq m) touched) b (ap (λ c. list_any (nat_eq m) touched || (c || false)) (sym k) ∙ sym (list_any-append (nat_eq m) touched (n ∷ [])) ∙ e)
-  where
-    parts : (a b : Bool) → (a || (b || false)) ≡ false → (b ≡ false) × (a ≡ false)
-    parts false false e = (refl, refl)
-    parts false true e = absurd cc
-    parts true b e = absurd cc
-
-settled_at : (touched : List ℕ) (lists : List Lists) (n m : ℕ) (x : Lists) → Settled touched lists → m < length lists → list_any (nat_eq m) (touched ++ n ∷ []) ≡ false
-    → (get_or (set lists n x) m no_lists).kept ≡ (get_or (set lists n x) m no_lists).staged
-settled_at touched lists n m x h lt e =
-    let other = not_touched touched m n (nat_eq m n) refl e in
-    let apart : m ≢ n = λ same. true≢false (sym (eq-eqb m n same) ∙ other.0) in
-    let kept : get_or (set lists n x) m no_lists ≡ get_or lists m no_lists = get_or-set_other lists n m x no_lists apart in
-    ap (λ x. x.kept) kept ∙ h.others m lt other.1 ∙ sym (ap (λ x. x.staged) kept)
-
-within_more : (touched : List ℕ) (n k high : ℕ) → ((k : ℕ) → k < length touched → get_or touched k 0 < high) → n < high → k < length touched + 1 → get_or (touched ++ n ∷ []) k 0 < high
-within_more touched n k high h lt small =
-    ⊎_elim
-    (λ low. omega (arith, h k low, get_or_append_left touched (n ∷ []) 0 k low))
-    (λ above. omega (arith, lt, get_or_push touched n 0 k (omega arith)))
-    (cases_lt k (length touched))
-
--- a list may change once its place is noted
-pub Settled-set : (touched : List ℕ) (lists : List Lists) (n : ℕ) (x : Lists) → Settled touched lists → n < length lists → Settled (touched ++ n ∷ []) (set lists n x)
-Settled-set touched lists n x h lt = record {
-  within = λ k small. omega (arith, length-set lists n x, within_more touched n k (length lists) h.within lt (omega (arith, length_push touched n)));
-  others = λ m small e. settled_at touched lists n m x h (omega (arith, length-set lists n x)) e;
-}
-
-other_than : (touched : List ℕ) (n m : ℕ) → list_any (nat_eq m) (touched ++ n ∷ []) ≡ false → m ≢ n
-other_than touched n m e same = let other = not_touched touched m n (nat_eq m n) refl e in true≢false (sym (eq-eqb m n same) ∙ other.0)
-
-Settled-added : (touched : List ℕ) (lists : List Lists) (x : Lists) → Settled touched lists → Settled (touched ++ length lists ∷ []) (lists ++ x ∷ [])
-Settled-added touched lists x h = record {
-  within = λ k small. within_more touched (length lists) k (length (lists ++ x ∷ [])) (λ j lt. omega (arith, h.within j lt, length_push lists x)) (omega (arith, length_push lists x))
-      (omega (arith, length_push touched (length lists)));
-  others = λ m small e.
-      let apart : m ≢ length lists = other_than touched (length lists) m e in
-      let low : m < length lists = omega (arith, apart, small, length_push lists x) in
-      let same : get_or (lists ++ x ∷ []) m no_lists ≡ get_or lists m no_lists = get_or_append_left lists (x ∷ []) no_lists m low in
-      ap (λ y. y.kept) same ∙ h.others m low (not_touched touched m (length lists) (nat_eq m (length lists)) refl e).1 ∙ sym (ap (λ y. y.staged) same);
-}
-
 -- ---- fresh label sets
 any_behind : (l q : Labels) (fresh : List Labels) → list_any (labels_eq q) (fresh ++ l ∷ []) ≡ (list_any (labels_eq q) fresh || (labels_eq q l || false))
 any_behind l q fresh = list_any-append (labels_eq q) fresh (l ∷ [])
@@ -290,6 +245,7 @@ IsSound-added index new lists news touched noted fresh named count staged staged
     let made : IsSound new (lists ++ x ∷ []) (touched ++ length lists ∷ []) (fresh ++ l ∷ []) count staged_new = record {
       places = HasPlaces-added lists index new l x h.places add.place;
       settled = Settled-added touched lists x h.settled;
+      noted = AreNoted-added touched lists x h.settled h.noted none some;
       brought = IsFresh-added lists index new fresh l x h.brought none add.place;
       filled = AllFilled-added lists x h.filled some;
       counted = h.counted ∙ ap total (sym (kept-added lists index new l x h.places absent none add.place));
@@ -322,6 +278,7 @@ IsSound-same index new lists news touched noted fresh named count staged h e f g
     let made : IsSound new lists touched fresh count staged = record {
       places = HasPlaces-same index new lists e h.places;
       settled = h.settled;
+      noted = h.noted;
       brought = IsFresh-same index new lists fresh e h.brought;
       filled = h.filled;
       counted = h.counted ∙ ap (λ es. total (kept_store es lists)) (sym e);
@@ -330,12 +287,6 @@ IsSound-same index new lists news touched noted fresh named count staged h e f g
     } in
     let P : List Lists → List ℕ → List Labels → Type 0 = λ ls ts ms. IsSound new ls ts ms count staged in
     subst (λ ls. P ls noted named) (sym f) (subst (λ ts. P lists ts named) (sym g) (subst (P lists touched) (sym i) made))
-
-pub Settled-push : (touched : List ℕ) (lists : List Lists) (n : ℕ) → Settled touched lists → n < length lists → Settled (touched ++ n ∷ []) lists
-Settled-push touched lists n h lt = record {
-  within = λ k small. within_more touched n k (length lists) h.within lt (omega (arith, length_push touched n));
-  others = λ m small e. h.others m small (not_touched touched m n (nat_eq m n) refl e).1;
-}
 
 -- ---- lists that change in one part only
 same_part : (f g : Lists → List Point) (index : Index) (ls ms : List Lists) (q : Labels) (o : Option ℕ) → HasPlaces index ls → get labels_cmp index q ≡ o
@@ -366,9 +317,6 @@ pub HasPlaces-len : (index : Index) (ls ms : List Lists) → HasPlaces index ls 
 HasPlaces-len index ls ms h e = record { within = λ l n k. omega (arith, h.within l n k, e); apart = h.apart }
 
 -- ---- the list of a label set
-pub staged_len : (ls : List Lists) (n : ℕ) (x : Lists) → n < length ls → x ≡ get_or ls n x → length x.staged ≡ length (get_or ls n no_lists).staged
-staged_len ls n x h here = ap (λ y. length y.staged) (here ∙ get_or_any ls n x no_lists h)
-
 pub kept_at : (index : Index) (lists : List Lists) (l : Labels) (n : ℕ) (x : Lists) → HasPlaces index lists → Some n ≡ get labels_cmp index l → x ≡ get_or lists n x → x.kept ≡ list_of (kept_store index.entries lists) l
 unfolding kept_store
 kept_at index lists l n x h e here =
@@ -388,6 +336,11 @@ settled_here index lists l n x h e here same =
 -- no list has more staged samples than all have together
 pub staged_few : (index : Index) (lists : List Lists) (l : Labels) (n : ℕ) → get labels_cmp index l ≡ Some n → length (get_or lists n no_lists).staged ≤ total (staged_store index.entries lists)
 staged_few index lists l n e = omega (arith, ap length (staged_at index lists l n e), list_of-few (staged_store index.entries lists) l)
+
+pub kept_in : (index : Index) (lists : List Lists) (l : Labels) (n : ℕ) → get labels_cmp index l ≡ Some n
+    → list_of (kept_store index.entries lists) l ≡ (get_or lists n no_lists).kept
+unfolding kept_store
+kept_in index lists l n e = list_at_place (λ l. l.kept) index lists l n e
 
 pub kept_nowhere : (index : Index) (lists : List Lists) (l : Labels) → (let no : Option ℕ = None in no ≡ get labels_cmp index l) → [] ≡ list_of (kept_store index.entries lists) l
 unfolding kept_store

@@ -16,11 +16,12 @@ use Rattle.rw_head.specs.declared.verdict.Verdict.{Verdict}
 use Rattle.rw_head.specs.declared.verdict.Verdict.TheVariants.{NoMemory}
 use Rattle.std.specs.Prelude.{OnOk, IfErr}
 use Rattle.rw_head.specs.Verdicts.{LabelLimits, refusal, accepted, taken_unless, taken}
-use Rattle.rw_head.specs.Lists.{Lists, no_lists, ListGives, StoreGives, IsSound, IsFresh, AllFilled, has_samples, kept_store, staged_store, HasPlaces, Settled}
+use Rattle.rw_head.specs.Lists.{Lists, no_lists, IsStagedAt, ListGives, StoreGives, IsSound, IsFresh, AllFilled, has_samples, kept_store, staged_store, HasPlaces, Settled}
 use Rattle.rw_head.specs.Names.{below}
 use Rattle.rw_head.proofs.OrderLemmas.{accept-none}
 use Rattle.rw_head.proofs.StoreLemmas.{no_points, with_list-same, total-with_list, total-empty}
-use Rattle.rw_head.proofs.PlaceLemmas.{at, Index, store_by, no_empty_list, same_lists, store-set, list_at_place, kept-set, HasPlaces-set, HasPlaces-len, Settled-set, staged-part, kept-staged}
+use Rattle.rw_head.proofs.NotedLemmas.{both_staged, AreNoted-none}
+use Rattle.rw_head.proofs.PlaceLemmas.{at, Index, store_by, no_empty_list, same_lists, store-set, list_at_place, kept-set, HasPlaces-set, HasPlaces-len, staged-part, kept-staged}
 
 -- ---- samples that are staged
 total-longer : (l : Labels) (xs : List Point) (s : Store) → HasNoEmptyList s → length (list_of s l) ≤ length xs → total (with_list l xs s) + length (list_of s l) ≡ total s + length xs
@@ -108,23 +109,24 @@ AllFilled-set lists n x h lt grown m small = by_test (nat_eq m n) refl
         ap (λ y. has_samples y.staged) (get_or-set_other lists n m x no_lists apart) ∙ h m (omega (arith, small, length-set lists n x))
 
 -- lists of which one grew stay sound
-pub IsSound-set : (index : Index) (lists news : List Lists) (touched noted : List ℕ) (fresh : List Labels) (count staged staged_new : ℕ) (l : Labels) (n : ℕ) (x : Lists)
-    → IsSound index lists touched fresh count staged → get labels_cmp index l ≡ Some n → noted ≡ touched ++ n ∷ [] → news ≡ set lists n x → x.kept ≡ (get_or lists n no_lists).kept
-    → length (get_or lists n no_lists).staged ≤ length x.staged → staged_new + length (get_or lists n no_lists).staged ≡ staged + length x.staged
+pub IsSound-staged : (index : Index) (lists news : List Lists) (touched noted : List ℕ) (fresh : List Labels) (count staged staged_new : ℕ) (l : Labels) (n : ℕ)
+    → IsSound index lists touched fresh count staged → get labels_cmp index l ≡ Some n → IsStagedAt lists news touched noted staged staged_new n
     → count + staged_new ≤ 2 ^ 60 → IsSound index news noted fresh count staged_new
-IsSound-set index lists news touched noted fresh count staged staged_new l n x h e is_noted is_new kept grown more few =
+IsSound-staged index lists news touched noted fresh count staged staged_new l n h e at few =
     let lt = h.places.within l n e in
-    let made : IsSound index (set lists n x) (touched ++ n ∷ []) fresh count staged_new = record {
-      places = HasPlaces-set index lists n x h.places;
-      settled = Settled-set touched lists n x h.settled lt;
-      brought = IsFresh-set index lists fresh n x h.brought lt kept;
-      filled = AllFilled-set lists n x h.filled lt grown;
-      counted = h.counted ∙ ap total (sym (kept-set index lists l n x h.places e kept));
-      counted_staged = omega (arith, total-staged index lists l n x h.places e grown, more, h.counted_staged);
+    let x = get_or news n no_lists in
+    let both = both_staged lists news touched noted staged staged_new n h.settled h.noted lt at in
+    let same : set lists n x ≡ news = sym at.list in
+    record {
+      places = subst (HasPlaces index) same (HasPlaces-set index lists n x h.places);
+      settled = both.0;
+      noted = both.1;
+      brought = subst (λ ls. IsFresh index ls fresh) same (IsFresh-set index lists fresh n x h.brought lt at.kept);
+      filled = subst AllFilled same (AllFilled-set lists n x h.filled lt at.grown);
+      counted = subst (λ ls. count ≡ total (kept_store index.entries ls)) same (h.counted ∙ ap total (sym (kept-set index lists l n x h.places e at.kept)));
+      counted_staged = subst (λ ls. count + staged_new ≡ total (staged_store index.entries ls)) same (omega (arith, total-staged index lists l n x h.places e at.grown, at.counted, h.counted_staged));
       few = few;
-    } in
-    let P : List Lists → List ℕ → Type 0 = λ ls ts. IsSound index ls ts fresh count staged_new in
-    subst (λ ls. P ls noted) (sym is_new) (subst (P (set lists n x)) (sym is_noted) made)
+    }
 
 -- ---- all that is staged is kept, or forgotten
 abbrev pub AllSettled : List Lists → Type 0
@@ -159,6 +161,7 @@ IsSound-committed index ls ms old touched fresh named count staged h none unname
     record {
       places = places;
       settled = none_touched touched ms none settled;
+      noted = AreNoted-none touched ms none settled;
       brought = none_fresh index ms named places unnamed (λ n lt. ap has_samples (settled n lt) ∙ filled n lt);
       filled = filled;
       counted = h.counted_staged ∙ ap total (sym stores.0);
@@ -254,6 +257,7 @@ IsSound-aborted index new ls ms ns old touched fresh named count staged h a none
     record {
       places = places;
       settled = none_touched touched ns none settled;
+      noted = AreNoted-none touched ns none settled;
       brought = none_fresh new ns named places unnamed filled;
       filled = λ n lt. ap has_samples (sym (settled n lt)) ∙ filled n lt;
       counted = h.counted ∙ ap total (sym (aborted_kept index new ls ms ns fresh h.places h.brought a));
@@ -276,6 +280,7 @@ IsSound-empty index ls touched fresh e f g i =
       brought = none_fresh index ls fresh places i (λ n lt. absurd (omega (arith, lt, ap length f)));
       filled = λ n lt. absurd (omega (arith, lt, ap length f));
       settled = none_touched touched ls g (λ n lt. absurd (omega (arith, ap length f)));
+      noted = AreNoted-none touched ls g (λ n lt. absurd (omega (arith, ap length f)));
       counted = sym (ap total stores.0 ∙ total-empty);
       counted_staged = sym (ap total stores.1 ∙ total-empty);
       few = lit≤ tt;

@@ -1,3 +1,4 @@
+pub mod Added
 pub mod Blocks
 pub mod Bodies
 pub mod Finds
@@ -7,5 +8,6 @@ pub mod Keys
 pub mod Lists
 pub mod Names
 pub mod Order
+pub mod Staged
 pub mod Store
 pub mod Verdicts

@@ -1,12 +1,14 @@
 -- The lists of a head while it judges a message: how each stood before, and how it would stand.
-use Rattle.std.specs.Prelude.{◌≡◌, ◌≢◌, ℕ, ◌+◌, ◌^◌, ◌<◌, ◌≤◌, int_lt, Bool, true, false, if◌then◌else◌, nat_eq, List, [], ◌∷◌, ◌++◌, length, map, slice_index, slice_index_or, Option, Some, None, Result, Ok, Err}
+use Rattle.std.specs.Prelude.{◌≡◌, ◌≢◌, ℕ, ◌+◌, ◌-◌, ◌^◌, ◌<◌, ◌≤◌, int_lt, Bool, true, false, if◌then◌else◌, nat_eq, List, [], ◌∷◌, ◌++◌, length, map, drop, slice_index, slice_index_or, slice_set, AllPairs, Option, Some, None, Result, Ok, Err}
 use Rattle.std.specs.BTreeMap.{BTreeMap, get, Updates}
 use Rattle.std.specs.FinMap.{empty}
 use Rattle.std.specs.List.{list_any}
+use Rattle.rw_types.specs.Beginnings.{Begins}
 use Rattle.rw_types.specs.Labels.{Labels}
 use Rattle.rw_types.specs.LabelOrder.{labels_cmp, labels_eq}
 use Rattle.rw_head.specs.declared.verdict.Verdict.{Verdict}
 use Rattle.rw_head.specs.declared.verdict.Verdict.TheVariants.{OutOfOrder, NoMemory}
+use Rattle.rw_head.specs.Added.{Added}
 use Rattle.rw_head.specs.Order.{Point}
 use Rattle.rw_head.specs.Store.{Store, with_list, total}
 
@@ -47,6 +49,40 @@ pub record Settled (touched : List ℕ) (lists : List Lists) : Type 0 where
   pub within : (k : ℕ) → k < length touched → slice_index touched k < length lists
   pub others : (n : ℕ) → n < length lists → list_any (nat_eq n) touched ≡ false → (slice_index_or lists n no_lists).kept ≡ (slice_index_or lists n no_lists).staged
 
+-- the samples of a list that are staged, and how many they are
+abbrev pub more_of : Lists → List Point
+more_of x = drop (length x.kept) x.staged
+
+abbrev pub more_count : Lists → ℕ
+more_count x = length x.staged - length x.kept
+
+-- A place is noted when its list had no staged samples before a series, and has some after it.
+abbrev pub note_of : List ℕ → ℕ → ℕ → ℕ → List ℕ
+note_of touched n before after =
+    if nat_eq before 0 then (if nat_eq after 0 then touched else touched ++ n ∷ []) else touched
+
+-- Each place is noted once, and its list has staged samples. In each list they follow what is kept.
+pub record AreNoted (touched : List ℕ) (lists : List Lists) : Type 0 where
+  pub once : AllPairs (λ m n. m ≢ n) touched
+  pub grown : (k : ℕ) → k < length touched → 0 < more_count (slice_index_or lists (slice_index_or touched k 0) no_lists)
+  pub begun : (n : ℕ) → n < length lists → Begins (slice_index_or lists n no_lists).kept (slice_index_or lists n no_lists).staged
+
+-- samples were staged in the list at place n, which is noted, and they are counted
+pub record IsStagedAt (old new : List Lists) (touched noted : List ℕ) (count more n : ℕ) : Type 0 where
+  pub list : new ≡ slice_set old n (slice_index_or new n no_lists)
+  pub kept : (slice_index_or new n no_lists).kept ≡ (slice_index_or old n no_lists).kept
+  pub grown : length (slice_index_or old n no_lists).staged ≤ length (slice_index_or new n no_lists).staged
+  pub begun : Begins (slice_index_or new n no_lists).kept (slice_index_or new n no_lists).staged
+  pub note : noted ≡ note_of touched n (more_count (slice_index_or old n no_lists)) (more_count (slice_index_or new n no_lists))
+  pub counted : more + length (slice_index_or old n no_lists).staged ≡ count + length (slice_index_or new n no_lists).staged
+
+-- what is staged at a place, and at all places that are noted
+abbrev pub added_at : List Labels → List Lists → ℕ → Added
+added_at names lists n = record { place = n; labels = slice_index_or names n []; samples = more_of (slice_index_or lists n no_lists) }
+
+unfoldable pub added_of : List Labels → List Lists → List ℕ → List Added
+added_of names lists touched = map (added_at names lists) touched
+
 abbrev pub has_samples : List Point → Bool
 has_samples [] = false
 has_samples (x ∷ xs) = true
@@ -70,10 +106,12 @@ pub record IsAdded (index new : BTreeMap Labels ℕ) (old lists : List Lists) (t
   pub note : noted ≡ touched ++ length old ∷ []
   pub name : named ≡ fresh ++ l ∷ []
 
--- the two stores, and how many places are noted that a message has touched or made
+-- the two stores, what is staged of each label set, and how many places are noted that a message
+-- has touched or made
 pub record Stores : Type 0 where
   pub kept : Store
   pub staged : Store
+  pub added : List Added
   pub noted : ℕ
 
 -- What a function that stages samples returned says what the order rule gives, unless memory ran out.
@@ -91,6 +129,7 @@ StoreGives (Err v) given store = v ≢ NoMemory → given ≡ Err v
 pub record IsSound (index : BTreeMap Labels ℕ) (lists : List Lists) (touched : List ℕ) (fresh : List Labels) (count staged_count : ℕ) : Type 0 where
   pub places : HasPlaces index lists
   pub settled : Settled touched lists
+  pub noted : AreNoted touched lists
   pub brought : IsFresh index lists fresh
   pub filled : AllFilled lists
   pub counted : count ≡ total (kept_store index.entries lists)

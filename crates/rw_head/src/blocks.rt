@@ -1,6 +1,6 @@
 //! The samples of a series in blocks.
 
-ghost use Rattle.std.specs.Prelude.{◌≡◌, ◌+◌, ◌-◌, ◌^◌, ◌<◌, ◌≤◌, ◌++◌, ◌∷◌, [], IfOk, OnOk, OnErr, length, map, take, vec_capacity};
+ghost use Rattle.std.specs.Prelude.{◌≡◌, ◌+◌, ◌-◌, ◌^◌, ◌<◌, ◌≤◌, ◌++◌, ◌∷◌, [], IfOk, OnOk, OnErr, length, map, take, drop, vec_capacity};
 ghost use Rattle.rw_types.specs.Rising.{Rises};
 ghost use Rattle.rw_head.specs.Order.{is_later, holds};
 ghost use Rattle.rw_head.specs.Lists.{IsEarlier};
@@ -102,6 +102,29 @@ fn refill(rest: &mut Vec<(i64, Word)>, samples: &[(i64, Word)])
     }
 }
 
+/// Appends a copy of the samples from number `start` on.
+fn copy_part(
+    from: &[(i64, Word)],
+    start: usize,
+    samples: &mut Vec<(i64, Word)>,
+) -> Result<(), AllocError>
+    requires { start ≤ length from.now }
+    ensures { OnOk result (samples.new.items ≡ samples.old.items ++ drop start from.now) }
+{
+    samples.extend_from_slice(&from[start..])
+}
+
+/// Appends a copy of the samples of these blocks.
+fn copy_blocks(sealed: &[Box<Block>], samples: &mut Vec<(i64, Word)>) -> Result<(), AllocError>
+    ensures { OnOk result
+        (samples.new.items ≡ samples.old.items ++ joined (map (λ b. b.value) sealed.now)) }
+{
+    for block in sealed {
+        samples.extend_from_slice(block.samples())?;
+    }
+    Ok(())
+}
+
 impl Blocks {
     /// No samples. This takes no memory.
     pub(crate) fn new(alloc: Global) -> Blocks
@@ -187,11 +210,27 @@ impl Blocks {
         ensures { IfOk result (λ v. v.items ≡ self.now) }
     {
         let mut samples = Vec::with_capacity(alloc, self.len())?;
-        for block in &self.sealed {
-            samples.extend_from_slice(block.samples())?;
-        }
-        samples.extend_from_slice(&self.rest)?;
+        self.copy_from(0, &mut samples)?;
         Ok(samples)
+    }
+
+    /// Appends a copy of the samples from number `start` on.
+    pub(crate) fn copy_from(
+        &self,
+        start: usize,
+        samples: &mut Vec<(i64, Word)>,
+    ) -> Result<(), AllocError>
+        requires { start ≤ length self.now }
+        ensures { OnOk result (samples.new.items ≡ samples.old.items ++ drop start self.now) }
+    {
+        let full = start / BLOCK_LEN;
+        let over = start % BLOCK_LEN;
+        if full >= self.sealed.len() {
+            return copy_part(&self.rest, over, samples);
+        }
+        copy_part(self.sealed[full].samples(), over, samples)?;
+        copy_blocks(&self.sealed[full + 1..], samples)?;
+        copy_part(&self.rest, 0, samples)
     }
 
     /// The full blocks.

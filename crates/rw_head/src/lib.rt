@@ -1,6 +1,7 @@
 //! The head of a receiver of samples: messages are taken whole or not at all, and each sample once, in order.
 #![tactic(auto)]
 
+mod added;
 mod block;
 mod blocks;
 mod body;
@@ -14,13 +15,16 @@ mod place;
 mod places;
 mod sample_list;
 mod series;
+mod staged_head;
 mod table;
 mod verdict;
 
+pub use added::{AddedSeries, AllAdded};
 pub use block::Block;
 pub use head::Head;
 pub use label_sets::LabelSets;
 pub use laws::{stores_are_lists, stores_hold_no_empty_list};
 pub use limits::Limits;
 pub use series::{AllSeries, HeldSeries};
+pub use staged_head::StagedHead;
 pub use verdict::Verdict;

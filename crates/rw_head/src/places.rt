@@ -74,6 +74,14 @@ impl Places {
         self.tree.len()
     }
 
+    /// The label sets at their places.
+    pub(crate) fn names(&self) -> &[Place]
+        ensures names { result.now ≡ self.now.names.items }
+        ensures named { AreNamed self.now.tree result.now }
+    {
+        self.names.as_slice()
+    }
+
     /// The place that is expected next, if the label set of these labels stands there.
     fn expected(&self, texts: &[(String, String)]) -> Option<usize>
         ensures place { IfSome result (λ n.

@@ -1,8 +1,9 @@
 //! The samples of one series.
 
-ghost use Rattle.std.specs.Prelude.{◌≡◌, ◌+◌, ◌^◌, ◌<◌, ◌≤◌, true, Err, IfOk, length, map};
+ghost use Rattle.std.specs.Prelude.{◌≡◌, ◌+◌, ◌^◌, ◌<◌, ◌≤◌, true, Err, IfOk, OnOk, length, map};
 ghost use Rattle.rw_head.specs.Order.{points, is_later, accept_one, accept};
-ghost use Rattle.rw_head.specs.Lists.{no_lists, has_samples, ListGives};
+ghost use Rattle.rw_types.specs.Beginnings.{Begins};
+ghost use Rattle.rw_head.specs.Lists.{no_lists, has_samples, more_of, more_count, ListGives};
 ghost use Rattle.rw_head.specs.Blocks.{sealed_of, open_of};
 ghost use Rattle.rw_head.specs.declared.verdict.Verdict.TheVariants.{NoMemory};
 
@@ -130,5 +131,22 @@ impl SampleList {
         ensures { result ≡ length self.now.staged }
     {
         self.samples.len()
+    }
+
+    /// How many samples are staged.
+    pub(crate) fn staged_count(&self) -> usize
+        ensures count { result ≡ more_count self.now }
+        ensures begun { Begins self.now.kept self.now.staged }
+        ensures more { length self.now.kept ≤ length self.now.staged }
+    {
+        self.samples.len() - self.kept
+    }
+
+    /// Overwrites `samples` with a copy of those that are staged.
+    pub(crate) fn copy_staged(&self, samples: &mut Vec<(i64, Word)>) -> Result<(), AllocError>
+        ensures { OnOk result (samples.new.items ≡ more_of self.now) }
+    {
+        samples.clear();
+        self.samples.copy_from(self.kept, samples)
     }
 }

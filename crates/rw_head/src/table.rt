@@ -1,6 +1,7 @@
 //! The lists of all label sets, and what a message would make of them.
 
-ghost use Rattle.std.specs.Prelude.{◌≡◌, ◌≢◌, ◌↔◌, ◌+◌, ◌-◌, ◌^◌, ◌<◌, ◌≤◌, ◌++◌, ◌∷◌, [], ℕ, length, None, Some, IsTrue, IfOk, IfErr, OnOk, OnErr, map, slice_index_or, slice_set};
+ghost use Rattle.std.specs.Prelude.{◌≡◌, ◌≢◌, ◌↔◌, ◌+◌, ◌-◌, ◌^◌, ◌<◌, ◌≤◌, ◌++◌, ◌∷◌, [], ℕ, length, None, Some, IsTrue, IfOk, IfErr, OnOk, OnErr, map, slice_index_or, slice_set, vec_len, vec_capacity};
+ghost use Rattle.rw_types.specs.Beginnings.{Begins};
 ghost use Rattle.std.specs.BTreeMap.{get};
 ghost use Rattle.std.specs.FinMap.{empty};
 ghost use Rattle.rw_types.specs.LabelOrder.{labels_cmp};
@@ -12,8 +13,10 @@ ghost use Rattle.rw_head.specs.Bodies.{known_of, KnownGives};
 ghost use Rattle.rw_write_request.specs.Read.{read_series};
 ghost use Rattle.rw_head.specs.Growth.{HoldsNoneRefused};
 ghost use Rattle.rw_head.specs.Blocks.{sealed_of, open_of};
-ghost use Rattle.rw_head.specs.Lists.{no_lists, Settled, IsAdded, ListGives, StoreGives};
+ghost use Rattle.rw_head.specs.Added.{AddsUp};
+ghost use Rattle.rw_head.specs.Lists.{no_lists, more_count, note_of, Settled, IsAdded, IsStagedAt, ListGives, StoreGives};
 
+use crate::added::AllAdded;
 use crate::block::Block;
 use crate::label_bounds::LabelBounds;
 use crate::name::Name;
@@ -29,9 +32,10 @@ use std::marker::Model;
 /// How many samples all lists may have together.
 const MOST_SAMPLES: u64 = 1 << 60;
 
-/// A list of samples for each label set that has some. Those of a message that is not judged yet are staged, and then kept or forgotten
-/// together, with the label sets that the message brought. Contracts see the store that is kept, the store that it is with what is staged,
-/// and how many places and label sets are noted for the message.
+/// A list of samples for each label set that has some. Those of a message that is not judged yet
+/// are staged, and then kept or forgotten together, with the label sets that the message brought.
+/// Contracts see the store that is kept, the store that it is with what is staged, what is staged
+/// of each label set, and how many places and label sets are noted for the message.
 #[derive(Debug, Drop)]
 pub(crate) struct Table {
     places: Places,
@@ -47,7 +51,7 @@ impl Model for Table {
     ghost use Rattle.std.specs.Prelude.{◌≡◌, ◌+◌, length};
     ghost use Rattle.std.specs.Coded.{codes};
     ghost use Rattle.std.specs.FinMap as map;
-    ghost use Rattle.rw_head.specs.Lists.{Stores, kept_store, staged_store, IsSound};
+    ghost use Rattle.rw_head.specs.Lists.{Stores, kept_store, staged_store, added_of, IsSound};
 
     ghost Value = { Stores };
 
@@ -56,6 +60,7 @@ impl Model for Table {
     ghost view = { λ t. record {
       kept = kept_store t.places.tree.entries t.lists.items;
       staged = staged_store t.places.tree.entries t.lists.items;
+      added = added_of t.places.names.items t.lists.items t.touched.items;
       noted = length t.touched.items + length t.fresh.items;
     } };
 
@@ -140,6 +145,56 @@ fn stage_at(
     lists[place].stage_all(samples)
 }
 
+/// Returns how many samples are staged in the list at a place.
+fn staged_count(lists: &[SampleList], place: usize) -> usize
+    requires { place < length lists.now }
+    ensures count { result ≡ more_count (slice_index_or lists.now place no_lists) }
+    ensures begun { Begins (slice_index_or lists.now place no_lists).kept
+        (slice_index_or lists.now place no_lists).staged }
+    ensures more { length (slice_index_or lists.now place no_lists).kept
+        ≤ length (slice_index_or lists.now place no_lists).staged }
+{
+    lists[place].staged_count()
+}
+
+/// Notes a place, if its list had no staged samples before a series and has some after it.
+fn note(touched: &mut Vec<usize>, place: usize, before: usize, after: usize)
+    requires { vec_len touched.old < vec_capacity touched.old }
+    ensures { touched.new.items ≡ note_of touched.old.items place before after }
+{
+    if before == 0 && after != 0 {
+        put(touched, place);
+    }
+}
+
+/// Stages the samples of a label set that has a place, counts them and notes the place.
+fn stage_held(
+    lists: &mut Vec<SampleList>,
+    touched: &mut Vec<usize>,
+    count: &mut u64,
+    place: usize,
+    samples: &[(Word, i64)],
+) -> Result<(), Verdict>
+    requires place { place < length lists.old.items }
+    requires room { length (slice_index_or lists.old.items place no_lists).staged
+        + length samples.now ≤ 2 ^ 60 }
+    requires most { count.old + length samples.now ≤ 2 ^ 60 }
+    requires next { vec_len touched.old < vec_capacity touched.old }
+    ensures held { IsStagedAt lists.old.items lists.new.items touched.old.items touched.new.items
+        count.old count.new place }
+    ensures staged { ListGives result
+        (accept (Some (slice_index_or lists.old.items place no_lists).staged)
+        (points samples.now)) (slice_index_or lists.new.items place no_lists).staged }
+    ensures few { count.new ≤ count.old + length samples.now }
+{
+    let before = staged_count(lists, place);
+    let outcome = stage_at(lists, place, samples);
+    let after = staged_count(lists, place);
+    *count += (after - before) as u64;
+    note(touched, place, before, after);
+    outcome
+}
+
 /// Keeps what is staged in the lists at these places.
 fn commit_all(lists: &mut Vec<SampleList>, touched: &[usize])
     requires { Settled touched.now lists.old.items }
@@ -180,19 +235,10 @@ fn was_known(outcome: Result<(), Verdict>) -> Result<bool, Verdict>
     }
 }
 
-/// Notes that the list at a place is touched.
-fn note(touched: &mut Vec<usize>, place: usize) -> Result<(), AllocError>
-    ensures ok { OnOk result (touched.new.items ≡ touched.old.items ++ place ∷ []) }
-    ensures err { OnErr result (touched.new.items ≡ touched.old.items) }
-{
-    touched.push(place)?;
-    Ok(())
-}
-
 impl Table {
     /// No samples. This takes no memory.
     pub(crate) fn new(alloc: Global) -> Table
-        ensures { result ≡ record { kept = empty; staged = empty; noted = 0 } }
+        ensures { result ≡ record { kept = empty; staged = empty; added = []; noted = 0 } }
     {
         Table {
             places: Places::new(alloc),
@@ -240,11 +286,14 @@ impl Table {
         }
         match found {
             Found::At(place) => {
-                note(&mut self.touched, place)?;
-                let before = self.lists[place].staged_len();
-                let outcome = stage_at(&mut self.lists, place, samples);
-                self.staged_count += (self.lists[place].staged_len() - before) as u64;
-                outcome
+                self.touched.reserve(1)?;
+                stage_held(
+                    &mut self.lists,
+                    &mut self.touched,
+                    &mut self.staged_count,
+                    place,
+                    samples,
+                )
             }
             Found::Nowhere(name) => {
                 let list = new_list(alloc, samples)?;
@@ -279,11 +328,14 @@ impl Table {
         if !has_room(self.count + self.staged_count, self.samples.len()) {
             return Err(Verdict::NoMemory);
         }
-        note(&mut self.touched, place)?;
-        let before = self.lists[place].staged_len();
-        let outcome = stage_at(&mut self.lists, place, &self.samples);
-        self.staged_count += (self.lists[place].staged_len() - before) as u64;
-        was_known(outcome)
+        self.touched.reserve(1)?;
+        was_known(stage_held(
+            &mut self.lists,
+            &mut self.touched,
+            &mut self.staged_count,
+            place,
+            &self.samples,
+        ))
     }
 
     /// Keeps the head of the series that was staged last, for the next time. It may do nothing.
@@ -376,5 +428,17 @@ impl Table {
         ensures fits { length result < 2 ^ 63 }
     {
         AllSeries::new(self.places.iter(), self.lists.as_slice())
+    }
+
+    /// What is staged, label set by label set. This takes no memory.
+    pub(crate) fn added(&self) -> AllAdded<'_>
+        ensures list { result ≡ self.now.added }
+        ensures adds { AddsUp self.now.kept self.now.staged result }
+    {
+        AllAdded::new(
+            self.touched.as_slice(),
+            self.places.names(),
+            self.lists.as_slice(),
+        )
     }
 }

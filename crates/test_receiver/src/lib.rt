@@ -32,6 +32,8 @@ mod rows;
 #[cfg(test)]
 mod seats;
 #[cfg(test)]
+mod staged;
+#[cfg(test)]
 mod store;
 #[cfg(test)]
 mod waiting;

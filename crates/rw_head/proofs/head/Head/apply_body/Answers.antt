@@ -1,6 +1,6 @@
 use Rattle.std.proofs.Common.{subst, sym, ◌∙◌}
 use Rattle.rw_head.specs.Growth.{sample_count, HoldsNoneRefused}
-use Rattle.rw_head.proofs.GrowthLemmas.{Grown, kept_grown, ready_again, blocks_kept}
+use Rattle.rw_head.proofs.GrowthLemmas.{Grown, kept_grown, ready_again, ready_still, blocks_kept}
 use Rattle.rw_head.proofs.head.Head.apply_body.Goals as goal
 
 grown_inside : (c : goal.After-commit) → Grown c.self.inside.table.kept c.commit.new.self.kept (sample_count c.in-Ok.ensures.staged.0)
@@ -30,3 +30,9 @@ returns-in-Ok-clause-rises c = let g = grown_inside c in g.rises
 
 pub returns-in-Ok-clause-blocks : goal.returns-in-Ok-clause-blocks
 returns-in-Ok-clause-blocks c = let g = grown c in blocks_kept _ _ _ g
+
+pub invariant_of-self-in-Err : goal.invariant_of-self-in-Err
+invariant_of-self-in-Err c = (
+  ready_still c.self.inside.table c.stage_body-staged.new.table c.abort.new.self c.self.invariant.0 c.stage_body-staged.ensures.kept c.abort.ensures.kept c.abort.ensures.staged c.abort.ensures.noted,
+  subst (HoldsNoneRefused c.self.inside.bounds) (sym (c.abort.ensures.kept ∙ c.stage_body-staged.ensures.kept)) c.self.invariant.1,
+)

@@ -1,5 +1,6 @@
 use Rattle.std.proofs.Common.{◌≡◌, ◌+◌, length, ap, arith}
 use Rattle.rw_head.proofs.StagingLemmas.{no_places, IsSound-empty}
+use Rattle.rw_head.proofs.AddedLemmas.{nothing_added}
 use Rattle.rw_head.proofs.table.Table.new.Goals as goal
 
 pub invariant_of-result : goal.invariant_of-result
@@ -8,5 +9,6 @@ invariant_of-result c = (IsSound-empty c.new.result.tree _ _ _ c.new.ensures.tre
 pub returns : goal.returns
 returns c =
     let stores = no_places c.new.result.tree.entries c.new-2.result.items c.new.ensures.tree in
+    let added = nothing_added c.new.result.names.items c.new-2.result.items c.new-3.result.items c.new-3.ensures.items in
     let none : length c.new-3.result.items + length c.new-4.result.items ≡ 0 = omega (arith, ap length c.new-3.ensures.items, ap length c.new-4.ensures.items) in
-    λ i. record { kept = stores.0 i; staged = stores.1 i; noted = none i }
+    λ i. record { kept = stores.0 i; staged = stores.1 i; added = added i; noted = none i }

@@ -1,0 +1,41 @@
+use Rattle.std.proofs.Common.{◌≤◌, refl, subst, sym}
+use Rattle.rw_types.specs.Beginnings.{Begins}
+use Rattle.rw_types.specs.Labels.{Labels}
+use Rattle.rw_head.specs.Growth.{EachRises, HoldsNoneRefused}
+use Rattle.rw_head.specs.Store.{Store, list_of, total, HasNoEmptyList}
+use Rattle.rw_head.specs.Head.{State, answer}
+use Rattle.rw_write_request.specs.Read.{read}
+use Rattle.rw_head.proofs.GrowthLemmas.{kept_grown, answer_begins}
+use Rattle.rw_head.proofs.head.Head.stage.Goals as goal
+
+pub invariant_of-result : goal.invariant_of-result
+invariant_of-result c =
+    let m = c.in-Ok.ensures.staged in
+    let staged = c.stage_body.new.table.staged in
+    let g = kept_grown c.self.inside.bounds m.0 c.self.inside.table c.stage_body.new.table.staged c.stage_body.new.table.staged c.self.invariant.0 m.2 refl in
+    let same = sym c.in-Ok.ensures.kept in
+    record {
+      rises = subst EachRises same c.self.invariant.0.rises;
+      filled = subst HasNoEmptyList same c.self.invariant.0.filled;
+      within = subst (HoldsNoneRefused c.self.inside.bounds) same c.self.invariant.1;
+      rises_after = g.rises;
+      filled_after = g.filled;
+      within_after = c.in-Ok.ensures.within;
+      more = subst (λ (s : Store). total s ≤ total c.stage_body.new.table.staged) same g.more;
+      begins = subst (λ (s : Store). (l : Labels) → Begins (list_of s l) (list_of c.stage_body.new.table.staged l)) same g.begins;
+    }
+
+pub returns-then-busy-gt0-clause-begins : goal.returns-then-busy-gt0-clause-begins
+returns-then-busy-gt0-clause-begins c = λ l.
+    subst (λ (h : State). Begins (list_of h.store l) (list_of (answer h c.args.body.now).head.store l)) c.self.view_is
+    (answer_begins (record { store = c.self.inside.table.kept; limits = c.self.inside.bounds; busy = c.self.inside.busy }) (read c.args.body.now) l c.self.invariant.0.rises c.self.invariant.0.filled)
+
+pub returns-in-Ok-clause-begins : goal.returns-in-Ok-clause-begins
+returns-in-Ok-clause-begins c = λ l.
+    subst (λ (h : State). Begins (list_of h.store l) (list_of (answer h c.args.body.now).head.store l)) c.self.view_is
+    (answer_begins (record { store = c.self.inside.table.kept; limits = c.self.inside.bounds; busy = c.self.inside.busy }) (read c.args.body.now) l c.self.invariant.0.rises c.self.invariant.0.filled)
+
+pub returns-in-Err-clause-begins : goal.returns-in-Err-clause-begins
+returns-in-Err-clause-begins c = λ l.
+    subst (λ (h : State). Begins (list_of h.store l) (list_of (answer h c.args.body.now).head.store l)) c.self.view_is
+    (answer_begins (record { store = c.self.inside.table.kept; limits = c.self.inside.bounds; busy = c.self.inside.busy }) (read c.args.body.now) l c.self.invariant.0.rises c.self.invariant.0.filled)

@@ -1,0 +1,160 @@
+//! A head with a message that is judged and not taken yet.
+
+ghost use Rattle.std.specs.Prelude.{◌≡◌, ◌≢◌, ◌≤◌, IfOk, IfErr};
+ghost use Rattle.rw_types.specs.Beginnings.{Begins};
+ghost use Rattle.rw_types.specs.Labels.{Labels};
+ghost use Rattle.rw_head.specs.Added.{AddsUp};
+ghost use Rattle.rw_head.specs.Blocks.{KeepsBlocks};
+ghost use Rattle.rw_head.specs.Growth.{EachRises};
+ghost use Rattle.rw_head.specs.Head.{answer, SpellsMessage, IsStatus};
+ghost use Rattle.rw_head.specs.Store.{list_of, total};
+
+use crate::added::AllAdded;
+use crate::body::stage_body;
+use crate::head::{Head, status_of};
+use crate::label_bounds::LabelBounds;
+use crate::table::Table;
+use rw_types::LabelSet;
+use std::alloc::Global;
+use std::marker::Model;
+
+/// A head in which a message is staged that it would take. Contracts see the head without the
+/// message and with it, and what the message adds.
+#[derive(Debug, Drop)]
+pub struct StagedHead {
+    alloc: Global,
+    table: Table,
+    labels: LabelSet,
+    bounds: LabelBounds,
+}
+
+impl Model for StagedHead {
+    ghost use Rattle.std.specs.Coded.{codes};
+    ghost use Rattle.std.specs.FinMap as map;
+    ghost use Rattle.rw_head.specs.Staged.{Staging, IsStaging};
+
+    ghost Value = { Staging };
+
+    ghost coded = { Prim.hlevel (codes, map.code) };
+
+    ghost view = { λ h. record {
+      before = record { store = h.table.kept; limits = h.bounds; busy = 0 };
+      after = record { store = h.table.staged; limits = h.bounds; busy = 0 };
+      added = h.table.added;
+    } };
+
+    ghost invariant = { λ h. IsStaging h.bounds h.table.kept h.table.staged };
+}
+
+impl Head {
+    /// Judges the body of a request as `answer` does, and stages its message if the head would take
+    /// it. Otherwise returns the head with the status that `answer` gives: the busy count is one
+    /// lower after 429, and nothing else has changed.
+    pub fn stage(self, body: &[u8]) -> Result<StagedHead, (Head, u16)>
+        ensures before { IfOk result (λ s. s.before ≡ self) }
+        ensures after { IfOk result (λ s. s.after ≡ (answer self body.now).head) }
+        ensures taken { IfOk result (λ s. (answer self body.now).status ≡ 204) }
+        ensures status { IfErr result (λ e. e.1 ≢ 503 → e.1 ≡ (answer self body.now).status) }
+        ensures head { IfErr result (λ e. e.1 ≢ 503 → e.0 ≡ (answer self body.now).head) }
+        ensures no_memory { IfErr result (λ e. e.1 ≡ 503 → (e.0 ≡ self) × (self.busy ≡ 0)) }
+        ensures readable { IfErr result (λ e. e.1 ≡ 503 → SpellsMessage body.now) }
+        ensures statuses { IfErr result (λ e. IsStatus e.1) }
+        ensures refused { IfErr result (λ e. e.1 ≢ 204) }
+        ensures begins { (l : Labels) → Begins (list_of self.store l)
+            (list_of (answer self body.now).head.store l) }
+    {
+        let Head {
+            alloc,
+            mut table,
+            mut labels,
+            bounds,
+            busy,
+        } = self;
+        if busy > 0 {
+            let head = Head {
+                alloc,
+                table,
+                labels,
+                bounds,
+                busy: busy - 1,
+            };
+            return Err((head, 429));
+        }
+        match stage_body(&mut table, &mut labels, &bounds, body) {
+            Ok(()) => Ok(StagedHead {
+                alloc,
+                table,
+                labels,
+                bounds,
+            }),
+            Err(verdict) => {
+                table.abort();
+                let head = Head {
+                    alloc,
+                    table,
+                    labels,
+                    bounds,
+                    busy,
+                };
+                Err((head, status_of(verdict)))
+            }
+        }
+    }
+}
+
+impl StagedHead {
+    /// Returns what the message adds: each label set that gets new samples, once. A sample that the
+    /// head holds already is not new. This takes no memory.
+    pub fn added(&self) -> AllAdded<'_>
+        ensures list { result ≡ self.now.added }
+        ensures adds { AddsUp self.now.before.store self.now.after.store result }
+    {
+        self.table.added()
+    }
+
+    /// Returns the head with the message. This takes no memory.
+    pub fn commit(self) -> Head
+        ensures head { result ≡ self.after }
+        ensures more { total self.before.store ≤ total result.store }
+        ensures rises { EachRises result.store }
+        ensures begins { (l : Labels) → Begins (list_of self.before.store l)
+            (list_of result.store l) }
+        ensures blocks { KeepsBlocks self.before.store result.store }
+    {
+        let StagedHead {
+            alloc,
+            mut table,
+            labels,
+            bounds,
+        } = self;
+        table.commit();
+        Head {
+            alloc,
+            table,
+            labels,
+            bounds,
+            busy: 0,
+        }
+    }
+
+    /// Returns the head without the message. This takes no memory.
+    pub fn abort(self) -> Head
+        ensures { result ≡ self.before }
+    {
+        let StagedHead {
+            alloc,
+            table,
+            labels,
+            bounds,
+        } = self;
+        let mut kept = table;
+        kept.abort();
+        Head {
+            alloc,
+            table: kept,
+            labels,
+            bounds,
+            busy: 0,
+        }
+    }
+}
