@@ -3,6 +3,7 @@ use Rattle.std.specs.Prelude.{ℕ, List, [], ◌++◌, ◌*◌, ◌/◌, ◌==�
 use Rattle.rw_metrics.specs.declared.cause.Cause.{Cause}
 use Rattle.rw_metrics.specs.declared.cause.Cause.TheVariants as cause
 use Rattle.rw_metrics.specs.declared.send_numbers.Drops.{Drops}
+use Rattle.rw_metrics.specs.declared.send_numbers.Failures.{Failures}
 use Rattle.rw_metrics.specs.declared.send_numbers.SendNumbers.{SendNumbers}
 use Rattle.rw_metrics.specs.declared.receive_numbers.ReceiveNumbers.{ReceiveNumbers}
 
@@ -61,6 +62,15 @@ work_line n =
 
 abbrev pub send_line : SendNumbers → List ℕ
 send_line n = samples_line n ++ work_line n
+
+-- while a receiver has acknowledged nothing for this many seconds
+abbrev pub stall_line : List ℕ → ℕ → Failures → List ℕ
+stall_line receiver seconds f =
+    codes "rwship: no acknowledgement from " ++ receiver
+    ++ codes " for " ++ decimal seconds
+    ++ codes " s: attempts failed in a row: " ++ decimal f.in_a_row
+    ++ last_told f.last
+    ++ codes "; trying again\n"
 
 -- of a receiver
 abbrev pub receive_line : ReceiveNumbers → List ℕ

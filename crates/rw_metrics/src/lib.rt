@@ -20,6 +20,7 @@ mod send_numbers;
 mod sender_html;
 mod sender_page;
 mod server;
+mod stalls;
 
 pub use cause::Cause;
 pub use counters::Counters;
@@ -34,3 +35,4 @@ pub use send_numbers::{Drops, Failures, SendNumbers};
 pub use sender_html::send_html;
 pub use sender_page::send_page;
 pub use server::serve_metrics;
+pub use stalls::show_stalls;

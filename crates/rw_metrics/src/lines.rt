@@ -62,7 +62,7 @@ pub(crate) fn push_cause(out: &mut Vec<u8>, cause: Cause) -> Result<(), AllocErr
 
 /// Adds ` last CAUSE`, where an attempt has failed.
 #[tactic(auto, unfolding(crate::specs::Lines::last_told))]
-fn push_last_told(out: &mut Vec<u8>, last: Option<Cause>) -> Result<(), AllocError>
+pub(crate) fn push_last_told(out: &mut Vec<u8>, last: Option<Cause>) -> Result<(), AllocError>
     ensures { OnOk result (out.new.items ≡ out.old.items ++ last_told last) }
 {
     match last {

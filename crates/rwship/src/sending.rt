@@ -7,14 +7,15 @@ use crate::settings::settings_in;
 use crate::sign::{Told, sign_of};
 use rw_fault::ToolFault;
 use rw_follow::Timed;
-use rw_metrics::{Counters, SendCounters};
+use rw_metrics::{Counters, SendCounters, show_stalls};
 use rw_send::{Counted, Folder, FollowFault, LogFiles, StopFlag, TcpConnect, run_follow, run_send};
 use rw_settings::Settings;
 use rw_tcp::look_up;
+use rw_text::Address;
 use rw_types::{Bounded, Std};
-use rw_words::{Following, LogDir, Reading, Reporting, Sending, SettingsFile};
+use rw_words::{Following, LogDir, Reading, Sending, SettingsFile};
 use std::alloc::{AllocError, Global};
-use std::io::{Error, ErrorKind};
+use std::io::{Error, ErrorKind, IsTerminal};
 use std::net::SocketAddr;
 use std::process::ExitCode;
 use std::sync::{Arc, Wait};
@@ -111,15 +112,33 @@ fn new_counters(rt: &HostRuntime) -> Result<Arc<SendCounters, Global>, AllocErro
     Ok(Arc::new(rt.alloc(), counters)?)
 }
 
+/// On a terminal, reports from here on when the receiver acknowledges nothing, unless progress is
+/// shown.
+fn report_stalls<R: Threads>(
+    rt: &HostRuntime,
+    threads: &R,
+    sending: &Sending<'_>,
+    counters: &Arc<SendCounters, Global>,
+) -> Result<(), AllocError> {
+    if sending.reporting.has_progress || !rt.stderr().is_terminal() {
+        return Ok(());
+    }
+    let Address { host, port } = sending.to;
+    let receiver = format!(in rt.alloc(); "{host}:{port}")?;
+    let theirs = Arc::try_clone(counters)?;
+    show_stalls(threads, *rt, rt.stderr(), rt.alloc(), receiver, theirs)
+}
+
 /// Returns new counters, which are reported from here on as far as that is asked for.
 fn reported_counters<R: Threads>(
     rt: &HostRuntime,
     threads: &R,
-    reporting: &Reporting<'_>,
+    sending: &Sending<'_>,
 ) -> Result<Arc<SendCounters, Global>, ToolFault> {
     let counters = new_counters(rt)?;
     let shown = Counters::Send(Arc::try_clone(&counters)?);
-    begin_reporting(rt, threads, reporting, &shown)?;
+    begin_reporting(rt, threads, &sending.reporting, &shown)?;
+    report_stalls(rt, threads, sending, &counters)?;
     Ok(counters)
 }
 
@@ -131,7 +150,7 @@ fn prepare<R: Threads>(
     addresses: Vec<SocketAddr>,
     timeout_ms: Bounded<1, 3_600_000>,
 ) -> Result<Shipment, ToolFault> {
-    let counters = reported_counters(rt, threads, &sending.reporting)?;
+    let counters = reported_counters(rt, threads, sending)?;
     match shipment_to(rt, threads, sending, addresses, timeout_ms, &counters) {
         Ok(shipment) => Ok(shipment),
         Err(fault) => {
