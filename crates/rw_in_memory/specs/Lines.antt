@@ -2,19 +2,15 @@
 use Rattle.std.specs.Prelude.{◌≡◌, ℕ, ◌≤◌, List, [], ◌∷◌, length, true, Option, None, Some, ⊤}
 use Rattle.rw_types.specs.Requests.{is_host_name}
 use Rattle.rw_shard_core.specs.SentRequest.{request_of}
-use Rattle.rw_worker.specs.Transcript.{Exchange, exchange_of}
+use Rattle.rw_worker.specs.Transcript.{Exchange}
 use Rattle.rw_head.specs.Head.{State}
 use Rattle.rw_shared_head.specs.Seats.{Seated, HasAsked}
 use Rattle.rw_simulation.specs.Seatings.{IsSeatOf}
-use Rattle.rw_in_memory.specs.declared.line.Exchanged.{Exchanged}
 
 -- the seat that it asks, and the exchanges so far
 pub record Line : Type 0 where
   pub seat : Seated
   pub seen : List Exchange
-
-abbrev pub exchange_in : Exchanged → Exchange
-exchange_in x = exchange_of x.request x.answer
 
 -- these are requests that a sender makes for this path
 abbrev pub AreMade : List ℕ → List Exchange → Type 0

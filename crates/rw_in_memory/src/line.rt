@@ -3,6 +3,7 @@
 ghost use Rattle.std.specs.Prelude.{◌≡◌, ℕ, List, true, [], ◌∷◌, ◌++◌, None, Some, IfOk};
 ghost use Rattle.rw_types.specs.Requests.{is_host_name};
 ghost use Rattle.rw_shard_core.specs.SentRequest.{request_of};
+ghost use Rattle.rw_worker.specs.Transcript.{exchange_of};
 ghost use Rattle.rw_in_memory.specs.Lines.{IsAskedOnce, IsLine};
 
 use crate::asker::Asker;
@@ -12,20 +13,13 @@ use rw_endpoint::serve;
 use rw_history::History;
 use rw_shared_head::Seat;
 use rw_types::Room;
-use rw_worker::{Lost, Reply, Transport};
+use rw_worker::{Exchanged, Lost, Reply, Transport};
 use std::alloc::Global;
 use std::marker::Model;
 use std::sync::{Arc, Wait};
 
 /// The most bytes of a reply.
 const REPLY_ROOM: usize = 86;
-
-/// A request and its answer, for contracts alone.
-#[derive(Drop)]
-pub struct Exchanged {
-    pub request: History<u8>,
-    pub answer: Result<Reply, Lost>,
-}
 
 /// Serves a connection with one request. Gives what the seat answered, where it was asked.
 fn ask<R: Wait, L: Endpoint>(
@@ -63,13 +57,11 @@ fn answer_of(status: Option<u16>) -> Result<Reply, Lost>
     }
 }
 
-/// Notes one exchange more.
+/// Records one exchange more.
 fn note(seen: &mut History<Exchanged>, request: &[u8], answer: &Result<Reply, Lost>)
-    ensures { seen.new ≡ seen.old ++ record { request = request.now; answer = answer.now } ∷ [] }
+    ensures { seen.new ≡ seen.old ++ exchange_of request.now answer.now ∷ [] }
 {
-    let request = History::of(request);
-    let answer = *answer;
-    seen.push(&Exchanged { request, answer });
+    seen.push(&Exchanged::of(request, answer));
 }
 
 /// A transport in memory: it lends each request to a receiver's endpoint, which asks a seat of a shared head. Contracts see
@@ -85,15 +77,14 @@ pub struct Line<R, L: Endpoint> {
 }
 
 impl<R, L: Endpoint> Model for Line<R, L> {
-    ghost use Rattle.std.specs.Prelude.{map};
-    ghost use Rattle.rw_in_memory.specs.Lines.{Line, IsLine, exchange_in};
+    ghost use Rattle.rw_in_memory.specs.Lines.{Line, IsLine};
 
     ghost Value = { Line };
 
-    ghost view = { λ l. record { seat = l.asker.seat; seen = map exchange_in l.seen } };
+    ghost view = { λ l. record { seat = l.asker.seat; seen = l.seen } };
 
     ghost invariant = { λ l. IsLine L.opening L.path L.limit
-        (record { seat = l.asker.seat; seen = map exchange_in l.seen }) };
+        (record { seat = l.asker.seat; seen = l.seen }) };
 }
 
 impl<R, L: Endpoint> Line<R, L> {
