@@ -9,7 +9,8 @@ use Rattle.rw_batch.specs.Grouping.{LabelledSample, message}
 use Rattle.rw_batch.specs.Kept.{Fielded, Rowed, samples_alone}
 use Rattle.rw_batch.specs.declared.batch.BatchId.{BatchId}
 
--- samples that are taken until there are so many: where each stands and what it is, in the same order
+-- samples that are taken until there are so many: where each stands and what it is, in the same
+-- order
 pub record Building : Type 0 where
   pub batch : ℕ
   pub places : List Place
@@ -44,11 +45,13 @@ abbrev pub id_of : List Place → BatchId
 id_of [] = record { epoch = 0; shard = 0; seq = 0 }
 id_of (p ∷ ps) = record { epoch = p.epoch; shard = p.shard; seq = p.seq }
 
--- the batch of these samples: its body is the canonical spelling of the message that groups them by label set
+-- the batch of these samples: its body is the canonical spelling of the message that groups them by
+-- label set
 abbrev pub batch_of : Building → Frozen
 batch_of b = record { places = b.places; body = canon (message b.samples) }
 
--- what a builder keeps: a place for each sample, and one shard's samples in order, with their fields and their series
+-- what a builder keeps: a place for each sample, and one shard's samples in order, with their
+-- fields and their series
 pub record IsBuilding (batch : ℕ) (places : Vec Place Global) (fields : Fielded) (rows : Rowed) : Type 0 where
   pub alike : length places.items ≡ length rows.samples
   pub within : length rows.samples ≤ batch

@@ -1,4 +1,5 @@
--- What a builder keeps of the samples that it took: their fields, and where those of one series stand.
+-- What a builder keeps of the samples that it took: their fields, and where those of one series
+-- stand.
 use Rattle.std.specs.Global.{Global}
 use Rattle.std.specs.Prelude.{◌≡◌, ℕ, ◌+◌, ◌*◌, ◌≤◌, Vec, vec_capacity, List, [], ◌∷◌, ◌++◌, length, take, drop, map, Some, slice_get, ⊤}
 use Rattle.std.specs.Arc.{arc_value}
@@ -29,7 +30,8 @@ field_at ss k = sample_fields (take 1 (drop k ss))
 abbrev pub samples_alone : List LabelledSample → List Sample
 samples_alone xs = map (λ x. x.sample) xs
 
--- the fields of the samples in a row; mark k is where the field of sample k begins, and the last one where all end
+-- the fields of the samples in a row; mark k is where the field of sample k begins, and the last
+-- one where all end
 pub record AreFields (room : ℕ) (bytes : Vec ℕ Global) (marks : Vec ℕ Global) (samples : List Sample) : Type 0 where
   pub most : room ≤ 10000
   pub within : length samples ≤ room
@@ -40,7 +42,8 @@ pub record AreFields (room : ℕ) (bytes : Vec ℕ Global) (marks : Vec ℕ Glob
   pub mark_room : room + 1 ≤ vec_capacity marks
   pub valid : AllByRecursion IsSample samples
 
--- the samples of one series are those numbered `back`, the last one first: `at` is that one, and `before` has for each sample the one of its series before it
+-- the samples of one series are those numbered `back`, the last one first: `at` is that one, and
+-- `before` has for each sample the one of its series before it
 abbrev pub GoesBack : List LabelledSample → List ℕ → ℕ → List ℕ → List Sample → Type 0
 GoesBack xs before at [] ss = ss ≡ []
 GoesBack xs before at (j ∷ back) ss =

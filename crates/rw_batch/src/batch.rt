@@ -18,7 +18,8 @@ pub struct BatchId {
     pub seq: u64,
 }
 
-/// Consecutive samples of one shard. Its id and its body stay as they are: each attempt to send it uses the one body.
+/// Consecutive samples of one shard. Its id and its body stay as they are: each attempt to send it
+/// uses the one body.
 #[derive(Drop)]
 pub struct Batch {
     pub(crate) places: Vec<Place>,

@@ -15,7 +15,8 @@ use rw_types::put_bytes;
 use rw_write_request::{put_series_head, series_head_len};
 use std::alloc::AllocError;
 
-/// How many bytes the field of series number `place` of the message takes; `None` where the number does not fit 64 bits.
+/// How many bytes the field of series number `place` of the message takes; `None` where the number
+/// does not fit 64 bits.
 fn series_len(rows: &Rows, place: usize) -> Option<usize>
     requires { place < length (message rows.now.samples) }
     ensures some { IfSome result (λ n. n ≡ parts_len (series_at rows.now.samples place)) }
@@ -52,7 +53,8 @@ fn put_numbered(out: &mut Vec<u8>, fields: &Fields, numbers: &[usize])
     }
 }
 
-/// Appends the field of series number `place` of the message. `row` is room for the numbers of its samples.
+/// Appends the field of series number `place` of the message. `row` is room for the numbers of its
+/// samples.
 fn put_series(out: &mut Vec<u8>, rows: &Rows, fields: &Fields, place: usize, row: &mut Vec<usize>)
     requires same { fields.now.samples ≡ samples_alone rows.now.samples }
     requires place { place < length (message rows.now.samples) }

@@ -101,7 +101,8 @@ impl Builder {
         self.places.len() == self.batch
     }
 
-    /// Whether the item is a sample that fits: there is room, and it is the next one of the shard of those before it.
+    /// Whether the item is a sample that fits: there is room, and it is the next one of the shard
+    /// of those before it.
     pub fn can_take(&self, item: &Item) -> bool
         ensures { IsTrue result
             ↔ ((length self.now.samples < self.now.batch) × MayBeTaken self.now.places item.now) }
@@ -114,7 +115,8 @@ impl Builder {
         }
     }
 
-    /// Takes the next sample of the shard. The number of its series is only a hint, and need not be right. This takes no memory.
+    /// Takes the next sample of the shard. The number of its series is only a hint, and need not be
+    /// right. This takes no memory.
     pub fn take(&mut self, item: Item)
         requires room { length self.old.samples < self.old.batch }
         requires sample { MayBeTaken self.old.places item }
@@ -132,7 +134,8 @@ impl Builder {
         }
     }
 
-    /// The field of sample number `k`, counted from 0, in the canonical spelling of the message. This takes no memory.
+    /// The field of sample number `k`, counted from 0, in the canonical spelling of the message.
+    /// This takes no memory.
     pub fn field(&self, k: usize) -> &[u8]
         requires { k < length self.now.samples }
         ensures { (x : LabelledSample) → slice_get self.now.samples k ≡ Some x
@@ -149,7 +152,8 @@ impl Builder {
         body_len(&self.rows)
     }
 
-    /// Appends the body of the batch to a vector that has room for it. An `Err` leaves `out` as it was.
+    /// Appends the body of the batch to a vector that has room for it. An `Err` leaves `out` as it
+    /// was.
     pub fn put_body(&self, out: &mut Vec<u8>) -> Result<(), AllocError>
         requires { vec_len out.old + length (batch_of self.now).body ≤ vec_capacity out.old }
         ensures ok { OnOk result (out.new.items ≡ out.old.items ++ (batch_of self.now).body) }
@@ -185,7 +189,8 @@ impl Builder {
         Ok(Bytes::from_vec(body)?)
     }
 
-    /// Makes the batch of the samples, and room in the ledger for a name of each. Where memory runs out, the builder comes back and the ledger is as it was.
+    /// Makes the batch of the samples, and room in the ledger for a name of each. Where memory runs
+    /// out, the builder comes back and the ledger is as it was.
     pub fn freeze(self, ledger: &mut Ledger) -> Result<Batch, (Builder, AllocError)>
         requires { 0 < length self.samples }
         ensures batch { IfOk result (λ b. b ≡ batch_of self) }
@@ -202,8 +207,8 @@ impl Builder {
         }
     }
 
-    /// Makes the batch of the samples as `freeze` does, with `body`, which was made before. Where memory runs out, the builder comes back and the
-    /// ledger is as it was.
+    /// Makes the batch of the samples as `freeze` does, with `body`, which was made before. Where
+    /// memory runs out, the builder comes back and the ledger is as it was.
     pub fn freeze_with(
         self,
         body: Bytes,

@@ -25,8 +25,8 @@ fn is_at(sets: &IndexSet<Arc<LabelSet>>, place: usize, labels: &LabelSet) -> boo
     }
 }
 
-/// The place of a label set, and whether it is new: then it comes last. The hint of its number is looked at first, so that no text
-/// is hashed where the hint is right.
+/// The place of a label set, and whether it is new: then it comes last. The hint of its number is
+/// looked at first, so that no text is hashed where the hint is right.
 pub(crate) fn place_of(
     sets: &mut IndexSet<Arc<LabelSet>>,
     hints: &mut [usize],

@@ -15,7 +15,8 @@ use std::marker::Model;
 
 /// Samples grouped by label set: a message that grows sample by sample.
 ///
-/// Each sample comes with the number of its series, by which the series is found without comparing labels.
+/// Each sample comes with the number of its series, by which the series is found without comparing
+/// labels.
 #[derive(Debug, Drop)]
 pub struct Grouping {
     numbers: IndexSet<u64>,
@@ -99,8 +100,9 @@ impl Grouping {
         self.series.is_empty()
     }
 
-    /// Adds a sample of value `word`, at time `t` in milliseconds since the Unix epoch, to the series that `number` stands for. Its labels are
-    /// copied where that series is new. An `Err` changes nothing.
+    /// Adds a sample of value `word`, at time `t` in milliseconds since the Unix epoch, to the
+    /// series that `number` stands for. Its labels are copied where that series is new. An `Err`
+    /// changes nothing.
     pub fn add(
         &mut self,
         number: u64,
@@ -133,8 +135,9 @@ impl Grouping {
         }
     }
 
-    /// The place of the series of a number. That of the last sample is looked at first, and then the next one: samples of a series come together, or
-    /// the series of a log in the same order again and again.
+    /// The place of the series of a number. That of the last sample is looked at first, and then
+    /// the next one: samples of a series come together, or the series of a log in the same order
+    /// again and again.
     fn place_of(&self, number: u64) -> Option<usize>
         ensures some { IfSome result (λ place. slice_get self.now.numbers place ≡ Some number) }
         ensures none { IfNone result (list_any (λ m. number == m) self.now.numbers ≡ false) }

@@ -102,7 +102,8 @@ impl Rows {
         })
     }
 
-    /// Adds one more sample, whose field takes `bytes` bytes, behind those of its series. The number of the series is a hint.
+    /// Adds one more sample, whose field takes `bytes` bytes, behind those of its series. The
+    /// number of the series is a hint.
     pub(crate) fn push(&mut self, series: u64, sample: Labelled, bytes: usize)
         requires room { length self.old.samples < self.old.room }
         requires bytes { bytes ≡ length (sample_fields (sample.sample ∷ [])) }

@@ -30,7 +30,8 @@ AreSamples (Sample place t word labels ∷ xs) = AreSamples xs
 AreSamples (Flush ∷ xs) = ⊥
 AreSamples (End kind ∷ xs) = ⊥
 
--- a sample that counts so much does not fit into what is left of the limit behind those counted; without a limit each one fits
+-- a sample that counts so much does not fit into what is left of the limit behind those counted;
+-- without a limit each one fits
 abbrev pub is_over : Option ℕ → ℕ → ℕ → Bool
 is_over None counted bytes = false
 is_over (Some limit) counted bytes = not (nat_le bytes (limit - counted))
@@ -45,7 +46,8 @@ abbrev pub counted_with : Bool → ℕ → ℕ → ℕ
 counted_with true counted bytes = bytes
 counted_with false counted bytes = counted + bytes
 
--- samples, with a Flush before each that would take what was counted since the last mark above the limit, and no other mark
+-- samples, with a Flush before each that would take what was counted since the last mark above the
+-- limit, and no other mark
 abbrev pub with_cuts : Option ℕ → ℕ → List Item → List Item
 with_cuts limit counted [] = []
 with_cuts limit counted (x ∷ xs) =

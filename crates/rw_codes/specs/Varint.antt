@@ -9,12 +9,14 @@ abbrev pub ◌>>=◌ : {A B F : Type 0} → Result A F → (A → Result B F) �
 (Ok x) >>= f = f x
 (Err e) >>= f = Err e
 
--- n in groups of seven bits, least first, the top bit set on all bytes but the last; at most k groups before the last
+-- n in groups of seven bits, least first, the top bit set on all bytes but the last; at most k
+-- groups before the last
 unfoldable pub groups : ℕ → ℕ → List ℕ
 groups zero n = n ∷ []
 groups (suc k) n = if nat_lt n 128 then n ∷ [] else (128 + n % 128) ∷ groups k (n / 128)
 
--- the number of such groups and the bytes after them, with at most k groups before the last, which then is 0 or 1
+-- the number of such groups and the bytes after them, with at most k groups before the last, which
+-- then is 0 or 1
 unfoldable pub number_in_groups : ℕ → List ℕ → Result (ℕ × List ℕ) CodeFault
 number_in_groups k [] = Err Short
 number_in_groups zero (b ∷ bs) = if nat_lt b 2 then Ok (b, bs) else Err TooBig

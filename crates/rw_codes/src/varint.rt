@@ -41,7 +41,8 @@ pub fn uvarint_len(n: u64) -> usize
     1 + ((63 - n.leading_zeros()) / 7) as usize
 }
 
-/// Appends the varint of `n`, in its shortest form, to a vector that has room for it ("Base 128 Varints"). This takes no memory.
+/// Appends the varint of `n`, in its shortest form, to a vector that has room for it ("Base 128
+/// Varints"). This takes no memory.
 pub fn push_uvarint(out: &mut Vec<u8>, n: u64)
     requires room { vec_len out.old + length (uvarint n) ≤ vec_capacity out.old }
     ensures items { out.new.items ≡ out.old.items ++ uvarint n }
@@ -80,8 +81,8 @@ fn put_groups(out: &mut Vec<u8>, n: u64) -> Result<(), AllocError>
     Ok(())
 }
 
-/// Appends the varint of `n`, in its shortest form ("Base 128 Varints"). Memory can run out only where the vector has no room for it; an `Err`
-/// leaves its bytes as they were.
+/// Appends the varint of `n`, in its shortest form ("Base 128 Varints"). Memory can run out only
+/// where the vector has no room for it; an `Err` leaves its bytes as they were.
 #[inline]
 pub fn put_uvarint(out: &mut Vec<u8>, n: u64) -> Result<(), AllocError>
     ensures ok { OnOk result (out.new.items ≡ out.old.items ++ uvarint n) }
@@ -121,7 +122,8 @@ fn get_groups(bytes: &[u8]) -> Result<(u64, usize), CodeFault>
     Err(CodeFault::Short)
 }
 
-/// Reads the varint at the front of `bytes` ("Base 128 Varints"): its number, and how many bytes it takes. These are one to ten, also where fewer would do.
+/// Reads the varint at the front of `bytes` ("Base 128 Varints"): its number, and how many bytes it
+/// takes. These are one to ten, also where fewer would do.
 // Most numbers of a log take one byte or two, so these are read where the call stands.
 #[inline]
 pub fn get_uvarint(bytes: &[u8]) -> Result<(u64, usize), CodeFault>
@@ -139,8 +141,8 @@ pub fn get_uvarint(bytes: &[u8]) -> Result<(u64, usize), CodeFault>
     get_groups(bytes)
 }
 
-/// Appends the ZigZag varint of `z`, in its shortest form ("Signed Integers"). Memory can run out only where the vector has no room for it; an
-/// `Err` leaves its bytes as they were.
+/// Appends the ZigZag varint of `z`, in its shortest form ("Signed Integers"). Memory can run out
+/// only where the vector has no room for it; an `Err` leaves its bytes as they were.
 #[inline]
 pub fn put_varint(out: &mut Vec<u8>, z: i64) -> Result<(), AllocError>
     ensures ok { OnOk result (out.new.items ≡ out.old.items ++ varint z) }
@@ -150,7 +152,8 @@ pub fn put_varint(out: &mut Vec<u8>, z: i64) -> Result<(), AllocError>
     put_uvarint(out, zig_zag_number(z))
 }
 
-/// Reads the ZigZag varint at the front of `bytes` ("Signed Integers"): its signed number, and how many bytes it takes. The errors are those of `get_uvarint`.
+/// Reads the ZigZag varint at the front of `bytes` ("Signed Integers"): its signed number, and how
+/// many bytes it takes. The errors are those of `get_uvarint`.
 #[inline]
 pub fn get_varint(bytes: &[u8]) -> Result<(i64, usize), CodeFault>
     ensures ok { IfOk result (λ x. read_varint bytes.now ≡ Ok (x.0, drop x.1 bytes.now)) }

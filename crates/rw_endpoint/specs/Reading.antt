@@ -21,7 +21,8 @@ HasNoHead input = (head : RequestHead) (rest : List ℕ) → ¬ (BeginsWithHead 
 abbrev pub NeverHasHead : List ℕ → Type 0
 NeverHasHead input = (more : List ℕ) → HasNoHead (input ++ more)
 
--- a head is not there yet: the bytes are fewer than a head may have, and some of the grammar begin so
+-- a head is not there yet: the bytes are fewer than a head may have, and some of the grammar begin
+-- so
 abbrev pub IsPartOfHead : List ℕ → Type 0
 IsPartOfHead input = HasNoHead input × MayBecomeRequest input × (length input < 8192)
 

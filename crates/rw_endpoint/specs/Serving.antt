@@ -102,7 +102,8 @@ pub record AsksForBody (path : List ℕ) (limit : ℕ) (input : List ℕ) : Type
   pub begins : BeginsWithHead input head rest
   pub finding : finding_of path limit head ≡ Body len closes
 
--- The text is the replies to the first requests of the input, none of which closes. What follows these requests is left.
+-- The text is the replies to the first requests of the input, none of which closes. What follows
+-- these requests is left.
 pub data RepliesUpTo {S : Type 0} (path : List ℕ) (limit : ℕ) (answers : S → List ℕ → ℕ → S → Type 0) (input : List ℕ) (old : S) : List ℕ → List ℕ → S → Type 0 where
   nothing_yet : RepliesUpTo path limit answers input old [] input old
   one_more : {text left first rest : List ℕ} {middle new : S} →

@@ -1,4 +1,5 @@
--- The values that this endpoint reads (RFC 9110, sections 5.6.3, 8.3, 8.4 and 8.6; Remote-Write 1.0).
+-- The values that this endpoint reads (RFC 9110, sections 5.6.3, 8.3, 8.4 and 8.6; Remote-Write
+-- 1.0).
 use Rattle.std.specs.Prelude.{ℕ, List, [], ◌∷◌, Bool, false, ◌||◌, ◌&&◌, ◌==◌, nat_lt, nat_le, length, take, drop, codes, Option, None, Some, if◌then◌else◌}
 use Rattle.std.specs.List.{list_all}
 use Rattle.std.specs.Str.{str_eq_ignore_ascii_case}

@@ -13,7 +13,8 @@ use httparse::spans::HeaderSpan;
 pub enum Finding {
     /// It is answered with this status, and the connection closes.
     Refused(u16),
-    /// A body of `len` bytes follows, which is to be answered. `closes` says whether the connection closes after the reply.
+    /// A body of `len` bytes follows, which is to be answered. `closes` says whether the connection
+    /// closes after the reply.
     Body { len: u64, closes: bool },
 }
 

@@ -7,8 +7,8 @@ use std::marker::Model;
 /// The most bytes of a head, its last line and the empty lines before it included.
 pub(crate) const MAX_HEAD_BYTES: usize = 8192;
 
-/// The bytes of a connection that were read and are not used yet, at most as many as a head has. They
-/// take no memory from an allocator, so a head is read and judged where there is none.
+/// The bytes of a connection that were read and are not used yet, at most as many as a head has.
+/// They take no memory from an allocator, so a head is read and judged where there is none.
 #[derive(Drop)]
 pub(crate) struct Pending {
     bytes: [u8; MAX_HEAD_BYTES],

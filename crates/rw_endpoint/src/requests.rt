@@ -129,7 +129,8 @@ fn serve_one<R: Source, W: Sink, A: Answer>(
     }
 }
 
-/// Replies to the requests of a connection in order, up to the end of the input or to the first reply that closes it.
+/// Replies to the requests of a connection in order, up to the end of the input or to the first
+/// reply that closes it.
 fn serve_all<R: Source, W: Sink, A: Answer>(
     alloc: Global,
     reader: &mut R,
@@ -165,7 +166,8 @@ fn serve_all<R: Source, W: Sink, A: Answer>(
     ServeEnd::OutOfMemory
 }
 
-/// Replies to the requests of a connection in order, up to the end of the input or to the first reply that closes it.
+/// Replies to the requests of a connection in order, up to the end of the input or to the first
+/// reply that closes it.
 ///
 /// A head is read and judged without memory, so what it refuses is answered also if there is none.
 /// A body over the limit is refused by the length that its head announces; that none of it is read

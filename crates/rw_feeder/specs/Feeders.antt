@@ -17,7 +17,8 @@ use Rattle.rw_feeder.specs.Logs.{Sent, sent_of, named, dropped, filtered}
 use Rattle.rw_feeder.specs.declared.feeder.Next.{Next}
 use Rattle.rw_feeder.specs.declared.feeder.Next.TheVariants as next
 
--- the rules, the pieces of the log so far, the entries that were placed, and those that were read and are to be placed
+-- the rules, the pieces of the log so far, the entries that were placed, and those that were read
+-- and are to be placed
 pub record Sorting : Type 0 where
   pub choice : Choice
   pub pieces : List Piece

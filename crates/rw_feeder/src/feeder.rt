@@ -29,10 +29,11 @@ pub enum Next {
     Damaged(TailFault),
 }
 
-/// Reads the entries of a log and routes them: it names the samples that are dropped, counts those whose series the rules drop, and gives the
-/// others with their series.
+/// Reads the entries of a log and routes them: it names the samples that are dropped, counts those
+/// whose series the rules drop, and gives the others with their series.
 ///
-/// It keeps no sample. Contracts see the rules, the pieces of the log, the entries that were placed, and those that were read and are to be placed.
+/// It keeps no sample. Contracts see the rules, the pieces of the log, the entries that were
+/// placed, and those that were read and are to be placed.
 #[derive(Drop)]
 pub struct Feeder {
     tail: Tail,

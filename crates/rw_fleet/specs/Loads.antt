@@ -31,7 +31,8 @@ left_at_work window lane = min (count_in lane) window
 abbrev pub window_of : ConfigFields → ℕ
 window_of config = config.capacity + config.batch
 
--- so many samples are resolved and so many are left, and beside them those that the shards at work were put: some of these wait, no more than can
+-- so many samples are resolved and so many are left, and beside them those that the shards at work
+-- were put: some of these wait, no more than can
 pub record IsAdvised (window : ℕ) (lanes : List ShardHistory) (resolved left : ℕ) (load : Load) : Type 0 where
   pub settled : ℕ
   pub waiting : ℕ

@@ -24,7 +24,8 @@ pub struct Finished<T> {
     pub ends: Ends,
     /// What the worker sent over.
     pub transport: T,
-    /// How many of the samples that were put are resolved, from the first on: the receiver has them, or has refused them.
+    /// How many of the samples that were put are resolved, from the first on: the receiver has
+    /// them, or has refused them.
     pub resolved: u64,
     /// Present where the worker read the stop flag as set.
     pub stopped: Option<Stopped>,

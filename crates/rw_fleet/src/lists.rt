@@ -150,7 +150,8 @@ pub(crate) fn load_of_ended<T: Transport>(joined: &Vec<StoppedShard<T>>) -> Load
     load
 }
 
-/// The load `ended`, and that of these shards at work, which send batches of `batch` samples. Of each shard at most `window` samples may wait.
+/// The load `ended`, and that of these shards at work, which send batches of `batch` samples. Of
+/// each shard at most `window` samples may wait.
 pub(crate) fn load_at_work<T: Transport + Send + Drop + 'static>(
     ended: Load,
     running: &Vec<RunningShard<T>>,

@@ -43,7 +43,8 @@ impl fmt::Display for Fault {
 
 impl Error for Fault {}
 
-/// A shard at work, which has to be ended and joined. Contracts see what its worker is set up with, and what was put into its queue.
+/// A shard at work, which has to be ended and joined. Contracts see what its worker is set up with,
+/// and what was put into its queue.
 pub(crate) struct RunningShard<T: Transport + Send + Drop + 'static> {
     epoch: u64,
     shard: u32,
@@ -77,7 +78,8 @@ impl<T: Transport + Send + Drop + 'static> Model for RunningShard<T> {
         r.handle.promise.transport.value };
 }
 
-/// A shard that is to end, which has to be joined. Contracts see what its worker is set up with, and what was put into its queue.
+/// A shard that is to end, which has to be joined. Contracts see what its worker is set up with,
+/// and what was put into its queue.
 pub(crate) struct StoppingShard<T: Transport + Send + Drop + 'static> {
     fed: Fed,
     window: Window,
@@ -150,7 +152,8 @@ impl<T: Transport + Send + Drop + 'static> RunningShard<T> {
         self.window.len()
     }
 
-    /// How many samples wait to be resolved, as far as the worker has told: at most `most`, and none where they only wait for the `batch` samples of a full batch.
+    /// How many samples wait to be resolved, as far as the worker has told: at most `most`, and
+    /// none where they only wait for the `batch` samples of a full batch.
     pub(crate) fn waiting(&self, batch: u64, most: u64) -> u64
         ensures { result ≤ left_at_work most self.now }
     {
@@ -212,7 +215,8 @@ impl<T: Transport + Send + Drop + 'static> RunningShard<T> {
         Ok(())
     }
 
-    /// Hands over what was put and is held back, where the worker still takes. It may wait for room.
+    /// Hands over what was put and is held back, where the worker still takes. It may wait for
+    /// room.
     pub(crate) fn hand_over<R: Wait>(&mut self, rt: &R)
         ensures { self.new ≡ self.old }
     {

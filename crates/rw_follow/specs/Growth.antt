@@ -8,8 +8,9 @@ Grown (x ∷ xs) [] = ⊥
 Grown (x ∷ []) (y ∷ ys) = (more : List ℕ) × (y ≡ x ++ more)
 Grown (x ∷ w ∷ xs) (y ∷ ys) = (y ≡ x) × Grown (w ∷ xs) ys
 
--- What is there at a moment: the segments that were given whole, what was given of the current one and what is left of it, those after it, and the number
--- of the one that is missing behind them, where one is.
+-- What is there at a moment: the segments that were given whole, what was given of the current one
+-- and what is left of it, those after it, and the number of the one that is missing behind them,
+-- where one is.
 pub record Moment : Type 0 where
   pub done : List (List ℕ)
   pub given : List ℕ

@@ -58,8 +58,8 @@ impl From<ReadFault> for Broken {
     }
 }
 
-/// Follows a log: gives its segments in order, a piece at a turn, until it is told to stop. Contracts see whether a segment was seen to come after the
-/// current one.
+/// Follows a log: gives its segments in order, a piece at a turn, until it is told to stop.
+/// Contracts see whether a segment was seen to come after the current one.
 #[derive(Drop)]
 pub struct Follower {
     is_followed: bool,
@@ -87,9 +87,10 @@ impl Follower {
         }
     }
 
-    /// Takes a turn. A segment is over once another one was seen to come after it and, read again after that, it gives no more bytes. Told to end, it is at
-    /// its end once nothing is left of what stands; until then it takes no nap. It naps once where nothing is left and no segment comes after the current one,
-    /// and nowhere else.
+    /// Takes a turn. A segment is over once another one was seen to come after it and, read again
+    /// after that, it gives no more bytes. Told to end, it is at its end once nothing is left of
+    /// what stands; until then it takes no nap. It naps once where nothing is left and no segment
+    /// comes after the current one, and nowhere else.
     pub fn turn<S: Segments, W: Watch>(
         &mut self,
         segments: &mut S,

@@ -18,7 +18,8 @@ pub enum Ahead {
     Missing(u64),
 }
 
-/// The segments of a log, read in order while the log grows at its end. Before each call and within one the log may grow.
+/// The segments of a log, read in order while the log grows at its end. Before each call and within
+/// one the log may grow.
 pub trait Segments {
     /// What is there, and what was given of it, where that is known.
     ghost now: { Self → Option Moment };
@@ -26,8 +27,8 @@ pub trait Segments {
     /// Whether no call from here on fails.
     ghost is_sure: { Self → Bool };
 
-    /// Reads some bytes of the current segment into the front of the buffer, and answers how many. `Ok(0)` into a buffer that is not empty: nothing is
-    /// left of it now.
+    /// Reads some bytes of the current segment into the front of the buffer, and answers how many.
+    /// `Ok(0)` into a buffer that is not empty: nothing is left of it now.
     fn read(&mut self, buf: &mut [u8]) -> Result<usize, ReadFault>
         ensures bound { ReadsAtMost result buf.new }
         ensures reads { Reads (now self.old) (now self.new) result buf.new }

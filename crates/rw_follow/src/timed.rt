@@ -23,7 +23,8 @@ pub struct Timed<K, G> {
     is_due: bool,
 }
 
-/// Whether so much time has passed since a moment, which is forgotten then. Where there is no moment, it is now. None where the clock cannot be read.
+/// Whether so much time has passed since a moment, which is forgotten then. Where there is no
+/// moment, it is now. None where the clock cannot be read.
 fn has_passed<K: Clock>(clock: &K, since: &mut Option<Instant>, time: Duration) -> Option<bool> {
     let Ok(now) = Instant::now(clock) else {
         return None;
@@ -42,7 +43,8 @@ fn has_passed<K: Clock>(clock: &K, since: &mut Option<Instant>, time: Duration) 
 }
 
 impl<K: Clock, G: Sign> Timed<K, G> {
-    /// Looks as often as `poll` says, has what waits flushed after `patience`, and the number of shards asked for as often as `reshard` says.
+    /// Looks as often as `poll` says, has what waits flushed after `patience`, and the number of
+    /// shards asked for as often as `reshard` says.
     pub fn new(
         clock: K,
         sign: G,

@@ -45,7 +45,8 @@ pub trait Watch {
     fn nap(&mut self)
         ensures { tells self.new → tells self.old × (naps self.new ≡ suc (naps self.old)) };
 
-    /// Whether what was fed since the last flush has waited long enough. It is asked while something waits.
+    /// Whether what was fed since the last flush has waited long enough. It is asked while
+    /// something waits.
     fn is_flush_due(&mut self) -> bool
         ensures due { due self.new ≡ result }
         ensures awake { tells self.new → tells self.old × (naps self.new ≡ naps self.old) };

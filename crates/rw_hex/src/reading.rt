@@ -52,7 +52,8 @@ fn are_digits(text: &[u8]) -> bool
     text.iter().all(|c| is_digit(*c))
 }
 
-/// The bytes that a whole text of lower case digits stands for. Spaces, tabs, CR and LF may stand anywhere in it.
+/// The bytes that a whole text of lower case digits stands for. Spaces, tabs, CR and LF may stand
+/// anywhere in it.
 pub fn read(alloc: Global, text: &[u8]) -> Result<Vec<u8>, HexFault>
     ensures bytes { IfOk result (λ v. read_text text.now ≡ Ok v.items) }
     ensures fault { IfErr result (IsFaultOf text.now) }
@@ -66,8 +67,8 @@ pub fn read(alloc: Global, text: &[u8]) -> Result<Vec<u8>, HexFault>
     }
 }
 
-/// The bytes that a text of lower case digits alone stands for; `None` where another character stands in it, or their number is odd. The empty
-/// text stands for no bytes.
+/// The bytes that a text of lower case digits alone stands for; `None` where another character
+/// stands in it, or their number is odd. The empty text stands for no bytes.
 pub fn read_digits(alloc: Global, text: &[u8]) -> Result<Option<Vec<u8>>, AllocError>
     ensures { IfOk result (λ r. option_map (λ v. v.items) r ≡ read_digits text.now) }
 {

@@ -33,7 +33,8 @@ pub record IsSound (config : ConfigFields) : Type 0 where
   pub capacity : 1 ≤ config.capacity
   pub batch : 1 ≤ config.batch
 
--- A shipper was fed the first pieces of a log: all of them, unless it failed or came to the fault of the log. Of its shards only what they were put has changed.
+-- A shipper was fed the first pieces of a log: all of them, unless it failed or came to the fault
+-- of the log. Of its shards only what they were put has changed.
 pub record HasFed {T : Type 0} (old new : Shipping T) (log : List Piece) (answer : Result (Unit {0}) FeedFault) : Type 0 where
   pub fed : ℕ
   pub pieces : new.log.pieces ≡ old.log.pieces ++ map piece_of (take fed log)
@@ -67,10 +68,10 @@ pub record IsOneEpoch (config : ConfigFields) (s : Shipping Line) : Type 0 where
 
 -- Some first pieces of the log were fed: all of them, and all of their entries placed, where
 -- `shipped.fed` is `Ok`, and all entries before the fault, where it says damaged (`feeds`). The
--- shipper's own report is in `gathered`: what its workers were put, sent and read of each reply, and
--- that the parts name exactly what was dropped or refused so, and that the seats of the workers were
--- all that the head, which was `opening`, was asked. So it holds what is owed (`held`).
--- Work is abandoned only where the shipper failed, as `shipped.fed` then says, or a worker was cut.
+-- shipper's own report is in `gathered`: what its workers were put, sent and read of each reply,
+-- and that the parts name exactly what was dropped or refused so, and that the seats of the workers
+-- were all that the head, which was `opening`, was asked. So it holds what is owed (`held`). Work
+-- is abandoned only where the shipper failed, as `shipped.fed` then says, or a worker was cut.
 pub record IsShippedTo (opening : State) (path : List ℕ) (limit : ℕ) (config : ConfigFields) (log : List Piece) (shipped : Shipped) : Type 0 where
   pub fed : ℕ
   pub s : Shipping Line

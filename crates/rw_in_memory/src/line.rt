@@ -64,8 +64,8 @@ fn note(seen: &mut History<Exchanged>, request: &[u8], answer: &Result<Reply, Lo
     seen.push(&Exchanged::of(request, answer));
 }
 
-/// A transport in memory: it lends each request to a receiver's endpoint, which asks a seat of a shared head. Contracts see
-/// the seat, and the exchanges so far.
+/// A transport in memory: it lends each request to a receiver's endpoint, which asks a seat of a
+/// shared head. Contracts see the seat, and the exchanges so far.
 ///
 /// What the endpoint refuses without asking is told as lost.
 #[derive(Drop)]
@@ -88,7 +88,8 @@ impl<R, L: Endpoint> Model for Line<R, L> {
 }
 
 impl<R, L: Endpoint> Line<R, L> {
-    /// One whose seat has not been asked yet. It takes two shares of one receiver, since the seat asks while its limits are lent.
+    /// One whose seat has not been asked yet. It takes two shares of one receiver, since the seat
+    /// asks while its limits are lent.
     pub fn new(
         rt: R,
         alloc: Global,

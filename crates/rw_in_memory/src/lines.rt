@@ -11,7 +11,8 @@ use std::alloc::{AllocError, Global};
 use std::marker::Model;
 use std::sync::{Arc, Wait};
 
-/// A seat for each shard, while there are any, and a pause for each worker. Contracts see the seats.
+/// A seat for each shard, while there are any, and a pause for each worker. Contracts see the
+/// seats.
 #[derive(Drop)]
 pub struct Lines<R, L: Endpoint, P> {
     rt: R,

@@ -7,8 +7,8 @@ use rw_shared_head::{Blank, Naming, Seat, SharedHead};
 use std::alloc::{AllocError, Global};
 use std::marker::{Brand, Model};
 
-/// Which receiver it is: its head, the path of its endpoint, and the most bytes of a body that the endpoint reads.
-/// Each call of a program picks it.
+/// Which receiver it is: its head, the path of its endpoint, and the most bytes of a body that the
+/// endpoint reads. Each call of a program picks it.
 pub trait Endpoint: Naming {
     ghost use Rattle.std.specs.Prelude.{ℕ, List};
 
@@ -25,7 +25,8 @@ impl Endpoint for Brand {
     ghost limit = { 0 };
 }
 
-/// A receiver: what its endpoint reads, and the head that it asks. Contracts see among how many seats the head is shared.
+/// A receiver: what its endpoint reads, and the head that it asks. Contracts see among how many
+/// seats the head is shared.
 #[derive(Drop)]
 pub struct Receiver<L: Endpoint> {
     limits: Limits,
@@ -44,8 +45,8 @@ impl<L: Endpoint> Model for Receiver<L> {
 }
 
 impl<L: Endpoint> Receiver<L> {
-    /// Shares a head among so many seats, which were not asked yet, over a blank of one part for each of them and one
-    /// for the lock.
+    /// Shares a head among so many seats, which were not asked yet, over a blank of one part for
+    /// each of them and one for the lock.
     pub fn open(
         alloc: Global,
         limits: Limits,

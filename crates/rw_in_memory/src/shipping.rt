@@ -219,11 +219,13 @@ fn count_of(config: &Config) -> u64
     fields.shards.get()
 }
 
-/// Ships a log to a new head in this process, by the threads of a sender, and gives what it did and the head.
+/// Ships a log to a new head in this process, by the threads of a sender, and gives what it did and
+/// the head.
 ///
-/// Each shard asks a seat of the head, over the receiver's endpoint, which has the path of the configured target and reads bodies
-/// of up to 64 MiB, whatever `limits` says of these two; no batch takes more. The pieces are fed one after the other, up to the fault of the log. What is left where a queue was cut, or memory
-/// was refused, the outcome lists.
+/// Each shard asks a seat of the head, over the receiver's endpoint, which has the path of the
+/// configured target and reads bodies of up to 64 MiB, whatever `limits` says of these two; no
+/// batch takes more. The pieces are fed one after the other, up to the fault of the log. What is
+/// left where a queue was cut, or memory was refused, the outcome lists.
 ///
 /// An `Err` means that memory or a thread was refused at the beginning, or memory for the report.
 pub fn ship<R: Threads + Wait + Copy + Send + 'static, P: Pause + Copy + Send + Drop + 'static>(

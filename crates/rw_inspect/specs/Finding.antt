@@ -69,7 +69,8 @@ abbrev pub name_at : List Segment → ℕ → List ℕ
 name_at [] position = []
 name_at (s ∷ segments) position = if nat_lt position s.sums.entries then string_bytes s.name else name_at segments (position - s.sums.entries)
 
--- the line of a position that is there, by the name of its segment and the text of its entry, and of one that is not
+-- the line of a position that is there, by the name of its segment and the text of its entry, and
+-- of one that is not
 unfoldable pub there_text : ℕ → List ℕ → List ℕ → List ℕ
 there_text position name text = decimal position ++ codes " " ++ name ++ codes " " ++ text ++ codes "\n"
 

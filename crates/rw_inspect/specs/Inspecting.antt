@@ -46,7 +46,8 @@ abbrev pub log_of : List (List ℕ) → List Piece
 log_of [] = []
 log_of (text ∷ texts) = bytes text ∷ flat_map behind texts
 
--- What is found in a segment behind others: its bytes, the entries that it adds to the log, and the records passed over in it.
+-- What is found in a segment behind others: its bytes, the entries that it adds to the log, and the
+-- records passed over in it.
 pub record IsRow (done : List (List ℕ)) (text : List ℕ) (row : Segment) : Type 0 where
   pub length_is : row.bytes ≡ length text
   pub more : List Entry
@@ -95,14 +96,16 @@ pub record IsReportOf (texts : List (List ℕ)) (r : Report) : Type 0 where
   pub first_are : r.first_not_rising.items ≡ take 10 (not_rising (troubles_of (entries (log_of texts))))
   pub fault_is : fault_in r.damage ≡ fault (log_of texts)
 
--- The report of the first segments of these sources, up to the end of one with a fault; of all where there is none.
+-- The report of the first segments of these sources, up to the end of one with a fault; of all
+-- where there is none.
 pub record IsReportOfFirst (lefts : List (Option (List ℕ))) (r : Report) : Type 0 where
   pub texts : List (List ℕ)
   pub read : ReadsFirst lefts texts (fault (log_of texts))
   pub report : IsReportOf texts r
 
--- The first segments of these sources were read, up to the end of one with a fault, or all: what was taken are the entries of their log,
--- each row is what was found in a segment, and the fault is that of the log.
+-- The first segments of these sources were read, up to the end of one with a fault, or all: what
+-- was taken are the entries of their log, each row is what was found in a segment, and the fault is
+-- that of the log.
 pub record ReadsInto (lefts : List (Option (List ℕ))) (taken : List Entry) (rows : List Segment) (found : Option TailFault) : Type 0 where
   pub texts : List (List ℕ)
   pub read : ReadsFirst lefts texts found

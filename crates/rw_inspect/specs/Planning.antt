@@ -7,7 +7,8 @@ use Rattle.rw_relabel.specs.declared.choice.Choice.{Choice}
 use Rattle.rw_plan.specs.Plan.{plan_text}
 use Rattle.rw_inspect.specs.Inspecting.{ReadsFirst, log_of}
 
--- the first segments of these sources were read, up to the end of one with a fault, or all, and this is the plan of their entries
+-- the first segments of these sources were read, up to the end of one with a fault, or all, and
+-- this is the plan of their entries
 pub record IsPlanOf (choice : Choice) (lefts : List (Option (List ℕ))) (plan : List ℕ) (found : Option TailFault) : Type 0 where
   pub texts : List (List ℕ)
   pub read : ReadsFirst lefts texts found

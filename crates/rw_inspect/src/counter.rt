@@ -24,7 +24,8 @@ pub(crate) enum Judged {
     Rising(u64),
 }
 
-/// Counts the entries of a log. It keeps no sample. Contracts see all entries so far, and those of the segment at hand.
+/// Counts the entries of a log. It keeps no sample. Contracts see all entries so far, and those of
+/// the segment at hand.
 #[derive(Drop)]
 pub struct Counter {
     taken: History<Entry>,

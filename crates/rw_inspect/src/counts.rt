@@ -12,6 +12,7 @@ pub struct Counts {
     pub without_series: u64,
     /// Samples whose labels are no label set.
     pub bad_labels: u64,
-    /// Samples that do not rise: an earlier sample of the label set has the same timestamp or a later one.
+    /// Samples that do not rise: an earlier sample of the label set has the same timestamp or a
+    /// later one.
     pub not_rising: u64,
 }

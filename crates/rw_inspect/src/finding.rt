@@ -204,7 +204,8 @@ fn add_note(notes: &mut Vec<(u64, Vec<u8>)>, position: u64, note: Option<Vec<u8>
     }
 }
 
-/// Notes the entries at some positions of a log. Contracts see the positions, all entries so far, and those of the segment at hand.
+/// Notes the entries at some positions of a log. Contracts see the positions, all entries so far,
+/// and those of the segment at hand.
 #[derive(Drop)]
 struct Finder {
     alloc: Global,
@@ -330,10 +331,12 @@ impl Taker for Finder {
     }
 }
 
-/// Reads the segments of a log in order, to the end of the last one or of the first one with a fault, and prints for each position, in their order,
-/// the entry there: `POS SEGMENT series REF LABELS`, or `POS SEGMENT sample REF T VALUE LABELS` with the label set that its reference
-/// stands for there, each line ended by LF. `bad FAULT` stands for labels that are no label set, whatever names are taken, `noseries` for
-/// those of a reference without a definition before it, and `POS is not there` where there is no entry.
+/// Reads the segments of a log in order, to the end of the last one or of the first one with a
+/// fault, and prints for each position, in their order, the entry there: `POS SEGMENT series REF
+/// LABELS`, or `POS SEGMENT sample REF T VALUE LABELS` with the label set that its reference stands
+/// for there, each line ended by LF. `bad FAULT` stands for labels that are no label set, whatever
+/// names are taken, `noseries` for those of a reference without a definition before it, and `POS is
+/// not there` where there is no entry.
 pub fn find_entries<S: Source + Drop>(
     alloc: Global,
     segments: Vec<Named<S>>,

@@ -1,4 +1,5 @@
-//! What a log holds, counted: series, samples, timestamps, and the samples that a sender would drop.
+//! What a log holds, counted: series, samples, timestamps, and the samples that a sender would
+//! drop.
 #![tactic(auto)]
 
 mod counter;

@@ -67,9 +67,10 @@ fn plan_of_all<S: Source + Drop>(
     Ok((planner.into_text()?, damage))
 }
 
-/// Reads the segments of a log in order, to the end of the last one, and writes what the rules make of its entries: for each
-/// definition in log order `REF kept NUMBER LABELS`, `REF filtered LABELS` or `REF bad FAULT`, and then
-/// `samples kept A filtered B bad C noseries D`, each line ended by LF. Where the log has a fault, nothing is written, and the answer is its damage.
+/// Reads the segments of a log in order, to the end of the last one, and writes what the rules make
+/// of its entries: for each definition in log order `REF kept NUMBER LABELS`, `REF filtered LABELS`
+/// or `REF bad FAULT`, and then `samples kept A filtered B bad C noseries D`, each line ended by
+/// LF. Where the log has a fault, nothing is written, and the answer is its damage.
 pub fn plan_segments<S: Source + Drop, W: Sink>(
     alloc: Global,
     choice: Choice,

@@ -33,7 +33,8 @@ fn next_of(tail: &mut Tail) -> Result<Next, AllocError>
     }
 }
 
-/// Takes the entries that the reader of the log has left, and answers the fault behind them, if there is one.
+/// Takes the entries that the reader of the log has left, and answers the fault behind them, if
+/// there is one.
 fn take_all<T: Taker>(tail: &mut Tail, taker: &mut T) -> Result<Option<TailFault>, AllocError>
     requires { HasTaken tail.old (T.counted taker.old).entries }
     ensures ok { IfOk result
@@ -80,7 +81,8 @@ fn sum(bytes: u64, more: u64) -> Result<u64, AllocError>
     bytes.checked_add(more).ok_or(AllocError)
 }
 
-/// Reads a segment to its end, also behind a fault, counts its bytes, and lets its entries be taken.
+/// Reads a segment to its end, also behind a fault, counts its bytes, and lets its entries be
+/// taken.
 pub(crate) fn read_text<S: Source, T: Taker>(
     source: &mut S,
     chunk: &mut [u8],

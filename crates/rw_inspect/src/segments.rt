@@ -127,7 +127,8 @@ fn damage_of(tail: &Tail, fault: Option<TailFault>) -> Option<Damage>
     }
 }
 
-/// Reads the segments of a log in order, to the end of the last one or of the first one with a fault, and lets their entries be taken.
+/// Reads the segments of a log in order, to the end of the last one or of the first one with a
+/// fault, and lets their entries be taken.
 pub fn read_into<S: Source + Drop, T: Taker>(
     alloc: Global,
     segments: Vec<Named<S>>,
@@ -164,7 +165,8 @@ fn report_of(alloc: Global, counts: &Counter, read: LogRead) -> Result<Report, A
     })
 }
 
-/// Reads the segments of a log in order, to the end of the last one or of the first one with a fault, and reports what is in them.
+/// Reads the segments of a log in order, to the end of the last one or of the first one with a
+/// fault, and reports what is in them.
 pub fn inspect<S: Source + Drop>(
     alloc: Global,
     segments: Vec<Named<S>>,

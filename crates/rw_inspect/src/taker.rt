@@ -9,7 +9,8 @@ use crate::sums::Sums;
 use rw_types::Entry;
 use std::alloc::AllocError;
 
-/// What takes the entries of a log, segment by segment. Contracts see all entries so far, and those of the segment at hand.
+/// What takes the entries of a log, segment by segment. Contracts see all entries so far, and those
+/// of the segment at hand.
 pub trait Taker {
     /// What it is to do, which stays.
     type Task;

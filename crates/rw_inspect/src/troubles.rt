@@ -22,7 +22,8 @@ pub(crate) enum Trouble {
     NotRising,
 }
 
-/// Samples in trouble, counted. Contracts see all of them, each with its position; of those that do not rise the first ten positions are kept.
+/// Samples in trouble, counted. Contracts see all of them, each with its position; of those that do
+/// not rise the first ten positions are kept.
 #[derive(Drop)]
 pub(crate) struct Troubles {
     all: History<(u64, Trouble)>,

@@ -38,6 +38,7 @@ abbrev pub labelled_after : List Entry → List Entry → List LabelledSample
 labelled_after before [] = []
 labelled_after before (e ∷ es) = labelled_of before e ++ labelled_after (before ++ e ∷ []) es
 
--- the samples that have a label set, in order, each with the labels of the last definition of its reference before it
+-- the samples that have a label set, in order, each with the labels of the last definition of its
+-- reference before it
 unfoldable pub labelled : List Entry → List LabelledSample
 labelled es = labelled_after [] es

@@ -13,7 +13,8 @@ use rw_write_request::Message;
 use std::alloc::{AllocError, Global};
 use std::marker::Model;
 
-/// The samples of the entries so far, as a message, and the label set of each reference. Contracts see the entries.
+/// The samples of the entries so far, as a message, and the label set of each reference. Contracts
+/// see the entries.
 #[derive(Drop)]
 pub struct Labelling {
     taken: History<Entry>,

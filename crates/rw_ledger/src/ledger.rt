@@ -15,7 +15,8 @@ use std::slice;
 pub enum Reason {
     /// The receiver refused its batch for good, with this HTTP status.
     Status(u16),
-    /// The labels of its series are not a label set. The number stands for the fault, as `LabelFault` counts them.
+    /// The labels of its series are not a label set. The number stands for the fault, as
+    /// `LabelFault` counts them.
     BadLabels(u8),
     /// No definition of its reference stands before it in the log.
     NoSeries,
@@ -25,7 +26,8 @@ pub enum Reason {
 
 /// The positions of dropped samples in the log, each with its reason, and room for more of them.
 ///
-/// To name a sample takes no memory, since its room is made before. To name a position behind all others takes no longer as the ledger grows.
+/// To name a sample takes no memory, since its room is made before. To name a position behind all
+/// others takes no longer as the ledger grows.
 #[derive(Debug, Drop)]
 pub struct Ledger {
     names: Vec<(u64, Reason)>,
@@ -107,7 +109,8 @@ impl Ledger {
         self.room -= n;
     }
 
-    /// Names the sample at position `pos` as dropped, for `reason`. This uses the room for one name.
+    /// Names the sample at position `pos` as dropped, for `reason`. This uses the room for one
+    /// name.
     pub fn name(&mut self, pos: u64, reason: Reason)
         requires room { 0 < self.old.room }
         requires unnamed { map.get self.old.names pos ≡ None }

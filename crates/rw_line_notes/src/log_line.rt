@@ -89,7 +89,8 @@ fn is_record(alloc: Global, line: &[u8]) -> Result<bool, AllocError>
     Ok(true)
 }
 
-/// What is wrong with a line of log text, without its LF; nothing where it stands for a record. The words are advice.
+/// What is wrong with a line of log text, without its LF; nothing where it stands for a record. The
+/// words are advice.
 pub fn log_line_note(alloc: Global, line: &[u8]) -> Result<Option<&'static str>, AllocError>
     ensures { IfOk result (λ note. MatchOption note
         ((rec : List ℕ) × IsRecordOf line.now rec)

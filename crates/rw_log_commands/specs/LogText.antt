@@ -14,7 +14,8 @@ AreRecords ([] ∷ ls) recs = AreRecords ls recs
 AreRecords ((b ∷ bs) ∷ ls) [] = ⊥
 AreRecords ((b ∷ bs) ∷ ls) (rec ∷ recs) = IsRecordOf (b ∷ bs) rec × AreRecords ls recs
 
--- The line of this number, counted from 1, has no record although it is not empty, and each line before it is good.
+-- The line of this number, counted from 1, has no record although it is not empty, and each line
+-- before it is good.
 pub record IsBadLine (text : List ℕ) (number : ℕ) : Type 0 where
   pub front : List (List ℕ)
   pub line : List ℕ
@@ -47,7 +48,8 @@ IsFaultOfText text fault.OutOfMemory = Unit {0}
 IsFaultOfText text (fault.Line number) = IsBadLine text number
 IsFaultOfText text _ = ⊥
 
--- The records of the first lines of a text fill a segment: those of all lines, or so many that the next one has no room.
+-- The records of the first lines of a text fill a segment: those of all lines, or so many that the
+-- next one has no room.
 pub record Fills (pages : ℕ) (text segment rest : List ℕ) : Type 0 where
   pub front : List (List ℕ)
   pub records : List (List ℕ)

@@ -50,14 +50,16 @@ WritesLogPart hex pages left_before left_after before after =
     (recs : List (List ℕ)) × ReadsRecords pages left_before left_after recs
     × ((n : ℕ) × (n ≤ length (output_of hex (segment_of recs))) × Appends before after (take n (output_of hex (segment_of recs))))
 
--- a fault of log text for segments one after the other: its first bad line, or else a record that has no room in an empty segment
+-- a fault of log text for segments one after the other: its first bad line, or else a record that
+-- has no room in an empty segment
 abbrev pub IsFaultOfAny : ℕ → List ℕ → ToolFault → Type 0
 IsFaultOfAny pages text (Line number) = IsBadLine text number
 IsFaultOfAny pages text SegmentFull = (recs : List (List ℕ)) × AreRecords (lines text) recs × (pages * (page_size - 7) < longest_of recs)
 IsFaultOfAny pages text OutOfMemory = Unit {0}
 IsFaultOfAny pages text e = ⊥
 
--- log text for segments one after the other: each line is good, and each record has room in an empty segment
+-- log text for segments one after the other: each line is good, and each record has room in an
+-- empty segment
 pub record IsForSegments (pages : ℕ) (text : List ℕ) : Type 0 where
   pub records : List (List ℕ)
   pub good : AreRecords (lines text) records

@@ -59,9 +59,10 @@ fn read_segment<R: Source>(
     one_segment(alloc, &text, pages)
 }
 
-/// Reads log text and writes one segment (wal.md) of its records, of at most so many pages.
-/// The text has one record a line: `series REF LABELS`, `sample REF T VALUE` or `raw HEX`. With `hex` the output is lower case hexadecimal text and a newline.
-/// All lines are read and judged before anything is written.
+/// Reads log text and writes one segment (wal.md) of its records, of at most so many pages. The
+/// text has one record a line: `series REF LABELS`, `sample REF T VALUE` or `raw HEX`. With `hex`
+/// the output is lower case hexadecimal text and a newline. All lines are read and judged before
+/// anything is written.
 pub fn run_log<R: Source, W: Sink>(
     alloc: Global,
     reader: &mut R,
@@ -78,7 +79,8 @@ pub fn run_log<R: Source, W: Sink>(
     ensures writer_sound { OnOk result
         (W.has_failed writer.old ≡ false → W.has_failed writer.new ≡ false) }
 
-    // A line that is no log text comes before records that have no room, and nothing is written at either.
+    // A line that is no log text comes before records that have no room, and nothing is written at
+    // either.
     ensures line { (n : ℕ) → result ≡ Err (Line n)
         → ReadsFaulty pages (R.remaining reader.old) (R.remaining reader.new) (Line n) }
     ensures full { result ≡ Err SegmentFull
@@ -155,9 +157,10 @@ fn put_segments(
     Err(ToolFault::Device)
 }
 
-/// Reads log text as `run_log` does, and writes its segments into the folder `dir`, as files `00000000`, `00000001` and so on.
-/// A record that has no room in what is left of a segment begins the next one. Without a record there is one empty file.
-/// All lines are read and judged before a file is written.
+/// Reads log text as `run_log` does, and writes its segments into the folder `dir`, as files
+/// `00000000`, `00000001` and so on. A record that has no room in what is left of a segment begins
+/// the next one. Without a record there is one empty file. All lines are read and judged before a
+/// file is written.
 pub fn run_log_dir<R: Source>(
     rt: &impl Files,
     alloc: Global,

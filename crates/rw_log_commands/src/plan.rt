@@ -68,9 +68,10 @@ fn choice_in(settings: Settings) -> Choice
     settings.config.into_fields().into_choice()
 }
 
-/// Reads a log segment (wal.md) and writes what the rules make of it: for each definition in log order `REF kept NUMBER LABELS`,
-/// `REF filtered LABELS` or `REF bad FAULT`, and then `samples kept A filtered B bad C noseries D`, each line ended by LF.
-/// With `hex` the input is hexadecimal text in which white space is ignored. Nothing is written before the whole plan is made.
+/// Reads a log segment (wal.md) and writes what the rules make of it: for each definition in log
+/// order `REF kept NUMBER LABELS`, `REF filtered LABELS` or `REF bad FAULT`, and then `samples kept
+/// A filtered B bad C noseries D`, each line ended by LF. With `hex` the input is hexadecimal text
+/// in which white space is ignored. Nothing is written before the whole plan is made.
 pub fn run_plan<R: Source, W: Sink>(
     alloc: Global,
     reader: &mut R,
@@ -85,7 +86,8 @@ pub fn run_plan<R: Source, W: Sink>(
     ensures writer_sound { OnOk result
         (W.has_failed writer.old ≡ false → W.has_failed writer.new ≡ false) }
 
-    // A fault of the data is the one that the input has, and nothing is written then, or where memory ran out.
+    // A fault of the data is the one that the input has, and nothing is written then, or where
+    // memory ran out.
     ensures log { (f : TailFault) → result ≡ Err (Log f)
         → ReadsFault hex f (R.remaining reader.old) (R.remaining reader.new) }
     ensures line { (n : ℕ) → result ≡ Err (Line n)

@@ -41,7 +41,8 @@ pub(crate) fn read_input<R: Source>(alloc: Global, reader: &mut R) -> Result<Vec
     Ok(input)
 }
 
-/// Reads a log segment (wal.md) to its end, and answers the canonical body of its samples that have a label set (Remote-Write 1.0).
+/// Reads a log segment (wal.md) to its end, and answers the canonical body of its samples that have
+/// a label set (Remote-Write 1.0).
 fn read_body<R: Source>(alloc: Global, reader: &mut R) -> Result<Vec<u8>, ToolFault>
     ensures ok { IfOk result (λ v. (segment : List ℕ)
         × ReadsSegment None (R.remaining reader.old) (R.remaining reader.new) segment
@@ -82,9 +83,10 @@ pub(crate) fn output_of(alloc: Global, text: Vec<u8>, hex: bool) -> Result<Vec<u
     Ok(digits.into_bytes())
 }
 
-/// Reads a log segment (wal.md) and writes the canonical body of its samples that have a label set (Remote-Write 1.0).
-/// With `hex` the input is hexadecimal text in which white space is ignored, and the output is lower case hexadecimal text and a newline.
-/// Nothing is written before the whole body is made.
+/// Reads a log segment (wal.md) and writes the canonical body of its samples that have a label set
+/// (Remote-Write 1.0). With `hex` the input is hexadecimal text in which white space is ignored,
+/// and the output is lower case hexadecimal text and a newline. Nothing is written before the whole
+/// body is made.
 pub fn run_body<R: Source, W: Sink>(
     alloc: Global,
     reader: &mut R,
@@ -98,7 +100,8 @@ pub fn run_body<R: Source, W: Sink>(
     ensures writer_sound { OnOk result
         (W.has_failed writer.old ≡ false → W.has_failed writer.new ≡ false) }
 
-    // A fault of the data is the one that the input has, and nothing is written then, or where memory ran out.
+    // A fault of the data is the one that the input has, and nothing is written then, or where
+    // memory ran out.
     ensures log { (f : TailFault) → result ≡ Err (Log f)
         → ReadsFault hex f (R.remaining reader.old) (R.remaining reader.new) }
     ensures line { (n : ℕ) → result ≡ Err (Line n)

@@ -1,6 +1,6 @@
 -- What is at a place of a segment (wal.md, "Segment encoding"): a fragment, the zeros to the end of
--- its page, or a fault. `left` is the number of bytes of the page from that place on. A text is what
--- has come so far, so it may end inside an item.
+-- its page, or a fault. `left` is the number of bytes of the page from that place on. A text is
+-- what has come so far, so it may end inside an item.
 use Rattle.std.specs.Prelude.{◌≡◌, ◌≢◌, ◌⊎◌, ℕ, ◌+◌, ◌<◌, ◌≤◌, List, ◌∷◌, ◌++◌, length, replicate}
 use Rattle.byteorder.specs.Endian.{big_number}
 use Rattle.rw_codes.specs.Crc.{crc32c_of}

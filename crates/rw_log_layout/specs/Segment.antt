@@ -38,7 +38,8 @@ pub record IsFront (page : ℕ) (bytes : List ℕ) (left : ℕ) (records : List 
   pub are : InTurn IsRecord closed records
   pub may_be_open : MayBeOpen opened so_far
 
--- why reading stops after a front: the text ends between records, or inside one, or there is a fault
+-- why reading stops after a front: the text ends between records, or inside one, or there is a
+-- fault
 abbrev pub StopsFor : ℕ → Option (List ℕ) → List ℕ → Stop → Type 0
 StopsFor left so_far rest between = IsItem left rest nothing × (so_far ≡ None)
 StopsFor left so_far rest inside =
@@ -47,8 +48,8 @@ StopsFor left so_far rest (at_fault f) =
     IsItem left rest (wrong f)
     ⊎ ((next : Fragment) × StartsWithFragment left rest next × FragmentFault so_far next f)
 
--- A segment's text: records that are of their types' form, with these entries, and after them, at an
--- offset, the end of the text or the first fault.
+-- A segment's text: records that are of their types' form, with these entries, and after them, at
+-- an offset, the end of the text or the first fault.
 pub record IsSegment (page : ℕ) (text : List ℕ) (reading : Reading) (offset : ℕ) : Type 0 where
   pub front : List ℕ
   pub rest : List ℕ

@@ -3,7 +3,8 @@ use Rattle.std.specs.Prelude.{◌≡◌, ℕ, ◌<◌, ◌≤◌, Bool, true, fa
 use Rattle.std.specs.Io.KnownBytes.{Consumes}
 use Rattle.rw_wal_format.specs.Pieces.{Piece, bytes, next_segment}
 
--- the text of each segment that pieces tell: the bytes between two words of a next segment, joined; here after some text of the first one
+-- the text of each segment that pieces tell: the bytes between two words of a next segment, joined;
+-- here after some text of the first one
 abbrev pub texts_after : List ℕ → List Piece → List (List ℕ)
 texts_after text [] = text ∷ []
 texts_after text (bytes b ∷ pieces) = texts_after (text ++ b) pieces
@@ -33,7 +34,8 @@ AreAllOf [] (text ∷ texts) = ⊥
 AreAllOf (left ∷ lefts) [] = ⊥
 AreAllOf (left ∷ lefts) (text ∷ texts) = IsAllOf left text × AreAllOf lefts texts
 
--- one segment for each reader, in order, with all that it had left; no piece where there is no reader
+-- one segment for each reader, in order, with all that it had left; no piece where there is no
+-- reader
 abbrev pub IsLogOf : List (Option (List ℕ)) → List Piece → Type 0
 IsLogOf [] pieces = pieces ≡ []
 IsLogOf (left ∷ lefts) pieces = AreAllOf (left ∷ lefts) (texts pieces)

@@ -38,7 +38,8 @@ pub record IsNextEpoch {T : Type 0} (old new : Shards T) : Type 0 where
   pub epoch : new.epoch ≡ old.epoch + 1
   pub fresh : AreFresh new.epoch new.current
 
--- where more is to come, there are as many shards as are wanted under the load; where there were as many before, all stays as it is
+-- where more is to come, there are as many shards as are wanted under the load; where there were as
+-- many before, all stays as it is
 pub record IsSet {T : Type 0} (more : Bool) (fewest most : ℕ) (old new : Shipping T) : Type 0 where
   pub load : Load
   pub advised : IsLoad old.fleet load
@@ -53,7 +54,8 @@ pub record IsSet {T : Type 0} (more : Bool) (fewest most : ℕ) (old new : Shipp
 abbrev pub HasPutAll : {T : Type 0} → Shipping T → Type 0
 HasPutAll s = (s.log.placed ≡ entries s.log.pieces) × PlacesAll s.log s.fleet
 
--- all that a reader had left was fed, behind word of a next segment unless it is the first, and then the number of shards was set, where more is to come
+-- all that a reader had left was fed, behind word of a next segment unless it is the first, and
+-- then the number of shards was set, where more is to come
 pub record IsShipped {T : Type 0} (fewest most : ℕ) (first : Bool) (left : Option (List ℕ)) (more : Bool) (old new : Shipping T) : Type 0 where
   pub begun : List Piece
   pub begins : OpensSegment first old.log.pieces begun
@@ -72,7 +74,8 @@ abbrev pub AreShipped : {T : Type 0} → (fewest most : ℕ) → Bool → List (
 AreShipped fewest most first [] old new = new ≡ old
 AreShipped {T} fewest most first (left ∷ lefts) old new = (next : Shipping T) × IsShipped fewest most first left (is_some_more lefts) old next × AreShipped fewest most false lefts next new
 
--- the reading halted before a segment or within it, or the number of shards could not be set behind it
+-- the reading halted before a segment or within it, or the number of shards could not be set behind
+-- it
 pub record HasHalted {T : Type 0} (first : Bool) (left : Option (List ℕ)) (old new : Shipping T) : Type 0 where
   pub fed : Shipping T
   pub part : (fed.log.pieces ≡ old.log.pieces) ⊎ ((begun : List Piece) × OpensSegment first old.log.pieces begun × IsFedPart left begun fed.log.pieces)
@@ -96,8 +99,8 @@ pub record HasStarted {T : Type 0} (c : ConfigFields) (limit : Option ℕ) (s : 
   pub limit_is : s.limit ≡ limit
 
 -- The fleet before its last shards were ended: that of the shipper; or, if a change of the number
--- of shards failed that had ended them and begun no others, the fleet before it. All that was put in
--- the epochs before is resolved.
+-- of shards failed that had ended them and begun no others, the fleet before it. All that was put
+-- in the epochs before is resolved.
 pub record HasLastEpoch {T : Type 0} (s : Shipping T) : Type 0 where
   pub before : Shards T
   pub resolved : AreResolved before.ended

@@ -206,7 +206,8 @@ each_moved Q R f zero (x ∷ xs) each rest own (suc i) s e = rest (suc i) s (λ 
 each_moved Q R f (suc j) (x ∷ xs) each rest own zero s e = rest zero s (λ z. omega arith) (each zero s e)
 each_moved Q R f (suc j) (x ∷ xs) each rest own (suc i) s e = each_moved (λ k. Q (suc k)) (λ k. R (suc k)) f j xs (λ k y at. each (suc k) y at) (λ k y apart q. rest (suc k) y (λ z. apart (omega arith)) q) (λ y at q. own y at q) i s e
 
--- A pending sample is unnamed, below what is placed, and no other pending sample has its position: the position gives its shard and number.
+-- A pending sample is unnamed, below what is placed, and no other pending sample has its position:
+-- the position gives its shard and number.
 abbrev IsUnnamed : (ℕ → ℕ × ℕ) → ℕ → Names → ℕ → ℕ → Placed → Type 0
 IsUnnamed ident placed names i n x = (ident x.place.pos ≡ (i, n)) × (x.place.pos < placed) × (get names x.place.pos ≡ None)
 

@@ -41,8 +41,8 @@ pair_of p = (p.1, p.2)
 abbrev pub owed : FinMap nat_cmp Reason → List Point → List Point
 owed names ps = filter (λ (p : Point). is_none (get names p.0)) ps
 
--- the head holds a beginning of the label set's logged samples, less the named ones. Of a label set that the rules do not keep none are
--- logged samples: there it holds nothing
+-- the head holds a beginning of the label set's logged samples, less the named ones. Of a label set
+-- that the rules do not keep none are logged samples: there it holds nothing
 abbrev pub HoldsBeginning : Setup → World → Labels → Type 0
 HoldsBeginning c w l = Begins (list_of w.head.store l) (map pair_of (owed w.names (kept_points c.choice (log w) l)))
 
@@ -58,7 +58,8 @@ HoldsBeginningBelow c w end l = Begins (list_of w.head.store l) (map pair_of (ow
 abbrev pub HoldsAll : Setup → World → ℕ → Labels → Type 0
 HoldsAll c w end l = list_of w.head.store l ≡ map pair_of (owed_below c w end l)
 
--- whatever the schedule and the timestamps: each series in order, each sample once, less the dropped ones
+-- whatever the schedule and the timestamps: each series in order, each sample once, less the
+-- dropped ones
 abbrev pub IsInOrder : Setup → World → Type 0
 IsInOrder c w = (l : Labels) → HoldsBeginning c w l
 
@@ -66,8 +67,8 @@ IsInOrder c w = (l : Labels) → HoldsBeginning c w l
 abbrev pub IsOfPlaced : Setup → World → Type 0
 IsOfPlaced c w = (l : Labels) → HoldsBeginningBelow c w w.placed l
 
--- what is owed of the placed samples of a label set rises strictly in time, so no timestamp is in it
--- twice
+-- what is owed of the placed samples of a label set rises strictly in time, so no timestamp is in
+-- it twice
 abbrev pub OwedRises : Setup → World → Type 0
 OwedRises c w = (l : Labels) → Rises IsEarlier (map pair_of (owed_below c w w.placed l))
 
@@ -92,7 +93,8 @@ abbrev pub AccountedKept : Option Reason → Bool → Type 0
 AccountedKept named true = (named ≡ None) ⊎ ((status : ℕ) × (named ≡ Some (Status status)))
 AccountedKept named false = named ≡ Some NotRising
 
--- how a sample below `placed` is accounted for, by what is known of its reference there, and whether it rises in a series
+-- how a sample below `placed` is accounted for, by what is known of its reference there, and
+-- whether it rises in a series
 abbrev pub Accounted : Option Reason → (Labels → Bool) → Standing → Type 0
 Accounted named rising Unknown = named ≡ Some NoSeries
 Accounted named rising (Bad f) = named ≡ Some (BadLabels (label_fault_number f))
@@ -143,20 +145,22 @@ CarriesEachBatch c w = (k : ℕ) (r : Request) → slice_get w.requests k ≡ So
 abbrev pub SendsSameBytes : World → Type 0
 SendsSameBytes w = (i j : ℕ) (r q : Request) → slice_get w.requests i ≡ Some r → slice_get w.requests j ≡ Some q → r.id ≡ q.id → r.bytes ≡ q.bytes
 
--- no batch is both taken and refused for good, in whatever order: two replies to one id never say so
+-- no batch is both taken and refused for good, in whatever order: two replies to one id never say
+-- so
 abbrev pub NeverTakesAndRefuses : Setup → World → Type 0
 NeverTakesAndRefuses c w =
     (i j : ℕ) (a b : Reply) → slice_get w.replies i ≡ Some a → slice_get w.replies j ≡ Some b → a.id ≡ b.id →
     judgement_of a.status ≡ Done → judgement_of b.status ≡ Refused → ⊥
 
--- a placed sample of a kept series that no shard holds any more, and that is not named, is in the store
+-- a placed sample of a kept series that no shard holds any more, and that is not named, is in the
+-- store
 abbrev pub StoresResolved : Setup → World → Type 0
 StoresResolved c w =
     (p r : ℕ) (t : ℤ) (word : ℕ) (l : Labels) → p < w.placed → slice_get (log w) p ≡ Some (Sample r t word) →
     known c.choice (take p (log w)) r ≡ Kept l → is_pending w p ≡ false → get w.names p ≡ None → holds (t, word) (list_of w.head.store l) ≡ true
 
--- a shard's lists: what was put is what was taken and what the queue holds; what was taken is what was resolved, the open batch and the
--- builder; and the queue is within its capacity
+-- a shard's lists: what was put is what was taken and what the queue holds; what was taken is what
+-- was resolved, the open batch and the builder; and the queue is within its capacity
 abbrev pub HasShardLists : Setup → World → Type 0
 HasShardLists c w =
     (i : ℕ) (s : Shard) → slice_get w.shards i ≡ Some s →
@@ -204,7 +208,8 @@ pub record CanWork (c : Setup) : Type 0 where
   pub batch : 1 ≤ c.batch
   pub shards : 1 ≤ c.shards
 
--- what `settle` leaves: a report; where nothing was killed, that all is through or that the log was damaged, and the head holds all of it
+-- what `settle` leaves: a report; where nothing was killed, that all is through or that the log was
+-- damaged, and the head holds all of it
 pub record IsSettled (c : Setup) (w v : World) : Type 0 where
   pub reports : (e : Ending) × (report v ≡ Some e)
   pub same_log : log v ≡ log w

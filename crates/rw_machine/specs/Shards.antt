@@ -11,7 +11,8 @@ pub data Queued : Type 0 where
   FlushMark : Queued
   EndMark : (kind : Kind) → Queued
 
--- all samples that were put, what waits in the queue, whether its End was put, and the core that takes
+-- all samples that were put, what waits in the queue, whether its End was put, and the core that
+-- takes
 pub record Shard : Type 0 where
   pub put : List Placed
   pub queue : List Queued

@@ -58,7 +58,8 @@ put_if_room c w i l t word (Some s) =
     if has_room c.capacity s then record w { shards = change i (shard_put (next_sample w i l t word s)) w.shards; placed = suc w.placed }
     else w
 
--- a sample that is dropped is named, one whose series the rules drop is counted, and one that is sent is put into the queue of its series' shard
+-- a sample that is dropped is named, one whose series the rules drop is counted, and one that is
+-- sent is put into the queue of its series' shard
 abbrev pub place_as : Setup → World → ℤ → ℕ → Fate → World
 place_as c w t word (Drops reason) = record w { names = insert w.names w.placed reason; placed = suc w.placed }
 place_as c w t word Filters = record w { filtered = suc w.filtered; placed = suc w.placed }
@@ -104,7 +105,8 @@ send_batch w i (Some s) =
     }
     else w
 
--- the endpoint's answer to the body of a batch: 413 Content Too Large, or what the head answers to the message
+-- the endpoint's answer to the body of a batch: 413 Content Too Large, or what the head answers to
+-- the message
 abbrev pub endpoint_answer : Setup → State → List Placed → Answer
 endpoint_answer c h batch =
     if nat_lt c.max_body (length (body_of batch)) then record { status = 413; head = h }
@@ -188,7 +190,8 @@ unless_over c w (event.Arrive k how) over = arrive c w how (slice_get w.requests
 unless_over c w e true = w
 unless_over c w e false = act c w e
 
--- one event: where its guard fails nothing changes, and once there is a report only requests go on arriving
+-- one event: where its guard fails nothing changes, and once there is a report only requests go on
+-- arriving
 abbrev pub happens : Setup → World → Event → World
 happens c w e = unless_over c w e (is_over w)
 

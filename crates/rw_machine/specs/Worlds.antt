@@ -100,7 +100,8 @@ abbrev pub up_to : ℕ → List ℕ
 up_to zero = []
 up_to (suc n) = up_to n ++ n ∷ []
 
--- how the work has ended: all below a position is through; it was stopped, with these samples put and not resolved; or the log is damaged
+-- how the work has ended: all below a position is through; it was stopped, with these samples put
+-- and not resolved; or the log is damaged
 pub data Ending : Type 0 where
   Complete : (end : ℕ) → Ending
   Abandoned : (placed : ℕ) → (samples : List ℕ) → Ending

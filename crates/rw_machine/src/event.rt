@@ -15,14 +15,17 @@ pub enum How {
 
 /// One event. Shards, requests and replies are named by their numbers, from 0.
 ///
-/// An event whose guard fails changes nothing. A request or a reply that the network loses is one that never arrives, and one that it repeats arrives again.
+/// An event whose guard fails changes nothing. A request or a reply that the network loses is one
+/// that never arrives, and one that it repeats arrives again.
 #[derive(Debug, Drop)]
 pub enum Event {
     /// The next piece of the log is read.
     Feed(Piece),
-    /// The next entry of the log is placed: a definition is taken, a sample is put into its shard's queue, named as dropped, or filtered.
+    /// The next entry of the log is placed: a definition is taken, a sample is put into its shard's
+    /// queue, named as dropped, or filtered.
     Place,
-    /// A mark is put into this shard's queue: an End where all is placed after a `Close` or the number of shards changes, else a Flush.
+    /// A mark is put into this shard's queue: an End where all is placed after a `Close` or the
+    /// number of shards changes, else a Flush.
     Flush(u64),
     /// This shard takes the front of its queue.
     Take(u64),

@@ -57,8 +57,8 @@ impl<C: Clock + Copy> Client<C> {
         }
     }
 
-    /// Reads what has come, without waiting, and returns what it asks for; `None` if nothing more is
-    /// to be expected of this client.
+    /// Reads what has come, without waiting, and returns what it asks for; `None` if nothing more
+    /// is to be expected of this client.
     fn read(&mut self) -> Option<Asked> {
         let mut bytes = [0; LONGEST_HEAD];
         let mut stream = &self.stream;

@@ -1,4 +1,5 @@
-//! What a sender and a receiver are doing: counters that threads share, their page in the text format of Prometheus over HTTP, and lines of progress.
+//! What a sender and a receiver are doing: counters that threads share, their page in the text
+//! format of Prometheus over HTTP, and lines of progress.
 #![tactic(auto)]
 
 mod asking;

@@ -19,7 +19,8 @@ pub enum Screen {
     Lines,
 }
 
-/// What stands behind a line: on a terminal the rest of the one before is cleared, and the next one is written over it, unless it is the last one.
+/// What stands behind a line: on a terminal the rest of the one before is cleared, and the next one
+/// is written over it, unless it is the last one.
 fn line_end(screen: Screen, is_last: bool) -> &'static [u8] {
     match screen {
         Screen::Terminal if is_last => b"\x1b[K\n",
@@ -61,7 +62,8 @@ fn show_on<C: Clock, W: Write>(
     }
 }
 
-/// Writes a line of progress once a second, in a thread that nobody joins: it ends with the process.
+/// Writes a line of progress once a second, in a thread that nobody joins: it ends with the
+/// process.
 pub fn show_progress<
     R: Threads,
     C: Clock + Copy + Send + 'static,
@@ -101,8 +103,8 @@ fn write_last<W: Write>(
     }
 }
 
-/// Writes where the counters stand in the end, and of a sender how many samples were dropped, by reason: each in a line of its own. What follows is not
-/// written where memory is refused.
+/// Writes where the counters stand in the end, and of a sender how many samples were dropped, by
+/// reason: each in a line of its own. What follows is not written where memory is refused.
 pub fn write_end<W: Write>(writer: &mut W, screen: Screen, alloc: Global, counters: &Counters) {
     let _ = write_last(writer, screen, alloc, counters);
 }

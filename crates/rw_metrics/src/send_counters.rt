@@ -93,7 +93,8 @@ impl FailureCounters {
     }
 }
 
-/// What a sender does, counted by its threads and read by others. This is advice: nothing is claimed of it, and nothing that is promised stands on it.
+/// What a sender does, counted by its threads and read by others. This is advice: nothing is
+/// claimed of it, and nothing that is promised stands on it.
 #[derive(Drop)]
 pub struct SendCounters {
     entries: AtomicU64,
@@ -172,7 +173,8 @@ impl SendCounters {
         set(&self.shards, shards as u64);
     }
 
-    /// So many samples were placed, of which so many are resolved, and so many wait. Those that are resolved never become fewer.
+    /// So many samples were placed, of which so many are resolved, and so many wait. Those that are
+    /// resolved never become fewer.
     pub fn set_load(&self, placed: u64, resolved: u64, waiting: u64) {
         set(&self.placed, placed);
         self.resolved.fetch_max(resolved, Ordering::Relaxed);
@@ -201,7 +203,8 @@ impl SendCounters {
         }
     }
 
-    /// These are the samples that were dropped so far as the log was read, in order: those behind the ones that were told before are told.
+    /// These are the samples that were dropped so far as the log was read, in order: those behind
+    /// the ones that were told before are told.
     pub fn drop_unsent(&self, names: &[(u64, Reason)]) {
         let told = self.drops.unsent() as usize;
         if let Some(more) = names.get(told..) {

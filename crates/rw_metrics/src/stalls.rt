@@ -99,9 +99,9 @@ fn write_stall<W: Write>(
     Ok(())
 }
 
-/// Writes a line after ten seconds in which attempts failed and none succeeded, and one a minute from
-/// then on, in a thread that nobody joins: it ends with the process. `receiver` is the HOST:PORT that
-/// the lines name.
+/// Writes a line after ten seconds in which attempts failed and none succeeded, and one a minute
+/// from then on, in a thread that nobody joins: it ends with the process. `receiver` is the
+/// HOST:PORT that the lines name.
 pub fn show_stalls<R: Threads, C: Clock + Copy + Send + 'static, W: Write + Send + Drop + 'static>(
     rt: &R,
     clock: C,

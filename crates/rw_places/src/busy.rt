@@ -9,7 +9,8 @@ use std::sync::{Arc, Wait};
 use std::thread::{JoinHandle, Scope, Threads};
 use std::time::Clock;
 
-/// A connection that is served in a thread. Only as one value can the sign of its end be read and the thread be joined.
+/// A connection that is served in a thread. Only as one value can the sign of its end be read and
+/// the thread be joined.
 #[derive(Drop)]
 pub(crate) struct Busy<L: Naming> {
     thread: JoinHandle<Seat<L>>,
@@ -26,7 +27,8 @@ pub(crate) enum Connection<L: Naming> {
     Ended(Seat<L>),
 }
 
-/// Serves a connection in a thread of the scope, or here, where no thread can be made. One for which memory is refused is closed.
+/// Serves a connection in a thread of the scope, or here, where no thread can be made. One for
+/// which memory is refused is closed.
 pub(crate) fn begin<'s, E, L: Naming + Send + Sync + 's, R: Wait + Clock + Sync>(
     scope: &Scope<'s, E>,
     rt: &'s R,

@@ -76,8 +76,8 @@ impl<L: Naming> Places<L> {
         !self.free.is_empty()
     }
 
-    /// Waits until a seat is free, or a stop is wished. While all are taken it asks connections that
-    /// are silent or behind their rates to end.
+    /// Waits until a seat is free, or a stop is wished. While all are taken it asks connections
+    /// that are silent or behind their rates to end.
     fn wait_for_seat<R: Threads + Wait + Clock>(&mut self, rt: &R, post: &Post<'_>)
         ensures { self.new ≡ self.old }
     {

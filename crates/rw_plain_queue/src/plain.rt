@@ -33,8 +33,8 @@ impl fmt::Display for PutFault {
 
 impl Error for PutFault {}
 
-/// The queue of a shard within one thread. It takes no memory after it was made. Contracts see the items that were taken, those that it holds,
-/// and so those that were put.
+/// The queue of a shard within one thread. It takes no memory after it was made. Contracts see the
+/// items that were taken, those that it holds, and so those that were put.
 #[derive(Drop)]
 pub struct PlainQueue {
     items: VecDeque<Item>,

@@ -15,7 +15,8 @@ use rw_types::{Entry, LabelFault, LabelSet, RawLabels};
 use std::alloc::{AllocError, Global};
 use std::marker::Model;
 
-/// The plan of the entries so far. Contracts see the rules, the entries, and whether a call was refused: then each later one is refused too.
+/// The plan of the entries so far. Contracts see the rules, the entries, and whether a call was
+/// refused: then each later one is refused too.
 #[derive(Drop)]
 pub struct Planner {
     alloc: Global,

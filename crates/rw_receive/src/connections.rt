@@ -78,8 +78,9 @@ fn join_each<L: Naming, R: Threads>(
     Ok(seats)
 }
 
-/// Serves one connection from each seat, each in a thread of its own, and gives the seats back. Nobody is listened to once the last one
-/// has come, or none can be served any more: whoever comes then is refused at once, and does not wait for those in work.
+/// Serves one connection from each seat, each in a thread of its own, and gives the seats back.
+/// Nobody is listened to once the last one has come, or none can be served any more: whoever comes
+/// then is refused at once, and does not wait for those in work.
 fn serve_each<L: Naming + Send + Sync, R: Threads + Wait + Clock + Sync>(
     rt: &R,
     listener: TcpListener,

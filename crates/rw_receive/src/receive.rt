@@ -35,18 +35,20 @@ pub struct Service<'a> {
     pub counters: &'a ReceiveCounters,
 }
 
-/// Serves `most` connections, each in a thread of its own, over one head that the limits of the settings make, and then prints what the
-/// head holds: for each label set with samples, by byte order of its list of (name, value), `received LABELS` and for each sample
-/// ` T=VALUE`, the line ended by LF. How a connection ends is no fault.
+/// Serves `most` connections, each in a thread of its own, over one head that the limits of the
+/// settings make, and then prints what the head holds: for each label set with samples, by byte
+/// order of its list of (name, value), `received LABELS` and for each sample ` T=VALUE`, the line
+/// ended by LF. How a connection ends is no fault.
 ///
-/// A failed accept is `Device`; the connections that were accepted before it are still served to their ends. A thread that cannot be made
-/// counts as refused memory. Waits until so many connections have come and ended. Once the last one has come, or none can be accepted any
-/// more, the listener is closed, so that further clients are refused at once.
+/// A failed accept is `Device`; the connections that were accepted before it are still served to
+/// their ends. A thread that cannot be made counts as refused memory. Waits until so many
+/// connections have come and ended. Once the last one has come, or none can be accepted any more,
+/// the listener is closed, so that further clients are refused at once.
 ///
 /// A connection from which no byte comes for `idle_ms` milliseconds is closed, and so is one whose
 /// request is not complete after `request_ms` milliseconds and one more for each byte of it. A
-/// connection is ended by its writing side; what the client still writes is read and forgotten until
-/// it ends its own, for a second at most, so that it sees the last reply.
+/// connection is ended by its writing side; what the client still writes is read and forgotten
+/// until it ends its own, for a second at most, so that it sees the last reply.
 pub fn run_receive<R: Threads + Wait + Clock + Sync, W: Sink>(
     rt: &R,
     alloc: Global,
@@ -62,7 +64,8 @@ pub fn run_receive<R: Threads + Wait + Clock + Sync, W: Sink>(
     ensures faults { IfErr result (λ e. (e ≡ OutOfMemory) ⊎ (e ≡ Device)) }
     ensures memory { result ≡ Err OutOfMemory → writer.new ≡ writer.old }
 
-    // A failed accept has written nothing. Where the writer fails, it holds a beginning of the text.
+    // A failed accept has written nothing. Where the writer fails, it holds a beginning of the
+    // text.
     ensures device { result ≡ Err Device → (writer.new ≡ writer.old)
         ⊎ ((W.has_failed writer.new ≡ true)
         × WritesHeldPart settings.now.limits service.entry.most
@@ -86,18 +89,21 @@ pub fn run_receive<R: Threads + Wait + Clock + Sync, W: Sink>(
     head.print(alloc, writer)
 }
 
-/// Serves any number of connections over one head until the sign is set, and then prints what the head holds, as `run_receive` does. A seat is used again
-/// once its connection has ended. Each connection has a thread; where none can be made, it is served before the next one is accepted.
+/// Serves any number of connections over one head until the sign is set, and then prints what the
+/// head holds, as `run_receive` does. A seat is used again once its connection has ended. Each
+/// connection has a thread; where none can be made, it is served before the next one is accepted.
 ///
-/// Once an end is wished, the listener is closed. A connection that is in a request finishes it, and each other one is closed; once an end at once is
-/// wished, each is. The sign is looked at five times a second.
+/// Once an end is wished, the listener is closed. A connection that is in a request finishes it,
+/// and each other one is closed; once an end at once is wished, each is. The sign is looked at five
+/// times a second.
 ///
 /// A connection from which no byte comes for `idle_ms` milliseconds is closed, and so is one whose
-/// request is not complete after `request_ms` milliseconds and one more for each byte of it: nothing
-/// of that request is taken. If all places are taken and a client waits for one, a connection is
-/// closed that has been silent for a second, or whose request is more than a second behind 1,000
-/// bytes a second. An accept that fails is made again, after a nap where it
-/// failed for want of something, as of descriptors. A listener whose accepts cannot be given a time is `Device`.
+/// request is not complete after `request_ms` milliseconds and one more for each byte of it:
+/// nothing of that request is taken. If all places are taken and a client waits for one, a
+/// connection is closed that has been silent for a second, or whose request is more than a second
+/// behind 1,000 bytes a second. An accept that fails is made again, after a nap where it failed for
+/// want of something, as of descriptors. A listener whose accepts cannot be given a time is
+/// `Device`.
 pub fn run_receive_until<R: Threads + Wait + Clock + Sync, W: Sink>(
     rt: &R,
     alloc: Global,
@@ -114,7 +120,8 @@ pub fn run_receive_until<R: Threads + Wait + Clock + Sync, W: Sink>(
     ensures faults { IfErr result (λ e. (e ≡ OutOfMemory) ⊎ (e ≡ Device)) }
     ensures memory { result ≡ Err OutOfMemory → writer.new ≡ writer.old }
 
-    // A listener that cannot be set has written nothing. Where the writer fails, it holds a beginning of the text.
+    // A listener that cannot be set has written nothing. Where the writer fails, it holds a
+    // beginning of the text.
     ensures device { result ≡ Err Device → (writer.new ≡ writer.old)
         ⊎ ((W.has_failed writer.new ≡ true)
         × WritesHeldPart settings.now.limits service.entry.most

@@ -17,7 +17,8 @@ use std::thread;
 use std::thread::Threads;
 use std::time::Clock;
 
-/// Serves from all seats until the sign is set, waits for those in work, and gives the seats back. Nobody is listened to from then on.
+/// Serves from all seats until the sign is set, waits for those in work, and gives the seats back.
+/// Nobody is listened to from then on.
 fn serve_until<L: Naming + Send + Sync, R: Threads + Wait + Clock + Sync>(
     rt: &R,
     listener: TcpListener,
@@ -41,7 +42,8 @@ fn serve_until<L: Naming + Send + Sync, R: Threads + Wait + Clock + Sync>(
     )
 }
 
-/// Serves at most so many connections at once over one head, until the sign is set. Gives the head that they leave.
+/// Serves at most so many connections at once over one head, until the sign is set. Gives the head
+/// that they leave.
 pub(crate) fn receive_until<L: Naming + Send + Sync, R: Threads + Wait + Clock + Sync>(
     rt: &R,
     post: &Post<'_>,

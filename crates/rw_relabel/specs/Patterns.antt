@@ -18,8 +18,8 @@ anchored pattern = codes "^(?s:" ++ pattern ++ codes ")$"
 unfoldable pub IsReadable : List ℕ → Type 0
 IsReadable pattern = IsPattern default_config pattern
 
--- The crate has an error for the text that is not about memory: by its clauses the text is not readable,
--- or it is and takes too much room.
+-- The crate has an error for the text that is not about memory: by its clauses the text is not
+-- readable, or it is and takes too much room.
 unfoldable pub IsRefused : List ℕ → Type 0
 IsRefused pattern = (error : Error) × (error ≢ OutOfMemory) × (error ≢ Internal) × IsDefaultFailure pattern error
 

@@ -27,7 +27,8 @@ pub enum Action {
     Drop,
 }
 
-/// A rule with its pattern compiled. Contracts see its configuration: action, source labels, separator and pattern.
+/// A rule with its pattern compiled. Contracts see its configuration: action, source labels,
+/// separator and pattern.
 #[derive(Debug, Drop)]
 pub struct Rule {
     action: Action,
@@ -59,12 +60,14 @@ impl Model for Rule {
 }
 
 impl Rule {
-    /// Makes a rule. Its pattern is held against the values of the source labels, with the separator between them, in the form `^(?s:PATTERN)$`:
-    /// it has to match the whole text, and `.` matches a newline too. The pattern and that form have to be regular expressions of the regex
-    /// crate.
+    /// Makes a rule. Its pattern is held against the values of the source labels, with the
+    /// separator between them, in the form `^(?s:PATTERN)$`: it has to match the whole text, and
+    /// `.` matches a newline too. The pattern and that form have to be regular expressions of the
+    /// regex crate.
     ///
-    /// `BadPattern` is also the error where a compiled pattern takes more room than that crate allows; no clause says for which ones. It comes
-    /// before `NoSource`. No clause says when memory runs out.
+    /// `BadPattern` is also the error where a compiled pattern takes more room than that crate
+    /// allows; no clause says for which ones. It comes before `NoSource`. No clause says when
+    /// memory runs out.
     pub fn build(
         alloc: Global,
         action: Action,

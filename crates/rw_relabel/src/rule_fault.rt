@@ -9,7 +9,8 @@ use std::fmt;
 pub enum RuleFault {
     /// Memory ran out, which is no fault of the rule.
     OutOfMemory,
-    /// The pattern, or its form `^(?s:PATTERN)$`, is no regular expression, is nested too deep, or takes too much room when it is compiled.
+    /// The pattern, or its form `^(?s:PATTERN)$`, is no regular expression, is nested too deep, or
+    /// takes too much room when it is compiled.
     BadPattern,
     /// The list of source labels is empty.
     NoSource,

@@ -30,7 +30,8 @@ is_full offset rec = nat_lt (room page_size segment_pages offset) (length rec)
 abbrev pub next_segment : Order
 next_segment = order_of_event (event.Feed piece.NextSegment)
 
--- the lines that feed a record to the log: it is written behind what there is, or where it has no room there at the front of a next segment
+-- the lines that feed a record to the log: it is written behind what there is, or where it has no
+-- room there at the front of a next segment
 abbrev pub feeds : ℕ → List ℕ → List Order
 feeds offset rec =
     if is_full offset rec then next_segment ∷ fed (log_bytes page_size 0 rec) ∷ []
@@ -63,12 +64,14 @@ Happens p o q = (e : Event) × (order_of_event e ≡ o) × (q ≡ in_world p (ha
 abbrev pub settled_after : Played → ℕ → World
 settled_after p rounds = settle p.machine.setup rounds p.machine.world
 
--- the line is `settle`, and an orderly shutdown went on until there was a report; further rounds change nothing
+-- the line is `settle`, and an orderly shutdown went on until there was a report; further rounds
+-- change nothing
 abbrev pub Settles : Played → Order → Played → Type 0
 Settles p o q = (o ≡ order_of command.Settle)
     × ((rounds : ℕ) × (e : Ending) × (report (settled_after p rounds) ≡ Some e) × (q ≡ in_world p (settled_after p rounds)))
 
--- a line was carried out: its record is fed to the log, its event happened, or it is an orderly shutdown
+-- a line was carried out: its record is fed to the log, its event happened, or it is an orderly
+-- shutdown
 abbrev pub Plays : Played → Order → Played → Type 0
 Plays p (logged rec) q = Feeds p (feeds p.offset rec) (end_of p.offset rec) q
 Plays p o q = Happens p o q ⊎ Settles p o q

@@ -21,7 +21,8 @@ use rw_world::World;
 use std::alloc::{AllocError, Global};
 use std::marker::Model;
 
-/// A world that carries out the lines of a script. Contracts see its machine, and how far its log is written.
+/// A world that carries out the lines of a script. Contracts see its machine, and how far its log
+/// is written.
 #[derive(Drop)]
 pub(crate) struct Player {
     alloc: Global,

@@ -59,10 +59,12 @@ fn state_after(
     player.state()
 }
 
-/// Reads an event script and writes the state at its end: for each label set of which the receiver holds samples, by byte order of its
-/// list of (name, value), `received LABELS T=VALUE ..`; `dropped POS REASON` by position; `filtered COUNT`; `abandoned POS` by position;
-/// and `report ..`, each line ended by LF. A damaged log is told by the report, and is no fault of the run.
-/// All lines are read before the first one is carried out, and nothing is written before all are carried out.
+/// Reads an event script and writes the state at its end: for each label set of which the receiver
+/// holds samples, by byte order of its list of (name, value), `received LABELS T=VALUE ..`;
+/// `dropped POS REASON` by position; `filtered COUNT`; `abandoned POS` by position; and `report
+/// ..`, each line ended by LF. A damaged log is told by the report, and is no fault of the run. All
+/// lines are read before the first one is carried out, and nothing is written before all are
+/// carried out.
 pub fn run_replay<R: Source, W: Sink>(
     alloc: Global,
     reader: &mut R,
@@ -76,7 +78,8 @@ pub fn run_replay<R: Source, W: Sink>(
     ensures writer_sound { OnOk result
         (W.has_failed writer.old ≡ false → W.has_failed writer.new ≡ false) }
 
-    // The only fault of the data is the first line that makes the text no script. Nothing is written then, or where memory ran out.
+    // The only fault of the data is the first line that makes the text no script. Nothing is
+    // written then, or where memory ran out.
     ensures line { (n : ℕ) → result ≡ Err (Line n)
         → ReadsBadLine (R.remaining reader.old) (R.remaining reader.new) n }
     ensures no_log { (f : TailFault) → result ≡ Err (Log f) → ⊥ }

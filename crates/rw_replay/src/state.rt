@@ -7,7 +7,8 @@ use rw_state_text::{push_received, push_work};
 use rw_world::World;
 use std::alloc::{AllocError, Global};
 
-/// Adds a `received` line for each label set of which the receiver holds samples, by byte order of their lists of (name, value).
+/// Adds a `received` line for each label set of which the receiver holds samples, by byte order of
+/// their lists of (name, value).
 fn push_all_received(out: &mut Vec<u8>, world: &World) -> Result<(), AllocError>
     ensures { OnOk result (out.new.items ≡ out.old.items ++ store_text world.now.world.head.store) }
 {

@@ -184,8 +184,10 @@ impl<S: Shard> Fleet<S, Running> {
 }
 
 impl<S: Shard> Fleet<S, Draining> {
-    /// Makes the next epoch's shards, and returns them with the old ones. No new shard is made before all old ones are drained; until then the
-    /// error is `NotDrained`, and nothing changes. After `OutOfMemory` the shards that were made are kept, and the next call goes on from there.
+    /// Makes the next epoch's shards, and returns them with the old ones. No new shard is made
+    /// before all old ones are drained; until then the error is `NotDrained`, and nothing changes.
+    /// After `OutOfMemory` the shards that were made are kept, and the next call goes on from
+    /// there.
     pub fn next<M: Make<S = S>>(
         self,
         make: &mut M,

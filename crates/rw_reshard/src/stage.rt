@@ -4,7 +4,8 @@ ghost use Rattle.std.specs.Prelude.{◌≡◌, ◌≤◌, ℕ};
 
 /// What the shards of a fleet do: `Running` or `Draining`.
 pub trait Stage {
-    /// Whether the stage allows it that this many shards of the next epoch were made, where that many are wanted.
+    /// Whether the stage allows it that this many shards of the next epoch were made, where that
+    /// many are wanted.
     ghost allows: { ℕ → ℕ → Type 0 };
 }
 

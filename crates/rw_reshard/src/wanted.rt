@@ -21,8 +21,9 @@ fn desire(now: u32, placed: u64, resolved: u64, backlog: u64, min: u32, max: u32
     bring_within(work.div_ceil(resolved as u128), min, max)
 }
 
-/// How many shards are wanted, from `min` to `max`, where there are `n`. First `n` is brought into the range. Then so many that they would have
-/// resolved the `placed` samples and the `backlog` while that many resolved `resolved` samples; where this differs by three tenths or less, or
+/// How many shards are wanted, from `min` to `max`, where there are `n`. First `n` is brought into
+/// the range. Then so many that they would have resolved the `placed` samples and the `backlog`
+/// while that many resolved `resolved` samples; where this differs by three tenths or less, or
 /// nothing is resolved yet, that number itself. This takes no memory.
 pub fn want(n: u32, placed: u64, resolved: u64, backlog: u64, min: u32, max: u32) -> u32
     requires some { 1 ≤ n }

@@ -1,4 +1,5 @@
--- One request and its reply (RFC 9112, section 9.3): what the endpoint makes of it, and the status that is read in its reply.
+-- One request and its reply (RFC 9112, section 9.3): what the endpoint makes of it, and the status
+-- that is read in its reply.
 use Rattle.std.specs.Prelude.{◌≡◌, ℕ, ◌⊎◌, List, IsTrue, Result, Ok, Err}
 use Rattle.std.specs.declared.alloc.AllocError.{AllocError}
 use Rattle.rw_endpoint.specs.Alone.{IsOneRequest, IsOneRefusal}

@@ -1,4 +1,5 @@
--- What becomes of a sample of a log: it is dropped, or its series is one that the rules drop, or it is sent in its series.
+-- What becomes of a sample of a log: it is dropped, or its series is one that the rules drop, or it
+-- is sent in its series.
 use Rattle.std.specs.Prelude.{ℕ, ℤ, Bool, true, false, List}
 use Rattle.rw_types.specs.Labels.{Labels, label_fault_number}
 use Rattle.rw_types.specs.declared.entry.Entry.{Entry}

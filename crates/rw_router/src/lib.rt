@@ -1,4 +1,5 @@
-//! What becomes of the entries of a log: which samples are sent, of which series, and which are dropped or filtered.
+//! What becomes of the entries of a log: which samples are sent, of which series, and which are
+//! dropped or filtered.
 #![tactic(auto)]
 
 mod router;

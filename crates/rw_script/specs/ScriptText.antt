@@ -15,7 +15,8 @@ use Rattle.rw_script.specs.declared.words.NumberedWord.TheVariants.{Flush, Take,
 use Rattle.rw_script.specs.declared.command.Command.{Command}
 use Rattle.rw_script.specs.declared.command.Command.TheVariants as command
 
--- what a line orders: a record is logged, bytes are fed, a request arrives, or one of the words, alone or with a number
+-- what a line orders: a record is logged, bytes are fed, a request arrives, or one of the words,
+-- alone or with a number
 pub data Order : Type 0 where
   logged : (rec : List ℕ) → Order
   fed : (bytes : List ℕ) → Order
@@ -83,7 +84,8 @@ IsBehind text (numbered word number) = IsCount text number
 abbrev pub IsWordAnd : List ℕ → List ℕ → Order → Type 0
 IsWordAnd word rest o = (word ≡ word_of o) × IsBehind rest o
 
--- a script line: `log LINE`, `feed HEX`, `arrive K plain|busy|short`, a word, or a word and a number
+-- a script line: `log LINE`, `feed HEX`, `arrive K plain|busy|short`, a word, or a word and a
+-- number
 abbrev pub IsOrder : List ℕ → Order → Type 0
 IsOrder text o = (IsBare o × (text ≡ word_of o))
     ⊎ ((word : List ℕ) × (rest : List ℕ) × (text ≡ word ++ 32 ∷ rest) × IsWordAnd word rest o)

@@ -93,9 +93,10 @@ fn read_word_and(alloc: Global, word: &[u8], rest: &[u8]) -> Result<Command, Tex
     }
 }
 
-/// Reads a script line, without its LF: `log LINE`, `feed HEX`, `arrive K plain`, `arrive K busy`, `arrive K short`, one of the words `segment`,
-/// `place`, `restart`, `close`, `kill` and `settle`, or `flush`, `take`, `freeze`, `send`, `reply`, `lost` or `reshard` and a number. The record
-/// of a `log` line has at most 16 MiB.
+/// Reads a script line, without its LF: `log LINE`, `feed HEX`, `arrive K plain`, `arrive K busy`,
+/// `arrive K short`, one of the words `segment`, `place`, `restart`, `close`, `kill` and `settle`,
+/// or `flush`, `take`, `freeze`, `send`, `reply`, `lost` or `reshard` and a number. The record of a
+/// `log` line has at most 16 MiB.
 pub fn read_command(alloc: Global, line: &[u8]) -> Result<Command, TextFault>
     ensures ok { IfOk result (λ c. IsOrder line.now (order_of c)) }
     ensures err { result ≡ Err TextFault.NotOfForm → (o : Order) → IsOrder line.now o → ⊥ }

@@ -49,7 +49,8 @@ no_meal = record { whole = []; begun = [] }
 abbrev pub meal_of : List Piece → Meal
 meal_of pieces = meal_after no_meal pieces
 
--- some bytes put no mark where there is no limit, a flush puts one to each shard, and where nothing is to be done all stays
+-- some bytes put no mark where there is no limit, a flush puts one to each shard, and where nothing
+-- is to be done all stays
 abbrev pub MarksBy : {T : Type 0} → Turn → Shipping T → Shipping T → Type 0
 MarksBy (turn.Piece n) old new = old.limit ≡ None → map marks_of new.fleet.current ≡ map marks_of old.fleet.current
 MarksBy turn.Over old new = ⊤
@@ -125,8 +126,9 @@ left_undone = Err (fault.Tool tool.OutOfMemory)
 abbrev pub HasRead : Option Moment → Wish → Meal → Type 0
 HasRead now said fed = (said ≡ wish.End) × Known now (HadAll fed)
 
--- How a following answers whose report has this outcome: all is well only where it was told to end, all that stood was fed and the outcome is complete; a
--- missing segment is one that the log says is missing; and it ends at once only where it was told to.
+-- How a following answers whose report has this outcome: all is well only where it was told to end,
+-- all that stood was fed and the outcome is complete; a missing segment is one that the log says is
+-- missing; and it ends at once only where it was told to.
 abbrev pub FollowAnswers : Option Moment → Wish → Meal → Outcome → Result (Unit {0}) FollowFault → Type 0
 FollowAnswers now said fed o (Ok u) = Answers (HasRead now said fed) ⊤ o (Ok u)
 FollowAnswers now said fed o (Err (fault.Tool f)) = Answers (HasRead now said fed) ⊤ o (Err f)
@@ -145,8 +147,8 @@ FollowStopsAtOnce now said unsure fed (Err (fault.Missing n)) = Known now (HasGa
 FollowStopsAtOnce now said unsure fed (Err fault.Stopped) = said ≡ wish.Hard
 
 -- A prefix of the segments' texts was shipped in order, in short pieces, with word of a next
--- segment between two, and nothing else; with this report and this answer. `is_sure` says whether no
--- call of the log fails.
+-- segment between two, and nothing else; with this report and this answer. `is_sure` says whether
+-- no call of the log fails.
 pub record IsFollowed {T : Type 0} (tells : T → Type 0) (seen : T → List Exchange)
     (is_for : ℕ → ℕ → T → Type 0) (c : ConfigFields) (limit : Option ℕ) (is_sure : Bool)
     (now : Option Moment) (said : Wish) (r : Report T) (answer : Result (Unit {0}) FollowFault)

@@ -194,8 +194,8 @@ fn segment_at(alloc: Global, place: Place) -> Result<SegmentName, AllocError> {
     })
 }
 
-/// Returns the files of a log, of which those of the checkpoint and the first one after it are open.
-/// The first one of them that cannot be opened is the only one in `closed`.
+/// Returns the files of a log, of which those of the checkpoint and the first one after it are
+/// open. The first one of them that cannot be opened is the only one in `closed`.
 fn open_files<R: Files<File = File> + AllocGlobal + Copy>(
     rt: &R,
     dir: &str,
@@ -279,10 +279,11 @@ pub(crate) fn first_files<R: Files<File = File> + AllocGlobal + Copy>(
 /// Returns the files of a log, from the newest checkpoint of its folder on: the segments of that
 /// checkpoint, and then those of the folder that come after it.
 ///
-/// The files of the checkpoint and the first one after it are open, so that they can be read even if
-/// a server removes them. If one of them is gone before it is opened, the folder is listed again,
-/// three times at most. If a segment is missing, or the folder or one of these files cannot be read,
-/// there is one file, which cannot be read: the first one that cannot be opened, if it is known.
+/// The files of the checkpoint and the first one after it are open, so that they can be read even
+/// if a server removes them. If one of them is gone before it is opened, the folder is listed
+/// again, three times at most. If a segment is missing, or the folder or one of these files cannot
+/// be read, there is one file, which cannot be read: the first one that cannot be opened, if it is
+/// known.
 pub fn log_files<R: Files<File = File> + AllocGlobal + Copy>(
     rt: &R,
     dir: &str,

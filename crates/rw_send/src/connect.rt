@@ -12,8 +12,8 @@ use std::net::{Net, SocketAddr, TcpStream};
 use std::sync::Arc;
 use std::time::Clock;
 
-/// Gives each worker a transport to the same receiver, with one connection for each attempt, and pauses by the clock. Contracts see the
-/// addresses and the timeout.
+/// Gives each worker a transport to the same receiver, with one connection for each attempt, and
+/// pauses by the clock. Contracts see the addresses and the timeout.
 #[derive(Drop)]
 pub struct TcpConnect<N> {
     alloc: Global,
@@ -36,7 +36,8 @@ impl<N> Model for TcpConnect<N> {
 }
 
 impl<N> TcpConnect<N> {
-    /// To these addresses of one receiver, tried in turn. The timeout is in milliseconds, for a whole attempt. The counters are told of each attempt.
+    /// To these addresses of one receiver, tried in turn. The timeout is in milliseconds, for a
+    /// whole attempt. The counters are told of each attempt.
     pub fn new(
         alloc: Global,
         net: N,

@@ -187,8 +187,9 @@ pub(crate) fn count_bytes<R: Files<File = File> + AllocGlobal + Copy>(
     }
 }
 
-/// The segments of a log in a folder, in the order of their numbers: the files whose names are one to eight decimal digits, and of two names
-/// of one number the shorter first. Other names are passed over. Of a folder that cannot be read there is one segment, which cannot be read.
+/// The segments of a log in a folder, in the order of their numbers: the files whose names are one
+/// to eight decimal digits, and of two names of one number the shorter first. Other names are
+/// passed over. Of a folder that cannot be read there is one segment, which cannot be read.
 /// Counters are told how many bytes the segments have, and of each one that is opened.
 pub fn segment_files<R: Files<File = File> + AllocGlobal + Copy>(
     rt: &R,

@@ -20,8 +20,9 @@ pub(crate) struct Current {
     pub(crate) file: Std<File>,
 }
 
-/// The segments of a log in a folder, as they come: the files whose names are one to eight decimal digits, by number, and of two names of one number the
-/// shorter first. What stands in them nobody can know.
+/// The segments of a log in a folder, as they come: the files whose names are one to eight decimal
+/// digits, by number, and of two names of one number the shorter first. What stands in them nobody
+/// can know.
 #[derive(Drop)]
 pub struct Folder<R> {
     rt: R,
@@ -62,7 +63,8 @@ fn name_after(names: Vec<SegmentName>, current: &Option<Current>) -> Option<Segm
 }
 
 impl<R: Files<File = File> + AllocGlobal + Copy> Folder<R> {
-    /// Of the folder of this name, from its first segment on. The counters are told of each segment that is opened.
+    /// Of the folder of this name, from its first segment on. The counters are told of each segment
+    /// that is opened.
     pub fn new(rt: R, dir: String, counters: Arc<SendCounters, Global>) -> Folder<R> {
         let opened = Vec::new(rt.alloc());
         Folder {
@@ -79,7 +81,8 @@ impl<R: Files<File = File> + AllocGlobal + Copy> Folder<R> {
 
     /// Of the folder of this name, from its newest checkpoint on, if it has one when it is first
     /// read: the segments of that checkpoint, and then those of the folder that come after it. The
-    /// files of the checkpoint and the first one after it are opened before the first byte is given.
+    /// files of the checkpoint and the first one after it are opened before the first byte is
+    /// given.
     pub fn from_checkpoint(rt: R, dir: String, counters: Arc<SendCounters, Global>) -> Folder<R> {
         let opened = Vec::new(rt.alloc());
         Folder {

@@ -69,7 +69,8 @@ fn answer_by(ended: Result<Stop, Cut>, answer: Result<(), ToolFault>) -> Result<
     }
 }
 
-/// The answer of a following that has ended. Where its work was cut short it may be a sign to end at once that has cut it: the sign is looked at once more.
+/// The answer of a following that has ended. Where its work was cut short it may be a sign to end
+/// at once that has cut it: the sign is looked at once more.
 fn answer_signed<W: Watch>(
     watch: &mut W,
     answer: Result<(), FollowFault>,
@@ -124,13 +125,17 @@ fn ship_on<
     Ok(Followed { report, answer })
 }
 
-/// Ships a log while it grows, until the watch says that it is to end, then stops and prints the report as the command `send` does. Of what was read the
-/// labels and last timestamps of series, the samples that wait to be answered for and the dropped ones are kept, and nothing else.
+/// Ships a log while it grows, until the watch says that it is to end, then stops and prints the
+/// report as the command `send` does. Of what was read the labels and last timestamps of series,
+/// the samples that wait to be answered for and the dropped ones are kept, and nothing else.
 ///
-/// A segment is over once the next one is there and, read again after that was seen, it gives no more bytes. Between two of them the number of shards
-/// is changed to what is wanted under the load. Told to end, it reads what stands, and waits until the receiver has answered for all of it; told to end at
-/// once, it leaves what is not done. While it waits for room in a queue, or for the receiver, it sees that only where the stop flag of `line` is set too,
-/// behind the sign. The counters are told after each turn, and once the work has stopped. Where a segment is missing between two, or cannot be read, the work is stopped at once too.
+/// A segment is over once the next one is there and, read again after that was seen, it gives no
+/// more bytes. Between two of them the number of shards is changed to what is wanted under the
+/// load. Told to end, it reads what stands, and waits until the receiver has answered for all of
+/// it; told to end at once, it leaves what is not done. While it waits for room in a queue, or for
+/// the receiver, it sees that only where the stop flag of `line` is set too, behind the sign. The
+/// counters are told after each turn, and once the work has stopped. Where a segment is missing
+/// between two, or cannot be read, the work is stopped at once too.
 pub fn run_follow<
     R: Threads + Wait + Clock + Copy + Send + 'static,
     S: Segments,

@@ -19,7 +19,8 @@ pub trait Open {
         ensures { IfOk result (λ s. Self.S.remaining s ≡ text self.now) };
 }
 
-/// Reads what it opens when it is first read. Contracts see the bytes that are left of what was opened, and before that those that it will open.
+/// Reads what it opens when it is first read. Contracts see the bytes that are left of what was
+/// opened, and before that those that it will open.
 #[derive(Drop)]
 pub struct Opened<O: Open> {
     place: O,

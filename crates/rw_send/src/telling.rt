@@ -5,15 +5,16 @@ use rw_metrics::SendCounters;
 use rw_shipper::Report;
 use rw_worker::StopFlag;
 
-/// What connects to a receiver, what counts the work, how many bytes the body of a batch may take, and what tells the workers to end at once. Nothing
-/// is claimed of the counters.
+/// What connects to a receiver, what counts the work, how many bytes the body of a batch may take,
+/// and what tells the workers to end at once. Nothing is claimed of the counters.
 #[derive(Drop)]
 pub struct Counted<'a, C> {
     pub connect: C,
     pub counters: &'a SendCounters,
     /// None for no limit.
     pub max_batch_bytes: Option<u64>,
-    /// Where another thread sets it the workers leave what is not sent, and nothing waits for them any more.
+    /// Where another thread sets it the workers leave what is not sent, and nothing waits for them
+    /// any more.
     pub stop: StopFlag,
 }
 
@@ -26,7 +27,8 @@ fn tell_refused(counters: &SendCounters, part: &Ledger) {
     }
 }
 
-/// Tells how far a shipper came that has stopped, and what its workers dropped. What was dropped and filtered of the log was told before.
+/// Tells how far a shipper came that has stopped, and what its workers dropped. What was dropped
+/// and filtered of the log was told before.
 pub(crate) fn tell_report<T>(counters: &SendCounters, report: &Report<T>) {
     for part in &report.parts {
         tell_refused(counters, part);

@@ -16,7 +16,8 @@ use Rattle.rw_series_cache.specs.Numbers.{with_series, series_of, HasNumber}
 use Rattle.rw_series_cache.specs.declared.verdict.Verdict.{Verdict}
 use Rattle.rw_series_cache.specs.declared.verdict.Verdict.TheVariants as verdict
 
--- the rules, the definitions that were taken, and the latest timestamp that was noted of each series, by its number
+-- the rules, the definitions that were taken, and the latest timestamp that was noted of each
+-- series, by its number
 pub record Taken : Type 0 where
   pub choice : Choice
   pub definitions : List Entry

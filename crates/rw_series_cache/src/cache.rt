@@ -20,8 +20,9 @@ use rw_types::{Entry, Names, RawLabels};
 use std::alloc::{AllocError, Global};
 use std::marker::Model;
 
-/// What the definitions of a log say of its references, and the latest timestamp that was noted of each series. Contracts see the choice of
-/// series, the definitions taken so far, and what is noted.
+/// What the definitions of a log say of its references, and the latest timestamp that was noted of
+/// each series. Contracts see the choice of series, the definitions taken so far, and what is
+/// noted.
 #[derive(Drop)]
 pub struct Cache {
     taken: History<Entry>,
@@ -52,7 +53,8 @@ impl Model for Cache {
 }
 
 impl Cache {
-    /// A cache that has taken no definition. `choice` says which series are kept. This takes no memory.
+    /// A cache that has taken no definition. `choice` says which series are kept. This takes no
+    /// memory.
     pub fn new(alloc: Global, choice: Choice) -> Cache
         ensures { result ≡ record { choice = choice; definitions = []; noted = map.empty } }
     {
@@ -71,8 +73,9 @@ impl Cache {
         self.sets.names()
     }
 
-    /// Takes the next definition of the log: from here on `reference` stands for `labels`. A label set that came before is not stored again, and
-    /// the rules are not asked of it again. An `Err` changes nothing.
+    /// Takes the next definition of the log: from here on `reference` stands for `labels`. A label
+    /// set that came before is not stored again, and the rules are not asked of it again. An `Err`
+    /// changes nothing.
     pub fn define(&mut self, reference: u64, labels: RawLabels) -> Result<(), AllocError>
         ensures ok { OnOk result (self.new
             ≡ record self.old {
@@ -98,7 +101,8 @@ impl Cache {
     pub fn look(&self, reference: u64) -> Known<'_>
         ensures answer { Answers self.now.choice self.now.definitions reference result }
 
-        // What is known after some entries of a log is what its definitions say: the samples among them change nothing.
+        // What is known after some entries of a log is what its definitions say: the samples among
+        // them change nothing.
         ensures log { (entries : List Entry) → definitions_of entries ≡ self.now.definitions
             → Answers self.now.choice entries reference result }
     {
@@ -110,7 +114,8 @@ impl Cache {
         }
     }
 
-    /// Whether `t`, in milliseconds since the Unix epoch, is later than what is noted of the series, or nothing is. This takes no memory.
+    /// Whether `t`, in milliseconds since the Unix epoch, is later than what is noted of the
+    /// series, or nothing is. This takes no memory.
     pub fn rises(&self, series: u64, t: i64) -> bool
         requires within { series < length (series_of self.now.choice self.now.definitions) }
         ensures { result ≡ is_after (map.get self.now.noted series) t }
@@ -121,7 +126,8 @@ impl Cache {
         }
     }
 
-    /// Notes `t`, in milliseconds since the Unix epoch, as the latest timestamp of the series. This takes no memory.
+    /// Notes `t`, in milliseconds since the Unix epoch, as the latest timestamp of the series. This
+    /// takes no memory.
     pub fn note(&mut self, series: u64, t: i64)
         requires within { series < length (series_of self.old.choice self.old.definitions) }
         requires rising { is_after (map.get self.old.noted series) t ≡ true }

@@ -15,8 +15,8 @@ use std::collections::HashSet;
 use std::marker::Model;
 use std::sync::Arc;
 
-/// The rules, and the label sets that they were asked of, each once. Contracts see the rules and the kept label sets,
-/// in the order in which they came.
+/// The rules, and the label sets that they were asked of, each once. Contracts see the rules and
+/// the kept label sets, in the order in which they came.
 #[derive(Drop)]
 pub(crate) struct LabelSets {
     alloc: Global,
@@ -57,9 +57,9 @@ impl LabelSets {
         self.choice.names
     }
 
-    /// What becomes of the labels. A label set that was judged before is not asked of the rules again.
-    /// A series that is new has a place in `latest`, which is made before it has a number. Labels with
-    /// a fault take no memory.
+    /// What becomes of the labels. A label set that was judged before is not asked of the rules
+    /// again. A series that is new has a place in `latest`, which is made before it has a number.
+    /// Labels with a fault take no memory.
     pub(crate) fn judge(
         &mut self,
         labels: &RawLabels,

@@ -1,7 +1,7 @@
 //! Which series the references of a log stand for, which of them the rules keep, and their numbers.
 //!
-//! A series is identified by its label set, and not by a reference. Of a reference the last definition counts, and a label set gets its number
-//! when it is first kept.
+//! A series is identified by its label set, and not by a reference. Of a reference the last
+//! definition counts, and a label set gets its number when it is first kept.
 #![tactic(auto)]
 
 mod cache;

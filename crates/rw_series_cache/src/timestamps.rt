@@ -6,8 +6,8 @@ ghost use Rattle.std.specs.FinMap as map;
 use std::alloc::{AllocError, Global};
 use std::marker::Model;
 
-/// Of each series, by its number, the latest timestamp that was noted, in milliseconds since the Unix epoch. Contracts see the noted ones,
-/// and for how many series there is a place.
+/// Of each series, by its number, the latest timestamp that was noted, in milliseconds since the
+/// Unix epoch. Contracts see the noted ones, and for how many series there is a place.
 #[derive(Drop)]
 pub(crate) struct Timestamps {
     latest: Vec<Option<i64>>,

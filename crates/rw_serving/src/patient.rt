@@ -125,8 +125,8 @@ impl<'s, C: Clock + Copy> Patient<'s, C> {
         }
     }
 
-    /// Whether the request or the reply has had its time, or is behind its rate while another client
-    /// waits for a place.
+    /// Whether the request or the reply has had its time, or is behind its rate while another
+    /// client waits for a place.
     fn is_late(&self) -> bool {
         let pace = self.stage.get().pace;
         if !pace.is_within(self.post.request_ms.get()) {

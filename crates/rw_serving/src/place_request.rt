@@ -2,7 +2,8 @@
 
 use std::sync::atomic::{AtomicU64, Ordering};
 
-/// How many connections a request asks to end: some more than one, since a client seldom waits alone.
+/// How many connections a request asks to end: some more than one, since a client seldom waits
+/// alone.
 const MOST_ENDS: u64 = 8;
 
 /// A request for places, which is made while a client waits for one. A few connections meet it, by

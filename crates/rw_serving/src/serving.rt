@@ -35,7 +35,8 @@ pub struct Post<'a> {
     pub counters: &'a ReceiveCounters,
 }
 
-/// Serves a connection to its end, however it ends, parts from the client, and gives the seat back. It is counted as long.
+/// Serves a connection to its end, however it ends, parts from the client, and gives the seat back.
+/// It is counted as long.
 pub fn served<L: Naming, R: Wait + Clock>(
     rt: &R,
     post: &Post<'_>,

@@ -52,7 +52,8 @@ settings_in text = if is_utf8 text then settings_if (parse_document text) else E
 abbrev pub IsRefusedRule : RuleConfig → Type 0
 IsRefusedRule rule = IsRefusedPattern rule.pattern ⊎ ((rule.source_labels ≡ []) × HasReadablePattern rule.pattern)
 
--- a fault is want of memory, or the one that was judged, or a rule is refused that was judged to be fine
+-- a fault is want of memory, or the one that was judged, or a rule is refused that was judged to be
+-- fine
 abbrev pub IsFaultOf : Result Settings SettingsFault → SettingsFault → Type 0
 IsFaultOf judged fault =
     (fault ≡ OutOfMemory) ⊎ (judged ≡ Err fault) ⊎ ((fault ≡ BadRule) × IsOkAnd judged (λ s. Any IsRefusedRule s.config.rules))

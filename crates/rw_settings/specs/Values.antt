@@ -62,7 +62,8 @@ abbrev pub found_or : {A : Type 0} → A → Result (Option A) SettingsFault →
 found_or default (Ok (Some x)) = x
 found_or default _ = default
 
--- the table at a key, which is empty where there is none, unless a value of another type stands there
+-- the table at a key, which is empty where there is none, unless a value of another type stands
+-- there
 abbrev pub section : Option Data → Option Members
 section None = Some no_members
 section (Some value) = as_table value

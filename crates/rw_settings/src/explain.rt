@@ -517,9 +517,10 @@ fn notes_of_text(alloc: Global, text: &str) -> Result<Vec<SettingsNote>, AllocEr
     }
 }
 
-/// A note for each fault of a text of settings: those of `send` and `receive` first, key by key, then those of the rules in their order, and at
-/// last the patterns that are refused. By contract the least fault noted is the one that `read_settings` judges, but that a bad pattern may be noted
-/// besides.
+/// A note for each fault of a text of settings: those of `send` and `receive` first, key by key,
+/// then those of the rules in their order, and at last the patterns that are refused. By contract
+/// the least fault noted is the one that `read_settings` judges, but that a bad pattern may be
+/// noted besides.
 #[tactic(auto, unfolding(crate::specs::Settings::settings_in))]
 pub fn explain_settings(alloc: Global, text: &[u8]) -> Result<Vec<SettingsNote>, AllocError>
     ensures { IfOk result (λ v. IsNoted (result_err (settings_in text.now)) (noted v.items)) }

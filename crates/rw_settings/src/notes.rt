@@ -18,7 +18,8 @@ use toml::{Table, Value};
 pub struct SettingsNote {
     /// Which fault it is.
     pub fault: SettingsFault,
-    /// Where it is: a key as `send.shards`, a part of a rule as `rule 2, regex`, or a line and a column.
+    /// Where it is: a key as `send.shards`, a part of a rule as `rule 2, regex`, or a line and a
+    /// column.
     pub place: String,
     /// What is wrong there, and what the key takes.
     pub text: String,

@@ -13,7 +13,8 @@ use rw_types::Bounded;
 use std::alloc::{AllocError, Global};
 use toml::Table;
 
-/// What the table sets, with the default of each key that it does not have. A value that cannot be taken counts as none.
+/// What the table sets, with the default of each key that it does not have. A value that cannot be
+/// taken counts as none.
 #[tactic(auto, unfolding(crate::specs::Receiving::receive_limits))]
 pub(crate) fn receive_limits(alloc: Global, receive: &Table) -> Result<Limits, AllocError>
     ensures { IfOk result (λ l. l ≡ receive_limits (table_view receive.now)) }

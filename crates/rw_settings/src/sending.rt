@@ -15,7 +15,8 @@ use rw_types::Bounded;
 use std::alloc::{AllocError, Global};
 use toml::Table;
 
-/// What the table sets, with the default of each key that it does not have. A value that cannot be taken counts as none.
+/// What the table sets, with the default of each key that it does not have. A value that cannot be
+/// taken counts as none.
 #[tactic(auto, unfolding(crate::specs::Sending::send_fields))]
 pub(crate) fn send_fields(
     alloc: Global,

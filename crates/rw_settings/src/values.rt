@@ -259,7 +259,8 @@ pub(crate) fn names_or_legacy(table: &Table, key: &str) -> Names
     }
 }
 
-/// The table at a key, or the empty one where no value stands there; `None` where a value of another type does.
+/// The table at a key, or the empty one where no value stands there; `None` where a value of
+/// another type does.
 pub(crate) fn section<'a>(document: &'a Table, key: &str, empty: &'a Table) -> Option<&'a Table>
     requires { table_view empty.now ≡ no_members }
     ensures { option_map (λ t. table_view t.now) result
@@ -271,7 +272,8 @@ pub(crate) fn section<'a>(document: &'a Table, key: &str, empty: &'a Table) -> O
     }
 }
 
-/// The items of the list at a key, no items where no value stands there; `None` where a value of another type does.
+/// The items of the list at a key, no items where no value stands there; `None` where a value of
+/// another type does.
 pub(crate) fn list_at<'a>(table: &'a Table, key: &str) -> Option<&'a [Value]>
     ensures { option_map (λ v. items_view v.now) result
         ≡ list_at (get_member key.now (table_view table.now)) }

@@ -16,7 +16,8 @@ AreEmpty most blocks = All (λ b. b ≡ empty_block most) blocks
 abbrev pub most_of : Pass Filled ℕ → ℕ
 most_of p = view p
 
--- each block of the channel is empty, and has the room that both ends know of. Before they know it there is one pass, and no block
+-- each block of the channel is empty, and has the room that both ends know of. Before they know it
+-- there is one pass, and no block
 pub record AreSpare (blocks : List Filled) (views : List ℕ) : Type 0 where
   pub most : ℕ
   pub empty : AreEmpty most blocks

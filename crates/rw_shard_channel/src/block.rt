@@ -8,7 +8,8 @@ use std::alloc::{AllocError, Global};
 use std::collections::VecDeque;
 use std::marker::Model;
 
-/// Items that go through the channel in one step, and how many there may be at most. Contracts see both, the front first.
+/// Items that go through the channel in one step, and how many there may be at most. Contracts see
+/// both, the front first.
 #[derive(Drop)]
 pub struct Block {
     items: VecDeque<Item>,

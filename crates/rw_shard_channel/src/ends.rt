@@ -21,7 +21,8 @@ use std::marker::{Brand, Model, PhantomData};
 use std::sync::Wait;
 use std::{fmt, mem};
 
-/// The error of a call that found nobody at the other end of the queue. Nothing is claimed of the cause.
+/// The error of a call that found nobody at the other end of the queue. Nothing is claimed of the
+/// cause.
 #[derive(Clone, Copy, Debug, PartialEq, Eq)]
 pub struct Gone;
 
@@ -33,8 +34,8 @@ impl fmt::Display for Gone {
 
 impl Error for Gone {}
 
-/// The end of a queue that puts. Contracts see its queue, how many items that holds at most, what was
-/// put, and how much of it was handed over to the channel.
+/// The end of a queue that puts. Contracts see its queue, how many items that holds at most, what
+/// was put, and how much of it was handed over to the channel.
 #[derive(Drop)]
 pub struct Feed<S: Stage> {
     pub(crate) sender: RuledSender<Block, Log, InOrder>,
@@ -155,7 +156,8 @@ fn send<R: Wait>(
 }
 
 impl Feed<Open> {
-    /// Puts a sample or a Flush at the back. It may wait for room. Where nobody is at the other end the item comes back, and what was put stays as it was.
+    /// Puts a sample or a Flush at the back. It may wait for room. Where nobody is at the other end
+    /// the item comes back, and what was put stays as it was.
     pub fn put<R: Wait>(&mut self, rt: &R, item: Item) -> Result<(), (Item, Gone)>
         requires { MayFollow self.old.queue.epoch self.old.queue.shard self.old.put item }
         ensures queue { (self.new.queue ≡ self.old.queue)
@@ -187,7 +189,8 @@ impl Feed<Open> {
         Ok(())
     }
 
-    /// Hands over the items that are held back, so that the other end can take them. It may wait for room.
+    /// Hands over the items that are held back, so that the other end can take them. It may wait
+    /// for room.
     pub fn hand_over<R: Wait>(&mut self, rt: &R) -> Result<(), Gone>
         ensures queue { (self.new.queue ≡ self.old.queue)
             × (self.new.capacity ≡ self.old.capacity) }
@@ -207,7 +210,8 @@ impl Feed<Open> {
         )
     }
 
-    /// Puts an End, the last item, of this kind. It may wait for room. Where nobody is at the other end, this end comes back as it was.
+    /// Puts an End, the last item, of this kind. It may wait for room. Where nobody is at the other
+    /// end, this end comes back as it was.
     pub fn end<R: Wait>(self, rt: &R, kind: Kind) -> Result<Feed<Ended>, (Feed<Open>, Gone)>
         ensures put { MatchResult result (λ f. (f.queue ≡ self.queue) × (f.capacity ≡ self.capacity)
             × (f.put ≡ self.put ++ Item.End kind ∷ [])) (λ e. e.0 ≡ self) }
@@ -394,7 +398,8 @@ fn open_named<Q: Naming>(
 /// The most items of a block.
 const LONGEST: usize = 64;
 
-/// The two ends of a new queue, for shard `shard` of epoch `epoch`. It holds at most `capacity` items, marks included.
+/// The two ends of a new queue, for shard `shard` of epoch `epoch`. It holds at most `capacity`
+/// items, marks included.
 pub fn open(
     alloc: Global,
     epoch: u64,

@@ -1,5 +1,5 @@
-//! The queue of a shard between two threads, handed over in blocks: the feeder holds one end and the worker the other. The type of an end says
-//! what it may still do.
+//! The queue of a shard between two threads, handed over in blocks: the feeder holds one end and
+//! the worker the other. The type of an end says what it may still do.
 #![tactic(auto)]
 
 mod block;

@@ -158,8 +158,8 @@ impl Spares {
 }
 
 impl Returns {
-    /// Gives an empty block back. It waits for nobody: there is room for all blocks but the two that
-    /// the ends of the queue have.
+    /// Gives an empty block back. It waits for nobody: there is room for all blocks but the two
+    /// that the ends of the queue have.
     pub(crate) fn give_back<R: Wait>(&mut self, rt: &R, block: Block)
         requires { block ≡ empty_block self.old }
         ensures { self.new ≡ self.old }

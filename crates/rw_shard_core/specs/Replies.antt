@@ -1,4 +1,5 @@
--- The status of a reply (RFC 9110, section 15.2; RFC 9112, section 4): informational heads are passed over.
+-- The status of a reply (RFC 9110, section 15.2; RFC 9112, section 4): informational heads are
+-- passed over.
 use Rattle.std.specs.Prelude.{◌≡◌, ℕ, ◌-◌, ◌<◌, ◌≤◌, List, [], ◌∷◌, ◌++◌, length, drop}
 use Rattle.httparse.specs.Grammar.{ResponseHead, ReadsResponse, HasNoResponse, MayBecomeResponse, print_response, status_code}
 use Rattle.rw_shard_core.specs.declared.replies.ReplyRead.{ReplyRead}
@@ -16,7 +17,8 @@ pub record BeginsWith (room : ℕ) (text : List ℕ) (head : ResponseHead) (rest
 abbrev pub IsInformational : ResponseHead → Type 0
 IsInformational head = (100 ≤ status_code head) × (status_code head < 200)
 
--- these informational heads come first, and the fact is true of the room and the text that they leave
+-- these informational heads come first, and the fact is true of the room and the text that they
+-- leave
 abbrev pub Follows : (ℕ → List ℕ → Type 0) → ℕ → List ℕ → List ResponseHead → Type 0
 Follows P room text [] = P room text
 Follows P room text (head ∷ heads) =

@@ -1,4 +1,5 @@
--- One shard of a sender behind its queue: what it took, its builder and its open batch (Remote-Write 1.0, "Ordering" and "Retries & backoff").
+-- One shard of a sender behind its queue: what it took, its builder and its open batch
+-- (Remote-Write 1.0, "Ordering" and "Retries & backoff").
 use Rattle.std.specs.Prelude.{◌≡◌, ℕ, ℤ, ◌+◌, ◌-◌, ◌<◌, ◌≤◌, List, [], ◌∷◌, ◌++◌, length, map, Bool, true, false, not, ◌&&◌, ◌||◌, ◌==◌, nat_le, Option, None, Some, Ok, All, IfSome, if◌then◌else◌, ⊤}
 use Rattle.std.specs.Ordering.{nat_cmp}
 use Rattle.std.specs.FinMap.{FinMap, get, insert}
@@ -197,7 +198,8 @@ abbrev pub name_all : ℕ → List ℕ → FinMap nat_cmp Reason → FinMap nat_
 name_all status [] names = names
 name_all status (p ∷ ps) names = name_all status ps (insert names p (Why.Status status))
 
--- a batch that is done gives its room back, and one that is refused uses it for the names of its samples
+-- a batch that is done gives its room back, and one that is refused uses it for the names of its
+-- samples
 abbrev pub settle_names : Judgement → ℕ → List Placed → Named → Named
 settle_names Done status batch l = record l { room = l.room - length batch }
 settle_names Refused status batch l = record { names = name_all status (positions batch) l.names; room = l.room - length batch }
@@ -222,7 +224,8 @@ AreInRow [] = ⊤
 AreInRow (x ∷ []) = ⊤
 AreInRow (x ∷ y ∷ ys) = IsNext x y × AreInRow (y ∷ ys)
 
--- What holds of each core: what was taken is what was resolved, and then the open batch or the builder.
+-- What holds of each core: what was taken is what was resolved, and then the open batch or the
+-- builder.
 pub record IsCore (c : Core) : Type 0 where
   pub whole : c.taken ≡ c.resolved ++ pending c
   pub one : (is_empty c.batch || is_empty c.builder) ≡ true

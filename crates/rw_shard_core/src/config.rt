@@ -49,7 +49,8 @@ pub struct ConfigFields {
     pub min_backoff_ms: Bounded<1, 3_600_000>,
     /// The longest pause before a retry of a batch, in milliseconds.
     pub max_backoff_ms: Bounded<1, 3_600_000>,
-    /// How long an attempt may take, in milliseconds: to connect, to write the request and to read the reply, together.
+    /// How long an attempt may take, in milliseconds: to connect, to write the request and to read
+    /// the reply, together.
     pub timeout_ms: Bounded<1, 3_600_000>,
     /// Which label names are accepted from the log.
     pub names: Names,
@@ -57,7 +58,8 @@ pub struct ConfigFields {
     pub rules: Rules,
 }
 
-/// A configuration: `min_shards <= shards <= max_shards` and `min_backoff_ms <= max_backoff_ms`. Contracts see the fields.
+/// A configuration: `min_shards <= shards <= max_shards` and `min_backoff_ms <= max_backoff_ms`.
+/// Contracts see the fields.
 #[derive(Debug, Drop)]
 pub struct Config {
     fields: ConfigFields,
@@ -76,7 +78,8 @@ impl Model for Config {
 }
 
 impl ConfigFields {
-    /// The defaults: one shard at first and at most 50, queues of 10,000 items, batches of 2,000 samples, legacy names, and no rules.
+    /// The defaults: one shard at first and at most 50, queues of 10,000 items, batches of 2,000
+    /// samples, legacy names, and no rules.
     pub fn standard(alloc: Global) -> Result<ConfigFields, AllocError>
         ensures { IfOk result (λ c. c ≡ standard) }
     {
@@ -116,7 +119,8 @@ impl ConfigFields {
 }
 
 impl Config {
-    /// The configuration with these fields; `None` where `is_ordered` does not hold. This takes no memory.
+    /// The configuration with these fields; `None` where `is_ordered` does not hold. This takes no
+    /// memory.
     pub fn new(fields: ConfigFields) -> Option<Config>
         ensures { result ≡ (if is_ordered fields then Some fields else None) }
     {

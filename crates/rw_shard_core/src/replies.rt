@@ -19,7 +19,8 @@ pub enum ReplyRead {
     Partial,
     /// The status of the first head that is not informational, from 200 to 999.
     Status(u16),
-    /// No bytes that follow can make a reply of them: they are no head, pass a limit, or have a status below 100.
+    /// No bytes that follow can make a reply of them: they are no head, pass a limit, or have a
+    /// status below 100.
     Bad,
 }
 
@@ -67,9 +68,11 @@ fn without(text: &[u8], len: usize) -> &[u8]
     &text[len..]
 }
 
-/// What the bytes of a reply say (RFC 9112). Informational heads (status 100 to 199) are passed over, and what follows the head with the status is ignored.
+/// What the bytes of a reply say (RFC 9112). Informational heads (status 100 to 199) are passed
+/// over, and what follows the head with the status is ignored.
 ///
-/// A head is what `httparse` reads as one: empty lines may come first and count among its bytes, and LF alone ends a line. This takes no memory.
+/// A head is what `httparse` reads as one: empty lines may come first and count among its bytes,
+/// and LF alone ends a line. This takes no memory.
 pub fn read_reply(text: &[u8]) -> ReplyRead
     ensures { Reads 8192 text.now result }
 {

@@ -66,10 +66,11 @@ fn are_unnamed(ledger: &Ledger, places: &[Place]) -> bool
     true
 }
 
-/// The state of one shard behind its queue: the samples that it has taken and not yet sent, and the batch that is being sent.
+/// The state of one shard behind its queue: the samples that it has taken and not yet sent, and the
+/// batch that is being sent.
 ///
-/// Samples are taken one after the other into a builder. When that is due it is frozen into a batch, which stays open and is sent as often as it
-/// takes, until a reply resolves it.
+/// Samples are taken one after the other into a builder. When that is due it is frozen into a
+/// batch, which stays open and is sent as often as it takes, until a reply resolves it.
 #[derive(Drop)]
 pub struct ShardCore {
     alloc: Global,
@@ -116,7 +117,8 @@ impl Model for ShardCore {
         (samples_in s.taken) (samples_in s.resolved) (samples_in s.pending) };
 }
 
-/// Whether a place has the next number and a later position than the one before it, if there is one.
+/// Whether a place has the next number and a later position than the one before it, if there is
+/// one.
 fn follows(last: Option<Place>, place: Place) -> bool
     ensures { IsTrue result ↔ IfSome last (λ l. (place.seq ≡ l.seq + 1) × (l.pos < place.pos)) }
 {
@@ -176,7 +178,8 @@ impl ShardCore {
         self.builder.is_full() || self.marked
     }
 
-    /// Whether the next item may be taken: no batch is open, the builder is not due, and the shard was not killed.
+    /// Whether the next item may be taken: no batch is open, the builder is not due, and the shard
+    /// was not killed.
     pub fn can_take(&self) -> bool
         ensures can { result ≡ can_take self.now }
         ensures core { IsCore self.now }
@@ -184,7 +187,8 @@ impl ShardCore {
         !self.killed && self.current.is_none() && !self.due()
     }
 
-    /// Whether all samples that were taken are resolved: the builder is empty, and no batch is open.
+    /// Whether all samples that were taken are resolved: the builder is empty, and no batch is
+    /// open.
     pub fn is_empty(&self) -> bool
         ensures { result ≡ is_empty (pending self.now) }
     {
@@ -209,7 +213,8 @@ impl ShardCore {
         }
     }
 
-    /// Whether the item is a mark, or a sample of this shard of this epoch with the next number and a later position than the sample before it.
+    /// Whether the item is a mark, or a sample of this shard of this epoch with the next number and
+    /// a later position than the sample before it.
     pub fn may_take(&self, item: &Item) -> bool
         ensures { IsTrue result ↔ MayTake item.now self.now }
     {
@@ -261,7 +266,8 @@ impl ShardCore {
         self.marked = !self.builder.is_empty();
     }
 
-    /// Takes the next item of the queue. A sample goes into the builder; a mark makes a builder due that is not empty.
+    /// Takes the next item of the queue. A sample goes into the builder; a mark makes a builder due
+    /// that is not empty.
     pub fn take(&mut self, item: Item)
         requires guard { can_take self.old ≡ true }
         requires item { MayTake item self.old }
@@ -282,8 +288,9 @@ impl ShardCore {
         }
     }
 
-    /// Makes the builder the open batch, with its request, and makes room in the ledger for its samples. `Ok(false)`, and nothing changes, where
-    /// a batch is open, the builder is empty or the shard was killed. An `Err` changes nothing.
+    /// Makes the builder the open batch, with its request, and makes room in the ledger for its
+    /// samples. `Ok(false)`, and nothing changes, where a batch is open, the builder is empty or
+    /// the shard was killed. An `Err` changes nothing.
     pub fn freeze(&mut self, ledger: &mut Ledger) -> Result<bool, AllocError>
         ensures done { IfOk result (λ done. done ≡ can_freeze self.old) }
         ensures core { OnOk result (self.new ≡ freeze self.old) }
@@ -324,8 +331,9 @@ impl ShardCore {
         }
     }
 
-    /// Begins an attempt to send the open batch, with the request that was made when it was frozen. `None` where no batch is open, an attempt is
-    /// under way, or the shard was killed. An `Err` changes nothing.
+    /// Begins an attempt to send the open batch, with the request that was made when it was frozen.
+    /// `None` where no batch is open, an attempt is under way, or the shard was killed. An `Err`
+    /// changes nothing.
     pub fn attempt(&mut self) -> Result<Option<Attempt>, AllocError>
         ensures attempt { IfOk result
             (λ a. a ≡ (if can_send self.old then Some (attempt_for self.old) else None)) }
@@ -365,7 +373,8 @@ impl ShardCore {
         }
     }
 
-    /// Gives up the attempt that is under way; the batch stays open. `false`, and nothing changes, where there is none or the shard was killed.
+    /// Gives up the attempt that is under way; the batch stays open. `false`, and nothing changes,
+    /// where there is none or the shard was killed.
     pub fn lost(&mut self) -> bool
         ensures lost { result ≡ awaits self.old }
         ensures core { self.new ≡ lose self.old }
@@ -412,11 +421,11 @@ impl ShardCore {
         }
     }
 
-    /// What a reply of this status to the batch `id` means. `None`, and nothing changes, where that is not the open batch, no attempt is under
-    /// way, or the shard was killed.
+    /// What a reply of this status to the batch `id` means. `None`, and nothing changes, where that
+    /// is not the open batch, no attempt is under way, or the shard was killed.
     ///
-    /// A batch that is done gives its room in the ledger back; one that is refused uses it, as each of its samples is named with the status. Any
-    /// other batch stays open, to be sent again.
+    /// A batch that is done gives its room in the ledger back; one that is refused uses it, as each
+    /// of its samples is named with the status. Any other batch stays open, to be sent again.
     pub fn reply(
         &mut self,
         id: BatchId,

@@ -51,14 +51,16 @@ guest = record { knows = false; known = nothing_known; sits = false; number = 0;
 abbrev pub with_seat : View → View → View
 with_seat v w = record { knows = v.knows; known = v.known; sits = w.sits; number = w.number; seen = w.seen }
 
--- a seat that has such a number and has seen these questions is one that was given and is not back: it has seen the first ones, and all of its own
+-- a seat that has such a number and has seen these questions is one that was given and is not back:
+-- it has seen the first ones, and all of its own
 pub record IsSeat (known : Known) (number : ℕ) (seen : List Question) : Type 0 where
   pub given : number < known.given
   pub away : list_any (eqb number) known.back ≡ false
   pub begins : Begins seen known.asked
   pub alone : own number known.asked ≡ own number seen
 
--- what the rule says of one pass: who knows all is in one place, and who sits is in that of its number
+-- what the rule says of one pass: who knows all is in one place, and who sits is in that of its
+-- number
 pub record Fits (place : ℕ) (known : Known) (at : ℕ → ℕ) (k : ℕ) (v : View) : Type 0 where
   pub keeps : v.knows ≡ true → (k ≡ place) × (v.known ≡ known)
   pub sits : v.sits ≡ true → (k ≡ at v.number) × IsSeat known v.number v.seen

@@ -9,7 +9,8 @@ use std::alloc::{AllocError, Global};
 use std::marker::Model;
 use std::sync::ledger;
 
-/// A ledger of so many parts, and the table by which seats know what their head was asked, both unused. Contracts see which they are.
+/// A ledger of so many parts, and the table by which seats know what their head was asked, both
+/// unused. Contracts see which they are.
 #[derive(Drop)]
 pub struct Blank {
     ledger: ledger::Blank,

@@ -1,4 +1,5 @@
-//! A receiving head that threads ask under one lock, each from a seat that counts what its requests stored. What a seat is told is stored, the head holds.
+//! A receiving head that threads ask under one lock, each from a seat that counts what its requests
+//! stored. What a seat is told is stored, the head holds.
 #![tactic(auto)]
 
 mod asking;

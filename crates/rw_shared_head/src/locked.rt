@@ -14,7 +14,8 @@ use rw_head::Head;
 use std::marker::Model;
 use std::sync::ledger::{Share, Total};
 
-/// A head, what it was asked, and the rest of its ledger: how many samples could still be stored. Contracts see the head and the questions.
+/// A head, what it was asked, and the rest of its ledger: how many samples could still be stored.
+/// Contracts see the head and the questions.
 #[derive(Drop)]
 pub(crate) struct Locked<L: Naming> {
     head: Head,
@@ -73,8 +74,8 @@ impl<L: Naming> Locked<L> {
         (self.head, self.questions, self.rest)
     }
 
-    /// Asks the head, notes the question, and moves as many samples as the head stored from the rest to the seat, which then has seen all
-    /// questions.
+    /// Asks the head, notes the question, and moves as many samples as the head stored from the
+    /// rest to the seat, which then has seen all questions.
     pub(crate) fn answer(&mut self, all: &Total<L>, seat: &mut Seat<L>, body: &[u8]) -> u16
         requires fits { all.now.amount ≤ most }
         ensures status { result ≢ 503 → result ≡ (answer self.old.head body.now).status }

@@ -1,4 +1,5 @@
-//! What a head was asked, as its lock and each seat know it. All of it is for contracts: no question is kept.
+//! What a head was asked, as its lock and each seat know it. All of it is for contracts: no
+//! question is kept.
 
 ghost use Rattle.std.specs.Prelude.{◌≡◌, ◌+◌, ◌++◌, [], ◌∷◌};
 ghost use Rattle.rw_shared_head.specs.Questions.{nothing_known, IsSeat};
@@ -22,7 +23,8 @@ pub struct Known {
     pub back: LinkedList<u64>,
 }
 
-/// What a pass knows: the one under the lock all, that of a seat its number and the first questions. No value of it is made.
+/// What a pass knows: the one under the lock all, that of a seat its number and the first
+/// questions. No value of it is made.
 pub struct View {
     pub knows: bool,
     pub known: Known,
@@ -31,7 +33,8 @@ pub struct View {
     pub seen: LinkedList<Question>,
 }
 
-/// One pass keeps all questions, each seat has a number of its own, and what it has seen begins them, with all of its own.
+/// One pass keeps all questions, each seat has a number of its own, and what it has seen begins
+/// them, with all of its own.
 pub struct Law;
 
 impl TableRule<Question, View, ()> for Law {
@@ -149,7 +152,8 @@ impl Unnamed {
     }
 }
 
-/// What a head was asked so far, how many seats it has, and which of them are back. Contracts see these.
+/// What a head was asked so far, how many seats it has, and which of them are back. Contracts see
+/// these.
 #[derive(Drop)]
 pub(crate) struct Questions<L: Naming> {
     table: Table<Question, View, (), Law, Global>,
@@ -172,7 +176,8 @@ impl<L: Naming> Model for Questions<L> {
         × (q.pass.me ≡ (keeper q.pass.me.0.known, [])) };
 }
 
-/// The number of a seat, and what it has seen of the questions: a beginning, with all of its own. Contracts see both.
+/// The number of a seat, and what it has seen of the questions: a beginning, with all of its own.
+/// Contracts see both.
 #[derive(Drop)]
 pub(crate) struct Seen<L: Naming> {
     number: u64,

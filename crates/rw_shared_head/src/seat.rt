@@ -22,8 +22,8 @@ pub struct Asked {
     pub label_sets: usize,
 }
 
-/// The right of one thread to ask a shared head. Contracts see its number, how many samples its requests stored, and what the head had been
-/// asked from all seats when this one asked last.
+/// The right of one thread to ask a shared head. Contracts see its number, how many samples its
+/// requests stored, and what the head had been asked from all seats when this one asked last.
 #[derive(Drop)]
 pub struct Seat<L: Naming> {
     stored: u64,
@@ -98,7 +98,8 @@ impl<L: Naming> Seat<L> {
         self.stored
     }
 
-    /// The head's answer to a request's body, under the lock: 204, 400, 429 or 503, as `Head::answer` gives it. May wait for the lock.
+    /// The head's answer to a request's body, under the lock: 204, 400, 429 or 503, as
+    /// `Head::answer` gives it. May wait for the lock.
     pub fn answer<R: Wait>(&mut self, rt: &R, shared: &SharedHead<L>, body: &[u8]) -> u16
         ensures statuses { IsStatus result }
         ensures asked { HasAsked L.opening self.old body.now result self.new }
@@ -106,7 +107,8 @@ impl<L: Naming> Seat<L> {
         self.ask(rt, shared, body).status
     }
 
-    /// Answers a request as `answer` does, and tells of how many label sets the head has samples then.
+    /// Answers a request as `answer` does, and tells of how many label sets the head has samples
+    /// then.
     pub fn ask<R: Wait>(&mut self, rt: &R, shared: &SharedHead<L>, body: &[u8]) -> Asked
         ensures statuses { IsStatus result.status }
         ensures asked { HasAsked L.opening self.old body.now result.status self.new }

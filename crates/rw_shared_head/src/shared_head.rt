@@ -16,10 +16,11 @@ use std::marker::Model;
 use std::sync::ledger::Total;
 use std::sync::{Mutex, Wait};
 
-/// A head that threads ask under one lock. Contracts see how many samples it held when it was shared,
-/// and among how many seats.
+/// A head that threads ask under one lock. Contracts see how many samples it held when it was
+/// shared, and among how many seats.
 ///
-/// Whenever the lock is free, the timestamps of each list rise strictly, and the head's total is that at the start with what the seats stored.
+/// Whenever the lock is free, the timestamps of each list rise strictly, and the head's total is
+/// that at the start with what the seats stored.
 #[derive(Drop)]
 pub struct SharedHead<L: Naming> {
     locked: Mutex<Locked<L>>,
@@ -38,8 +39,8 @@ impl<L: Naming> Model for SharedHead<L> {
 }
 
 impl<L: Naming> SharedHead<L> {
-    /// Shares a head among so many seats, which are numbered, over a blank of one part for each of them and one for the lock. Where memory runs
-    /// out, the head comes back as it was.
+    /// Shares a head among so many seats, which are numbered, over a blank of one part for each of
+    /// them and one for the lock. Where memory runs out, the head comes back as it was.
     pub fn seats(
         alloc: Global,
         blank: Blank,
@@ -88,8 +89,9 @@ impl<L: Naming> SharedHead<L> {
         }
     }
 
-    /// Gives the head back, once all seats are back. It holds what each of them was told is stored, has taken nothing that none of them was
-    /// asked, and takes label sets by the limits that it had. This takes no memory and waits for nobody.
+    /// Gives the head back, once all seats are back. It holds what each of them was told is stored,
+    /// has taken nothing that none of them was asked, and takes label sets by the limits that it
+    /// had. This takes no memory and waits for nobody.
     pub fn gather(self, seats: Vec<Seat<L>>) -> Head
         requires { vec_len seats ≡ self.seats }
         ensures gathered { HasGathered L.opening seats.items result.store }

@@ -1,4 +1,5 @@
--- Where the samples of a log went (Remote-Write 1.0: the samples of a series go out in order): each to the shard of its series, epoch after epoch.
+-- Where the samples of a log went (Remote-Write 1.0: the samples of a series go out in order): each
+-- to the shard of its series, epoch after epoch.
 use Rattle.std.specs.Prelude.{◌≡◌, ℕ, suc, ◌≤◌, ◌%◌, ◌==◌, List, [], ◌∷◌, ◌++◌, length, map, filter, Some, slice_get, ⊤}
 use Rattle.rw_plain_queue.specs.Items.{Placed, samples_in}
 use Rattle.rw_plain_queue.specs.declared.item.Kind.TheVariants.{Reshard}

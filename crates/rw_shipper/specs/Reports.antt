@@ -82,6 +82,7 @@ IsAbandoned (Complete end) = ⊥
 IsAbandoned (Abandoned placed samples) = ⊤
 IsAbandoned (Damaged f) = ⊥
 
--- one of these queues was cut: one of its ends was gone before the other, or its worker read the stop flag as set
+-- one of these queues was cut: one of its ends was gone before the other, or its worker read the
+-- stop flag as set
 abbrev pub ListsCut : {T : Type 0} → List (Finished T) → Type 0
 ListsCut {T} fs = (k : ℕ) × (f : Finished T) × (slice_get fs k ≡ Some f) × IsCut f

@@ -12,7 +12,8 @@ ghost use Rattle.rw_shipper.specs.Cutting.{AreCutBy, AreWithin, IsCutShort};
 ghost use Rattle.rw_shipper.specs.Placement.{ArePlaced, joined};
 ghost use Rattle.rw_shipper.specs.Spread.{IsSpread};
 
-/// Each sample of a log that is to be sent went to one shard, that of its series in its epoch, by rising position, and later epochs have later samples.
+/// Each sample of a log that is to be sent went to one shard, that of its series in its epoch, by
+/// rising position, and later epochs have later samples.
 pub fn samples_are_spread()
     ensures { (lanes : List ShardHistory) (choice : Choice) (entries : List Entry)
         → ArePlaced lanes (sent choice entries)
@@ -20,8 +21,8 @@ pub fn samples_are_spread()
         × IsSpread epochs (sent choice entries) }
 {}
 
-/// Queues in which, between two marks, the samples count no more than a limit, or are one: fresh ones
-/// are such, and stay so with what is put under that limit, and with a mark.
+/// Queues in which, between two marks, the samples count no more than a limit, or are one: fresh
+/// ones are such, and stay so with what is put under that limit, and with a mark.
 pub fn queues_stay_within()
     ensures fresh { (limit epoch : ℕ) (lanes : List ShardHistory)
         → AreFresh epoch lanes → AreWithin limit lanes }

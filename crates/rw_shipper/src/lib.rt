@@ -1,4 +1,5 @@
-//! The sender in threads: what comes of a log is put into the queues of its shards, each with a worker of its own.
+//! The sender in threads: what comes of a log is put into the queues of its shards, each with a
+//! worker of its own.
 #![tactic(auto)]
 
 mod laws;

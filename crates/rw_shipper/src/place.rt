@@ -26,8 +26,8 @@ pub(crate) enum Progress {
     Damaged(TailFault),
 }
 
-/// Counts a sample for its shard, and puts a Flush into the queue of that shard where the sample would
-/// take what is counted since the last mark above the limit. It may wait for room.
+/// Counts a sample for its shard, and puts a Flush into the queue of that shard where the sample
+/// would take what is counted since the last mark above the limit. It may wait for room.
 fn make_room<C: Connect + Drop, R: Wait>(
     rt: &R,
     fleet: &mut ShardSet<C>,
@@ -117,7 +117,8 @@ fn place_next<C: Connect + Drop, R: Wait>(
     }
 }
 
-/// Places all entries that there are, and answers the fault of the log after them. It may wait for room in a queue.
+/// Places all entries that there are, and answers the fault of the log after them. It may wait for
+/// room in a queue.
 pub(crate) fn place_all<C: Connect + Drop, R: Wait>(
     rt: &R,
     feeder: &mut Feeder,

@@ -8,7 +8,8 @@ use rw_shard_core::Outcome;
 #[derive(Drop)]
 pub struct Report<T> {
     pub outcome: Outcome,
-    /// The samples that have no series, or one whose labels are no label set, or that do not rise in their series; and then, for each of the workers, its refused samples.
+    /// The samples that have no series, or one whose labels are no label set, or that do not rise
+    /// in their series; and then, for each of the workers, its refused samples.
     pub parts: Vec<Ledger>,
     /// How many samples were placed whose series the rules drop.
     pub filtered: u64,

@@ -73,7 +73,8 @@ fn kind_of(is_hard: bool) -> Kind
     if is_hard { Kind::Hard } else { Kind::Orderly }
 }
 
-/// How the work has ended: hard, or with samples that are not resolved, or else with all that the log has.
+/// How the work has ended: hard, or with samples that are not resolved, or else with all that the
+/// log has.
 fn outcome_of(
     is_hard: bool,
     resolution: Resolution,
@@ -133,11 +134,12 @@ fn split_choice(alloc: Global, config: Config) -> (Config, Choice)
     (config, Choice { names, rules })
 }
 
-/// Reads a log as it grows, and puts its samples into the queues of their shards, each with a worker in a thread of its own.
+/// Reads a log as it grows, and puts its samples into the queues of their shards, each with a
+/// worker in a thread of its own.
 ///
 /// Contracts see the log as far as it was placed, the shards with what they were put, the fault by
-/// which the shipper has failed, and how many bytes a batch may take. One that was started has to be
-/// stopped.
+/// which the shipper has failed, and how many bytes a batch may take. One that was started has to
+/// be stopped.
 pub struct Shipper<C: Connect + Drop> {
     feeder: Feeder,
     fleet: ShardSet<C>,
@@ -174,7 +176,8 @@ impl<C: Connect + Drop> Model for Shipper<C> {
 }
 
 impl<C: Connect + Drop> Shipper<C> {
-    /// Opens epoch 0 with as many shards as are configured, and starts their workers. Where memory or a thread is refused the workers that were started are stopped and joined.
+    /// Opens epoch 0 with as many shards as are configured, and starts their workers. Where memory
+    /// or a thread is refused the workers that were started are stopped and joined.
     pub fn start<R: Threads + Wait + Copy + Send + 'static>(
         rt: &R,
         alloc: Global,
@@ -193,13 +196,14 @@ impl<C: Connect + Drop> Shipper<C> {
         Shipper::start_within(rt, alloc, config, connect, None, stop)
     }
 
-    /// Opens epoch 0 as `start` does, for batches that may have a limit in bytes: no body takes more, but
-    /// that of a single sample that does. A sample counts as many bytes as a message of it alone takes,
-    /// so that batches of several samples of a series end below the limit. Where memory or a thread is
-    /// refused the workers that were started are stopped and joined.
+    /// Opens epoch 0 as `start` does, for batches that may have a limit in bytes: no body takes
+    /// more, but that of a single sample that does. A sample counts as many bytes as a message of
+    /// it alone takes, so that batches of several samples of a series end below the limit. Where
+    /// memory or a thread is refused the workers that were started are stopped and joined.
     ///
-    /// `stop` is looked at by all workers. Where another thread sets it they leave what is not sent, so that a call that waits for room, or for them,
-    /// comes back: a call that puts something then answers `Gone`, and a stop behind it is a hard one.
+    /// `stop` is looked at by all workers. Where another thread sets it they leave what is not
+    /// sent, so that a call that waits for room, or for them, comes back: a call that puts
+    /// something then answers `Gone`, and a stop behind it is a hard one.
     pub fn start_within<R: Threads + Wait + Copy + Send + 'static>(
         rt: &R,
         alloc: Global,
@@ -235,7 +239,8 @@ impl<C: Connect + Drop> Shipper<C> {
         })
     }
 
-    /// Places the entries that the log has with one piece more, and hands all of them to the workers. It may wait for room in a queue.
+    /// Places the entries that the log has with one piece more, and hands all of them to the
+    /// workers. It may wait for room in a queue.
     pub fn feed<R: Wait>(&mut self, rt: &R, piece: Piece) -> Result<(), FeedFault>
         ensures failed { IfSome self.old.fault
             (λ f. (result ≡ Err (answer_to f)) × (self.new ≡ self.old)) }
@@ -251,8 +256,8 @@ impl<C: Connect + Drop> Shipper<C> {
         ensures limit { self.new.limit ≡ self.old.limit }
         ensures marks { self.old.limit ≡ None
             → map marks_of self.new.fleet.current ≡ map marks_of self.old.fleet.current }
-        // While it has not failed, a mark stands only before a sample that would take what is counted
-        // since the last one above the limit.
+        // While it has not failed, a mark stands only before a sample that would take what is
+        // counted since the last one above the limit.
         ensures cut { self.new.fault ≡ None
             → AreCutBy self.old.limit self.old.fleet.current self.new.fleet.current }
     {
@@ -309,7 +314,8 @@ impl<C: Connect + Drop> Shipper<C> {
         Ok(())
     }
 
-    /// Ends the epoch, once all that was put is resolved, and opens the next one with so many shards.
+    /// Ends the epoch, once all that was put is resolved, and opens the next one with so many
+    /// shards.
     pub fn reshard<R: Threads + Wait + Copy + Send + 'static>(
         &mut self,
         rt: &R,
@@ -360,23 +366,26 @@ impl<C: Connect + Drop> Shipper<C> {
         self.feeder.count()
     }
 
-    /// The samples that were dropped so far without being put into a queue, as the report will name them. Those of a batch that the receiver has
-    /// refused are not among them: their workers name them, and the report has them.
+    /// The samples that were dropped so far without being put into a queue, as the report will name
+    /// them. Those of a batch that the receiver has refused are not among them: their workers name
+    /// them, and the report has them.
     pub fn dropped(&self) -> &Ledger
         ensures { result.now.names ≡ named (dropped self.now.log.choice self.now.log.placed) }
     {
         self.feeder.dropped()
     }
 
-    /// How many samples were placed so far whose series the rules drop, as the report will count them.
+    /// How many samples were placed so far whose series the rules drop, as the report will count
+    /// them.
     pub fn filtered(&self) -> u64
         ensures { result ≡ length (filtered self.now.log.choice self.now.log.placed) }
     {
         self.feeder.filtered()
     }
 
-    /// How far the samples have come, as far as the workers have told: advice on how many shards are wanted. Samples that only wait for a
-    /// batch to be full count as resolved. By contract as many wait as can, at most.
+    /// How far the samples have come, as far as the workers have told: advice on how many shards
+    /// are wanted. Samples that only wait for a batch to be full count as resolved. By contract as
+    /// many wait as can, at most.
     pub fn load(&self) -> Load
         ensures load { IsLoad self.now.fleet result }
         ensures placed { PlacesAll self.now.log self.now.fleet }
@@ -420,7 +429,8 @@ impl<C: Connect + Drop> Shipper<C> {
         }
     }
 
-    /// Ends all shards once all that was put is resolved, and waits for their workers. `end` is the number of entries placed. A shipper that has failed is stopped at once.
+    /// Ends all shards once all that was put is resolved, and waits for their workers. `end` is the
+    /// number of entries placed. A shipper that has failed is stopped at once.
     pub fn stop_orderly<R: Threads + Wait>(self, rt: &R, end: u64) -> Report<C::T>
         requires { end ≡ length self.log.placed }
         ensures stopped { HasStopped C.T.tells C.T.seen C.T.is_for self result }

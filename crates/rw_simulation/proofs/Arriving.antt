@@ -54,7 +54,8 @@ module _ (c : Setup) (exs : ℕ → ℕ → List Exchange) (arrivals : List Arri
     IsLast None sent own s = Unit {0}
     IsLast (Some e) sent own s = (before : List Exchange) × (sent ≡ before ++ e ∷ []) × (earlier : List Request) × (own ≡ earlier ++ request_by s ∷ [])
 
-    -- Shard k has sent these requests of its own, with the one that is held out, and its worker will yet make these steps.
+    -- Shard k has sent these requests of its own, with the one that is held out, and its worker
+    -- will yet make these steps.
     pub record AtWork (k : ℕ) (held : Option Exchange) (steps : List Step) (sent : List Exchange) (own : List Request) (part : Names) (s : Shard) : Type 0 where
       pub rest : Shard
       pub ledger : Named

@@ -1,4 +1,5 @@
--- At the end of an epoch each shard is put its End, and its worker makes all the steps that are left.
+-- At the end of an epoch each shard is put its End, and its worker makes all the steps that are
+-- left.
 use Rattle.std.proofs.Common.{◌≡◌, ℕ, zero, suc, ◌+◌, ◌<◌, ◌≤◌, ◌==◌, ◌&&◌, Bool, true, false, not, cond, List, [], ◌∷◌, ◌++◌, map, length, Some, slice_get, refl, sym, ap, ◌∙◌, subst, append-nil, length-append, arith, ◌⊎◌, inl, inr}
 use Rattle.std.specs.List.{AllByRecursion, list_all}
 use Rattle.std.proofs.lemmas.Bool.{lt-ltb, eq-eqb, both_ways}
@@ -116,7 +117,8 @@ not_above : (m : ℕ) → suc m ≤ m → ⊥
 not_above m le = omega arith
 
 module _ (c : Setup) (past : Past) (epoch n : ℕ) (fates : ℕ → ShardFate) (placed : List Entry) (kind : Kind) (ends : (k : ℕ) → k < n → (fates k).end ≡ Some kind) (u : World) (alive : u.killed ≡ false) (asks : (s : Shard) → mark u s ≡ shard_end kind s) (some : 1 ≤ c.capacity) where
-  -- The first m shards have come to their fates, and the others have been put all but their Ends. Else nothing has changed since u.
+  -- The first m shards have come to their fates, and the others have been put all but their Ends.
+  -- Else nothing has changed since u.
   record ClosedBelow (m : ℕ) (w : World) : Type 0 where
     same : w ≡ record u { shards = w.shards; names = w.names; requests = w.requests; replies = w.replies; head = w.head }
     count : length w.shards ≡ n

@@ -1,4 +1,5 @@
--- An epoch whose shards are put all that they will be put before their workers begin, so that requests may come in whatever order.
+-- An epoch whose shards are put all that they will be put before their workers begin, so that
+-- requests may come in whatever order.
 use Rattle.std.proofs.Common.{◌≡◌, ℕ, ◌<◌, ◌≤◌, ◌+◌, ◌++◌, ◌∷◌, false, List, [], map, length, Option, None, Some, slice_get, refl, sym, ap, ◌∙◌, subst, arith, append_assoc, length-append}
 use Rattle.std.specs.FinMap.{empty}
 use Rattle.std.specs.List.{AllByRecursion}

@@ -1,4 +1,5 @@
--- What one receiver holds, by a run of the machine in which the requests come in the order in which they came.
+-- What one receiver holds, by a run of the machine in which the requests come in the order in which
+-- they came.
 use Rattle.std.proofs.Common.{◌≡◌, ℕ, zero, suc, ◌+◌, ◌<◌, ◌≤◌, ◌==◌, ◌||◌, true, false, cond, List, [], ◌∷◌, ◌++◌, map, length, take, Option, None, Some, is_some, slice_get, refl, sym, ap, ◌∙◌, subst, append-nil, append_assoc, length-append, arith, ◌⊎◌, inl, inr}
 use Rattle.std.specs.List.{AllByRecursion, list_all, list_any}
 use Rattle.std.specs.FinMap.{empty}

@@ -198,7 +198,8 @@ part choice before (y ∷ ys) (x ∷ xs) rest e = by_entry (λ zs given. part ch
         given : z ∷ gather_from (sent_of choice) (before ++ y ∷ []) ys ≡ x ∷ (xs ++ rest)
         given = ap (λ ss. ss ++ gather_from (sent_of choice) (before ++ y ∷ []) ys) (sym one) ∙ e
 
--- ---- the epochs before the last one: each was ended because the number of shards changed, to that of the next one
+-- ---- the epochs before the last one: each was ended because the number of shards changed, to that
+-- of the next one
 abbrev pub AreBefore : List (List ShardHistory) → List ShardHistory → Type 0
 AreBefore [] last = Unit {0}
 AreBefore (lanes ∷ turned) last = (1 ≤ length lanes) × AreEndedBy kind.Reshard (map put_into lanes) × IsShardCount (first_number turned last) × AreBefore turned last

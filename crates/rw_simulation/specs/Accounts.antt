@@ -19,7 +19,8 @@ abbrev pub IsNamedAs : List Named → ℕ → Option Reason → Type 0
 IsNamedAs parts p None = (reason : Reason) → IsNamedIn parts p reason → ⊥
 IsNamedAs parts p (Some reason) = IsNamedIn parts p reason × ((other : Reason) → IsNamedIn parts p other → other ≡ reason)
 
--- an entry that is so named is accounted for by what is known of its reference there: a sample is named for its true reason, or it is filtered, or owed
+-- an entry that is so named is accounted for by what is known of its reference there: a sample is
+-- named for its true reason, or it is filtered, or owed
 abbrev pub AccountedAs : Choice → List Entry → ℕ → Option Reason → Option Entry → Type 0
 AccountedAs choice placed p named None = named ≡ None
 AccountedAs choice placed p named (Some (Def r l)) = named ≡ None

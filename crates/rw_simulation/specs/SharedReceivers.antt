@@ -13,7 +13,8 @@ use Rattle.rw_machine.specs.declared.event.How.{How}
 use Rattle.rw_machine.specs.declared.event.How.TheVariants.{Plain, Busy, OutOfMemory}
 use Rattle.rw_simulation.specs.Arrivals.{Arrival, AreTold, IsOneReceiver}
 
--- A request that has come: of which exchange of which worker it was, the status that was answered, and what a seat was asked for it, if one was.
+-- A request that has come: of which exchange of which worker it was, the status that was answered,
+-- and what a seat was asked for it, if one was.
 pub record Coming : Type 0 where
   pub epoch : ℕ
   pub shard : ℕ
@@ -41,8 +42,8 @@ pub record IsAnsweredAt (opening : State) (before : List Question) (q : Question
   pub asked : HasAsked opening old q.body q.status new
   pub before_is : asked.before ≡ before
 
--- A request is answered so by a head that had been asked `before`: a seat was asked for the body that it carries; or none was, for the body
--- is too long, or there was no memory for it.
+-- A request is answered so by a head that had been asked `before`: a seat was asked for the body
+-- that it carries; or none was, for the body is too long, or there was no memory for it.
 abbrev pub IsAnswered : Setup → State → List Question → List ℕ → ℕ → Option Question → Type 0
 IsAnswered c opening before request status (Some q) =
     IsAnsweredAt opening before q × (q.status ≡ status) × ((batch : List Placed) → request ≡ batch_request c.target batch → Carries c q.body batch)
@@ -56,7 +57,8 @@ how_of status = if status == 503 then OutOfMemory else (if status == 429 then Bu
 abbrev pub arrival_of : Coming → Arrival
 arrival_of a = record { epoch = a.epoch; shard = a.shard; number = a.number; how = how_of a.status; status = a.status }
 
--- The requests that have come to a head, as its lock let them in: it was empty when it was shared, each is of an exchange of a worker, and nothing else was asked.
+-- The requests that have come to a head, as its lock let them in: it was empty when it was shared,
+-- each is of an exchange of a worker, and nothing else was asked.
 pub record IsSharedReceiver (c : Setup) (exchanges : ℕ → ℕ → List Exchange) (opening : State) (comings : List Coming) : Type 0 where
   pub empty_is : opening.store ≡ empty
   pub limits_are : opening.limits ≡ c.limits
@@ -68,7 +70,8 @@ pub record IsSharedReceiver (c : Setup) (exchanges : ℕ → ℕ → List Exchan
 abbrev pub head_behind : State → List Coming → ℕ → State
 head_behind opening comings n = head_after opening (bodies_of (questions_in (take n comings))) 0
 
--- It is one receiver, of a machine whose receiver is not busy by itself; and what it holds, once all seats are back, is what that holds behind the last request.
+-- It is one receiver, of a machine whose receiver is not busy by itself; and what it holds, once
+-- all seats are back, is what that holds behind the last request.
 abbrev pub SharesAsOne : Setup → (ℕ → ℕ → List Exchange) → State → List Coming → Type 0
 SharesAsOne c exchanges opening comings =
     c.busy ≡ 0 → IsSharedReceiver c exchanges opening comings

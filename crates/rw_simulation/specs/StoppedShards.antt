@@ -17,8 +17,8 @@ pub record IsShardOf {T : Type 0} (c : Setup) (epoch k : ℕ) (j : StoppedShard 
   pub epoch_is : j.worker.value.queue.epoch ≡ epoch
   pub shard_is : j.worker.value.queue.shard ≡ k
 
--- It is that shard: its worker took what it was put, but for what was left in its queue, in steps that the machine's shard may make; and its part of
--- the ledger is what they make of it.
+-- It is that shard: its worker took what it was put, but for what was left in its queue, in steps
+-- that the machine's shard may make; and its part of the ledger is what they make of it.
 pub record IsRunOf {T : Type 0} (c : Setup) (epoch k : ℕ) (j : StoppedShard T) : Type 0 where
   pub steps : List Step
   pub rest : List Item

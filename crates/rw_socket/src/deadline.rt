@@ -25,7 +25,8 @@ impl<C: Clock> Deadline<C> {
         }
     }
 
-    /// The time that is left; `None` once the deadline has passed, and where the clock cannot be read.
+    /// The time that is left; `None` once the deadline has passed, and where the clock cannot be
+    /// read.
     pub fn left(&self) -> Option<Duration>
         ensures { IfSome result (λ left. 0 < as_nanos left) }
     {

@@ -5,8 +5,9 @@ use std::io::{self, ErrorKind, Read, Write};
 use std::net::TcpStream;
 use std::time::{Clock, Duration};
 
-/// A connection whose reads and writes fail once a deadline has passed, however many of them there are: a peer that moves a byte now and then
-/// cannot draw them out. Nothing is claimed of the bytes.
+/// A connection whose reads and writes fail once a deadline has passed, however many of them there
+/// are: a peer that moves a byte now and then cannot draw them out. Nothing is claimed of the
+/// bytes.
 #[derive(Clone, Copy, Drop)]
 pub struct Timely<'s, C> {
     stream: &'s TcpStream,

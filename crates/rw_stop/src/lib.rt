@@ -1,4 +1,5 @@
-//! A sign to stop, which one thread sets and others look at; and what sets it: an input that ends, or a file that is there.
+//! A sign to stop, which one thread sets and others look at; and what sets it: an input that ends,
+//! or a file that is there.
 #![tactic(auto)]
 
 mod sign;

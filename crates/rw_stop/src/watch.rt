@@ -15,8 +15,9 @@ const LONGEST: usize = 64;
 /// How many milliseconds pass between two looks.
 const LOOK_MS: u64 = 200;
 
-/// Reads `input` to its end, and then asks for an end in order, or to the first line `hard`, and asks for an end at once. An input that cannot be
-/// read counts as ended, and so it does where there is no memory for a line. At most 64 bytes of the input are kept.
+/// Reads `input` to its end, and then asks for an end in order, or to the first line `hard`, and
+/// asks for an end at once. An input that cannot be read counts as ended, and so it does where
+/// there is no memory for a line. At most 64 bytes of the input are kept.
 pub fn watch_input<B: BufRead>(alloc: Global, input: &mut B, sign: &Sign) {
     let mut line = Vec::new(alloc);
     if line.reserve(LONGEST).is_err() {
@@ -42,8 +43,9 @@ pub fn watch_input<B: BufRead>(alloc: Global, input: &mut B, sign: &Sign) {
     sign.end();
 }
 
-/// Looks five times a second for the file at `path`. It asks for an end in order once the file is there, and for an end at once when its first line
-/// is `hard`. Returns then, or where another has asked for an end at once.
+/// Looks five times a second for the file at `path`. It asks for an end in order once the file is
+/// there, and for an end at once when its first line is `hard`. Returns then, or where another has
+/// asked for an end at once.
 pub fn watch_file<R: Clock + Files>(rt: &R, path: &str, sign: &Sign) {
     for _ in 0..u64::MAX {
         if matches!(fs::exists(rt, path), Ok(true)) {

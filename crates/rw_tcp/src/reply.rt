@@ -17,7 +17,8 @@ use std::marker::Model;
 /// How many bytes one read asks for.
 const CHUNK: usize = 1024;
 
-/// A status that a reply brought, and that counts for its request. Nothing outside this module makes one. Contracts see the status.
+/// A status that a reply brought, and that counts for its request. Nothing outside this module
+/// makes one. Contracts see the status.
 #[derive(Drop)]
 pub(crate) struct Heard {
     status: StatusCode,
@@ -172,8 +173,9 @@ pub(crate) fn hear_answer<R: Source, W: Sink>(
 
 /// Writes a request, and reads until the status of its reply has come.
 ///
-/// A receiver may answer by the head of a request, and close the connection before the body has come. So the reply is read also where the writer
-/// failed; a status that takes the request counts only where the request was written whole.
+/// A receiver may answer by the head of a request, and close the connection before the body has
+/// come. So the reply is read also where the writer failed; a status that takes the request counts
+/// only where the request was written whole.
 pub fn ask<R: Source, W: Sink>(
     alloc: Global,
     reader: &mut R,

@@ -24,8 +24,8 @@ use std::time::{Clock, Duration};
 /// The most addresses that are tried.
 const MOST_ADDRESSES: usize = 1_000;
 
-/// Looks up the addresses of a host; there is at least one. An error of the kind `OutOfMemory` means that memory ran out, one of another kind
-/// that the look-up failed.
+/// Looks up the addresses of a host; there is at least one. An error of the kind `OutOfMemory`
+/// means that memory ran out, one of another kind that the look-up failed.
 pub fn look_up<N: Net>(net: &N, alloc: Global, host: &str, port: u16) -> io::Result<Vec<SocketAddr>>
     ensures { IfOk result (λ v. 0 < vec_len v) }
 {
@@ -68,8 +68,9 @@ impl<N> Model for TcpTransport<N> {
 }
 
 impl<N: Net<Stream = TcpStream> + Clock + Copy> TcpTransport<N> {
-    /// A transport to these addresses of one receiver, which are tried in turn. The timeout is in milliseconds, for a whole attempt: the
-    /// connects, all writes and all reads together. `counters` are told of each attempt, and why it failed.
+    /// A transport to these addresses of one receiver, which are tried in turn. The timeout is in
+    /// milliseconds, for a whole attempt: the connects, all writes and all reads together.
+    /// `counters` are told of each attempt, and why it failed.
     pub fn new(
         alloc: Global,
         net: N,
@@ -91,7 +92,8 @@ impl<N: Net<Stream = TcpStream> + Clock + Copy> TcpTransport<N> {
         }
     }
 
-    /// A connection to the first address that answers. Those that were not tried yet share the time that is left.
+    /// A connection to the first address that answers. Those that were not tried yet share the time
+    /// that is left.
     fn connect(&self, deadline: &Deadline<N>) -> Option<TcpStream> {
         let mut untried = self.addresses.len().min(MOST_ADDRESSES) as u32;
         for address in &self.addresses {
@@ -170,8 +172,8 @@ fn exchange_through<C: Clock + Copy>(
     )
 }
 
-/// The reply that was heard. Counts an attempt that succeeded, and one that failed: it has no answer,
-/// or a status that does not take the batch.
+/// The reply that was heard. Counts an attempt that succeeded, and one that failed: it has no
+/// answer, or a status that does not take the batch.
 fn counted<C: Clock>(
     counters: &SendCounters,
     deadline: &Deadline<C>,

@@ -27,7 +27,8 @@ fn port_of(digits: &[u8]) -> Option<u16>
 }
 
 impl<'a> Address<'a> {
-    /// The host without brackets around it, in which an IPv6 address may stand (RFC 3986, section 3.2.2).
+    /// The host without brackets around it, in which an IPv6 address may stand (RFC 3986, section
+    /// 3.2.2).
     pub fn name(&self) -> &'a str
         ensures { IsName self.now.host.now result.now }
     {
@@ -41,8 +42,8 @@ impl<'a> Address<'a> {
     }
 }
 
-/// Reads HOST:PORT, which is split at its last colon, so that a host may hold colons (`::1`, `[::1]`). The port is 1 to 65,535, in decimal
-/// digits; `None` for any other text.
+/// Reads HOST:PORT, which is split at its last colon, so that a host may hold colons (`::1`,
+/// `[::1]`). The port is 1 to 65,535, in decimal digits; `None` for any other text.
 pub fn read_address(text: &str) -> Option<Address<'_>>
     ensures { MatchOption result
         ((host : List ℕ) (port : ℕ) → IsAddress text.now host port → ⊥)

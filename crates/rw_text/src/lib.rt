@@ -1,4 +1,5 @@
-//! Readers and printers of the text forms of numbers, values, labels, log lines with their records, and HOST:PORT.
+//! Readers and printers of the text forms of numbers, values, labels, log lines with their records,
+//! and HOST:PORT.
 #![tactic(auto)]
 
 mod address;

@@ -76,7 +76,8 @@ fn read_raw(alloc: Global, text: &[u8]) -> Result<LogLine, TextFault>
     }
 }
 
-/// Reads a line of log text, without its LF: `series REF LABELS`, `sample REF T VALUE` or `raw HEX`, with single spaces. The line has to be UTF-8.
+/// Reads a line of log text, without its LF: `series REF LABELS`, `sample REF T VALUE` or `raw
+/// HEX`, with single spaces. The line has to be UTF-8.
 pub fn read_line(alloc: Global, line: &[u8]) -> Result<LogLine, TextFault>
     ensures ok { IfOk result (λ read. IsLine line.now (line_of read)) }
     ensures err { result ≡ Err TextFault.NotOfForm → (said : Line) → IsLine line.now said → ⊥ }

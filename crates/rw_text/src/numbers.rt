@@ -39,7 +39,8 @@ pub fn read_number(text: &[u8]) -> Option<u64>
     Some(number)
 }
 
-/// Reads decimal digits, with or without a minus before them, as a number from -2^63 to 2^63 - 1; `None` for any other text.
+/// Reads decimal digits, with or without a minus before them, as a number from -2^63 to 2^63 - 1;
+/// `None` for any other text.
 pub fn read_integer(text: &[u8]) -> Option<i64>
     ensures { MatchOption result ((z : ℤ) → FitsSigned w64 z → IsInteger text.now z → ⊥)
         (IsInteger text.now) }
@@ -59,7 +60,8 @@ pub fn push_number(out: &mut Vec<u8>, n: u64) -> Result<(), AllocError>
     out.extend_from_slice(buffer.format(n).as_bytes())
 }
 
-/// Appends the decimal digits of `z`, with a minus before them where it is negative. An `Err` leaves `out` as it was.
+/// Appends the decimal digits of `z`, with a minus before them where it is negative. An `Err`
+/// leaves `out` as it was.
 pub fn push_integer(out: &mut Vec<u8>, z: i64) -> Result<(), AllocError>
     ensures ok { OnOk result (out.new.items ≡ out.old.items ++ signed_decimal z) }
     ensures err { OnErr result (out.new.items ≡ out.old.items) }

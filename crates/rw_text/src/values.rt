@@ -61,8 +61,8 @@ fn read_whole(text: &[u8]) -> Option<Word>
     }
 }
 
-/// Reads the value of a sample: a decimal whole number from -2^53 to 2^53, or `0x` and the sixteen lower case hexadecimal digits of its 64 bits;
-/// `None` for any other text.
+/// Reads the value of a sample: a decimal whole number from -2^53 to 2^53, or `0x` and the sixteen
+/// lower case hexadecimal digits of its 64 bits; `None` for any other text.
 pub fn read_value(text: &[u8]) -> Option<Word>
     ensures { MatchOption result ((word : ℕ) → word < 2 ^ 64 → IsValue text.now word → ⊥)
         (IsValue text.now) }
@@ -84,8 +84,8 @@ fn push_word(out: &mut Vec<u8>, word: u64) -> Result<(), AllocError>
     out.extend_from_slice(&text)
 }
 
-/// Appends the text of a value: a whole number from -2^53 to 2^53 in decimal, any other value as `0x` and sixteen hexadecimal digits. An `Err`
-/// leaves `out` as it was.
+/// Appends the text of a value: a whole number from -2^53 to 2^53 in decimal, any other value as
+/// `0x` and sixteen hexadecimal digits. An `Err` leaves `out` as it was.
 #[tactic(auto, unfolding(crate::specs::ValueText::value_text))]
 pub fn push_value(out: &mut Vec<u8>, value: Word) -> Result<(), AllocError>
     ensures ok { OnOk result (out.new.items ≡ out.old.items ++ value_text value) }

@@ -1,4 +1,5 @@
--- Labels, and when a list of them is a label set (the data model of Prometheus; Remote-Write 1.0, "Labels").
+-- Labels, and when a list of them is a label set (the data model of Prometheus; Remote-Write 1.0,
+-- "Labels").
 use Rattle.std.specs.Prelude.{◌≡◌, ℕ, ◌+◌, List, [], ◌∷◌, length, sum_by, codes, Bool, true, false, not, ◌&&◌, ◌||◌, ◌==◌, nat_lt, Option, None, Some, String, string_bytes, Vec, if◌then◌else◌}
 use Rattle.std.specs.Char.{is_ascii_alphabetic, is_ascii_alphanumeric}
 use Rattle.std.specs.Cmp.Lexicographic.{slice_cmp}
@@ -86,7 +87,8 @@ label_len l = length l.0 + length l.1
 abbrev pub text_len : Labels → ℕ
 text_len ls = sum_by label_len ls
 
--- the first of these that is wrong with the labels, where such names are taken; they are a label set where nothing is
+-- the first of these that is wrong with the labels, where such names are taken; they are a label
+-- set where nothing is
 abbrev pub label_fault : Names → Labels → Option LabelFault
 label_fault names ls =
     if not (list_all is_text ls) then Some NotUtf8

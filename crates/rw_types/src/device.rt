@@ -28,7 +28,8 @@ pub trait Source {
     /// Whether no read from here on fails.
     ghost is_sure: { Self → Bool };
 
-    /// Reads some bytes into the front of `buf`, and returns how many. `Ok(0)` for a buffer that is not empty is the end of the input.
+    /// Reads some bytes into the front of `buf`, and returns how many. `Ok(0)` for a buffer that is
+    /// not empty is the end of the input.
     fn read(&mut self, buf: &mut [u8]) -> Result<usize, Failed>
         ensures bound { ReadsAtMost result buf.new }
         ensures bytes { ReadConsumes (remaining self.old) (remaining self.new) result buf.new }
@@ -47,7 +48,8 @@ pub trait Sink {
     /// How many more bytes it surely takes, while it has not failed.
     ghost room: { Self → ℕ };
 
-    /// Writes a beginning of `bytes`, at least one byte where there is one, and returns how many. An `Err` has written nothing.
+    /// Writes a beginning of `bytes`, at least one byte where there is one, and returns how many.
+    /// An `Err` has written nothing.
     fn write(&mut self, bytes: &[u8]) -> Result<usize, Failed>
         ensures bound { WritesAtMost result bytes.now }
         ensures bytes { WriteAppends (contents self.old) (contents self.new) result bytes.now }

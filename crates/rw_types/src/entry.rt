@@ -11,7 +11,8 @@ use std::alloc::{AllocError, Global};
 pub enum Entry {
     /// Defines a series: from here on `reference` stands for the series with these labels.
     Def { reference: u64, labels: RawLabels },
-    /// A sample of the series that `reference` stands for: its time `t` in milliseconds since the Unix epoch, and its value `word`.
+    /// A sample of the series that `reference` stands for: its time `t` in milliseconds since the
+    /// Unix epoch, and its value `word`.
     Sample { reference: u64, t: i64, word: Word },
 }
 

@@ -59,7 +59,8 @@ fn is_label_name(name: &[u8]) -> bool
     }
 }
 
-/// Whether `name` matches `[a-zA-Z_:][a-zA-Z0-9_:]*`, as legacy metric names do (data model of Prometheus).
+/// Whether `name` matches `[a-zA-Z_:][a-zA-Z0-9_:]*`, as legacy metric names do (data model of
+/// Prometheus).
 pub fn is_metric_name(name: &[u8]) -> bool
     ensures { result ≡ is_metric_name name.now }
 {
@@ -142,7 +143,8 @@ pub(crate) fn are_longer_than<L: LabelBytes>(labels: &[L], most: usize) -> bool
     false
 }
 
-/// The first fault of the labels, in the order of `LabelFault`; `None` where they are a label set. `names` says which names are accepted.
+/// The first fault of the labels, in the order of `LabelFault`; `None` where they are a label set.
+/// `names` says which names are accepted.
 pub(crate) fn fault_of<L: LabelBytes>(names: Names, labels: &[L]) -> Option<LabelFault>
     ensures { result ≡ label_fault names (map L.shown labels.now) }
 {

@@ -1,4 +1,5 @@
-//! The labels of a series in the wire format of Protocol Buffers, canonically spelled (Remote-Write 1.0, `TimeSeries`).
+//! The labels of a series in the wire format of Protocol Buffers, canonically spelled (Remote-Write
+//! 1.0, `TimeSeries`).
 
 ghost use Rattle.std.specs.Prelude.{◌≡◌, ◌≤◌, ◌<◌, ◌+◌, ◌^◌, ◌++◌, length, map, IfSome, IfNone};
 ghost use Rattle.std.specs.Vec.{vec_len, vec_capacity};
@@ -8,7 +9,8 @@ ghost use Rattle.rw_types.specs.LabelFields.{tag, string_field, label, label_fie
 
 use rw_codes::{push_uvarint, uvarint_len};
 
-/// The length of a length-delimited field of `len` bytes, with a tag of one byte; `None` where it does not fit 64 bits.
+/// The length of a length-delimited field of `len` bytes, with a tag of one byte; `None` where it
+/// does not fit 64 bits.
 pub fn bytes_field_len(len: usize) -> Option<usize>
     ensures some { IfSome result (λ n. n ≡ 1 + length (uvarint len) + len) }
     ensures none { IfNone result (2 ^ 64 ≤ 1 + length (uvarint len) + len) }
@@ -69,7 +71,8 @@ pub fn put_bytes(out: &mut Vec<u8>, bytes: &[u8])
     out.extend_from_slice(bytes).unwrap();
 }
 
-/// Appends the front of a field that holds `len` bytes, its tag and its length, to a vector that has room for them. This takes no memory.
+/// Appends the front of a field that holds `len` bytes, its tag and its length, to a vector that
+/// has room for them. This takes no memory.
 pub fn put_field_front(out: &mut Vec<u8>, number: u8, len: usize)
     requires number { number < 16 }
     requires room { vec_len out.old + 1 + length (uvarint len) ≤ vec_capacity out.old }
@@ -92,7 +95,8 @@ fn put_string_field(out: &mut Vec<u8>, number: u8, text: &str)
     }
 }
 
-/// Appends the field of a label in its series to a vector that has room for it. This takes no memory.
+/// Appends the field of a label in its series to a vector that has room for it. This takes no
+/// memory.
 #[tactic(auto, unfolding(crate::specs::LabelFields::label_field, crate::specs::LabelFields::label))]
 pub fn put_label_field(out: &mut Vec<u8>, name: &str, value: &str)
     requires room { vec_len out.old + length (label_field (name.now, value.now))
@@ -106,7 +110,8 @@ pub fn put_label_field(out: &mut Vec<u8>, name: &str, value: &str)
     put_string_field(out, 2, value);
 }
 
-/// Appends the fields of the labels in their series to a vector that has room for them. This takes no memory.
+/// Appends the fields of the labels in their series to a vector that has room for them. This takes
+/// no memory.
 pub fn put_label_fields(out: &mut Vec<u8>, labels: &[(String, String)])
     requires room { vec_len out.old + length (label_fields (map text_label labels.now))
         ≤ vec_capacity out.old }

@@ -21,8 +21,9 @@ use std::cmp::Ordering;
 use std::hash::{FoldHasher, Hash, Hasher};
 use std::marker::Model;
 
-/// The labels that identify one series: sorted by name in byte order, no name twice, no name or value empty, at most `MAX_LABELS` labels and
-/// `MAX_LABEL_BYTES` bytes. The names are of the form that was asked for when the set was made, and UTF-8 in any case.
+/// The labels that identify one series: sorted by name in byte order, no name twice, no name or
+/// value empty, at most `MAX_LABELS` labels and `MAX_LABEL_BYTES` bytes. The names are of the form
+/// that was asked for when the set was made, and UTF-8 in any case.
 ///
 /// Contracts see the list of (name, value); two label sets are equal where these lists are.
 #[derive(Debug, Drop)]
@@ -214,8 +215,9 @@ impl LabelSet {
         })
     }
 
-    /// Overwrites the set with the label set of `labels`, in the memory that it has as far as that goes. `names` says which names are accepted.
-    /// The first fault of the labels, found before memory is taken, leaves the set as it was; after `OutOfMemory` it is empty.
+    /// Overwrites the set with the label set of `labels`, in the memory that it has as far as that
+    /// goes. `names` says which names are accepted. The first fault of the labels, found before
+    /// memory is taken, leaves the set as it was; after `OutOfMemory` it is empty.
     pub fn assign(&mut self, names: Names, labels: &[(String, String)]) -> Result<(), LabelFault>
         ensures ok { OnOk result (self.new ≡ map text_label labels.now) }
         ensures label_set { OnOk result (IsLabelSet names (map text_label labels.now)) }
@@ -236,7 +238,8 @@ impl LabelSet {
         Ok(())
     }
 
-    /// Whether there are more than `max_labels` labels, or more than `max_bytes` bytes of names and values together.
+    /// Whether there are more than `max_labels` labels, or more than `max_bytes` bytes of names and
+    /// values together.
     pub fn is_over(&self, max_labels: usize, max_bytes: usize) -> bool
         ensures { result
             ≡ (nat_lt max_labels (length self.now) || nat_lt max_bytes (text_len self.now)) }
@@ -244,7 +247,8 @@ impl LabelSet {
         self.labels.len() > max_labels || are_longer_than(self.labels.as_slice(), max_bytes)
     }
 
-    /// The label set of `labels`, with legacy names, or the first fault that keeps them from being one. A fault of the labels is found before memory is taken.
+    /// The label set of `labels`, with legacy names, or the first fault that keeps them from being
+    /// one. A fault of the labels is found before memory is taken.
     pub fn check(alloc: Global, labels: &RawLabels) -> Result<LabelSet, LabelFault>
         ensures ok { IfOk result (λ s. s ≡ labels.now) }
         ensures label_set { IfOk result (λ _. IsLabelSet Legacy labels.now) }
@@ -254,8 +258,8 @@ impl LabelSet {
         LabelSet::check_as(alloc, Names::Legacy, labels)
     }
 
-    /// The label set of `labels`, or the first fault that keeps them from being one; `names` says which names are accepted. A fault of the labels
-    /// is found before memory is taken.
+    /// The label set of `labels`, or the first fault that keeps them from being one; `names` says
+    /// which names are accepted. A fault of the labels is found before memory is taken.
     pub fn check_as(alloc: Global, names: Names, labels: &RawLabels) -> Result<LabelSet, LabelFault>
         ensures ok { IfOk result (λ s. s ≡ labels.now) }
         ensures label_set { IfOk result (λ _. IsLabelSet names labels.now) }
@@ -277,7 +281,8 @@ impl LabelSet {
         self.labels.as_slice()
     }
 
-    /// The fields of its labels in a series, in the canonical spelling (Remote-Write 1.0, `TimeSeries`).
+    /// The fields of its labels in a series, in the canonical spelling (Remote-Write 1.0,
+    /// `TimeSeries`).
     pub fn fields(&self) -> &[u8]
         ensures fields { result.now ≡ label_fields self.now }
         ensures label_set { IsLabelSet Utf8 self.now }
@@ -296,7 +301,8 @@ impl PartialEq for LabelSet {
 
     ghost laws = { partial_equiv_from_equiv (eq_by_cmp_equiv labels_cmp-total) };
 
-    // Labels that are not the same are not spelled alike, and one run of bytes is sooner compared than many texts.
+    // Labels that are not the same are not spelled alike, and one run of bytes is sooner compared
+    // than many texts.
     fn eq(&self, other: &LabelSet) -> bool {
         self.fields == other.fields
     }
@@ -355,12 +361,14 @@ impl Hash for LabelSet {
     }
 }
 
-/// Law: the order of label sets calls two lists of labels equal exactly where they are the same list. The call does nothing.
+/// Law: the order of label sets calls two lists of labels equal exactly where they are the same
+/// list. The call does nothing.
 pub fn equal_where_same()
     ensures { (a b : Labels) → (is_eq (labels_cmp a b) ≡ true) ↔ (a ≡ b) }
 {}
 
-/// Law: with `Names::Utf8` no name is a bad one, and labels that are a label set with legacy names still are one. The call does nothing.
+/// Law: with `Names::Utf8` no name is a bad one, and labels that are a label set with legacy names
+/// still are one. The call does nothing.
 pub fn utf8_takes_any_name()
     ensures no_bad_name { (labels : Labels) → label_fault Utf8 labels ≢ Some BadName }
     ensures legacy { (labels : Labels) → IsLabelSet Legacy labels → IsLabelSet Utf8 labels }

@@ -6,7 +6,8 @@ ghost use Rattle.rw_types.specs.Labels.{bytes_label};
 use std::alloc::{AllocError, Global};
 use std::marker::Model;
 
-/// Labels that were not checked: in any order, with any bytes as names and values. Contracts see the list of (name, value).
+/// Labels that were not checked: in any order, with any bytes as names and values. Contracts see
+/// the list of (name, value).
 #[derive(Debug, Drop)]
 pub struct RawLabels {
     list: Vec<(Vec<u8>, Vec<u8>)>,

@@ -11,7 +11,8 @@ use std::marker::Model;
 /// The most bytes of a host name, and of a path.
 const MAX_BYTES: usize = 255;
 
-/// The value of the field `Host` of requests, with a port or without: 1 to 255 bytes, each from `!` to `~`. Contracts see its bytes.
+/// The value of the field `Host` of requests, with a port or without: 1 to 255 bytes, each from `!`
+/// to `~`. Contracts see its bytes.
 #[derive(Debug, Drop)]
 pub struct HostName {
     text: String,
@@ -28,7 +29,8 @@ impl Model for HostName {
     ghost invariant = { λ h. is_host_name (string_bytes h.text) ≡ true };
 }
 
-/// The path of requests, with its query if it has one: 1 to 255 bytes, first `/`, then ASCII letters, digits and `/-._~%?=&`. Contracts see its bytes.
+/// The path of requests, with its query if it has one: 1 to 255 bytes, first `/`, then ASCII
+/// letters, digits and `/-._~%?=&`. Contracts see its bytes.
 #[derive(Debug, Drop)]
 pub struct RequestPath {
     text: String,
@@ -142,7 +144,8 @@ impl HostName {
 }
 
 impl RequestPath {
-    /// Whether `text` may be a path: 1 to 255 bytes, of which the first is `/` and each other one an ASCII letter, an ASCII digit or one of `/-._~%?=&`.
+    /// Whether `text` may be a path: 1 to 255 bytes, of which the first is `/` and each other one
+    /// an ASCII letter, an ASCII digit or one of `/-._~%?=&`.
     pub fn is_path(text: &str) -> bool
         ensures { result ≡ is_request_path text.now }
     {
@@ -161,7 +164,8 @@ impl RequestPath {
         }
     }
 
-    /// `/api/v1/write`, the path at which receivers of Prometheus take messages (Remote-Write 1.0, "Protocol").
+    /// `/api/v1/write`, the path at which receivers of Prometheus take messages (Remote-Write 1.0,
+    /// "Protocol").
     pub fn api_v1_write(alloc: Global) -> Result<RequestPath, AllocError>
         ensures { IfOk result (λ p. p ≡ codes "/api/v1/write") }
     {

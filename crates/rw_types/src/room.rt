@@ -7,7 +7,8 @@ use crate::device::{Failed, Sink};
 use std::alloc::{AllocError, Global};
 use std::marker::Model;
 
-/// A writer that takes no memory after it was made. It fails at the first write that does not fit, and writes nothing of that.
+/// A writer that takes no memory after it was made. It fails at the first write that does not fit,
+/// and writes nothing of that.
 #[derive(Debug, Drop)]
 pub struct Room {
     bytes: Vec<u8>,

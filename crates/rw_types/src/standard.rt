@@ -8,8 +8,9 @@ use crate::device::{Failed, Sink, Source};
 use std::io::{self, ErrorKind};
 use std::marker::Model;
 
-/// A reader or a writer of `std::io` that stays failed once it has failed. A call that was interrupted is made again, and a write that takes no
-/// byte is a failure. Contracts see the reader or writer, and whether it has failed.
+/// A reader or a writer of `std::io` that stays failed once it has failed. A call that was
+/// interrupted is made again, and a write that takes no byte is a failure. Contracts see the reader
+/// or writer, and whether it has failed.
 #[derive(Drop)]
 pub struct Std<T> {
     inner: T,

@@ -68,7 +68,8 @@ fn zeros(alloc: Global, len: usize) -> Result<Vec<u8>, AllocError>
     vec![in alloc; 0; len]
 }
 
-/// Appends what one read gives to `out`, and returns how many bytes came. Room is made before the read, so no byte is lost.
+/// Appends what one read gives to `out`, and returns how many bytes came. Room is made before the
+/// read, so no byte is lost.
 fn read_some<S: Source>(
     source: &mut S,
     chunk: &mut [u8],
@@ -94,7 +95,8 @@ fn read_some<S: Source>(
     }
 }
 
-/// Reads to the end of the input, and appends the bytes to `out`. After an `Err` `out` has the bytes that were read before it.
+/// Reads to the end of the input, and appends the bytes to `out`. After an `Err` `out` has the
+/// bytes that were read before it.
 pub fn read_to_end<S: Source>(
     alloc: Global,
     source: &mut S,

@@ -5,7 +5,8 @@ ghost use Rattle.rw_types.specs.Words.{word_of_int, magnitude_word, int_of_word}
 
 use std::marker::Model;
 
-/// The value of a sample: the 64 bits of an IEEE 754 binary64 number. Contracts see these bits as a number below 2^64.
+/// The value of a sample: the 64 bits of an IEEE 754 binary64 number. Contracts see these bits as a
+/// number below 2^64.
 #[derive(Clone, Copy, Debug, PartialEq, Eq)]
 pub struct Word(pub u64);
 

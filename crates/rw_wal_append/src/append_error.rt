@@ -40,8 +40,8 @@ impl From<AllocError> for AppendError {
 }
 
 impl AppendError {
-    /// Returns the error for a record that was not written to memory. There the device fails only if
-    /// memory ran out.
+    /// Returns the error for a record that was not written to memory. There the device fails only
+    /// if memory ran out.
     pub(crate) fn of(fault: LogFault) -> AppendError {
         match fault {
             LogFault::SegmentFull => AppendError::SegmentFull,

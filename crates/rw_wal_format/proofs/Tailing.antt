@@ -1,4 +1,5 @@
--- A reader that has come some way: what is still read of the bytes that it holds and of the pieces that come later.
+-- A reader that has come some way: what is still read of the bytes that it holds and of the pieces
+-- that come later.
 use Rattle.std.proofs.Common.{◌≡◌, ℕ, ◌+◌, List, [], ◌∷◌, ◌++◌, length, drop, Option, Some, None, refl, sym, ap, ◌∙◌, subst, append_assoc, append-nil, add_assoc, if◌then◌else◌}
 use Rattle.std.proofs.lemmas.List.{drop-append-le}
 use Rattle.rw_wal_format.specs.Records.{record_entries, is_skipped}
@@ -7,7 +8,8 @@ use Rattle.rw_wal_format.specs.Segments.{Kind, Item, fragment, zeros, item_at, S
 use Rattle.rw_wal_format.specs.Pieces.{Piece, bytes, next_segment, then_after, then_next, reading_after}
 use Rattle.rw_wal_format.proofs.Growing.{Stays, item_stays}
 
--- what is read on from here, with `left` bytes of the page, a record that may be open, and `rest` held
+-- what is read on from here, with `left` bytes of the page, a record that may be open, and `rest`
+-- held
 abbrev pub read_on : ℕ → ℕ → Option (List ℕ) → List ℕ → List Piece → Reading
 read_on page left so_far rest [] = read_from page left so_far rest
 read_on page left so_far rest (bytes b ∷ later) = read_on page left so_far (rest ++ b) later

@@ -5,13 +5,14 @@ use Rattle.rw_wal_format.specs.Segments.{Reading, Stop, between, inside, at_faul
 use Rattle.rw_wal_format.specs.declared.tail_fault.TailFault.{TailFault}
 use Rattle.rw_wal_format.specs.declared.tail_fault.TailFault.TheVariants.{TornSegment}
 
--- what a reader is given next: more bytes of the segment, which may be none, or word that the segment has ended and the next begins
+-- what a reader is given next: more bytes of the segment, which may be none, or word that the
+-- segment has ended and the next begins
 pub data Piece : Type 0 where
   bytes : List ℕ → Piece
   next_segment : Piece
 
--- A segment that stops so, and then the next ones: a fault ends the reading, and so does a record that is not whole,
--- since no record crosses segments (wal.md).
+-- A segment that stops so, and then the next ones: a fault ends the reading, and so does a record
+-- that is not whole, since no record crosses segments (wal.md).
 abbrev pub then_after : Stop → Reading → Reading → Reading
 then_after between r next = record { entries = r.entries ++ next.entries; skipped = r.skipped + next.skipped; stop = next.stop }
 then_after inside r next = record { entries = r.entries; skipped = r.skipped; stop = at_fault TornSegment }
@@ -40,7 +41,8 @@ fault_at _ = None
 abbrev pub page_size : ℕ
 page_size = 32768
 
--- the entries of the whole records before the first fault; an entry's place in this list is its position
+-- the entries of the whole records before the first fault; an entry's place in this list is its
+-- position
 abbrev pub entries : List Piece → List Entry
 entries pieces = (reading page_size pieces).entries
 

@@ -1,4 +1,5 @@
--- The records of a write-ahead log (wal.md): series records and sample records, and the entries that they hold.
+-- The records of a write-ahead log (wal.md): series records and sample records, and the entries
+-- that they hold.
 use Rattle.std.specs.Prelude.{ℕ, zero, suc, ◌+◌, ◌-◌, ◌%◌, ◌^◌, ℤ, List, [], ◌∷◌, ◌++◌, length, take, drop, flat_map, Option, Some, None, Result, Ok, Err, Bool, true, not, ◌||◌, ◌==◌, nat_lt, if◌then◌else◌}
 use Rattle.std.proofs.Common.{w64}
 use Rattle.std.specs.Int.{cast_unsigned, cast_signed, int_wrapping_add, int_wrapping_sub}
@@ -26,8 +27,8 @@ labels_bytes labels = uvarint (length labels) ++ flat_map label_bytes labels
 abbrev pub series_record : ℕ → Labels → List ℕ
 series_record reference labels = 1 ∷ big_bytes 8 reference ++ labels_bytes labels
 
--- One sample against the base, which is the first sample's reference and timestamp: both deltas, which wrap at 64 bits, as ZigZag varints,
--- and the word of the value, high byte first.
+-- One sample against the base, which is the first sample's reference and timestamp: both deltas,
+-- which wrap at 64 bits, as ZigZag varints, and the word of the value, high byte first.
 abbrev pub sample_bytes : ℕ → ℤ → ℕ × ℤ × ℕ → List ℕ
 sample_bytes base start s =
     varint (cast_signed w64 ((s.0 + (2 ^ 64 - base)) % 2 ^ 64)) ++ varint (int_wrapping_sub w64 s.1 start) ++ big_bytes 8 s.2
@@ -99,7 +100,8 @@ sample_entries [] = Some []
 sample_entries (b ∷ bs) = eight_at (b ∷ bs) then λ base. eight_at base.1 then λ start.
     samples_at base.0 (cast_signed w64 start.0) start.1
 
--- the entries of a record, or none where it is not of its type's form; an empty record and one of another type hold no entry
+-- the entries of a record, or none where it is not of its type's form; an empty record and one of
+-- another type hold no entry
 unfoldable pub record_entries : List ℕ → Option (List Entry)
 record_entries [] = Some []
 record_entries (kind ∷ bytes) =

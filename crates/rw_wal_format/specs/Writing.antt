@@ -19,8 +19,9 @@ frame kind d = type_byte kind ∷ big_bytes 2 (length d) ++ big_bytes 4 (crc32c_
 abbrev pub padding : ℕ → List ℕ
 padding left = if nat_lt left 7 then replicate left 0 else []
 
--- The fragments of a record, each the greatest that fits: the first with `left` bytes of its page, at least 7, the others with a whole page.
--- There are at most k; `begun` says whether the record has begun.
+-- The fragments of a record, each the greatest that fits: the first with `left` bytes of its page,
+-- at least 7, the others with a whole page. There are at most k; `begun` says whether the record
+-- has begun.
 abbrev pub frames : ℕ → ℕ → ℕ → Bool → List ℕ → List ℕ
 frames page zero left begun d = []
 frames page (suc k) left begun d =

@@ -1,4 +1,5 @@
-//! The grammar of Prometheus' write-ahead log, as definitions that contracts cite, its laws, its sizes and types, and its faults.
+//! The grammar of Prometheus' write-ahead log, as definitions that contracts cite, its laws, its
+//! sizes and types, and its faults.
 #![tactic(auto)]
 
 mod fragment_type;

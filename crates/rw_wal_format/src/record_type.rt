@@ -3,7 +3,8 @@
 ghost use Rattle.std.specs.Prelude.{◌≡◌, ◌≢◌, None, IfSome};
 ghost use Rattle.rw_wal_format.specs.Types.{record_byte};
 
-/// What a record holds. Cast to a number, it is its first byte. Records of other types are passed over.
+/// What a record holds. Cast to a number, it is its first byte. Records of other types are passed
+/// over.
 #[derive(Clone, Copy, Debug, PartialEq, Eq, Drop)]
 pub enum RecordType {
     /// Definitions of series.

@@ -6,7 +6,8 @@ ghost use Rattle.rw_wal_format.specs.Faults.{log_fault_number};
 use std::error::Error;
 use std::fmt;
 
-/// Why the next entry of a log cannot be given. Each fault but `OutOfMemory` is one of the log, and stays.
+/// Why the next entry of a log cannot be given. Each fault but `OutOfMemory` is one of the log, and
+/// stays.
 #[derive(Clone, Copy, Debug, PartialEq, Eq)]
 pub enum TailFault {
     /// Memory ran out, which is no fault of the log. The call may be made again.
@@ -48,7 +49,8 @@ impl fmt::Display for TailFault {
 impl Error for TailFault {}
 
 impl TailFault {
-    /// The number that stands for the fault in text: 1 to 8, and 0 for `OutOfMemory`, which is no fault of the log.
+    /// The number that stands for the fault in text: 1 to 8, and 0 for `OutOfMemory`, which is no
+    /// fault of the log.
     pub fn number(self) -> u8
         ensures { result ≡ log_fault_number self }
     {

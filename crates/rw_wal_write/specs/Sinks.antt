@@ -1,5 +1,6 @@
 -- What a device has taken of a text that it was given.
--- The three functions are those of its trait: what it holds where that is known, whether it has failed, and how many more bytes it surely takes.
+-- The three functions are those of its trait: what it holds where that is known, whether it has
+-- failed, and how many more bytes it surely takes.
 use Rattle.std.specs.Prelude.{◌≡◌, ℕ, ◌+◌, ◌<◌, ◌≤◌, List, length, take, Option, Result, Bool, true, false, MatchResult}
 use Rattle.std.specs.Io.KnownBytes.{Appends}
 

@@ -56,7 +56,8 @@ fn room_in_page(offset: usize) -> usize
     PAGE_BYTES - offset % PAGE_BYTES - HEADER_BYTES
 }
 
-/// Writes the last fragment of a record, and zeros after it where no further fragment has room in the page. Returns how many bytes these are together.
+/// Writes the last fragment of a record, and zeros after it where no further fragment has room in
+/// the page. Returns how many bytes these are together.
 fn put_last<W: Sink>(
     sink: &mut W,
     kind: FragmentType,
@@ -76,7 +77,8 @@ fn put_last<W: Sink>(
     Ok(HEADER_BYTES + part.len() + zeros)
 }
 
-/// Writes a record at an offset as fragments, each the greatest that fits its page, and returns the offset after them.
+/// Writes a record at an offset as fragments, each the greatest that fits its page, and returns the
+/// offset after them.
 pub fn put_record<W: Sink>(sink: &mut W, offset: usize, rec: &[u8]) -> Result<usize, Failed>
     requires some { 0 < length rec.now }
     requires place { 7 ≤ page_size - offset % page_size }

@@ -25,7 +25,8 @@ fn room_in(pages: usize, offset: usize) -> usize
         + rest / PAGE_BYTES * (PAGE_BYTES - HEADER_BYTES)
 }
 
-/// Writes records to one segment of a log. Contracts see its device, the most pages, its offset, and whether it is closed, as it is after `Device`.
+/// Writes records to one segment of a log. Contracts see its device, the most pages, its offset,
+/// and whether it is closed, as it is after `Device`.
 #[derive(Debug, Drop)]
 pub struct SegmentWriter<W: Sink> {
     sink: W,
@@ -66,7 +67,8 @@ impl<W: Sink> SegmentWriter<W> {
         }
     }
 
-    /// A writer that goes on with a segment of at most `pages` pages of 32 KiB, of which `offset` bytes are written.
+    /// A writer that goes on with a segment of at most `pages` pages of 32 KiB, of which `offset`
+    /// bytes are written.
     pub fn resume(w: W, pages: usize, offset: usize) -> SegmentWriter<W>
         requires { IsPlace pages offset }
         ensures { result ≡ record { sink = w; pages = pages; offset = offset; closed = false } }
@@ -79,7 +81,8 @@ impl<W: Sink> SegmentWriter<W> {
         }
     }
 
-    /// The offset, in bytes, behind the records that were written whole, with their headers and zeros.
+    /// The offset, in bytes, behind the records that were written whole, with their headers and
+    /// zeros.
     pub fn offset(&self) -> usize
         ensures offset { result ≡ self.now.offset }
         ensures place { IsPlace self.now.pages result }
@@ -103,8 +106,8 @@ impl<W: Sink> SegmentWriter<W> {
 
     /// Writes a record behind those that were written before. This takes no memory.
     ///
-    /// Where several refusals hold, `Device` comes before `RecordTooLong`, and that before `SegmentFull`. After `Device` the writer is closed,
-    /// and each later call returns `Device`.
+    /// Where several refusals hold, `Device` comes before `RecordTooLong`, and that before
+    /// `SegmentFull`. After `Device` the writer is closed, and each later call returns `Device`.
     pub fn log(&mut self, rec: &[u8]) -> Result<(), LogFault>
         requires { 0 < length rec.now }
 

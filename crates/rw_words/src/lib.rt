@@ -1,4 +1,5 @@
-//! The command line: what each command is called, which options it takes, and what the words ask for.
+//! The command line: what each command is called, which options it takes, and what the words ask
+//! for.
 #![tactic(auto)]
 
 mod answers;
@@ -46,7 +47,8 @@ pub struct Following<'a> {
     pub poll_ms: Bounded<10, 60_000>,
     /// So many milliseconds may a sample wait for a full batch.
     pub flush_ms: Bounded<10, 3_600_000>,
-    /// So many milliseconds lie between two times that the number of shards is asked for within a segment.
+    /// So many milliseconds lie between two times that the number of shards is asked for within a
+    /// segment.
     pub reshard_ms: Bounded<10, 3_600_000>,
 }
 

@@ -1,4 +1,5 @@
--- How long a worker waits after each of its steps (Remote-Write 1.0, "Retries & backoff"): longer with each try of a batch that was in vain, and the least pause where memory was refused.
+-- How long a worker waits after each of its steps (Remote-Write 1.0, "Retries & backoff"): longer
+-- with each try of a batch that was in vain, and the least pause where memory was refused.
 use Rattle.std.specs.Prelude.{ℕ, ◌+◌, List, [], ◌∷◌, ◌++◌, if◌then◌else◌}
 use Rattle.rw_retry.specs.Backoff.{delay_of}
 use Rattle.rw_worker.specs.Transcript.{is_again}

@@ -73,7 +73,8 @@ IsClosed (intake.Ended Orderly d) c = is_due c ≡ false → c.builder ≡ []
 IsClosed (intake.Ended Reshard d) c = is_due c ≡ false → c.builder ≡ []
 
 module _ {T : Type 0} (tells : T → Type 0) (seen : T → List Exchange) (setup : Setup) (begun : T) where
-  -- these steps were made: they took what the end of the queue gave, and added their exchanges to those of the transport
+  -- these steps were made: they took what the end of the queue gave, and added their exchanges to
+  -- those of the transport
   pub record HasMade (drain : Draining) (transport : T) (steps : List Step) : Type 0 where
     pub queue_is : drain.queue ≡ setup.queue
     pub history : IsHistory setup.queue.epoch setup.queue.shard drain.taken
@@ -81,7 +82,8 @@ module _ {T : Type 0} (tells : T → Type 0) (seen : T → List Exchange) (setup
     pub items : items_of steps ≡ drain.taken
     pub adds : Adds (tells begun) (tells transport) (seen begun) (seen transport) (exchanges_of steps)
 
-  -- What a worker reports. The state of its shard is that after its steps, of which the exchanges are the transcript of what was taken. No more than a batch of that is not resolved.
+  -- What a worker reports. The state of its shard is that after its steps, of which the exchanges
+  -- are the transcript of what was taken. No more than a batch of that is not resolved.
   pub record IsReport (r : WorkerReport T) : Type 0 where
     pub steps : List Step
     pub made : HasMade (drain_of r.end) r.transport steps

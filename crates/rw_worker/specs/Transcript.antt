@@ -1,4 +1,5 @@
--- The exchanges of one sender (Remote-Write 1.0, "Retries & backoff"): a request that is answered by 429 or 5xx, or by nothing, is sent again; any other answer is final.
+-- The exchanges of one sender (Remote-Write 1.0, "Retries & backoff"): a request that is answered
+-- by 429 or 5xx, or by nothing, is sent again; any other answer is final.
 use Rattle.std.specs.Prelude.{◌≡◌, ℕ, Bool, true, false, List, [], ◌∷◌, ◌++◌, fold, Result, Ok, Err, ⊤}
 use Rattle.std.specs.Ordering.{nat_cmp}
 use Rattle.std.specs.FinMap.{FinMap, empty}

@@ -32,7 +32,8 @@ fn note(core: &mut ShardCore, ledger: &mut Ledger, id: BatchId, answer: Result<R
     }
 }
 
-/// Sends the open batch once: whether the answer settles it. Where memory is refused nothing changes.
+/// Sends the open batch once: whether the answer settles it. Where memory is refused nothing
+/// changes.
 pub(crate) fn send_once<T: Transport>(
     core: &mut ShardCore,
     ledger: &mut Ledger,

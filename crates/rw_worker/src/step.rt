@@ -130,7 +130,8 @@ fn take<T: Transport, P: Pause, R: Wait>(
     }
 }
 
-/// Takes the next item, where all that was taken is sent or waits for more. Behind an End everything is resolved.
+/// Takes the next item, where all that was taken is sent or waits for more. Behind an End
+/// everything is resolved.
 fn go_on<T: Transport, P: Pause, R: Wait>(
     rt: &R,
     start: &Start<T, P>,
@@ -159,7 +160,8 @@ fn go_on<T: Transport, P: Pause, R: Wait>(
     }
 }
 
-/// Makes one step: the next item is taken, or a builder that is due is frozen, or its batch is sent.
+/// Makes one step: the next item is taken, or a builder that is due is frozen, or its batch is
+/// sent.
 pub(crate) fn step<T: Transport, P: Pause, R: Wait>(
     rt: &R,
     start: &Start<T, P>,

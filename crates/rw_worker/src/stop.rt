@@ -47,7 +47,8 @@ impl StopFlag {
         Ok(StopFlag { is_set, name: 0 })
     }
 
-    /// Another share of this flag. It takes no memory, and is refused where there are too many shares already.
+    /// Another share of this flag. It takes no memory, and is refused where there are too many
+    /// shares already.
     pub fn share(&self) -> Result<StopFlag, AllocError>
         ensures { IfOk result (λ f. f ≡ self.now) }
     {

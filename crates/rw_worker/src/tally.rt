@@ -11,8 +11,8 @@ struct Told {
     is_sending: AtomicBool,
 }
 
-/// How many samples a worker has resolved, and whether it has a batch to send, as far as it has told. This is advice: nothing is claimed of it, and nothing that is promised
-/// stands on it.
+/// How many samples a worker has resolved, and whether it has a batch to send, as far as it has
+/// told. This is advice: nothing is claimed of it, and nothing that is promised stands on it.
 #[derive(Drop)]
 pub struct Tally {
     told: Arc<Told>,
@@ -29,7 +29,8 @@ impl Tally {
         })
     }
 
-    /// Another share of this tally. It takes no memory, and is refused where there are too many shares already.
+    /// Another share of this tally. It takes no memory, and is refused where there are too many
+    /// shares already.
     pub(crate) fn share(&self) -> Result<Tally, AllocError> {
         let told = self.told.clone()?;
         Ok(Tally { told })

@@ -30,7 +30,8 @@ pub trait Transport {
     ghost use Rattle.std.specs.Prelude.{◌≡◌, ℕ, List, [], ◌∷◌, ◌++◌};
     ghost use Rattle.rw_worker.specs.Transcript.{Exchange, exchange_of};
 
-    /// It was made for the worker of this shard of this epoch, the epoch first. One that serves all workers says so of each.
+    /// It was made for the worker of this shard of this epoch, the epoch first. One that serves all
+    /// workers says so of each.
     ghost is_for: { ℕ → ℕ → Self → Type 0 };
 
     /// It has told of each exchange so far. A transport need not tell of any.

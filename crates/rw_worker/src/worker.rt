@@ -53,7 +53,8 @@ impl Model for Worker {
 }
 
 impl Worker {
-    /// The worker of the shard `shard` of the epoch `epoch`. Where memory is refused its end of the queue comes back.
+    /// The worker of the shard `shard` of the epoch `epoch`. Where memory is refused its end of the
+    /// queue comes back.
     pub fn new(
         alloc: Global,
         config: &Config,
@@ -96,7 +97,8 @@ impl Worker {
     /// feeder. After it has read the stop flag as set or found its feeder gone, it resolves nothing
     /// more.
     ///
-    /// It waits between two attempts of a batch, twice as long each time up to the longest pause, and for the least one where memory was refused.
+    /// It waits between two attempts of a batch, twice as long each time up to the longest pause,
+    /// and for the least one where memory was refused.
     pub fn run<T: Transport + Drop, P: Pause, R: Wait>(
         self,
         rt: &R,

@@ -16,7 +16,8 @@ pub record IsServed (target : Target) (host path : List ℕ) (requests : List Re
   pub path_is : target.path ≡ path
   pub sent : All (IsSentTo host path) requests
 
--- what the endpoint answers to these bytes: they are one request, and the head answers its body; or its head is refused with a status
+-- what the endpoint answers to these bytes: they are one request, and the head answers its body; or
+-- its head is refused with a status
 abbrev pub IsAnswerTo : List ℕ → ℕ → State → List ℕ → Answer → Type 0
 IsAnswerTo path limit h bytes a =
     ((body : List ℕ) × IsOneRequest path limit bytes body × (a ≡ answer h body))

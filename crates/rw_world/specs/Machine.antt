@@ -62,7 +62,8 @@ abbrev pub is_arrive : Event → Bool
 is_arrive (event.Arrive k how) = true
 is_arrive e = false
 
--- a Feed, a Place, a Freeze, a Send, an Arrive and a Restart may be refused memory; no other event is
+-- a Feed, a Place, a Freeze, a Send, an Arrive and a Restart may be refused memory; no other event
+-- is
 abbrev pub takes_memory : Event → Bool
 takes_memory (event.Feed piece) = true
 takes_memory event.Place = true

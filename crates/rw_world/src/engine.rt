@@ -151,14 +151,16 @@ impl Engine {
         self.senders.are_drained()
     }
 
-    /// The samples that the receiver holds of a label set in order, as (timestamp in milliseconds, value).
+    /// The samples that the receiver holds of a label set in order, as (timestamp in milliseconds,
+    /// value).
     pub(crate) fn received(&self, labels: &LabelSet) -> Result<Vec<(i64, Word)>, AllocError>
         ensures { IfOk result (λ v. v.items ≡ list_of self.now.world.head.store labels.now) }
     {
         self.head.samples(labels)
     }
 
-    /// The label sets of which the receiver holds samples, by byte order of their lists of (name, value). This takes no memory.
+    /// The label sets of which the receiver holds samples, by byte order of their lists of (name,
+    /// value). This takes no memory.
     pub(crate) fn label_sets(&self) -> LabelSets<'_>
         ensures list { result ≡ label_sets self.now.world.head.store }
         ensures fits { length result < 2 ^ 63 }

@@ -53,7 +53,8 @@ fn newest(requests: &[Sent], id: BatchId) -> u64
 }
 
 impl Engine {
-    /// Whether a sample of this reference and timestamp may be placed: only one that is sent needs room.
+    /// Whether a sample of this reference and timestamp may be placed: only one that is sent needs
+    /// room.
     fn can_place_known(&self, reference: u64, t: i64) -> bool
         ensures { result
             ≡ can_place_known self.now.setup self.now.world t
@@ -106,7 +107,8 @@ impl Engine {
         self.senders.first_flushing()
     }
 
-    /// The open batch of this shard is sent, or where it waits its newest request arrives and is replied to.
+    /// The open batch of this shard is sent, or where it waits its newest request arrives and is
+    /// replied to.
     fn exchange(&self, i: usize) -> Next
         requires { IsOpen (slice_get self.now.world.shards i) }
         ensures { events_of result
@@ -128,7 +130,8 @@ impl Engine {
         self.draining.is_some()
     }
 
-    /// A mark is put where one is to come and there is room for it, or else the next shards take over.
+    /// A mark is put where one is to come and there is room for it, or else the next shards take
+    /// over.
     fn mark(&self) -> Next
         ensures { events_of result
             ≡ first_of_these (if is_finished self.now.world || is_some self.now.world.draining
@@ -207,7 +210,8 @@ impl Engine {
         }
     }
 
-    /// Rounds of an orderly shutdown until there is a report. Where memory is refused to one of them those before it were played.
+    /// Rounds of an orderly shutdown until there is a report. Where memory is refused to one of
+    /// them those before it were played.
     pub(crate) fn settle(&mut self) -> Result<(), AllocError>
         ensures over { OnOk result (is_over self.new.world ≡ true) }
         ensures rounds { HasSettled self.old self.new }

@@ -26,7 +26,8 @@ use std::marker::Model;
 
 /// A sender, the network and a receiving head on one thread, moved by events.
 ///
-/// Contracts see what it was set to and what it has come to. The receiver stands at the path of the sender's target.
+/// Contracts see what it was set to and what it has come to. The receiver stands at the path of the
+/// sender's target.
 #[derive(Drop)]
 pub struct World {
     engine: Engine,
@@ -103,7 +104,8 @@ impl World {
         result
     }
 
-    /// Events, one after the other. Where one is refused the world is that after the events before it.
+    /// Events, one after the other. Where one is refused the world is that after the events before
+    /// it.
     fn run_all(&mut self, events: &[Event]) -> Result<(), Refused>
         ensures ok { OnOk result
             (self.new ≡ record self.old { world = run self.old.setup events.now self.old.world }) }
@@ -123,7 +125,8 @@ impl World {
         Ok(())
     }
 
-    /// Events, one after the other. Where one is refused the world is that after the events before it.
+    /// Events, one after the other. Where one is refused the world is that after the events before
+    /// it.
     pub fn run(&mut self, events: &[Event]) -> Result<(), Refused>
         ensures ok { OnOk result
             (self.new ≡ record self.old { world = run self.old.setup events.now self.old.world }) }
@@ -151,7 +154,9 @@ impl World {
         self.engine.settle()
     }
 
-    /// An orderly shutdown: no more is read, all that was read is placed and sent, and this is how the work has ended. Where memory is refused the world is that after some of its rounds, and a call that comes later goes on from there.
+    /// An orderly shutdown: no more is read, all that was read is placed and sent, and this is how
+    /// the work has ended. Where memory is refused the world is that after some of its rounds, and
+    /// a call that comes later goes on from there.
     pub fn settle(&mut self) -> Result<Outcome, AllocError>
         ensures rounds { HasShutDown self.old self.new }
         ensures report { IfOk result (λ o. report self.new.world ≡ Some (ending_of o)) }
@@ -171,7 +176,8 @@ impl World {
         }
     }
 
-    /// How the work has ended, once it has. Of a world that was stopped this looks each placed entry up among the samples that are not resolved.
+    /// How the work has ended, once it has. Of a world that was stopped this looks each placed
+    /// entry up among the samples that are not resolved.
     pub fn report(&self) -> Result<Option<Outcome>, AllocError>
         ensures report { IfOk result (λ r. option_map ending_of r ≡ report self.now.world) }
         // What holds of every world.
@@ -181,7 +187,8 @@ impl World {
         self.engine.report()
     }
 
-    /// The samples that the receiver holds of a label set in order, as (timestamp in milliseconds, value).
+    /// The samples that the receiver holds of a label set in order, as (timestamp in milliseconds,
+    /// value).
     pub fn received(&self, labels: &LabelSet) -> Result<Vec<(i64, Word)>, AllocError>
         ensures list { IfOk result (λ v. v.items ≡ list_of self.now.world.head.store labels.now) }
         // What holds of every world.
@@ -191,7 +198,8 @@ impl World {
         self.engine.received(labels)
     }
 
-    /// The label sets of which the receiver holds samples, by byte order of their lists of (name, value). This takes no memory.
+    /// The label sets of which the receiver holds samples, by byte order of their lists of (name,
+    /// value). This takes no memory.
     pub fn label_sets(&self) -> LabelSets<'_>
         ensures list { result ≡ label_sets self.now.world.head.store }
         ensures fits { length result < 2 ^ 63 }
@@ -199,7 +207,8 @@ impl World {
         self.engine.label_sets()
     }
 
-    /// The bytes of the request with this number, from 0, of all that were sent: what goes over the network.
+    /// The bytes of the request with this number, from 0, of all that were sent: what goes over the
+    /// network.
     pub fn request(&self, k: usize) -> Option<&[u8]>
         ensures bytes { option_map (λ b. b.now) result
             ≡ option_map (λ (r : Request). r.bytes) (slice_get self.now.world.requests k) }

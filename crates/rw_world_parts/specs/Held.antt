@@ -65,7 +65,8 @@ AreNamed c xs = All (λ (x : Placed). (x.place.epoch ≡ c.epoch) × (x.place.sh
 abbrev pub IsCounted : List Placed → Type 0
 IsCounted xs = IfSome (last_of xs) (λ (y : Placed). y.place.seq + 1 ≡ length xs)
 
--- The core has taken what was taken out of the queue, and what was put is one row of this shard's samples.
+-- The core has taken what was taken out of the queue, and what was put is one row of this shard's
+-- samples.
 pub record IsShard (q : Queue) (c : Core) (count taken : ℕ) : Type 0 where
   pub not_closed : q.closed ≡ false
   pub not_killed : q.killed ≡ false

@@ -1,4 +1,5 @@
--- The shards of an epoch and the names of the dropped samples: what the machine sees of them, and what holds of them.
+-- The shards of an epoch and the names of the dropped samples: what the machine sees of them, and
+-- what holds of them.
 use Rattle.std.specs.Prelude.{◌≡◌, ℤ, ℕ, zero, suc, ◌+◌, ◌<◌, ◌≤◌, Bool, true, false, nat_lt, nat_eq, if◌then◌else◌, List, [], ◌∷◌, ◌++◌, length, Option, Some, None, All, slice_get}
 use Rattle.std.specs.Ordering.{nat_cmp}
 use Rattle.std.specs.FinMap.{FinMap, get}
@@ -66,7 +67,8 @@ pub record IsShardAt (target : Target) (capacity batch epoch next i : ℕ) (h : 
   pub number : h.shard.core.shard ≡ i
   pub below : All (λ (x : Placed). x.place.pos < next) h.shard.put
 
--- What holds of the shards: each position waits in one place at most, and then it is not named; and there is room for the names of all open batches.
+-- What holds of the shards: each position waits in one place at most, and then it is not named; and
+-- there is room for the names of all open batches.
 pub record IsSending (target : Target) (capacity batch epoch : ℕ) (hs : List Held) (next : ℕ) (l : Named) : Type 0 where
   pub batch_some : 0 < batch
   pub batch_most : batch ≤ 10000

@@ -55,7 +55,8 @@ fn ahead_of(entry: &Entry) -> Ahead
     }
 }
 
-/// Takes all entries that there are, behind those that were taken, and answers the fault after them.
+/// Takes all entries that there are, behind those that were taken, and answers the fault after
+/// them.
 fn drain(tail: &mut Tail, entries: &mut Vec<Entry>) -> Result<Option<TailFault>, AllocError>
     requires { Drains tail.old entries.old.items }
     ensures ok { IfOk result (λ f. HasRead tail.new entries.new.items f) }

@@ -195,7 +195,8 @@ impl WorldShard {
         self.end_put = true;
     }
 
-    /// Puts a mark while the End was not put and there is room: the End of this kind, or else a Flush.
+    /// Puts a mark while the End was not put and there is room: the End of this kind, or else a
+    /// Flush.
     pub(crate) fn flush(&mut self, kind: Option<Kind>)
         ensures { self.new
             ≡ record self.old { shard = flushed self.old.capacity kind self.old.shard } }

@@ -1,5 +1,5 @@
--- The canonical spelling of a message: fields in number order, repeated ones in list order, the shortest
--- varints, and neither a scalar whose bits are all zero nor an empty string.
+-- The canonical spelling of a message: fields in number order, repeated ones in list order, the
+-- shortest varints, and neither a scalar whose bits are all zero nor an empty string.
 use Rattle.std.specs.Prelude.{ℕ, ◌+◌, ◌==◌, if◌then◌else◌, ℤ, List, [], ◌++◌, length}
 use Rattle.std.specs.Int.{w64, to_le_bytes, cast_unsigned}
 use Rattle.std.specs.List.{flat_map}

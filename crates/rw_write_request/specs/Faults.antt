@@ -1,5 +1,5 @@
--- The first fault of a message (Protocol Buffers encoding): what stands before it are whole and sound fields, and the
--- fault is that of the field there.
+-- The first fault of a message (Protocol Buffers encoding): what stands before it are whole and
+-- sound fields, and the fault is that of the field there.
 use Rattle.std.specs.Prelude.{◌≡◌, ◌≢◌, ◌⊎◌, ℕ, ◌+◌, ◌*◌, ◌<◌, List, [], ◌++◌, length, Option, Some, IfSome, Err, IsUtf8}
 use Rattle.std.specs.List.{AllByRecursion}
 use Rattle.rw_codes.specs.Varint.{read_uvarint}
@@ -45,7 +45,8 @@ IsWire wire = (wire < 3) ⊎ (wire ≡ 5)
 abbrev pub IsMisfit : Option ℕ → ℕ → Type 0
 IsMisfit known wire = (w : ℕ) × (known ≡ Some w) × (wire ≢ w)
 
--- a tag that no field has: its number is 0, or else there is no such wire type, or else a known field has another one
+-- a tag that no field has: its number is 0, or else there is no such wire type, or else a known
+-- field has another one
 abbrev pub TagFault : Kind → ℕ → ℕ → WireFault → Type 0
 TagFault kind number wire e =
     ((number ≡ 0) × (e ≡ FieldZero))

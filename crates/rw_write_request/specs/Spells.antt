@@ -1,5 +1,5 @@
--- What a message's bytes mean (Protocol Buffers encoding): fields in any order, unknown ones skipped, the last
--- of a scalar or string counts, and one that is absent is zero or empty.
+-- What a message's bytes mean (Protocol Buffers encoding): fields in any order, unknown ones
+-- skipped, the last of a scalar or string counts, and one that is absent is zero or empty.
 use Rattle.std.specs.Prelude.{◌≡◌, ℕ, List, [], ◌∷◌, IsUtf8}
 use Rattle.std.specs.Int.{w64, cast_signed}
 use Rattle.std.specs.List.{AllByRecursion}

@@ -23,7 +23,8 @@ pub fn one_message()
         → one ≡ other }
 {}
 
-/// Law: bytes are refused exactly by their first fault: before it stand whole and sound fields, and it is the fault of the field there.
+/// Law: bytes are refused exactly by their first fault: before it stand whole and sound fields, and
+/// it is the fault of the field there.
 pub fn faults_are_first()
     ensures { (bytes : List ℕ) (fault : WireFault)
         → (read bytes ≡ Err fault) ↔ RequestFault bytes fault }
@@ -39,7 +40,8 @@ pub fn canonical_is_read()
     ensures { (message : WriteRequest) → IsMessage message → read (canon message) ≡ Ok message }
 {}
 
-/// Law: the field of a series is its head, which needs the length of the sample fields, and then the sample fields.
+/// Law: the field of a series is its head, which needs the length of the sample fields, and then
+/// the sample fields.
 pub fn series_in_parts()
     ensures { (labels : List Label) (samples : List Sample)
         → series_field (record { labels = labels; samples = samples })

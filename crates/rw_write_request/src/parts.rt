@@ -1,4 +1,5 @@
-//! Messages, read part by part: their series one after the other, and the samples of a series whose labels are known by its first bytes.
+//! Messages, read part by part: their series one after the other, and the samples of a series whose
+//! labels are known by its first bytes.
 
 ghost use Rattle.std.specs.Prelude.{◌≡◌, ◌≢◌, ℕ, ◌<◌, ◌≤◌, ◌+◌, ◌++◌, List, None, Ok, Err, false, length, IfOk, IfErr, IfSome, OnOk};
 ghost use Rattle.rw_types.specs.Labels.{Labels};
@@ -21,7 +22,8 @@ const MOST_SAMPLES: usize = 4096;
 /// How many fields of a series are read at a time.
 const MOST_FIELDS: usize = 4096;
 
-/// The field at the front of a message's bytes: the bytes of its series, where it is one, and the bytes behind it.
+/// The field at the front of a message's bytes: the bytes of its series, where it is one, and the
+/// bytes behind it.
 pub fn message_part(bytes: &[u8]) -> Result<(Option<&[u8]>, &[u8]), WireFault>
     requires { 0 < length bytes.now }
     // A series is read, and then the rest.
@@ -83,8 +85,8 @@ fn add_sample(samples: &mut Vec<(Word, i64)>, part: Part<'_>) -> Result<(), Wire
     Ok(())
 }
 
-/// Overwrites `samples` with those of a series, from the bytes behind a head of it. It is not done, and the answer is false, where a label stands
-/// there or a field follows 4,096 samples.
+/// Overwrites `samples` with those of a series, from the bytes behind a head of it. It is not done,
+/// and the answer is false, where a label stands there or a field follows 4,096 samples.
 pub fn read_samples(samples: &mut Vec<(Word, i64)>, bytes: &[u8]) -> Result<bool, WireFault>
     ensures given { (head : List ℕ) (labels : Labels) → IsHeadOf head labels
         → SamplesGive result labels samples.new.items (read_series (head ++ bytes.now)) }
@@ -133,7 +135,8 @@ fn add_label(
     Ok(())
 }
 
-/// The labels of the series that the bytes spell, or the first fault in reading order. Its samples are judged too, and take no memory.
+/// The labels of the series that the bytes spell, or the first fault in reading order. Its samples
+/// are judged too, and take no memory.
 pub fn read_labels(alloc: Global, bytes: &[u8]) -> Result<Vec<(String, String)>, WireFault>
     ensures found { IfOk result (λ labels. (samples : List Sample)
         × (read_series bytes.now ≡ Ok (series_of labels.items samples))) }
@@ -166,8 +169,9 @@ fn add_next(samples: &mut Vec<(Word, i64)>, part: Part<'_>) -> Result<(), WireFa
     Ok(())
 }
 
-/// Overwrites `samples` with the next ones of a series, those of at most 4,096 fields, and gives the bytes behind them. Labels are passed over: where
-/// they are no labels, nothing is said of what is read.
+/// Overwrites `samples` with the next ones of a series, those of at most 4,096 fields, and gives
+/// the bytes behind them. Labels are passed over: where they are no labels, nothing is said of what
+/// is read.
 pub fn next_samples<'a>(
     samples: &mut Vec<(Word, i64)>,
     bytes: &'a [u8],

@@ -139,7 +139,8 @@ pub(crate) fn field_counts(kind: Kind, bytes: &[u8]) -> (usize, usize)
     (ones, twos)
 }
 
-/// Room for `count` items, each of which stands in some of the bytes, and for no more than there are bytes.
+/// Room for `count` items, each of which stands in some of the bytes, and for no more than there
+/// are bytes.
 fn room_for<T>(alloc: Global, count: usize, bytes: &[u8]) -> Result<Vec<T>, AllocError>
     ensures items { IfOk result (λ v. v.items ≡ []) }
     ensures room { IfOk result (λ v. vec_capacity v ≤ length bytes.now) }
@@ -298,7 +299,8 @@ fn add_to_series(
     Ok(())
 }
 
-/// The series that the bytes spell, or the first fault in reading order. Where memory runs out nothing is kept.
+/// The series that the bytes spell, or the first fault in reading order. Where memory runs out
+/// nothing is kept.
 pub fn read_series(alloc: Global, bytes: &[u8]) -> Result<Series, WireFault>
     ensures { GivesOrMemory (λ s. s) result (read_series bytes.now) }
 {
@@ -350,8 +352,9 @@ fn read_message(alloc: Global, bytes: &[u8]) -> Result<Message, WireFault>
     Ok(Message { series })
 }
 
-/// The message that the bytes spell. Fields may come in any order, and unknown ones are passed over; of a scalar or a string the last one counts,
-/// and one that is absent is zero or empty. Where memory runs out nothing is kept.
+/// The message that the bytes spell. Fields may come in any order, and unknown ones are passed
+/// over; of a scalar or a string the last one counts, and one that is absent is zero or empty.
+/// Where memory runs out nothing is kept.
 pub fn decode(alloc: Global, bytes: &[u8]) -> Result<Message, WireFault>
     // What is read is spelled so.
     ensures found { IfOk result (λ m. Spells bytes.now m) }

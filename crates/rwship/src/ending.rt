@@ -105,7 +105,8 @@ fn tell(rt: &HostRuntime, notes: &[SettingsNote]) {
     }
 }
 
-/// Says that settings cannot be read, and what is wrong with them where that is asked for, and gives the exit status.
+/// Says that settings cannot be read, and what is wrong with them where that is asked for, and
+/// gives the exit status.
 pub fn unset(rt: &HostRuntime, fault: Unset) -> ExitCode
     ensures { process.exit_status result ≡ unset_status fault }
 {
@@ -132,7 +133,8 @@ pub fn unset(rt: &HostRuntime, fault: Unset) -> ExitCode
     }
 }
 
-/// The text of the command-line parser: help and version on standard output with status 0, and else what is wrong with the words.
+/// The text of the command-line parser: help and version on standard output with status 0, and else
+/// what is wrong with the words.
 pub fn unparsed(rt: &HostRuntime, error: clap::Error) -> ExitCode {
     if error.kind() == ErrorKind::OutOfMemory {
         return ended(rt, Err(ToolFault::OutOfMemory));

@@ -211,8 +211,8 @@ fn tell_log(rt: &HostRuntime, dir: LogDir<'_>, fault: ToolFault) {
     }
 }
 
-/// Prints the fault of the log in a folder and, if that is asked for, what is wrong with the folder.
-/// Returns the exit status.
+/// Prints the fault of the log in a folder and, if that is asked for, what is wrong with the
+/// folder. Returns the exit status.
 pub fn log_fault(
     rt: &HostRuntime,
     dir: LogDir<'_>,

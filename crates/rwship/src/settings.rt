@@ -18,7 +18,8 @@ pub enum Unset {
     Tool(ToolFault),
     /// The file cannot be read, and this says why where that was asked for.
     Unreadable(String),
-    /// The file has this fault, which is not want of memory, and these notes tell each of its faults where that was asked for.
+    /// The file has this fault, which is not want of memory, and these notes tell each of its
+    /// faults where that was asked for.
     Settings(SettingsFault, Vec<SettingsNote>),
 }
 
@@ -49,7 +50,8 @@ fn text_of(rt: &HostRuntime, file: SettingsFile<'_>) -> Result<Vec<u8>, Unset>
     }
 }
 
-/// Why a text was refused that has this fault, with notes on each of its faults where they are asked for.
+/// Why a text was refused that has this fault, with notes on each of its faults where they are
+/// asked for.
 fn refused(rt: &HostRuntime, text: &[u8], fault: SettingsFault, is_explained: bool) -> Unset {
     if fault == SettingsFault::OutOfMemory {
         return Unset::Tool(ToolFault::OutOfMemory);

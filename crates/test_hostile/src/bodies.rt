@@ -1,4 +1,5 @@
-//! A body with each byte changed to each other value, and cut at each length: read, and judged where it stands.
+//! A body with each byte changed to each other value, and cut at each length: read, and judged
+//! where it stands.
 
 use crate::changed::{Reader, wrong_byte};
 use crate::plain_body::plain_spelling;

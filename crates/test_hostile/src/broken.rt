@@ -1,5 +1,5 @@
-//! A worker whose request or reply is cut off by one failing call, at each of the calls, or that is refused memory: it sends the same bytes
-//! again, and the head has each sample once.
+//! A worker whose request or reply is cut off by one failing call, at each of the calls, or that is
+//! refused memory: it sends the same bytes again, and the head has each sample once.
 
 ghost use Rattle.std.specs.Prelude.{◌≡◌, []};
 ghost use Rattle.rw_plain_queue.specs.declared.item.Item.TheVariants as item;
@@ -17,7 +17,8 @@ use std::sync::{Arc, Wait};
 /// More calls than two requests and their replies take.
 const MANY: usize = 1_000;
 
-/// What a run is to show: the exchanges that were made, the samples that were resolved and that the head has.
+/// What a run is to show: the exchanges that were made, the samples that were resolved and that the
+/// head has.
 #[derive(Clone, Copy, PartialEq, Eq)]
 struct Shown {
     exchanges: usize,
@@ -87,7 +88,8 @@ fn worker_of<R: Wait>(rt: &R, alloc: Global, config: &Config) -> Option<Worker> 
     Worker::new(alloc, config, 0, 0, drain).ok()
 }
 
-/// What a worker shows over a line where this call fails, counted from 1, and whether it came to that call.
+/// What a worker shows over a line where this call fails, counted from 1, and whether it came to
+/// that call.
 fn shown_over_line<R: Wait>(
     rt: &R,
     alloc: Global,
@@ -122,7 +124,8 @@ fn wanted(has_failed: bool) -> Shown {
     }
 }
 
-/// The first call with whose failure a worker shows something else; MANY where all are well, and 0 where there are few.
+/// The first call with whose failure a worker shows something else; MANY where all are well, and 0
+/// where there are few.
 fn wrong_call<R: Wait>(rt: &R, alloc: Global) -> usize {
     for failing in 1..MANY {
         match shown_at(rt, alloc, failing) {

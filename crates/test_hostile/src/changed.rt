@@ -30,7 +30,8 @@ fn wrong_length(reader: Reader, alloc: Global, text: &[u8], least: usize) -> Opt
     None
 }
 
-/// The first value of this byte with which the text, or a front of it that has the byte, is read otherwise.
+/// The first value of this byte with which the text, or a front of it that has the byte, is read
+/// otherwise.
 fn wrong_value(reader: Reader, alloc: Global, text: &mut [u8], at: usize) -> Option<u8> {
     let byte = *text.get(at)?;
     for value in 0..=255u8 {
@@ -52,7 +53,8 @@ fn wrong_byte_in(reader: Reader, alloc: Global, text: &mut [u8]) -> Option<usize
     None
 }
 
-/// The first byte of a text that has such a value, or the number of its bytes where memory is refused.
+/// The first byte of a text that has such a value, or the number of its bytes where memory is
+/// refused.
 pub(crate) fn wrong_byte(reader: Reader, alloc: Global, text: &[u8]) -> Option<usize> {
     match text.to_vec(alloc) {
         Ok(mut copy) => wrong_byte_in(reader, alloc, &mut copy),

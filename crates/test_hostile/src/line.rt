@@ -64,7 +64,8 @@ impl<'a> Line<'a> {
         }
     }
 
-    /// Compares a request with the one that was lost before it, and keeps it where it is lost itself.
+    /// Compares a request with the one that was lost before it, and keeps it where it is lost
+    /// itself.
     fn note(&mut self, request: &[u8], is_lost: bool) {
         self.exchanges = self.exchanges.saturating_add(1);
         if let Some(lost) = &self.lost {

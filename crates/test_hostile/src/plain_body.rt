@@ -1,4 +1,5 @@
-//! A plain reading of a message: field by field, and each part spelled canonically in a list of its own.
+//! A plain reading of a message: field by field, and each part spelled canonically in a list of its
+//! own.
 
 use crate::plain_segment::are_zeros;
 use rw_codes::put_uvarint;

@@ -1,4 +1,5 @@
-//! A plain reading of a reply whose heads are short: byte by byte, by the words of the format alone.
+//! A plain reading of a reply whose heads are short: byte by byte, by the words of the format
+//! alone.
 
 use rw_shard_core::ReplyRead;
 

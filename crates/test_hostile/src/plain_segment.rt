@@ -1,4 +1,5 @@
-//! A plain reading of a page, by the words of the format alone: one fragment after the other, each checksum bit by bit.
+//! A plain reading of a page, by the words of the format alone: one fragment after the other, each
+//! checksum bit by bit.
 
 use rw_wal_tail::TailFault;
 
@@ -35,7 +36,8 @@ fn crc_of(bytes: &[u8]) -> u32 {
     !crc
 }
 
-/// The fragment of a type whose header's other six bytes, and what follows them, are here, `at` bytes into its page.
+/// The fragment of a type whose header's other six bytes, and what follows them, are here, `at`
+/// bytes into its page.
 fn fragment(kind: u8, behind: &[u8], at: usize) -> Found<'_> {
     if behind.len() < 6 {
         return Found::Nothing;

@@ -1,5 +1,6 @@
-//! The machine's program where memory is refused. What takes memory is done again where it is refused, so the test holds whichever growth
-//! is refused; `tools/refuse-each` refuses each of them in turn.
+//! The machine's program where memory is refused. What takes memory is done again where it is
+//! refused, so the test holds whichever growth is refused; `tools/refuse-each` refuses each of them
+//! in turn.
 
 use crate::rows::none_is_wrong;
 use rw_head::Limits;
@@ -11,8 +12,8 @@ use rw_types::Bounded;
 use rw_world::World;
 use std::alloc::{AllocError, Global};
 
-/// How many shards there are and how many labels the receiver takes, a schedule of which the first line is its log, the state behind an
-/// orderly shutdown, and the bytes of the first requests.
+/// How many shards there are and how many labels the receiver takes, a schedule of which the first
+/// line is its log, the state behind an orderly shutdown, and the bytes of the first requests.
 struct Row<'a> {
     shards: u64,
     labels: u64,
@@ -151,7 +152,8 @@ report complete 3
     },
 ];
 
-/// A late reply to an earlier batch, of which the reply was lost and the request sent again, and a kill: the shutdown changes nothing then.
+/// A late reply to an earlier batch, of which the reply was lost and the request sent again, and a
+/// kill: the shutdown changes nothing then.
 static SENT: Row<'static> = Row {
     shards: 1,
     labels: 64,
@@ -280,8 +282,8 @@ fn shows_the_same(alloc: Global, world: &World, row: &Row<'_>, events: &[Event])
         && found.as_slice() == wanted.as_slice()
 }
 
-/// Whether a world is moved by events. Where one is refused, it has to show what a world shows that is moved by the events before it, and
-/// to go on.
+/// Whether a world is moved by events. Where one is refused, it has to show what a world shows that
+/// is moved by the events before it, and to go on.
 fn is_moved(alloc: Global, world: &mut World, row: &Row<'_>, events: &[Event]) -> bool {
     let Err(refused) = world.run(events) else {
         return true;
@@ -348,7 +350,8 @@ fn sent() -> &'static Row<'static> {
     &SENT
 }
 
-/// Several events are run by one call, and a request whose reply is lost is sent again with the same bytes.
+/// Several events are run by one call, and a request whose reply is lost is sent again with the
+/// same bytes.
 #[test]
 fn events_are_run(rt: HostRuntime) {
     assert!(rt; is_gone_through(rt.alloc(), sent()));

@@ -1,4 +1,5 @@
-//! Replies with each byte changed to each other value, and cut at each length. `rt try --test` is too slow for it.
+//! Replies with each byte changed to each other value, and cut at each length. `rt try --test` is
+//! too slow for it.
 
 use crate::changed::{Reader, wrong_byte};
 use crate::plain_reply::plain_reply;

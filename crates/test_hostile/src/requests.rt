@@ -1,4 +1,5 @@
-//! The sender's request with each byte changed to each value: the replies that each part of it may have then. `rt try --test` is too slow for it.
+//! The sender's request with each byte changed to each value: the replies that each part of it may
+//! have then. `rt try --test` is too slow for it.
 
 use crate::bodies::one;
 use rw_endpoint::{ServeEnd, serve};
@@ -56,8 +57,8 @@ static REPLIES: [(&[u8], Outcome); 8] = [
     ),
 ];
 
-/// The parts of the head, and what becomes of the request where one of their bytes is another one. A line feed ends a line, so a CR that is one
-/// ends the head.
+/// The parts of the head, and what becomes of the request where one of their bytes is another one.
+/// A line feed ends a line, so a CR that is one ends the head.
 static PARTS: [(&[u8], &[Outcome]); 11] = [
     (b"POST ", &[OTHER_METHOD, BAD]),
     (b"/api/v1/write", &[NOT_FOUND, BAD]),
@@ -89,7 +90,8 @@ fn parts() -> &'static [(&'static [u8], &'static [Outcome])] {
     &PARTS
 }
 
-/// What became of a request, by the reply, the end and what the head then holds. None where these do not fit.
+/// What became of a request, by the reply, the end and what the head then holds. None where these
+/// do not fit.
 fn outcome_of(written: &[u8], end: ServeEnd, total: u64) -> Option<Outcome> {
     for (reply, outcome) in replies() {
         if *reply == written {

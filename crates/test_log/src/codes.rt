@@ -123,7 +123,8 @@ fn is_short_where_cut(bytes: &[u8]) -> bool {
     true
 }
 
-/// Whether a row is so: a form is also read with another byte behind it, and too short in each of its fronts.
+/// Whether a row is so: a form is also read with another byte behind it, and too short in each of
+/// its fronts.
 fn is_so(out: &mut Vec<u8>, row: &Row) -> bool {
     match row {
         Crc(text, crc) => crc32c(text) == *crc,
@@ -183,7 +184,8 @@ fn half_written(out: &mut Vec<u8>) -> Option<usize> {
     None
 }
 
-/// Where memory runs out, what was written stays as it was. It shows when each allocation fails in turn.
+/// Where memory runs out, what was written stays as it was. It shows when each allocation fails in
+/// turn.
 #[test]
 fn refused_memory_writes_nothing(rt: HostRuntime) {
     none_is_wrong(&rt, half_written(&mut Vec::new(rt.alloc())));

@@ -36,7 +36,8 @@ impl Source for ByteByByte<'_> {
     }
 }
 
-/// A reader and writer of std that is interrupted at every other call, and takes one byte a call, up to its room.
+/// A reader and writer of std that is interrupted at every other call, and takes one byte a call,
+/// up to its room.
 #[derive(Drop)]
 struct Interrupting {
     room: usize,

@@ -176,7 +176,8 @@ fn push_most(alloc: Global, labels: &mut RawLabels) -> Result<(), AllocError> {
 
 const TOO_MANY: Option<LabelFault> = Some(LabelFault::TooMany);
 
-/// Whether as many labels as there can be have no fault, one more has one, and another one that is not in order.
+/// Whether as many labels as there can be have no fault, one more has one, and another one that is
+/// not in order.
 fn judges_many(alloc: Global) -> bool {
     let mut labels = RawLabels::new(alloc);
     push_most(alloc, &mut labels).is_ok()

@@ -139,7 +139,8 @@ static FAULTS: [(&[u8], u8); 14] = [
     // nine bytes of a tag that goes on, and ten
     (&[0xff; 9], 1),
     (&[0xff; 10], 2),
-    // a name that is not UTF-8: alone, before one that is, before a fault of the message, and one that is UTF-8
+    // a name that is not UTF-8: alone, before one that is, before a fault of the message, and one
+    // that is UTF-8
     (&[0x0a, 0x05, 0x0a, 0x03, 0x0a, 0x01, 0xc3], 6),
     (
         &[0x0a, 0x08, 0x0a, 0x06, 0x0a, 0x01, 0xff, 0x0a, 0x01, 0x61],

@@ -13,7 +13,8 @@ fn put_sample(out: &mut Vec<u8>, word: u64, timestamp: i64) -> Result<(), AllocE
     Ok(())
 }
 
-/// Whether the message that is read of `ONE`, which `a_message_is_read` looks at, is spelled so, and as long as it is said to be.
+/// Whether the message that is read of `ONE`, which `a_message_is_read` looks at, is spelled so,
+/// and as long as it is said to be.
 fn is_one(alloc: Global) -> bool {
     match decode(alloc, &ONE) {
         Ok(message) => is_spelled(alloc, &message, &ONE) && encoded_len(&message) == Some(32),

@@ -1,6 +1,7 @@
-//! What happens where memory is refused. Each test takes memory in the two calls alone, so it can be run with each
-//! allocation refused in turn: the refused call says so, and the next one answers as if nothing had happened. What is no
-//! message is refused for its first fault whatever memory is refused.
+//! What happens where memory is refused. Each test takes memory in the two calls alone, so it can
+//! be run with each allocation refused in turn: the refused call says so, and the next one answers
+//! as if nothing had happened. What is no message is refused for its first fault whatever memory is
+//! refused.
 
 use crate::message_rows::{ONE, is_spelled};
 use crate::rows::holds;

@@ -1,4 +1,5 @@
-//! The reader that follows a log: rows of the format, whole, in pieces, changed, and with memory refused.
+//! The reader that follows a log: rows of the format, whole, in pieces, changed, and with memory
+//! refused.
 
 use crate::fragments::{is_logged, put_fragment, up_record};
 use crate::rows::{holds, none_is_wrong};
@@ -97,7 +98,8 @@ impl Seen {
     }
 }
 
-/// Feeds a piece, a second time where memory was refused: so where an allocation fails, each in turn, the same is read.
+/// Feeds a piece, a second time where memory was refused: so where an allocation fails, each in
+/// turn, the same is read.
 fn is_fed(tail: &mut Tail, piece: &[u8]) -> bool {
     tail.feed(piece).is_ok() || tail.feed(piece).is_ok()
 }
@@ -449,7 +451,8 @@ fn ends_of_segments_and_places_of_faults(rt: HostRuntime) {
     none_is_wrong(&rt, wrong_end(rt.alloc()));
 }
 
-/// A filler of so many bytes, and the end of its page. With seven bytes left a fragment without data stands there, with six zeros.
+/// A filler of so many bytes, and the end of its page. With seven bytes left a fragment without
+/// data stands there, with six zeros.
 static PAGES: [(usize, &[u8]); 2] = [
     (
         32_754,
@@ -560,7 +563,8 @@ fn what_was_written_is_read(rt: HostRuntime) {
     holds(&rt, is_written_read(rt.alloc()));
 }
 
-/// Whether the fault is here of a segment whose first page is a fragment of this kind, and whose second page begins so.
+/// Whether the fault is here of a segment whose first page is a fragment of this kind, and whose
+/// second page begins so.
 fn is_place_past_page(alloc: Global, kind: u8, next: &[u8], offset: u64) -> bool {
     let mut text = Vec::new(alloc);
     let mut tail = Tail::new(alloc);
@@ -572,7 +576,8 @@ fn is_place_past_page(alloc: Global, kind: u8, next: &[u8], offset: u64) -> bool
     place_of(&tail) == Some((0, offset))
 }
 
-/// The second record of the page has another CRC, and so has the end of the record that began on the first page.
+/// The second record of the page has another CRC, and so has the end of the record that began on
+/// the first page.
 #[test]
 fn places_of_faults_past_a_page(rt: HostRuntime) {
     let mut damaged = UP;

@@ -270,7 +270,8 @@ fn spells_records(rt: HostRuntime) {
     holds(&rt, is_spelled(sample_record(alloc, &[]), b"\x02"));
 }
 
-/// Whether the segment of the records of one series and one sample is `UP`, which has them in full fragments.
+/// Whether the segment of the records of one series and one sample is `UP`, which has them in full
+/// fragments.
 fn is_up_segment(alloc: Global) -> bool {
     let Ok(room) = Room::new(alloc, 63) else {
         return false;
@@ -295,7 +296,8 @@ fn failing_writer(alloc: Global, writes_left: usize) -> SegmentWriter<FailingAt>
     SegmentWriter::new(sink, 2)
 }
 
-/// Whether a device that fails after so many writes closes the segment, and has a beginning of the whole one.
+/// Whether a device that fails after so many writes closes the segment, and has a beginning of the
+/// whole one.
 fn closes(alloc: Global, whole: &[u8], writes_left: usize) -> bool {
     let failed = Err(LogFault::Device);
     let mut writer = failing_writer(alloc, writes_left);
@@ -313,7 +315,8 @@ fn takes_all(alloc: Global, whole: &[u8], writes_left: usize) -> bool {
     is_so && writer.into_inner().taken.as_slice() == whole
 }
 
-/// The number of writes after which a device that fails does otherwise. A header, four times data, a header and data are seven writes.
+/// The number of writes after which a device that fails does otherwise. A header, four times data,
+/// a header and data are seven writes.
 fn wrong_device(alloc: Global, whole: &[u8]) -> Option<usize> {
     for writes_left in 0..7 {
         if !closes(alloc, whole, writes_left) {

@@ -39,7 +39,8 @@ fn filled(alloc: Global, size: usize) -> Result<Head, AllocError> {
     }
 }
 
-/// How many full blocks `up` has, how many samples stand behind them, and how many samples the head holds.
+/// How many full blocks `up` has, how many samples stand behind them, and how many samples the head
+/// holds.
 type Shape = (usize, usize, u64);
 
 /// The shape of `up`, which is the last label set. This takes no memory.
@@ -61,7 +62,8 @@ fn is_judged(
     asked(alloc, head, parts) == verdict && shape(head) == then
 }
 
-/// Whether the blocks begin with the first sample and end with the 240th, and the 241st stands behind them.
+/// Whether the blocks begin with the first sample and end with the 240th, and the 241st stands
+/// behind them.
 fn are_filled(head: &Head) -> bool {
     let Some(up) = head.label_sets().next() else {
         return false;
@@ -75,7 +77,8 @@ fn are_filled(head: &Head) -> bool {
         && are_same(head.open(up), &[(2410, 241)])
 }
 
-/// Samples of `up` for a head with the 241 samples, the verdicts on them, and the shapes after them.
+/// Samples of `up` for a head with the 241 samples, the verdicts on them, and the shapes after
+/// them.
 static REQUESTS: [(Samples<'static>, Verdict, Shape); 4] = [
     (
         &[(10, 1), (1200, 120), (1210, 121), (2410, 241)],
@@ -97,7 +100,8 @@ fn judges_requests(alloc: Global, head: &mut Head) -> bool {
     true
 }
 
-/// Whether a head that was filled by requests of so many samples has its blocks, and judges the requests.
+/// Whether a head that was filled by requests of so many samples has its blocks, and judges the
+/// requests.
 fn is_the_same_by(alloc: Global, size: usize) -> bool {
     match filled(alloc, size) {
         Ok(mut head) => {
@@ -221,7 +225,8 @@ static ROWS: [Row; 5] = [
     (&[(DOWN, &[(10, 1)])], Verdict::Stored(1), &[1, 1]),
 ];
 
-/// Whether an empty head has a place for none of these label sets, and then for those that it stores.
+/// Whether an empty head has a place for none of these label sets, and then for those that it
+/// stores.
 fn has_places_for_stored(alloc: Global) -> bool {
     let Ok(mut head) = narrow(alloc) else {
         return false;
@@ -237,7 +242,8 @@ fn a_refused_request_leaves_no_label_sets(rt: HostRuntime) {
     holds(&rt, has_places_for_stored(rt.alloc()));
 }
 
-/// The verdict on a message, asked for again where memory was refused and that left the 241 samples as they are.
+/// The verdict on a message, asked for again where memory was refused and that left the 241 samples
+/// as they are.
 fn verdict_at_last(alloc: Global, head: &mut Head, parts: Parts<'_>) -> Verdict {
     let verdict = asked(alloc, head, parts);
     if verdict == Verdict::NoMemory && shape(head) == (2, 1, 241) && head.places() == 1 {

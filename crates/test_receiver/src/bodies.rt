@@ -31,7 +31,8 @@ fn busy(alloc: Global) -> Result<Head, AllocError> {
     Ok(Head::new(alloc, &limits))
 }
 
-/// Asks with bodies one after the other. Gives the first one with another status, or another number of samples after it.
+/// Asks with bodies one after the other. Gives the first one with another status, or another number
+/// of samples after it.
 fn first_wrong(head: &mut Head, rows: &[(&[u8], u16, u64)]) -> Option<usize> {
     for (i, (body, status, total)) in rows.iter().enumerate() {
         if head.answer(body) != *status || head.total() != *total {
@@ -85,14 +86,16 @@ const UNKNOWN_FIELD: [u8; 34] = [
     0x75, 0x70, 0x18, 0x05, 0x12, 0x0c, 0x09, 1, 0, 0, 0, 0, 0, 0, 0, 0x10, 0xe9, 0x07,
 ];
 
-/// `OLDER` with the label a="1" behind the sample: another series, which begins with the same bytes.
+/// `OLDER` with the label a="1" behind the sample: another series, which begins with the same
+/// bytes.
 const LABEL_BEHIND: [u8; 40] = [
     0x0a, 0x26, 0x0a, 0x0e, 0x0a, 0x08, 0x5f, 0x5f, 0x6e, 0x61, 0x6d, 0x65, 0x5f, 0x5f, 0x12, 0x02,
     0x75, 0x70, 0x12, 0x0c, 0x09, 1, 0, 0, 0, 0, 0, 0, 0, 0x10, 0xe7, 0x07, 0x0a, 0x06, 0x0a, 0x01,
     0x61, 0x12, 0x01, 0x31,
 ];
 
-/// Bodies one after the other, the statuses that answer them, and how many samples the head then holds.
+/// Bodies one after the other, the statuses that answer them, and how many samples the head then
+/// holds.
 static BODIES: [(&[u8], u16, u64); 8] = [
     (&[], 204, 0),
     (&ONE, 204, 1),
@@ -232,7 +235,8 @@ fn body_with_last(alloc: Global, last: i64) -> Result<Vec<u8>, AllocError> {
     encode(alloc, &message(alloc, &[(UP, &samples)])?)
 }
 
-/// The first that a new head wrongly answers of these bodies: one whose last sample is too old, and one with a later one, twice.
+/// The first that a new head wrongly answers of these bodies: one whose last sample is too old, and
+/// one with a later one, twice.
 fn wrong_of_parts(alloc: Global) -> Option<usize> {
     let (Ok(bad), Ok(good)) = (body_with_last(alloc, -1), body_with_last(alloc, 10_000)) else {
         return Some(0);
@@ -294,7 +298,8 @@ fn many_series(alloc: Global, is_falling: bool) -> Result<Vec<u8>, AllocError> {
     Ok(body)
 }
 
-/// The first that a new head wrongly answers of these bodies: as many series, and the same ones from the last one on.
+/// The first that a new head wrongly answers of these bodies: as many series, and the same ones
+/// from the last one on.
 fn wrong_of_many(alloc: Global) -> Option<usize> {
     let (Ok(rising), Ok(falling)) = (many_series(alloc, false), many_series(alloc, true)) else {
         return Some(0);

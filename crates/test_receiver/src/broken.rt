@@ -1,4 +1,5 @@
-//! Devices that fail in mid-stream: what was written is a beginning of the replies, and what was stored is not stored again.
+//! Devices that fail in mid-stream: what was written is a beginning of the replies, and what was
+//! stored is not stored again.
 
 ghost use Rattle.std.specs.Prelude.{⊤};
 
@@ -20,8 +21,8 @@ const FIRST_REPLY: &[u8] = b"HTTP/1.1 204 No Content\r\n\r\n";
 /// More reads and writes than these connections take.
 const MANY: usize = 1000;
 
-/// How the requests end with a reader and a writer that fail after so many calls. None, where what was written is no beginning of the
-/// replies, or the end does not tell whether a device failed.
+/// How the requests end with a reader and a writer that fail after so many calls. None, where what
+/// was written is no beginning of the replies, or the end does not tell whether a device failed.
 fn end_of_broken(
     alloc: Global,
     store: &mut Store,
@@ -63,7 +64,8 @@ enum Side {
     Writer,
 }
 
-/// Whether the requests take more than ten calls of one side, and all is well where one of them fails.
+/// Whether the requests take more than ten calls of one side, and all is well where one of them
+/// fails.
 fn may_fail(alloc: Global, side: Side) -> bool {
     for n in 0..MANY {
         let (reads, writes) = match side {
@@ -118,7 +120,8 @@ impl Answer for Counter {
     }
 }
 
-/// What is written and how the connection ends after so many bodies, where all have their replies or memory was refused.
+/// What is written and how the connection ends after so many bodies, where all have their replies
+/// or memory was refused.
 static ENDS: [(&[u8], ServeEnd); 3] = [
     (b"", ServeEnd::OutOfMemory),
     (FIRST_REPLY, ServeEnd::OutOfMemory),

@@ -1,5 +1,6 @@
-//! What happens where memory is refused. The test can be run with each allocation refused in turn: the refused call answers 503 and leaves
-//! what the head holds, and the same body is then taken. A body that is no message is bad, whatever memory is refused.
+//! What happens where memory is refused. The test can be run with each allocation refused in turn:
+//! the refused call answers 503 and leaves what the head holds, and the same body is then taken. A
+//! body that is no message is bad, whatever memory is refused.
 
 use crate::bodies::{ONE, TWO};
 use crate::messages::narrow;
@@ -12,7 +13,8 @@ fn counts(head: &Head) -> (u64, usize) {
     (head.total(), head.label_sets().count())
 }
 
-/// The status of a body, asked for again where memory was refused and the head holds as much as before.
+/// The status of a body, asked for again where memory was refused and the head holds as much as
+/// before.
 pub(crate) fn status_at_last(head: &mut Head, body: &[u8], before: (u64, usize)) -> u16 {
     let status = head.answer(body);
     if status == 503 && counts(head) == before {

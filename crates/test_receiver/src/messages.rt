@@ -14,7 +14,8 @@ pub(crate) type Samples<'a> = &'a [(i64, u64)];
 /// Label sets with samples: the series of a message, or what a head holds.
 pub(crate) type Parts<'a> = &'a [(Labels<'a>, Samples<'a>)];
 
-/// A message, the verdict on it, and how many samples of each label set the head then has_samples, of those that it holds at last.
+/// A message, the verdict on it, and how many samples of each label set the head then has_samples,
+/// of those that it holds at last.
 pub(crate) type Row = (Parts<'static>, Verdict, &'static [usize]);
 
 pub(crate) const UP: Labels<'static> = &[("__name__", "up")];
@@ -106,8 +107,8 @@ pub(crate) fn has_samples(
     }
 }
 
-/// Whether the head holds the first samples of these, so many of each label set, and no others, and has a place for just the label sets that
-/// have some.
+/// Whether the head holds the first samples of these, so many of each label set, and no others, and
+/// has a place for just the label sets that have some.
 fn holds_first(alloc: Global, head: &Head, parts: Parts<'_>, counts: &[usize]) -> bool {
     let mut total: u64 = 0;
     let mut places: usize = 0;
@@ -122,8 +123,8 @@ fn holds_first(alloc: Global, head: &Head, parts: Parts<'_>, counts: &[usize]) -
     head.total() == total && head.places() == places
 }
 
-/// Asks a head with messages one after the other, of which it holds these samples at last. Gives the first row with another verdict, or after
-/// which it holds other samples.
+/// Asks a head with messages one after the other, of which it holds these samples at last. Gives
+/// the first row with another verdict, or after which it holds other samples.
 pub(crate) fn first_wrong(
     alloc: Global,
     head: &mut Head,

@@ -15,7 +15,8 @@ static LAST: [(Labels<'static>, Samples<'static>); 2] = [
     (DOWN, &[]),
 ];
 
-/// Messages one after the other, each with its verdict and how many samples of `up` and `down` the head holds after it.
+/// Messages one after the other, each with its verdict and how many samples of `up` and `down` the
+/// head holds after it.
 static ROWS: [Row; 16] = [
     // the first two samples, and the empty message
     (&[(UP, &[(10, 1), (20, 2)])], Verdict::Stored(2), &[2, 0]),

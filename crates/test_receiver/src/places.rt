@@ -1,4 +1,5 @@
-//! Series that come in one order and then in another: what the head expects next changes nothing that it answers.
+//! Series that come in one order and then in another: what the head expects next changes nothing
+//! that it answers.
 
 use crate::messages::{DOWN, FALLING, Labels, Row, Samples, UP, first_wrong, narrow};
 use crate::rows::none_is_wrong;
@@ -20,7 +21,8 @@ static LAST: [(Labels<'static>, Samples<'static>); 5] = [
     (NEW, &[(10, 7)]),
 ];
 
-/// Messages one after the other, each with its verdict and how many samples of these label sets the head holds after it.
+/// Messages one after the other, each with its verdict and how many samples of these label sets the
+/// head holds after it.
 static ROWS: [Row; 9] = [
     // three series, and again in the same order
     (
@@ -66,7 +68,8 @@ static ROWS: [Row; 9] = [
         Verdict::Stored(2),
         &[5, 4, 5, 0, 0],
     ),
-    // a new series takes the place that the refused one had for a while, and comes where that one came
+    // a new series takes the place that the refused one had for a while, and comes where that one
+    // came
     (
         &[(UP, &[(60, 1)]), (OTHER, &[(10, 9)]), (DOWN, &[(60, 2)])],
         Verdict::Stored(3),

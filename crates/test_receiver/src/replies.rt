@@ -39,7 +39,8 @@ pub(crate) fn put_all_lines(out: &mut Vec<u8>, texts: &[&[u8]]) -> Result<(), Al
     Ok(())
 }
 
-/// Whether an input has these replies for one who sends it and then waits for them: no more is read before they are written.
+/// Whether an input has these replies for one who sends it and then waits for them: no more is read
+/// before they are written.
 fn is_served_at_once(alloc: Global, input: &[u8], replies: &[u8]) -> bool {
     let heard = Cell::new(0);
     let mut reader = Waiting::new(input, replies.len(), &heard);
@@ -49,7 +50,8 @@ fn is_served_at_once(alloc: Global, input: &[u8], replies: &[u8]) -> bool {
     !reader.waited && writer.taken.as_slice() == replies
 }
 
-/// Whether an input has these replies and ends so: where it comes whole, where it comes byte by byte, and for one who waits.
+/// Whether an input has these replies and ends so: where it comes whole, where it comes byte by
+/// byte, and for one who waits.
 fn is_served_however_it_comes(alloc: Global, input: &[u8], replies: &[u8], how: ServeEnd) -> bool {
     let mut whole = input;
     let mut slow = Giving::new(input, 1, usize::MAX);
@@ -301,7 +303,8 @@ fn connections_have_their_replies(rt: HostRuntime) {
     none_is_wrong(&rt, wrong_row(rt.alloc()));
 }
 
-/// Where the shipper's request may be cut so that it has a reply, or ends otherwise than a torn one.
+/// Where the shipper's request may be cut so that it has a reply, or ends otherwise than a torn
+/// one.
 fn wrong_cut_of(alloc: Global, request: &[u8]) -> Option<usize> {
     for len in 0..request.len() {
         let mut part = &request[..len];

@@ -105,11 +105,13 @@ fn one_body_from_two_seats_is_stored_once(rt: HostRuntime) -> Result<(), Fail> {
 pub(crate) enum Talk<'a> {
     /// Bodies one after the other, each with its status and with what the seat then has stored.
     Bodies(&'a [(&'a [u8], u16, u64)]),
-    /// The input of a connection, its replies, and what the seat then has stored. The last reply closes it.
+    /// The input of a connection, its replies, and what the seat then has stored. The last reply
+    /// closes it.
     Connection(&'a [u8], &'a [u8], u64),
 }
 
-/// The status of a body, asked for again where memory was refused and the seat has stored as much as before.
+/// The status of a body, asked for again where memory was refused and the seat has stored as much
+/// as before.
 fn answered_at_last<L: Naming, R: Wait>(
     asking: &mut Asking<'_, R, L>,
     body: &[u8],
@@ -155,8 +157,8 @@ fn is_answered<L: Naming, R: Wait>(
     }
 }
 
-/// Asks from the one seat of a head. Gives whether it answers as it is to, and the head. Where no seat could be had there is no answer, and the
-/// head is as it was.
+/// Asks from the one seat of a head. Gives whether it answers as it is to, and the head. Where no
+/// seat could be had there is no answer, and the head is as it was.
 pub(crate) fn answered<L: Naming, R: Wait>(
     rt: &R,
     alloc: Global,

@@ -7,7 +7,8 @@ use rw_head::Limits;
 use rw_types::{Bounded, Room, Sink, Source};
 use std::alloc::{AllocError, Global};
 
-/// Stores each body that it does not hold yet, and answers 204. A body `bad` is 400, `busy` 429 and `full` 503.
+/// Stores each body that it does not hold yet, and answers 204. A body `bad` is 400, `busy` 429 and
+/// `full` 503.
 #[derive(Drop)]
 pub(crate) struct Store {
     alloc: Global,

@@ -24,7 +24,8 @@ pub(crate) enum Clients {
     WritesOneByte,
     /// A third one comes while two keep their connections, and then those two go.
     OneTooMany,
-    /// Two come, and the first one goes. Five come one after the other while the second one keeps its connection.
+    /// Two come, and the first one goes. Five come one after the other while the second one keeps
+    /// its connection.
     OneStays,
     /// One has its last reply, and writes on, as long as it may.
     WritesOn,
@@ -178,7 +179,8 @@ fn one_stays<N: Net<Stream = TcpStream>>(door: &Door<'_, N>, read: &mut Vec<u8>)
     Ok(())
 }
 
-/// Has the reply to a request that is refused, and then writes a byte each 300 ms, until its connection is closed or 20 s have passed.
+/// Has the reply to a request that is refused, and then writes a byte each 300 ms, until its
+/// connection is closed or 20 s have passed.
 fn writes_on<N: Net<Stream = TcpStream> + Clock>(
     door: &Door<'_, N>,
     read: &mut Vec<u8>,

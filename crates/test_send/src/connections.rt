@@ -38,7 +38,8 @@ fn request_of(alloc: Global, body: &[u8]) -> Result<Vec<u8>, AllocError> {
 enum Client {
     /// It has a connection that says nothing until a second one has its reply.
     InTurn,
-    /// It writes nothing on one connection, a request without its last byte on the next, and no HTTP on the last.
+    /// It writes nothing on one connection, a request without its last byte on the next, and no
+    /// HTTP on the last.
     Stray,
     /// It asks so often by one transport.
     Asks(u64),
@@ -67,7 +68,8 @@ struct Row<'a> {
     printed: &'a [u8],
 }
 
-/// What is replied on two connections, of which the first says nothing until the second has its reply.
+/// What is replied on two connections, of which the first says nothing until the second has its
+/// reply.
 fn replies_in_turn<N: Net<Stream = TcpStream>>(
     net: &N,
     alloc: Global,
@@ -98,7 +100,8 @@ fn reply_after_all<N: Net<Stream = TcpStream>>(
     Ok(reply)
 }
 
-/// Connects again and again while a first connection stands open, and says whether it was refused in the end.
+/// Connects again and again while a first connection stands open, and says whether it was refused
+/// in the end.
 fn comes_again<N: Net<Stream = TcpStream> + Clock>(
     net: &N,
     alloc: Global,
@@ -114,7 +117,8 @@ fn comes_again<N: Net<Stream = TcpStream> + Clock>(
     Ok(Vec::new(alloc))
 }
 
-/// Writes nothing on one connection, a request without its last byte on the next, and no HTTP on the last.
+/// Writes nothing on one connection, a request without its last byte on the next, and no HTTP on
+/// the last.
 fn stray<N: Net<Stream = TcpStream>>(
     net: &N,
     address: SocketAddr,
@@ -363,7 +367,8 @@ fn refused<'a>(client: Client, body: &'a [u8], read: &'a [u8]) -> Row<'a> {
     }
 }
 
-/// The body is refused by its length alone, while most of it is still to be written. A client that writes all of it first sees the reply too.
+/// The body is refused by its length alone, while most of it is still to be written. A client that
+/// writes all of it first sees the reply too.
 #[test]
 fn a_body_over_the_limit_is_refused(rt: HostRuntime) -> Result<(), Fail> {
     let body: Vec<u8> = vec![in rt.alloc(); 0; 1 << 24]?;
@@ -380,7 +385,8 @@ fn a_body_over_the_limit_is_refused(rt: HostRuntime) -> Result<(), Fail> {
 /// How many samples a long request has: some 200 KB of them.
 const MANY: u16 = 6_250;
 
-/// A message of `MANY` samples 1 of `{__name__="up"}`, one each millisecond from 1000 on, each in a series field of its own.
+/// A message of `MANY` samples 1 of `{__name__="up"}`, one each millisecond from 1000 on, each in a
+/// series field of its own.
 fn long_body(alloc: Global) -> Result<Vec<u8>, AllocError> {
     let (front, _) = UP_BODY.split_at(30);
     let mut body = Vec::new(alloc);
@@ -475,7 +481,8 @@ fn is_lost<N: Net<Stream = TcpStream> + Clock + Copy>(transport: &mut TcpTranspo
     matches!(transport.exchange(b"POST"), Err(Lost))
 }
 
-/// Whether a request is lost that nobody answers within the timeout, and one where nobody listens any more.
+/// Whether a request is lost that nobody answers within the timeout, and one where nobody listens
+/// any more.
 fn are_lost<N: Net<Stream = TcpStream, Listener = TcpListener> + Clock + Copy>(
     net: &N,
     alloc: Global,
@@ -518,7 +525,8 @@ fn a_connection_that_is_closed_without_a_reply_is_lost(rt: HostRuntime) -> Resul
     Ok(())
 }
 
-/// Writes the head of a reply to one connection, a byte each 20 ms, until the client has gone or 40 s have passed.
+/// Writes the head of a reply to one connection, a byte each 20 ms, until the client has gone or 40
+/// s have passed.
 fn drip<R: Clock>(clock: &R, listener: &TcpListener) -> io::Result<()> {
     let (mut stream, _) = listener.accept()?;
     stream.write_all(b"HTTP/1.1 204 No Content\r\nX: ")?;
@@ -529,7 +537,8 @@ fn drip<R: Clock>(clock: &R, listener: &TcpListener) -> io::Result<()> {
     Ok(())
 }
 
-/// How long a request takes whose reply comes byte by byte, with a timeout of 200 ms; none where it has a reply.
+/// How long a request takes whose reply comes byte by byte, with a timeout of 200 ms; none where it
+/// has a reply.
 fn dripped<
     R: Net<Stream = TcpStream, Listener = TcpListener> + Threads + Clock + Copy + Send + Sync,
 >(rt: &R, alloc: Global) -> io::Result<Option<Duration>> {

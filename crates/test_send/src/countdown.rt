@@ -6,7 +6,8 @@ use rw_follow::{Sign, Watch, Wish};
 use rw_metrics::SendCounters;
 use std::alloc::Global;
 
-/// Says this wish once it was asked so often. What was fed is flushed at once, or never, and so is the number of shards asked for.
+/// Says this wish once it was asked so often. What was fed is flushed at once, or never, and so is
+/// the number of shards asked for.
 #[derive(Drop)]
 pub(crate) struct Countdown {
     pub(crate) looks: u32,
@@ -58,7 +59,8 @@ impl Watch for Countdown {
     }
 }
 
-/// Asks for an end behind so many looks: at once if the counters tell then that one sample was placed and none waits, and in order otherwise.
+/// Asks for an end behind so many looks: at once if the counters tell then that one sample was
+/// placed and none waits, and in order otherwise.
 #[derive(Drop)]
 pub(crate) struct Onlooker<'a> {
     pub(crate) alloc: Global,

@@ -22,7 +22,8 @@ fn says_filtered(alloc: Global, report: &[u8], filtered: u64) -> bool {
     }
 }
 
-/// Whether a report names so many samples as dropped, by each reason, and so many that are not resolved.
+/// Whether a report names so many samples as dropped, by each reason, and so many that are not
+/// resolved.
 fn names_as_many(report: &[u8], numbers: &SendNumbers) -> bool {
     let drops = &numbers.drops;
     let waiting = times(report, b"\nabandoned ");
@@ -46,13 +47,15 @@ pub(crate) fn tells_as_printed(alloc: Global, counters: &SendCounters, report: &
     }
 }
 
-/// Whether so many samples stand in what a receiver printed, and no connection is open. No label has a space.
+/// Whether so many samples stand in what a receiver printed, and no connection is open. No label
+/// has a space.
 fn has_printed(printed: &[u8], numbers: &ReceiveNumbers) -> bool {
     let held = times(printed, b" ").saturating_sub(times(printed, b"\n"));
     numbers.connections == 0 && numbers.samples == held
 }
 
-/// Whether counters of a receiver that has ended tell of so many samples as it printed, and of no open connection.
+/// Whether counters of a receiver that has ended tell of so many samples as it printed, and of no
+/// open connection.
 pub(crate) fn holds_as_printed(alloc: Global, counters: &ReceiveCounters, printed: &[u8]) -> bool {
     match counters.numbers(alloc) {
         Ok(numbers) => has_printed(printed, &numbers),

@@ -22,8 +22,9 @@ enum Happens<'a> {
     Gap(u64),
 }
 
-/// What happens, after how many looks it is to stop, by which wish, in pieces of how many bytes; how the following ends, the segments that were given whole,
-/// the beginning of the next one, and how often it was flushed.
+/// What happens, after how many looks it is to stop, by which wish, in pieces of how many bytes;
+/// how the following ends, the segments that were given whole, the beginning of the next one, and
+/// how often it was flushed.
 type Row<'a> = (
     &'a [Happens<'a>],
     u32,

@@ -17,7 +17,8 @@ use std::thread;
 use std::thread::Threads;
 use std::time::Clock;
 
-/// The settings of both, the connections that the sender makes, the log, and what the sender and the receiver print.
+/// The settings of both, the connections that the sender makes, the log, and what the sender and
+/// the receiver print.
 type Row<'a> = (&'a [u8], u64, &'a [u8], &'a [u8], &'a [u8]);
 
 const COMPLETE: &[u8] = b"filtered 0\nreport complete 2\n";
@@ -81,7 +82,8 @@ fn connect_to<N: Net<Stream = TcpStream> + Drop>(
     Ok(TcpConnect::new(alloc, net, addresses, Bounded::new(10_000), counters))
 }
 
-/// Whether a receiver takes the connections of a sender, or one where there are none, ends well and has counted what it holds.
+/// Whether a receiver takes the connections of a sender, or one where there are none, ends well and
+/// has counted what it holds.
 fn receives<R: Threads + Wait + Clock + Sync>(
     rt: &R,
     alloc: Global,
@@ -138,13 +140,14 @@ fn sends<R: Threads + Wait + Clock + Copy + Send + 'static, C: Connect + Drop>(
     }
 }
 
-/// Whether somebody else connects and says nothing, once a sender that does not connect has ended. A receiver ends after one connection.
+/// Whether somebody else connects and says nothing, once a sender that does not connect has ended.
+/// A receiver ends after one connection.
 fn passes_by<N: Net<Stream = TcpStream>>(net: &N, row: &Row<'_>, address: SocketAddr) -> bool {
     row.1 > 0 || TcpStream::connect(net, address).is_ok()
 }
 
-/// A receiver that is busy for the first connection takes the sample of the second one. Samples that do not rise are named and not sent, and
-/// so are names that the sender does not take.
+/// A receiver that is busy for the first connection takes the sample of the second one. Samples
+/// that do not rise are named and not sent, and so are names that the sender does not take.
 #[test]
 fn what_is_sent_is_received(rt: HostRuntime) -> Result<(), Fail> {
     let alloc = rt.alloc();

@@ -32,7 +32,8 @@ enum Part<'a> {
     Fails(&'a [u8]),
 }
 
-/// How receivers answer: by which status, after how many milliseconds, and how many requests before they refuse. For the shards of the epochs from this one on there is no memory.
+/// How receivers answer: by which status, after how many milliseconds, and how many requests before
+/// they refuse. For the shards of the epochs from this one on there is no memory.
 #[derive(Clone, Copy)]
 struct Answers {
     status: u16,
@@ -248,7 +249,8 @@ static ONE_SEGMENT: [Row<'static>; 11] = [
         Ok(()),
         b"dropped 3 notrising\nfiltered 0\nreport complete 4\n",
     ),
-    // a batch of 2,000 samples, whose labels in each of them would take more than 64 KiB, makes one request
+    // a batch of 2,000 samples, whose labels in each of them would take more than 64 KiB, makes one
+    // request
     (
         b"",
         &[Many(2_000)],
@@ -321,8 +323,8 @@ static SEVERAL_SEGMENTS: [Row<'static>; 5] = [
     ),
 ];
 
-/// A sample in a later segment may be one of a series of an earlier one. A segment that ends inside a record is no fault where it is the
-/// last one; behind a fault nothing is read.
+/// A sample in a later segment may be one of a series of an earlier one. A segment that ends inside
+/// a record is no fault where it is the last one; behind a fault nothing is read.
 #[test]
 fn logs_of_several_segments(rt: HostRuntime) -> Result<(), Fail> {
     none_is_wrong(&rt, wrong_row(&rt, rt.alloc(), &SEVERAL_SEGMENTS)?);
@@ -384,7 +386,8 @@ static FAILING: [Row<'static>; 3] = [
     ),
 ];
 
-/// The receivers are always busy, so that a sample that was read is not resolved when the work is stopped. Of two shards with full queues each hears of the stop.
+/// The receivers are always busy, so that a sample that was read is not resolved when the work is
+/// stopped. Of two shards with full queues each hears of the stop.
 #[test]
 fn a_reader_that_fails(rt: HostRuntime) -> Result<(), Fail> {
     none_is_wrong(&rt, wrong_row(&rt, rt.alloc(), &FAILING)?);
@@ -458,8 +461,9 @@ static SHARDS: [Row<'static>; 5] = [
     ),
 ];
 
-/// A queue and a batch of one sample each: where the receiver is slow, two of four samples may wait, so one shard is to become three. Where
-/// that is refused the work ends. Nothing changes where the receiver keeps up, and behind the last segment.
+/// A queue and a batch of one sample each: where the receiver is slow, two of four samples may
+/// wait, so one shard is to become three. Where that is refused the work ends. Nothing changes
+/// where the receiver keeps up, and behind the last segment.
 #[test]
 fn the_number_of_shards_follows_the_load(rt: HostRuntime) -> Result<(), Fail> {
     none_is_wrong(&rt, wrong_row(&rt, rt.alloc(), &SHARDS)?);

@@ -51,7 +51,8 @@ impl Pause for Quick {
     fn pause(&mut self, _ms: u64) {}
 }
 
-/// Each worker's receiver answers so many requests by this status, after so long, and refuses each later one. For the epochs after the first few there is no memory.
+/// Each worker's receiver answers so many requests by this status, after so long, and refuses each
+/// later one. For the epochs after the first few there is no memory.
 #[derive(Drop)]
 pub(crate) struct Receivers<R> {
     pub(crate) clock: R,

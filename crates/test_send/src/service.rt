@@ -1,4 +1,5 @@
-//! A receiver, which is stopped by a sign or ends behind its connections, and its clients, in threads of one process.
+//! A receiver, which is stopped by a sign or ends behind its connections, and its clients, in
+//! threads of one process.
 
 use crate::clients::{Clients, Door, read_by};
 use crate::counted::holds_as_printed;
@@ -15,7 +16,8 @@ use std::thread::Threads;
 use std::time::{Clock, Duration, Instant};
 use std::{io, thread};
 
-/// The bounds of a service, what clients do, how many replies they have, and what is printed at last.
+/// The bounds of a service, what clients do, how many replies they have, and what is printed at
+/// last.
 #[derive(Drop)]
 struct Row<'a> {
     /// Whether it serves until it is stopped. Else it serves as many connections as it may at once.
@@ -42,7 +44,8 @@ fn are_replies(read: &[u8], count: usize) -> bool {
     left.is_empty()
 }
 
-/// For how many seconds a service and its clients may run. No row asks for waits of more than two; a slow machine may do other work.
+/// For how many seconds a service and its clients may run. No row asks for waits of more than two;
+/// a slow machine may do other work.
 const MOST_SECONDS: u64 = 15;
 
 /// Whether a service and its clients were done in time.

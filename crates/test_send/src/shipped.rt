@@ -129,10 +129,12 @@ fn receivers_of<R: Copy>(clock: &R, status: StatusCode) -> Receivers<R> {
     }
 }
 
-/// What happens, after how many looks it is to stop, by which wish; the answer, and what is printed.
+/// What happens, after how many looks it is to stop, by which wish; the answer, and what is
+/// printed.
 type Row<'a> = (&'a [Part<'a>], u32, Wish, Result<(), FollowFault>, &'a [u8]);
 
-/// Whether a run does as a row says, where the number of shards is asked for at each turn, or never.
+/// Whether a run does as a row says, where the number of shards is asked for at each turn, or
+/// never.
 fn does<R: Threads + Wait + Clock + Copy + Send + 'static>(
     rt: &R,
     alloc: Global,
@@ -261,7 +263,8 @@ fn logs_are_shipped(rt: HostRuntime) -> Result<(), Fail> {
     Ok(())
 }
 
-/// Follows a log of one sample for some looks by the clock, and is stopped at once if the counters tell then that nothing waits.
+/// Follows a log of one sample for some looks by the clock, and is stopped at once if the counters
+/// tell then that nothing waits.
 fn flushed<R: Threads + Wait + Clock + Copy + Send + 'static>(
     rt: &R,
     alloc: Global,
@@ -323,7 +326,8 @@ fn stop_twice<R: Clock>(rt: &R, sign: &rw_stop::Sign, workers: &StopFlag) {
     workers.set();
 }
 
-/// Follows a log while its receiver is always busy, until the sign or the flag of the workers ends that.
+/// Follows a log while its receiver is always busy, until the sign or the flag of the workers ends
+/// that.
 fn follow_in_vain<R: Threads + Wait + Clock + Copy + Send + 'static>(
     rt: &R,
     alloc: Global,
@@ -395,7 +399,8 @@ fn is_stopped<R: Threads + Wait + Clock + Copy + Send + Sync + 'static>(
     Ok(is_printed && answer == Err(FollowFault::Stopped))
 }
 
-/// A stop at once is seen while the end in order waits for the receiver, and while a full queue is waited for.
+/// A stop at once is seen while the end in order waits for the receiver, and while a full queue is
+/// waited for.
 #[test]
 fn a_receiver_that_is_away_hides_no_stop(rt: HostRuntime) -> Result<(), Fail> {
     assert!(rt;

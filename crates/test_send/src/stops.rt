@@ -59,8 +59,9 @@ fn wish_after<R: Clock + Files>(rt: &R, path: &str, text: &[u8], sign: &Sign) ->
     Some(sign.wish())
 }
 
-/// Makes a file, which a watch has looked for then, and writes to it. Gives what was wished behind an empty file, behind another line, and behind the line
-/// `hard`; and asks for an end at once, so that the watch ends.
+/// Makes a file, which a watch has looked for then, and writes to it. Gives what was wished behind
+/// an empty file, behind another line, and behind the line `hard`; and asks for an end at once, so
+/// that the watch ends.
 fn write_later<R: Clock + Files>(rt: &R, path: &str, sign: &Sign) -> [Option<Wish>; 3] {
     thread::sleep(rt, Duration::from_millis(300));
     let empty = wish_after(rt, path, b"", sign);

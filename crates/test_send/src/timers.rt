@@ -47,7 +47,8 @@ impl Sign for Unset {
     }
 }
 
-/// A watch of five seconds between two looks, where something may wait for three, and the number of shards is asked for behind two.
+/// A watch of five seconds between two looks, where something may wait for three, and the number of
+/// shards is asked for behind two.
 fn watch_by(ticks: &Ticks) -> Timed<&Ticks, Unset> {
     let poll = Duration::from_secs(5);
     let patience = Duration::from_secs(3);
@@ -55,7 +56,8 @@ fn watch_by(ticks: &Ticks) -> Timed<&Ticks, Unset> {
     Timed::new(ticks, Unset, poll, patience, reshard)
 }
 
-/// Whether a flush is due when it is asked for at 0, 1, 2 s and so on, and the number of shards at 0.5, 1.5, 2.5 s.
+/// Whether a flush is due when it is asked for at 0, 1, 2 s and so on, and the number of shards at
+/// 0.5, 1.5, 2.5 s.
 static DUE: [(bool, bool); 9] = [
     (false, false),
     (false, false),

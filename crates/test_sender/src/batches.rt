@@ -1,5 +1,6 @@
-//! Batches that are built and frozen. The calls that take memory are made again where it is refused, so each test can be
-//! run with each allocation refused in turn: the refused call changes nothing.
+//! Batches that are built and frozen. The calls that take memory are made again where it is
+//! refused, so each test can be run with each allocation refused in turn: the refused call changes
+//! nothing.
 
 ghost use Rattle.std.specs.Prelude.{◌<◌, ◌≤◌};
 
@@ -138,7 +139,8 @@ fn is_batch(batch: &Batch, samples: usize, body: &[u8]) -> bool {
     batch.id() == id && batch.places().len() == samples && batch.body().as_slice() == body
 }
 
-/// Whether a builder makes a batch of so many samples with this body, and room for them in the ledger.
+/// Whether a builder makes a batch of so many samples with this body, and room for them in the
+/// ledger.
 fn makes_batch(alloc: Global, builder: Builder, samples: usize, body: &[u8]) -> bool {
     let mut ledger = Ledger::new(alloc);
     match frozen(builder, &mut ledger) {
@@ -181,7 +183,8 @@ const TWO: &[Row] = &[("a", 0, 1), ("b", 0, 2)];
 
 const THREE: &[Row] = &[("a", 0, 1), ("b", 0, 2), ("b", 0, 3)];
 
-/// Samples that a builder of three took, a sample with its number, and whether that can be taken next.
+/// Samples that a builder of three took, a sample with its number, and whether that can be taken
+/// next.
 type Next = (&'static [Row], u64, Row, bool);
 
 static NEXT: [Next; 4] = [

@@ -14,7 +14,8 @@ fn no_labels(alloc: Global) -> Result<Arc<LabelSet>, AllocError> {
     Ok(Arc::new(alloc, LabelSet::empty(alloc))?)
 }
 
-/// What was taken: the position of a sample, nothing of a Flush, and the end where an End was taken.
+/// What was taken: the position of a sample, nothing of a Flush, and the end where an End was
+/// taken.
 #[derive(Drop)]
 struct Haul {
     positions: Vec<Option<u64>>,

@@ -1,5 +1,5 @@
-//! Dropped samples. The calls that take memory are made again where it is refused, so each test can be run with each
-//! allocation refused in turn: the refused call changes nothing.
+//! Dropped samples. The calls that take memory are made again where it is refused, so each test can
+//! be run with each allocation refused in turn: the refused call changes nothing.
 
 use crate::rows::holds;
 use rw_ledger::{Ledger, Reason};
@@ -23,7 +23,8 @@ static SORTED: [Name; 4] = [
     (9, Reason::NoSeries),
 ];
 
-/// Adds room for so many names, and answers whether a refused call, if there was one, changed nothing.
+/// Adds room for so many names, and answers whether a refused call, if there was one, changed
+/// nothing.
 fn add_room(ledger: &mut Ledger, n: usize) -> bool {
     let (left, total) = (ledger.left(), ledger.total());
     ledger.room(n).is_ok()

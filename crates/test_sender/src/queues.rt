@@ -1,5 +1,5 @@
-//! The queue within one thread. The call that takes memory is made again where it is refused, so each test can be run
-//! with each allocation refused in turn.
+//! The queue within one thread. The call that takes memory is made again where it is refused, so
+//! each test can be run with each allocation refused in turn.
 
 use crate::rows::none_is_wrong;
 use rw_plain_queue::{Item, Kind, PlainQueue, PutFault};

@@ -1,4 +1,5 @@
-//! Label sets of one label, and samples. The calls that take memory are made again where it is refused.
+//! Label sets of one label, and samples. The calls that take memory are made again where it is
+//! refused.
 
 ghost use Rattle.std.specs.Prelude.{◌≡◌, ◌∷◌, [], codes, IfOk};
 ghost use Rattle.rw_plain_queue.specs.declared.item.Item.TheVariants as item;

@@ -1,5 +1,6 @@
-//! A shard behind its queue: what it takes, sends and resolves. The calls that take memory are made again where it is refused, so
-//! each test can be run with each allocation refused in turn: the refused call changes nothing.
+//! A shard behind its queue: what it takes, sends and resolves. The calls that take memory are made
+//! again where it is refused, so each test can be run with each allocation refused in turn: the
+//! refused call changes nothing.
 
 use crate::rows::{holds, none_is_wrong};
 use crate::samples::sample;
@@ -56,7 +57,8 @@ enum Step {
     End(Kind),
     /// The builder is frozen, or not.
     Freeze(bool),
-    /// The batch whose first sample has this number is sent, with the bytes of the attempt before it, or of none.
+    /// The batch whose first sample has this number is sent, with the bytes of the attempt before
+    /// it, or of none.
     Send(Option<u64>),
     /// A reply to the batch whose first sample has this number, with this status.
     Reply(u64, u16, Option<Judgement>),
@@ -130,7 +132,8 @@ fn is_again(last: &Option<Attempt>, attempt: &Attempt) -> bool {
     }
 }
 
-/// Whether this is an attempt to send the batch whose first sample has this number, with the bytes of the attempt before it, or none.
+/// Whether this is an attempt to send the batch whose first sample has this number, with the bytes
+/// of the attempt before it, or none.
 fn note_attempt(last: &mut Option<Attempt>, attempt: Option<Attempt>, seq: Option<u64>) -> bool {
     match attempt {
         Some(attempt) => {
@@ -155,7 +158,8 @@ fn sends(shard: &mut Shard, seq: Option<u64>) -> bool {
     }
 }
 
-/// Whether a reply of this status to the batch whose first sample has the number `seq` is judged so.
+/// Whether a reply of this status to the batch whose first sample has the number `seq` is judged
+/// so.
 fn judges(shard: &mut Shard, seq: u64, status: u16, wanted: Option<Judgement>) -> bool {
     let id = BatchId {
         epoch: 3,

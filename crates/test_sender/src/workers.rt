@@ -221,7 +221,8 @@ const REFUSED: Wanted<'static> = Wanted {
     milliseconds: Some(&[30, 30]),
 };
 
-/// In batches of one, of two and of 2,000 samples the Flush makes two batches. The pauses of each begin anew.
+/// In batches of one, of two and of 2,000 samples the Flush makes two batches. The pauses of each
+/// begin anew.
 static ROWS: [Row<'static>; 9] = [
     Row {
         name: "a batch is sent until the answer is final",

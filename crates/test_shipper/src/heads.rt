@@ -18,7 +18,8 @@ use std::marker::Brand;
 use std::sync::{Arc, Wait};
 use std::thread::Threads;
 
-/// What is shipped to so many seats of a head, what is wanted, and the samples that the head then has, all of one metric.
+/// What is shipped to so many seats of a head, what is wanted, and the samples that the head then
+/// has, all of one metric.
 struct Row<'a> {
     seats: u64,
     task: Task<'a>,
@@ -70,7 +71,8 @@ fn gathered<L: Endpoint>(
     Some(receiver.into_shared().gather(seats))
 }
 
-/// Ships to the seats of the head, of which each worker takes one, and gathers them. Gives whether all was done as wanted, and the head.
+/// Ships to the seats of the head, of which each worker takes one, and gathers them. Gives whether
+/// all was done as wanted, and the head.
 fn shipped<R: Threads + Wait + Copy + Send + 'static, L: Endpoint + Send + Sync + 'static>(
     rt: &R,
     alloc: Global,
@@ -246,13 +248,15 @@ static THAT_RISE: Row<'static> = Row {
     samples: &[(10, ONE), (20, TWO)],
 };
 
-/// The third and the fourth reference are one series, of which the second epoch has a sample at the timestamp of the first one's.
+/// The third and the fourth reference are one series, of which the second epoch has a sample at the
+/// timestamp of the first one's.
 #[test]
 fn the_head_has_the_samples_that_rise(rt: HostRuntime) {
     assert_eq!(rt; has_all(&rt, rt.alloc(), &THAT_RISE), Ok(true));
 }
 
-/// Ships two segments, of which the second one has a sample at the time of the first one's, over three shards.
+/// Ships two segments, of which the second one has a sample at the time of the first one's, over
+/// three shards.
 fn shipped_whole<R: Threads + Wait + Copy + Send + 'static>(
     rt: &R,
     alloc: Global,

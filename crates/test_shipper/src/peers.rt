@@ -54,7 +54,8 @@ impl Gate {
     }
 }
 
-/// It notes each request for which there is memory, and answers all of them by one status. One that waits at a gate in vain loses its request.
+/// It notes each request for which there is memory, and answers all of them by one status. One that
+/// waits at a gate in vain loses its request.
 #[derive(Drop)]
 pub(crate) struct Peer {
     epoch: u64,

@@ -39,7 +39,8 @@ struct Row<'a> {
     /// For how many receivers there is memory.
     receivers: u64,
     wanted: Wanted<'a>,
-    /// The bodies that the first and the last receiver get, each in one request; an empty one for no request.
+    /// The bodies that the first and the last receiver get, each in one request; an empty one for
+    /// no request.
     sent: Option<(&'a [u8], &'a [u8])>,
     loads: Option<&'a [Load]>,
 }
@@ -147,7 +148,8 @@ static NAMED: Row<'static> = Row {
     loads: None,
 };
 
-/// A sample whose reference has no series is named in the feeder's part, and a refused one in its shard's.
+/// A sample whose reference has no series is named in the feeder's part, and a refused one in its
+/// shard's.
 #[test]
 fn samples_that_are_not_stored_are_named(rt: HostRuntime) {
     assert!(rt; does(&rt, rt.alloc(), &NAMED));
@@ -203,7 +205,8 @@ static ONE_SERIES: Row<'static> = Row {
     loads: Some(&[ONE_OF_ONE, ONE_OF_ONE, ONE_OF_ONE, TWO_OF_TWO]),
 };
 
-/// An epoch that ended is no backlog, and neither is a sample that only waits for its batch to be full.
+/// An epoch that ended is no backlog, and neither is a sample that only waits for its batch to be
+/// full.
 #[test]
 fn one_series_goes_on_in_the_next_epoch(rt: HostRuntime) {
     assert!(rt; does(&rt, rt.alloc(), &ONE_SERIES));
@@ -357,7 +360,8 @@ static STOPPED: [Task<'static>; 2] = [
     },
 ];
 
-/// Whether a fault was kept, if there was one, and the report names just what was placed and is not resolved.
+/// Whether a fault was kept, if there was one, and the report names just what was placed and is not
+/// resolved.
 fn is_kept(work: &Work, stop: Stop) -> bool {
     let is_whole = work.has_no_fault();
     let ends = match (is_whole, stop) {
@@ -367,7 +371,8 @@ fn is_kept(work: &Work, stop: Stop) -> bool {
     work.accounts_for_all(4) && ends && (is_whole || work.keeps_its_fault())
 }
 
-/// Whether the fault of a task is kept; none where it does not start, or where there is no memory for what is compared.
+/// Whether the fault of a task is kept; none where it does not start, or where there is no memory
+/// for what is compared.
 fn keeps_its_fault<R: Threads + Wait + Copy + Send + 'static>(
     rt: &R,
     alloc: Global,
@@ -390,8 +395,8 @@ fn keeps_any_fault<R: Threads + Wait + Copy + Send + 'static>(
     }
 }
 
-/// Holds whichever growth is refused; `tools/refuse-each` refuses each of them in turn. A call that fails is never passed over, its fault is kept,
-/// and the report names just what is not resolved.
+/// Holds whichever growth is refused; `tools/refuse-each` refuses each of them in turn. A call that
+/// fails is never passed over, its fault is kept, and the report names just what is not resolved.
 #[test]
 fn a_fault_is_kept(rt: HostRuntime) {
     for task in &STOPPED {
@@ -439,7 +444,8 @@ static ONE_EACH: Task<'static> = Task {
     limit: None,
 };
 
-/// Whether each of two shards makes one request, where the receiver of this shard is held until the other one has answered.
+/// Whether each of two shards makes one request, where the receiver of this shard is held until the
+/// other one has answered.
 fn send_at_once<R: Threads + Wait + Copy + Send + 'static>(
     rt: &R,
     alloc: Global,
@@ -476,7 +482,8 @@ fn comes_to(shipper: &Shipper<Peers>, load: Load) -> bool {
     false
 }
 
-/// How many shards there are, how many samples a batch has, what is fed at once, and which load is to be told in time then.
+/// How many shards there are, how many samples a batch has, what is fed at once, and which load is
+/// to be told in time then.
 type Fed<'a> = (u64, u64, Samples<'a>, Load);
 
 /// Whether it is, with no call behind the one that fed.
@@ -544,7 +551,8 @@ const SHORT: &[Call<'static>] = &[Feed(&[UP], &[(1, 10, ONE), (1, 20, TWO)], Non
 /// A sample of each of three metrics whose names have 200 bytes: each counts 232 bytes.
 const LARGE: &[Call<'static>] = &[Feed(&LONG, &[(1, 10, ONE), (2, 10, ONE), (3, 10, ONE)], None)];
 
-/// What is called, how many entries that places, how many bytes a batch may take, and how many each body takes.
+/// What is called, how many entries that places, how many bytes a batch may take, and how many each
+/// body takes.
 static LIMITED: [(&[Call<'static>], u64, Option<u64>, &[usize]); 9] = [
     (SHORT, 3, None, &[44]),
     (SHORT, 3, Some(62), &[44]),

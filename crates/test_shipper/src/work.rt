@@ -14,7 +14,8 @@ use std::thread::Threads;
 /// One call of a shipper.
 #[derive(Clone, Copy)]
 pub(crate) enum Call<'a> {
-    /// Bytes that define these series and have these samples, and a byte that begins no record, where there is one.
+    /// Bytes that define these series and have these samples, and a byte that begins no record,
+    /// where there is one.
     Feed(&'a [Named], Samples<'a>, Option<u8>),
     NextSegment,
     Flush,
@@ -143,8 +144,8 @@ impl Work {
         true
     }
 
-    /// Whether nothing is named, and of the samples behind so many series, which are all of one series, just those are listed as abandoned that
-    /// were placed behind the resolved ones.
+    /// Whether nothing is named, and of the samples behind so many series, which are all of one
+    /// series, just those are listed as abandoned that were placed behind the resolved ones.
     pub(crate) fn accounts_for_all(&self, series: u64) -> bool {
         let mut known = series;
         for resolved in &self.resolved {
@@ -162,7 +163,8 @@ impl Work {
         is_so && self.named.is_empty()
     }
 
-    /// Whether nothing is filtered, each shard has a part beside the feeder's, and is whole or stopped.
+    /// Whether nothing is filtered, each shard has a part beside the feeder's, and is whole or
+    /// stopped.
     fn counts_all(&self) -> bool {
         let shards = self.resolved.len();
         self.filtered == 0
@@ -333,7 +335,8 @@ fn ship<R: Threads + Wait + Copy + Send + 'static, C: Connect + Drop>(
     work_of(alloc, faults, loads, report_of(rt, shipper, task.stop))
 }
 
-/// Does a task. Gives what was done, and the transports; none where the start is refused, or memory is.
+/// Does a task. Gives what was done, and the transports; none where the start is refused, or memory
+/// is.
 pub(crate) fn done<R: Threads + Wait + Copy + Send + 'static, C: Connect + Drop>(
     rt: &R,
     alloc: Global,

@@ -33,7 +33,8 @@ enum Row {
     Good(&'static str, &'static str),
     /// A line that is no log text.
     Bad(&'static [u8]),
-    /// The lengths of `raw` lines, what follows them, the pages of a segment, the fault, and how many bytes are written.
+    /// The lengths of `raw` lines, what follows them, the pages of a segment, the fault, and how
+    /// many bytes are written.
     Segment(&'static [usize], &'static str, usize, Option<ToolFault>, usize),
 }
 
@@ -153,7 +154,8 @@ fn is_without_blanks(text: &[u8], spaced: &[u8]) -> bool {
     rest.is_empty()
 }
 
-/// What is written of one record: the text of a fragment, with its type, length and CRC, and a newline. The CRC is not compared.
+/// What is written of one record: the text of a fragment, with its type, length and CRC, and a
+/// newline. The CRC is not compared.
 fn is_fragment_of(output: &[u8], rec: &str) -> bool {
     output.len() > 15
         && output.starts_with(b"01")
@@ -215,7 +217,8 @@ fn put_runs(text: &mut Vec<u8>, lens: &[usize], last: &str) -> Result<(), AllocE
     text.extend_from_slice(last.as_bytes())
 }
 
-/// Whether a run over `raw` lines of these lengths, and what follows them, has this fault or none, and writes so many bytes.
+/// Whether a run over `raw` lines of these lengths, and what follows them, has this fault or none,
+/// and writes so many bytes.
 fn is_segment(
     alloc: Global,
     lens: &[usize],
@@ -352,7 +355,8 @@ fn logs_into(
     is_put && run_log_dir(rt, rt.alloc(), &mut reader, dir, pages).err() == wanted
 }
 
-/// Lengths of `raw` lines, the pages of a segment, the fault, and then the lengths of the first three files of the folder.
+/// Lengths of `raw` lines, the pages of a segment, the fault, and then the lengths of the first
+/// three files of the folder.
 static FOLDERS: [(&[usize], usize, Option<ToolFault>, [Option<usize>; 3]); 4] = [
     (&[], 1, None, [Some(0), None, None]),
     (

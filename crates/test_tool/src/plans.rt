@@ -20,7 +20,8 @@ fn segment_of(alloc: Global, log: &str) -> Vec<u8> {
     }
 }
 
-/// How a run under these settings ends. Where there are none, memory was refused, or no test wants it.
+/// How a run under these settings ends. Where there are none, memory was refused, or no test wants
+/// it.
 fn ended(
     alloc: Global,
     settings: &[u8],

@@ -143,7 +143,8 @@ fn plan_of(
     Ok((writer.into_bytes(), damage.map(|damage| damage.fault)))
 }
 
-/// Whether both segments have their plan, and whether nothing is written where the last byte of the second is another one.
+/// Whether both segments have their plan, and whether nothing is written where the last byte of the
+/// second is another one.
 fn are_planned(alloc: Global) -> Result<(bool, bool), ReadFault> {
     let first = segment_of(alloc, &FIRST)?;
     let mut second = segment_of(alloc, &SECOND)?;

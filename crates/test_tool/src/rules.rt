@@ -15,7 +15,8 @@ enum Row {
     Refusal(Config<'static>, Option<RuleFault>),
     /// A rule, labels, and whether the rule matches them.
     Match(Config<'static>, Labels, bool),
-    /// Labels, whether they are kept where both rules match, and where the first matches and the second does not.
+    /// Labels, whether they are kept where both rules match, and where the first matches and the
+    /// second does not.
     Several(Labels, bool, bool),
 }
 
@@ -82,7 +83,8 @@ fn are_rules_of(
     }
 }
 
-/// Whether a rule matches a label set, or not: one that keeps what it matches keeps it, or one that drops it does.
+/// Whether a rule matches a label set, or not: one that keeps what it matches keeps it, or one that
+/// drops it does.
 fn is_set_matched(alloc: Global, config: Config<'_>, labels: &LabelSet, matches: bool) -> bool {
     are_rules_of(alloc, &[(Action::Keep, config)], labels, matches)
         && are_rules_of(alloc, &[(Action::Drop, config)], labels, !matches)
@@ -104,7 +106,8 @@ static BOTH: &[(Action, Config<'static>)] = &[(Action::Keep, JOB), (Action::Keep
 
 static WITHOUT: &[(Action, Config<'static>)] = &[(Action::Keep, JOB), (Action::Drop, ENV)];
 
-/// Whether labels are kept so by both rules and by the first without the second, and are kept where there is no rule.
+/// Whether labels are kept so by both rules and by the first without the second, and are kept where
+/// there is no rule.
 fn is_judged(alloc: Global, labels: &[(&str, &str)], by_both: bool, by_without: bool) -> bool {
     match label_set(alloc, labels) {
         Ok(labels) => {

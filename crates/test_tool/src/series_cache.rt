@@ -1,5 +1,5 @@
-//! What a cache knows of references. The calls that take memory are made again where it is refused, so the test can be run
-//! with each allocation refused in turn: the refused call changes no answer.
+//! What a cache knows of references. The calls that take memory are made again where it is refused,
+//! so the test can be run with each allocation refused in turn: the refused call changes no answer.
 
 use crate::rows::{none_differs, none_is_wrong};
 use crate::rule_making::{Config, raw_labels, rules};
@@ -84,7 +84,8 @@ fn is_defined(cache: &mut Cache, reference: u64, labels: Result<RawLabels, Alloc
     }
 }
 
-/// Defines a reference. Whether a refused call, if there was one, changed no answer, and the next one is not refused.
+/// Defines a reference. Whether a refused call, if there was one, changed no answer, and the next
+/// one is not refused.
 fn defines(alloc: Global, cache: &mut Cache, reference: u64, labels: Labels<'_>) -> bool {
     let before = shapes(cache);
     is_defined(cache, reference, raw_labels_again(alloc, labels))
@@ -137,7 +138,8 @@ fn is_as_defined(cache: &Cache) -> bool {
         && cache.series_count() == 3
 }
 
-/// The first definition after which something else is known than should be, or the number of them where that shows at the end.
+/// The first definition after which something else is known than should be, or the number of them
+/// where that shows at the end.
 fn wrong_definition(alloc: Global, cache: &mut Cache) -> Option<usize> {
     for (i, (reference, labels, wanted)) in DEFINITIONS.iter().enumerate() {
         if !defines(alloc, cache, *reference, labels) || shape_of(cache, *reference) != *wanted {

@@ -6,7 +6,8 @@ use rw_settings::{Settings, SettingsFault, read_settings};
 use rw_types::{LabelSet, Names};
 use std::alloc::Global;
 
-/// The number of a text's fault, or 9 where it has none. That of want of memory is none that a row has.
+/// The number of a text's fault, or 9 where it has none. That of want of memory is none that a row
+/// has.
 pub(crate) fn fault(alloc: Global, text: &[u8]) -> u8 {
     match read_settings(alloc, text) {
         Ok(_) => 9,
@@ -15,7 +16,8 @@ pub(crate) fn fault(alloc: Global, text: &[u8]) -> u8 {
     }
 }
 
-/// Texts with no fault or with one, and then with two at once, and the number that is answered, or 9.
+/// Texts with no fault or with one, and then with two at once, and the number that is answered, or
+/// 9.
 static FAULTS: [(&[u8], u8); 68] = [
     (b"", 9),
     (b"# nothing\n\n", 9),

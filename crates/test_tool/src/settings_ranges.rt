@@ -47,7 +47,8 @@ fn is_fault_at(alloc: Global, range: Range, number: i64, want: u8) -> bool {
     }
 }
 
-/// Whether the numbers at both borders, beside them and far away have the faults that they should have, or none.
+/// Whether the numbers at both borders, beside them and far away have the faults that they should
+/// have, or none.
 fn is_range(alloc: Global, range: Range) -> bool {
     let (_, _, low, high, _) = range;
     is_fault_at(alloc, range, low.saturating_sub(1), 4)

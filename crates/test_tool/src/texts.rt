@@ -155,7 +155,8 @@ fn there_and_back(rt: HostRuntime) {
     holds(&rt, prints_numbers(rt.alloc()));
 }
 
-/// A name of the most bytes that a label set may have beside a value of one. It is shorter where memory is refused.
+/// A name of the most bytes that a label set may have beside a value of one. It is shorter where
+/// memory is refused.
 fn long_name(alloc: Global) -> String {
     let mut name = String::new(alloc);
     for i in 0..16_383u32 {
