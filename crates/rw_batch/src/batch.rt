@@ -38,7 +38,7 @@ impl Model for Batch {
 }
 
 impl Batch {
-    /// The id, which is the place of the first sample.
+    /// Returns the id, which is the place of the first sample.
     pub fn id(&self) -> BatchId
         ensures { result ≡ id_of self.now.places }
     {
@@ -50,7 +50,7 @@ impl Batch {
         }
     }
 
-    /// The places of its samples, in order. There is at least one.
+    /// Returns the places of its samples, in order. There is at least one.
     pub fn places(&self) -> &[Place]
         ensures places { result.now ≡ self.now.places }
         ensures some { 0 < length self.now.places }
@@ -59,7 +59,7 @@ impl Batch {
         self.places.as_slice()
     }
 
-    /// The bytes of its message.
+    /// Returns the bytes of its message.
     pub fn body(&self) -> &Bytes
         ensures { result.now ≡ self.now.body }
     {

@@ -44,7 +44,7 @@ impl Model for Builder {
     ghost invariant = { λ b. IsBuilding b.batch b.places b.fields b.rows };
 }
 
-/// Whether a place is the next one of the same shard, where there is one before it.
+/// Returns whether a place is the next one of the same shard, where there is one before it.
 fn follows(places: &[Place], place: &Place) -> bool
     ensures { IsTrue result ↔ Follows places.now place.now }
 {
@@ -58,7 +58,7 @@ fn follows(places: &[Place], place: &Place) -> bool
 }
 
 impl Builder {
-    /// An empty builder with room for `batch` samples.
+    /// Returns an empty builder with room for `batch` samples.
     pub fn new(alloc: Global, batch: usize) -> Result<Builder, AllocError>
         requires some { 0 < batch }
         requires most { batch ≤ MAX_BATCH }
@@ -72,7 +72,7 @@ impl Builder {
         })
     }
 
-    /// How many samples the builder has.
+    /// Returns how many samples the builder has.
     pub fn len(&self) -> usize
         ensures len { result ≡ length self.now.samples }
         ensures within { result ≤ self.now.batch }
@@ -80,29 +80,29 @@ impl Builder {
         self.places.len()
     }
 
-    /// Whether the builder has no sample.
+    /// Returns whether the builder has no sample.
     pub fn is_empty(&self) -> bool
         ensures { IsTrue result ↔ (self.now.samples ≡ []) }
     {
         self.places.is_empty()
     }
 
-    /// The places of its samples, in order.
+    /// Returns the places of its samples, in order.
     pub fn places(&self) -> &[Place]
         ensures { result.now ≡ self.now.places }
     {
         self.places.as_slice()
     }
 
-    /// Whether the builder has as many samples as it has room for.
+    /// Returns whether the builder has as many samples as it has room for.
     pub fn is_full(&self) -> bool
         ensures { IsTrue result ↔ (length self.now.samples ≡ self.now.batch) }
     {
         self.places.len() == self.batch
     }
 
-    /// Whether the item is a sample that fits: there is room, and it is the next one of the shard
-    /// of those before it.
+    /// Returns whether the item is a sample that fits: there is room, and it is the next one of the
+    /// shard of those before it.
     pub fn can_take(&self, item: &Item) -> bool
         ensures { IsTrue result
             ↔ ((length self.now.samples < self.now.batch) × MayBeTaken self.now.places item.now) }
@@ -134,8 +134,8 @@ impl Builder {
         }
     }
 
-    /// The field of sample number `k`, counted from 0, in the canonical spelling of the message.
-    /// This takes no memory.
+    /// Returns the field of sample number `k`, counted from 0, in the canonical spelling of the
+    /// message. This takes no memory.
     pub fn field(&self, k: usize) -> &[u8]
         requires { k < length self.now.samples }
         ensures { (x : LabelledSample) → slice_get self.now.samples k ≡ Some x
@@ -144,7 +144,8 @@ impl Builder {
         self.fields.get(k)
     }
 
-    /// How many bytes the body of the batch takes; `None` where the number does not fit 64 bits.
+    /// Returns how many bytes the body of the batch takes; `None` where the number does not fit 64
+    /// bits.
     pub fn body_len(&self) -> Option<usize>
         ensures some { IfSome result (λ n. n ≡ length (batch_of self.now).body) }
         ensures none { IfNone result (2 ^ 64 ≤ length (batch_of self.now).body) }
@@ -164,7 +165,7 @@ impl Builder {
         put_body(out, &self.rows, &self.fields)
     }
 
-    /// The body of the batch that `freeze` would make.
+    /// Returns the body of the batch that `freeze` would make.
     pub fn body(&self) -> Result<Vec<u8>, AllocError>
         requires { 0 < length self.now.samples }
         ensures body { IfOk result (λ v. v.items ≡ (batch_of self.now).body) }
@@ -179,7 +180,7 @@ impl Builder {
         Ok(body)
     }
 
-    /// The body in a buffer that can be shared.
+    /// Returns the body in a buffer that can be shared.
     fn shared_body(&self) -> Result<Bytes, AllocError>
         requires { 0 < length self.now.samples }
         ensures body { IfOk result (λ b. b ≡ (batch_of self.now).body) }

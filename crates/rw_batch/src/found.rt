@@ -14,7 +14,7 @@ use std::sync::Arc;
 /// No place: a hint that tells nothing.
 pub(crate) const NOWHERE: usize = usize::MAX;
 
-/// Whether the label set at this place is `labels`.
+/// Returns whether the label set at this place is `labels`.
 fn is_at(sets: &IndexSet<Arc<LabelSet>>, place: usize, labels: &LabelSet) -> bool
     ensures { IsTrue result → (k : Shared) × (slice_get sets.now.keys place ≡ Some k)
         × (labels_eq labels.now (arc_value k) ≡ true) }
@@ -25,8 +25,8 @@ fn is_at(sets: &IndexSet<Arc<LabelSet>>, place: usize, labels: &LabelSet) -> boo
     }
 }
 
-/// The place of a label set, and whether it is new: then it comes last. The hint of its number is
-/// looked at first, so that no text is hashed where the hint is right.
+/// Returns the place of a label set, and whether it is new: then it comes last. The hint of its
+/// number is looked at first, so that no text is hashed where the hint is right.
 pub(crate) fn place_of(
     sets: &mut IndexSet<Arc<LabelSet>>,
     hints: &mut [usize],

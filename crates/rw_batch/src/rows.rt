@@ -131,14 +131,14 @@ impl Rows {
         };
     }
 
-    /// How many series the samples have.
+    /// Returns how many series the samples have.
     pub(crate) fn len(&self) -> usize
         ensures { result ≡ length (message self.now.samples) }
     {
         self.lines.len()
     }
 
-    /// The labels of series number `place` of the message.
+    /// Returns the labels of series number `place` of the message.
     pub(crate) fn labels(&self, place: usize) -> &LabelSet
         requires { place < length (message self.now.samples) }
         ensures { result.now ≡ (series_at self.now.samples place).labels }
@@ -146,7 +146,7 @@ impl Rows {
         &self.series.as_slice()[place]
     }
 
-    /// How many bytes the fields of the samples of series number `place` take.
+    /// Returns how many bytes the fields of the samples of series number `place` take.
     pub(crate) fn sample_bytes(&self, place: usize) -> usize
         requires { place < length (message self.now.samples) }
         ensures { result ≡ length (sample_fields (series_at self.now.samples place).samples) }

@@ -12,7 +12,8 @@ use std::marker::Model;
 /// For how many shards there is a room: an epoch has no more.
 const MAX_SHARDS: usize = 1000;
 
-/// How many bytes a message of a sample alone takes; none where the number does not fit 64 bits.
+/// Returns how many bytes a message of a sample alone takes; none where the number does not fit 64
+/// bits.
 #[tactic(auto, unfolding(crate::specs::Sizes::bytes_of))]
 fn len_alone(labels: &LabelSet, word: Word, t: i64) -> Option<usize>
     ensures some { IfSome result (λ n. n ≡ bytes_of labels.now (word, t)) }
@@ -21,7 +22,7 @@ fn len_alone(labels: &LabelSet, word: Word, t: i64) -> Option<usize>
     series_field_len(labels.as_slice(), &[(word, t)])
 }
 
-/// What is left of a room behind a sample; none where the sample does not fit.
+/// Returns what is left of a room behind a sample; none where the sample does not fit.
 fn left_of(room: u64, labels: &LabelSet, word: Word, t: i64) -> Option<u64>
     ensures fits { IfSome result (λ left. room ≡ bytes_of labels.now (word, t) + left) }
     ensures over { IfNone result (room < bytes_of labels.now (word, t)) }

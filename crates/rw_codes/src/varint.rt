@@ -7,7 +7,7 @@ ghost use Rattle.rw_codes.specs.Varint.{uvarint, read_uvarint, varint, read_vari
 use crate::code_fault::CodeFault;
 use std::alloc::AllocError;
 
-/// The ZigZag number of a signed number.
+/// Returns the ZigZag number of a signed number.
 #[inline]
 fn zig_zag_number(z: i64) -> u64
     ensures { result ≡ zig_zag z }
@@ -20,7 +20,7 @@ fn zig_zag_number(z: i64) -> u64
     }
 }
 
-/// The signed number that has this ZigZag number.
+/// Returns the signed number that has this ZigZag number.
 #[inline]
 fn signed_number(n: u64) -> i64
     ensures { result ≡ un_zig_zag n }
@@ -29,7 +29,7 @@ fn signed_number(n: u64) -> i64
     if n % 2 == 0 { half } else { -1 - half }
 }
 
-/// How many bytes the varint of `n` takes in its shortest form: one to ten.
+/// Returns how many bytes the varint of `n` takes in its shortest form: one to ten.
 #[inline]
 pub fn uvarint_len(n: u64) -> usize
     ensures exact { result ≡ length (uvarint n) }

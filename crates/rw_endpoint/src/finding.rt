@@ -18,7 +18,7 @@ pub enum Finding {
     Body { len: u64, closes: bool },
 }
 
-/// What the fields of a head say of the body behind it.
+/// Returns what the fields of a head say of the body behind it.
 pub(crate) fn judge_body(buf: &[u8], fields: &[HeaderSpan], minor: u8, limit: u64) -> Finding
     requires { All (IsHeaderWithin (length buf.now)) fields.now }
     ensures { let fields = map (header_bytes buf.now) fields.now in

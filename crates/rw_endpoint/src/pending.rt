@@ -36,7 +36,7 @@ impl Pending {
         }
     }
 
-    /// How many bytes there are.
+    /// Returns how many bytes there are.
     pub(crate) fn len(&self) -> usize
         ensures len { result ≡ length self.now }
         ensures few { result ≤ 8192 }
@@ -44,7 +44,7 @@ impl Pending {
         self.len
     }
 
-    /// The bytes.
+    /// Returns the bytes.
     pub(crate) fn as_slice(&self) -> &[u8]
         ensures bytes { result.now ≡ self.now }
         ensures few { length self.now ≤ 8192 }

@@ -84,7 +84,7 @@ impl Feeder {
         self.tail.feed_piece(piece)
     }
 
-    /// The next entry.
+    /// Returns the next entry.
     pub fn read(&mut self) -> Result<Next, AllocError>
         requires { self.old.hand ≡ [] }
         ensures ok { IfOk result (λ next. Reads self.old self.new next) }
@@ -150,28 +150,30 @@ impl Feeder {
         }
     }
 
-    /// How many entries were placed.
+    /// Returns how many entries were placed.
     pub fn count(&self) -> u64
         ensures { result ≡ length self.now.placed }
     {
         self.count
     }
 
-    /// The samples that were dropped so far. This takes no memory, and its time does not grow.
+    /// Returns the samples that were dropped so far. This takes no memory, and its time does not
+    /// grow.
     pub fn dropped(&self) -> &Ledger
         ensures { result.now.names ≡ named (dropped self.now.choice self.now.placed) }
     {
         &self.part
     }
 
-    /// How many samples were placed so far whose series the rules drop.
+    /// Returns how many samples were placed so far whose series the rules drop.
     pub fn filtered(&self) -> u64
         ensures { result ≡ length (filtered self.now.choice self.now.placed) }
     {
         self.router.filtered()
     }
 
-    /// The samples that were dropped, and how many samples were placed whose series the rules drop.
+    /// Returns the samples that were dropped, and how many samples were placed whose series the
+    /// rules drop.
     pub fn finish(self) -> (Ledger, u64)
         ensures names { result.0.names ≡ named (dropped self.choice self.placed) }
         ensures filtered { result.1 ≡ length (filtered self.choice self.placed) }

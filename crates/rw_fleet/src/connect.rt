@@ -15,8 +15,8 @@ pub trait Connect {
     /// What a worker waits by.
     type P: Pause + Send + Drop + 'static;
 
-    /// The transport and the pause for the worker of shard `shard` of epoch `epoch`. The transport
-    /// has made no exchange yet.
+    /// Returns the transport and the pause for the worker of shard `shard` of epoch `epoch`. The
+    /// transport has made no exchange yet.
     fn transport(&mut self, epoch: u64, shard: u32) -> Result<(Self::T, Self::P), AllocError>
         ensures unused { IfOk result (λ r. Self.T.seen r.0 ≡ []) }
         ensures made { IfOk result (λ r. Self.T.is_for epoch shard r.0) };

@@ -71,9 +71,9 @@ impl<C: Connect + Drop> Model for ShardSet<C> {
 }
 
 impl<C: Connect + Drop> ShardSet<C> {
-    /// A fleet before epoch 0 is opened: it has no shard. The workers of all epochs look at `stop`:
-    /// where another thread sets it they leave what is not sent and let go of their queues, so that
-    /// nobody waits for room in them.
+    /// Returns a fleet before epoch 0 is opened: it has no shard. The workers of all epochs look at
+    /// `stop`: where another thread sets it they leave what is not sent and let go of their queues,
+    /// so that nobody waits for room in them.
     pub fn new(alloc: Global, config: Config, connect: C, stop: StopFlag) -> ShardSet<C>
         ensures { result ≡ record { config = config; epoch = 0; current = []; ended = [] } }
     {
@@ -89,7 +89,7 @@ impl<C: Connect + Drop> ShardSet<C> {
         }
     }
 
-    /// How many shards are at work.
+    /// Returns how many shards are at work.
     pub fn len(&self) -> usize
         ensures len { result ≡ length self.now.current }
         ensures within { result ≤ 1000 }
@@ -97,15 +97,15 @@ impl<C: Connect + Drop> ShardSet<C> {
         self.running.len()
     }
 
-    /// The epoch: how often the number of shards has changed.
+    /// Returns the epoch: how often the number of shards has changed.
     pub fn epoch(&self) -> u64
         ensures { result ≡ self.now.epoch }
     {
         self.epoch
     }
 
-    /// How many of the samples that one shard was put may wait to be resolved: as many as its queue
-    /// holds, and a batch.
+    /// Returns how many of the samples that one shard was put may wait to be resolved: as many as
+    /// its queue holds, and a batch.
     pub fn window(&self) -> usize
         ensures { result ≡ window_of self.now.config }
     {
@@ -113,8 +113,8 @@ impl<C: Connect + Drop> ShardSet<C> {
         fields.capacity.get() as usize + fields.batch.get() as usize
     }
 
-    /// How far the samples of all shards have come, as far as the workers have told. Those that
-    /// only wait for a full batch count as resolved.
+    /// Returns how far the samples of all shards have come, as far as the workers have told. Those
+    /// that only wait for a full batch count as resolved.
     pub fn load(&self) -> Load
         ensures { IsLoad self.now result }
     {

@@ -45,7 +45,7 @@ pub struct StoppedShard<T> {
 }
 
 impl<T: Transport> StoppedShard<T> {
-    /// Whether all samples that were put were taken, and are resolved.
+    /// Returns whether all samples that were put were taken, and are resolved.
     pub fn is_resolved(&self) -> bool
         ensures { result ≡ is_resolved self.now }
     {

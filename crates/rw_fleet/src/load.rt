@@ -26,8 +26,8 @@ impl Load {
         }
     }
 
-    /// The load with one shard more, of whose samples `resolved` are resolved and `left` may not
-    /// be.
+    /// Returns the load with one shard more, of whose samples `resolved` are resolved and `left`
+    /// may not be.
     pub(crate) fn with(self, resolved: u64, left: u64) -> Load
         ensures { (r l : ℕ) → self ≡ load_of r l → result ≡ load_of (r + resolved) (l + left) }
     {

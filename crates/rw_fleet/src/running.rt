@@ -145,15 +145,15 @@ impl<T: Transport + Send + Drop + 'static> RunningShard<T> {
         })
     }
 
-    /// How many samples were put.
+    /// Returns how many samples were put.
     pub(crate) fn count(&self) -> u64
         ensures { result ≡ count_in self.now }
     {
         self.window.len()
     }
 
-    /// How many samples wait to be resolved, as far as the worker has told: at most `most`, and
-    /// none where they only wait for the `batch` samples of a full batch.
+    /// Returns how many samples wait to be resolved, as far as the worker has told: at most `most`,
+    /// and none where they only wait for the `batch` samples of a full batch.
     pub(crate) fn waiting(&self, batch: u64, most: u64) -> u64
         ensures { result ≤ left_at_work most self.now }
     {

@@ -31,7 +31,7 @@ impl Model for Window {
 }
 
 impl Window {
-    /// A window without positions. It takes the memory for as many as are kept.
+    /// Returns a window without positions. It takes the memory for as many as are kept.
     pub(crate) fn new(alloc: Global, most: usize) -> Result<Window, AllocError>
         requires { 0 < most }
         ensures { IfOk result (λ w. w ≡ record { all = []; most = most }) }
@@ -44,7 +44,7 @@ impl Window {
         })
     }
 
-    /// How many positions were put.
+    /// Returns how many positions were put.
     pub(crate) fn len(&self) -> u64
         ensures { result ≡ length self.now.all }
     {
@@ -66,7 +66,7 @@ impl Window {
         self.all.push(&position);
     }
 
-    /// The positions behind the first `resolved`, of which no more are left than are kept.
+    /// Returns the positions behind the first `resolved`, of which no more are left than are kept.
     /// Where none is left, no room is kept.
     pub(crate) fn behind(self, resolved: u64) -> Vec<u64>
         requires { length self.all ≤ resolved + self.most }

@@ -54,7 +54,7 @@ impl Model for Listed {
 }
 
 impl Listed {
-    /// A log of one segment that is empty.
+    /// Returns a log of one segment that is empty.
     pub fn new(alloc: Global, events: VecDeque<Event>) -> Listed
         ensures { result ≡ record { done = []; given = []; rest = []; after = []; gap = None } }
     {

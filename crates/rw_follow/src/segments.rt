@@ -34,7 +34,7 @@ pub trait Segments {
         ensures reads { Reads (now self.old) (now self.new) result buf.new }
         ensures sure { is_sure self.old ≡ true → (is_sure self.new ≡ true) × IsOk result };
 
-    /// What comes after the current segment.
+    /// Returns what comes after the current segment.
     fn look(&mut self) -> Result<Ahead, ReadFault>
         ensures passes { Passes (now self.old) [] (now self.new) }
         ensures nothing { result ≡ Ok Ahead.Nothing → Known (now self.new) IsLast }

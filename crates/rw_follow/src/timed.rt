@@ -23,8 +23,8 @@ pub struct Timed<K, G> {
     is_due: bool,
 }
 
-/// Whether so much time has passed since a moment, which is forgotten then. Where there is no
-/// moment, it is now. None where the clock cannot be read.
+/// Returns whether so much time has passed since a moment, which is forgotten then. Where there is
+/// no moment, it is now. None where the clock cannot be read.
 fn has_passed<K: Clock>(clock: &K, since: &mut Option<Instant>, time: Duration) -> Option<bool> {
     let Ok(now) = Instant::now(clock) else {
         return None;
@@ -84,13 +84,13 @@ impl<K: Clock, G: Sign> Watch for Timed<K, G> {
         thread::sleep(&self.clock, self.poll);
     }
 
-    /// What cannot be timed is flushed.
+    /// Returns what cannot be timed is flushed.
     fn is_flush_due(&mut self) -> bool {
         self.is_due = has_passed(&self.clock, &mut self.waits_since, self.patience).unwrap_or(true);
         self.is_due
     }
 
-    /// What cannot be timed is not asked for.
+    /// Returns what cannot be timed is not asked for.
     fn is_reshard_due(&mut self) -> bool {
         has_passed(&self.clock, &mut self.asked_at, self.reshard).unwrap_or(false)
     }

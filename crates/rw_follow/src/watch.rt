@@ -15,7 +15,7 @@ pub enum Wish {
 
 /// A sign that others set.
 pub trait Sign {
-    /// What is wished now.
+    /// Returns what is wished now.
     fn wish(&mut self) -> Wish;
 }
 
@@ -36,7 +36,7 @@ pub trait Watch {
     /// How many naps there were so far.
     ghost naps: { Self → ℕ };
 
-    /// What is wished now.
+    /// Returns what is wished now.
     fn wish(&mut self) -> Wish
         ensures said { said self.new ≡ result }
         ensures awake { tells self.new → tells self.old × (naps self.new ≡ naps self.old) };
@@ -45,13 +45,13 @@ pub trait Watch {
     fn nap(&mut self)
         ensures { tells self.new → tells self.old × (naps self.new ≡ suc (naps self.old)) };
 
-    /// Whether what was fed since the last flush has waited long enough. It is asked while
+    /// Returns whether what was fed since the last flush has waited long enough. It is asked while
     /// something waits.
     fn is_flush_due(&mut self) -> bool
         ensures due { due self.new ≡ result }
         ensures awake { tells self.new → tells self.old × (naps self.new ≡ naps self.old) };
 
-    /// Whether the number of shards is to be asked for again. It is asked at each turn.
+    /// Returns whether the number of shards is to be asked for again. It is asked at each turn.
     fn is_reshard_due(&mut self) -> bool
         ensures awake { tells self.new → tells self.old × (naps self.new ≡ naps self.old) };
 }

@@ -26,15 +26,15 @@ impl<T> Model for History<T> {
 }
 
 impl<T> History<T> {
-    /// An empty history.
+    /// Returns an empty history.
     pub fn new() -> History<T>
         ensures { result ≡ [] }
     {
         History::of(&[])
     }
 
-    /// A history of the items of a slice, in order. A `History<u8>` so made stands for the bytes in
-    /// an item of another history.
+    /// Returns a history of the items of a slice, in order. A `History<u8>` so made stands for the
+    /// bytes in an item of another history.
     pub fn of(items: &[T]) -> History<T>
         ensures { result ≡ items.now }
     {
@@ -57,7 +57,7 @@ impl<T> History<T> {
         self.items = record_of::<(&Record<T>, &[T]), T, Extended>(&(&self.items, items));
     }
 
-    /// A second history with the items of this one.
+    /// Returns a second history with the items of this one.
     pub fn again(&self) -> History<T>
         ensures { result ≡ self.now }
     {

@@ -44,7 +44,7 @@ fn ask<R: Wait, L: Endpoint>(
     asker.status
 }
 
-/// The answer that a sender has: what was not asked is lost.
+/// Returns the answer that a sender has: what was not asked is lost.
 fn answer_of(status: Option<u16>) -> Result<Reply, Lost>
     ensures { IfOk result (λ r. status ≡ Some r.status) }
 {

@@ -70,7 +70,7 @@ impl<L: Endpoint> Receiver<L> {
         }
     }
 
-    /// What its endpoint reads.
+    /// Returns what its endpoint reads.
     pub fn limits(&self) -> &Limits
         ensures path { result.now.path ≡ L.path }
         ensures limit { result.now.max_body_bytes ≡ L.limit }
@@ -78,14 +78,14 @@ impl<L: Endpoint> Receiver<L> {
         &self.limits
     }
 
-    /// The head that its endpoint asks.
+    /// Returns the head that its endpoint asks.
     pub fn shared(&self) -> &SharedHead<L>
         ensures { result.now ≡ self.now }
     {
         &self.shared
     }
 
-    /// The head that the seats share.
+    /// Returns the head that the seats share.
     pub fn into_shared(self) -> SharedHead<L>
         ensures { result ≡ self }
     {

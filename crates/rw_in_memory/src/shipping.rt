@@ -56,7 +56,7 @@ fn feed_all<R: Wait, C: Connect + Drop>(
     Ok(())
 }
 
-/// The seat of a worker's transport.
+/// Returns the seat of a worker's transport.
 fn seat_in<R: Drop, L: Endpoint>(finished: Finished<Line<R, L>>) -> Seat<L>
     ensures seat { result ≡ seat_of finished }
     ensures line { IsLine L.opening L.path L.limit finished.transport }
@@ -64,7 +64,7 @@ fn seat_in<R: Drop, L: Endpoint>(finished: Finished<Line<R, L>>) -> Seat<L>
     finished.transport.into_seat()
 }
 
-/// The seats of the workers' transports.
+/// Returns the seats of the workers' transports.
 fn seats_of<R: Drop, L: Endpoint>(
     alloc: Global,
     workers: Vec<Finished<Line<R, L>>>,
@@ -197,7 +197,7 @@ fn ship_shared<
     ship_to(rt, alloc, config, log, receiver, seats, pause)
 }
 
-/// The path of a target, as that of an endpoint.
+/// Returns the path of a target, as that of an endpoint.
 fn path_of(alloc: Global, target: &Target) -> Result<RequestPath, AllocError>
     ensures { IfOk result (λ path. path ≡ target.now.path) }
 {
@@ -208,7 +208,8 @@ fn path_of(alloc: Global, target: &Target) -> Result<RequestPath, AllocError>
     }
 }
 
-/// How many shards a configuration has. The other fields are read for what their types say of them.
+/// Returns how many shards a configuration has. The other fields are read for what their types say
+/// of them.
 fn count_of(config: &Config) -> u64
     ensures count { result ≡ config.now.shards }
     ensures sound { IsSound config.now }

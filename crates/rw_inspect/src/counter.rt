@@ -49,7 +49,8 @@ impl Model for Counter {
         c.troubles };
 }
 
-/// What becomes of a sample with this reference and timestamp, where all label sets are kept.
+/// Returns what becomes of a sample with this reference and timestamp, where all label sets are
+/// kept.
 fn judge(cache: &Cache, reference: u64, t: i64) -> Judged
     ensures judged { IsJudged cache.now reference t result }
     ensures noted { CanBeNoted cache.now t result }
@@ -148,14 +149,14 @@ impl Counter {
         self.sums_here = Sums::new();
     }
 
-    /// What the entries of the segment at hand add up to.
+    /// Returns what the entries of the segment at hand add up to.
     pub fn sums_here(&self) -> Sums
         ensures { result ≡ sums_of self.now.here }
     {
         self.sums_here
     }
 
-    /// What is counted of all entries.
+    /// Returns what is counted of all entries.
     pub fn counts(&self) -> Counts
         ensures { result ≡ counts_of self.now.entries }
     {
@@ -168,7 +169,7 @@ impl Counter {
         }
     }
 
-    /// The positions of the first ten samples that do not rise.
+    /// Returns the positions of the first ten samples that do not rise.
     pub fn first_not_rising(&self) -> &[u64]
         ensures { result.now ≡ take 10 (not_rising (troubles_of self.now.entries)) }
     {

@@ -32,7 +32,7 @@ pub struct Found {
     pub damage: Option<Damage>,
 }
 
-/// All label sets, with names of any text.
+/// Returns all label sets, with names of any text.
 fn any_names(alloc: Global) -> Choice
     ensures { result ≡ any_names }
 {
@@ -131,7 +131,7 @@ fn push_entry(
     }
 }
 
-/// The text that is noted of a position.
+/// Returns the text that is noted of a position.
 fn text_noted<'a>(notes: &'a [(u64, Vec<u8>)], position: u64) -> Option<&'a [u8]>
     ensures { MatchOption result (noted_at (map told notes.now) position
         ≡ None) (λ text. noted_at (map told notes.now) position ≡ Some text.now) }
@@ -144,7 +144,7 @@ fn text_noted<'a>(notes: &'a [(u64, Vec<u8>)], position: u64) -> Option<&'a [u8]
     None
 }
 
-/// The name of the segment in which a position stands.
+/// Returns the name of the segment in which a position stands.
 fn name_at<'a>(segments: &'a [Segment], position: u64) -> &'a str
     ensures { result.now ≡ name_at segments.now position }
 {
@@ -245,7 +245,7 @@ impl Finder {
         }
     }
 
-    /// The text of the next entry, where its position is asked for.
+    /// Returns the text of the next entry, where its position is asked for.
     fn note_of(&self, entry: &Entry) -> Result<Option<Vec<u8>>, AllocError>
         ensures { IfOk result (λ note. notes_in (length self.now.entries) note
             ≡ note_of self.now.positions.items self.now.entries entry.now) }
@@ -283,7 +283,7 @@ impl Finder {
         }
     }
 
-    /// The lines of all positions, and how many of them have no entry.
+    /// Returns the lines of all positions, and how many of them have no entry.
     fn lines(&self, segments: &[Segment]) -> Result<(Vec<u8>, u64), AllocError>
         ensures text { IfOk result (λ found. found.0.items
             ≡ flat_map (position_text segments.now self.now.entries) self.now.positions.items) }

@@ -49,7 +49,7 @@ impl Here {
         Ok(())
     }
 
-    /// What they add up to.
+    /// Returns what they add up to.
     pub(crate) fn sums(&self) -> Sums
         ensures { result ≡ sums_of self.now }
     {

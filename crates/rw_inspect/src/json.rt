@@ -220,7 +220,7 @@ fn push_any_damage(
     }
 }
 
-/// A report as JSON: a line for each segment, one for all, and one for a fault.
+/// Returns a report as JSON: a line for each segment, one for all, and one for a fault.
 #[tactic(auto, unfolding(crate::specs::Texts::report_json))]
 pub fn json_of(alloc: Global, report: &Report) -> Result<Vec<u8>, AllocError>
     ensures { IfOk result (λ text. text.items ≡ report_json report.now) }

@@ -77,7 +77,7 @@ pub(crate) fn push_time_field(
     push_time(out, time)
 }
 
-/// The hexadecimal digit of a number below 16.
+/// Returns the hexadecimal digit of a number below 16.
 fn digit(n: u8) -> u8
     requires { n < 16 }
     ensures { result ≡ digit n }

@@ -19,7 +19,7 @@ pub(crate) enum Next {
     End(Option<TailFault>),
 }
 
-/// What comes next.
+/// Returns what comes next.
 fn next_of(tail: &mut Tail) -> Result<Next, AllocError>
     ensures { IfOk result (ComesNext tail.old tail.new) }
 {

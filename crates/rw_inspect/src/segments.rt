@@ -114,7 +114,7 @@ fn read_all<S: Source + Drop, T: Taker>(
     Ok(None)
 }
 
-/// The damage of a log with this fault, if it has one.
+/// Returns the damage of a log with this fault, if it has one.
 fn damage_of(tail: &Tail, fault: Option<TailFault>) -> Option<Damage>
     ensures { fault_in result ≡ fault }
 {
@@ -150,7 +150,7 @@ pub fn read_into<S: Source + Drop, T: Taker>(
     })
 }
 
-/// The report of what was read, and counted.
+/// Returns the report of what was read, and counted.
 fn report_of(alloc: Global, counts: &Counter, read: LogRead) -> Result<Report, AllocError>
     ensures { IfOk result (Reports counts.now.entries read.segments.items read.damage) }
 {

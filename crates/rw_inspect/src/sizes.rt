@@ -16,7 +16,7 @@ pub(crate) struct Sizes {
     pub(crate) passed: u64,
 }
 
-/// How many pages so many bytes take.
+/// Returns how many pages so many bytes take.
 fn pages_of(bytes: u64) -> u64
     ensures { result ≡ pages_of bytes }
 {
@@ -27,7 +27,7 @@ fn pages_of(bytes: u64) -> u64
     }
 }
 
-/// A sum. One that does not fit is want of memory.
+/// Returns a sum. One that does not fit is want of memory.
 fn sum(a: u64, b: u64) -> Result<u64, AllocError>
     ensures { IfOk result (λ n. n ≡ a + b) }
 {

@@ -195,8 +195,8 @@ fn push_any_damage(
     }
 }
 
-/// A report as a table: a row for each segment, one for all, what was found in the log, and its
-/// fault.
+/// Returns a report as a table: a row for each segment, one for all, what was found in the log, and
+/// its fault.
 #[tactic(auto, unfolding(crate::specs::Texts::report_text))]
 pub fn table_of(alloc: Global, report: &Report) -> Result<Vec<u8>, AllocError>
     ensures { IfOk result (λ text. text.items ≡ report_text report.now) }

@@ -34,7 +34,7 @@ pub trait Taker {
             }) }
         ensures task { OnOk result (task self.new ≡ task self.old) };
 
-    /// What the entries of the segment at hand add up to.
+    /// Returns what the entries of the segment at hand add up to.
     fn sums_here(&self) -> Sums
         ensures sums { result ≡ sums_of (counted self.now).here };
 }

@@ -99,7 +99,7 @@ impl Troubles {
         self.not_rising
     }
 
-    /// The positions of the first ten that do not rise.
+    /// Returns the positions of the first ten that do not rise.
     pub(crate) fn first_not_rising(&self) -> &[u64]
         ensures { result.now ≡ take 10 (not_rising self.now) }
     {

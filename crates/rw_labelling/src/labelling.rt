@@ -47,7 +47,7 @@ impl Labelling {
         }
     }
 
-    /// The message of the samples that have a label set.
+    /// Returns the message of the samples that have a label set.
     pub fn into_message(self) -> Message
         ensures { result ≡ message (labelled self) }
     {

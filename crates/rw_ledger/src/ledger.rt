@@ -51,7 +51,7 @@ impl Model for Ledger {
         × (vec_len l.names + l.room ≤ vec_capacity l.names) };
 }
 
-/// The place where a position stands, or would stand.
+/// Returns the place where a position stands, or would stand.
 fn place_of(names: &[(u64, Reason)], pos: u64) -> usize
     requires { IsTrue (map.is_sorted nat_cmp names.now) }
     ensures { IsPlaceOf pos names.now result }
@@ -68,7 +68,7 @@ fn place_of(names: &[(u64, Reason)], pos: u64) -> usize
 }
 
 impl Ledger {
-    /// A ledger without names and without room. This takes no memory.
+    /// Returns a ledger without names and without room. This takes no memory.
     pub fn new(alloc: Global) -> Ledger
         ensures names { result.names ≡ map.empty }
         ensures room { result.room ≡ 0 }
@@ -136,14 +136,14 @@ impl Ledger {
         None
     }
 
-    /// The named positions in ascending order, each with its reason.
+    /// Returns the named positions in ascending order, each with its reason.
     pub fn iter(&self) -> slice::Iter<'_, (u64, Reason)>
         ensures { iter_rest result ≡ map.entries self.now.names }
     {
         self.names.iter()
     }
 
-    /// How many samples are named.
+    /// Returns how many samples are named.
     pub fn total(&self) -> usize
         ensures { result ≡ map.len self.now.names }
     {

@@ -46,7 +46,7 @@ pub(crate) struct Filled<'a> {
     pub(crate) rest: &'a [u8],
 }
 
-/// A writer of a segment in memory.
+/// Returns a writer of a segment in memory.
 fn new_segment(alloc: Global, pages: usize) -> Result<SegmentWriter<Room>, AllocError>
     requires some { 1 ≤ pages }
     requires most { pages ≤ 4096 }
@@ -65,7 +65,7 @@ fn end_filling(writer: SegmentWriter<Room>, rest: &[u8]) -> Filled<'_>
     }
 }
 
-/// The segment of the records with which a text begins, as many as have room.
+/// Returns the segment of the records with which a text begins, as many as have room.
 pub(crate) fn fill(alloc: Global, text: &[u8], pages: usize) -> Result<Filled<'_>, AllocError>
     requires some { 1 ≤ pages }
     requires most { pages ≤ 4096 }

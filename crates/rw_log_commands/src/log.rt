@@ -23,7 +23,7 @@ const PAGE_DATA_BYTES: usize = 32 * 1024 - 7;
 /// The names of segment files have eight digits.
 const MAX_SEGMENTS: u32 = 100_000_000;
 
-/// The segment of the records of log text.
+/// Returns the segment of the records of log text.
 fn one_segment(alloc: Global, text: &[u8], pages: usize) -> Result<Vec<u8>, ToolFault>
     requires some { 1 ≤ pages }
     requires most { pages ≤ 4096 }

@@ -8,7 +8,7 @@ use rw_fault::ToolFault;
 use rw_text::{TextFault, first_line, read_record};
 use std::alloc::Global;
 
-/// The length of the record of a line; 0 for an empty line, which has none.
+/// Returns the length of the record of a line; 0 for an empty line, which has none.
 fn record_len(alloc: Global, line: &[u8]) -> Result<usize, TextFault>
     ensures ok { IfOk result (λ len. (recs : List (List ℕ)) × AreRecords (line.now ∷ []) recs
         × (len ≡ longest_of recs)) }

@@ -61,7 +61,7 @@ fn read_hex_plan<R: Source>(
     read_plan(alloc, &mut segment.as_slice(), choice)
 }
 
-/// Which series the settings send.
+/// Returns which series the settings send.
 fn choice_in(settings: Settings) -> Choice
     ensures { result ≡ choice_of settings.config }
 {

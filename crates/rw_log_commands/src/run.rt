@@ -71,7 +71,7 @@ fn read_hex_body<R: Source>(alloc: Global, reader: &mut R) -> Result<Vec<u8>, To
     read_body(alloc, &mut segment.as_slice())
 }
 
-/// What is written of a text.
+/// Returns what is written of a text.
 pub(crate) fn output_of(alloc: Global, text: Vec<u8>, hex: bool) -> Result<Vec<u8>, AllocError>
     ensures { IfOk result (λ v. v.items ≡ output_of hex text.items) }
 {

@@ -55,7 +55,7 @@ fn newest(checkpoints: Vec<Checkpoint>) -> Option<Checkpoint>
     checkpoints.pop()
 }
 
-/// The first number after `last` that is missing among names in order.
+/// Returns the first number after `last` that is missing among names in order.
 fn gap_after(last: u64, names: &[Name]) -> Option<u64>
     ensures { result ≡ gap_after last names.now }
 {
@@ -93,7 +93,7 @@ fn keep_above(segments: &mut Vec<Name>, number: u64)
     segments.retain(|segment| number < segment.number);
 }
 
-/// The files of a log without a checkpoint.
+/// Returns the files of a log without a checkpoint.
 fn whole_folder(alloc: Global, segments: Vec<Name>) -> Result<Vec<Place>, AllocError>
     ensures { IfOk result (λ places. IsReadAfter None segments.items places.items) }
 {
@@ -104,7 +104,7 @@ fn whole_folder(alloc: Global, segments: Vec<Name>) -> Result<Vec<Place>, AllocE
     Ok(places)
 }
 
-/// The files of a checkpoint, and those after it.
+/// Returns the files of a checkpoint, and those after it.
 fn both_places(
     alloc: Global,
     checkpoint: Name,
@@ -120,7 +120,7 @@ fn both_places(
     Ok(places)
 }
 
-/// The files of a log from a checkpoint on.
+/// Returns the files of a log from a checkpoint on.
 fn log_from(
     alloc: Global,
     checkpoint: Checkpoint,

@@ -27,7 +27,7 @@ pub(crate) enum Asked {
     More,
 }
 
-/// What these bytes ask for.
+/// Returns what these bytes ask for.
 pub(crate) fn wanted(buf: &[u8]) -> Asked
     ensures page { result ≡ Asked.Page → AsksForPage buf.now }
     ensures html { result ≡ Asked.Html → AsksForHtml buf.now }

@@ -19,7 +19,8 @@ pub enum Cause {
     Status(u16),
 }
 
-/// The number of a cause, behind which an atomic word keeps it: that of a status is its own.
+/// Returns the number of a cause, behind which an atomic word keeps it: that of a status is its
+/// own.
 pub(crate) fn number_of(cause: Cause) -> u64 {
     match cause {
         Cause::Connect => 1,
@@ -32,7 +33,7 @@ pub(crate) fn number_of(cause: Cause) -> u64 {
     }
 }
 
-/// The cause of a number.
+/// Returns the cause of a number.
 pub(crate) fn cause_of(number: u64) -> Option<Cause> {
     match number {
         0 => None,

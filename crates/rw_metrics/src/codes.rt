@@ -29,7 +29,7 @@ impl Codes {
         }
     }
 
-    /// The statuses that came, in ascending order, each with how often.
+    /// Returns the statuses that came, in ascending order, each with how often.
     pub(crate) fn read(&self, alloc: Global) -> Result<Vec<(u16, u64)>, AllocError> {
         let mut came = Vec::new(alloc);
         let mut status = 0u16;

@@ -74,7 +74,7 @@ pub(crate) fn push_last_told(out: &mut Vec<u8>, last: Option<Cause>) -> Result<(
     }
 }
 
-/// How many hundredths of so many bytes were read, at most 100.
+/// Returns how many hundredths of so many bytes were read, at most 100.
 pub(crate) fn percent(bytes: u64, all: u64) -> u64
     requires { 0 < all }
     ensures { result ≡ percent bytes all }
@@ -119,9 +119,9 @@ fn push_work_line(out: &mut Vec<u8>, n: &SendNumbers) -> Result<(), AllocError>
     Ok(())
 }
 
-/// The progress of a sender with these numbers, in one line: `entries N placed N resolved N dropped
-/// N filtered N waiting N shards N attempts N failed N`, where an attempt has failed ` last CAUSE`,
-/// ` segment N bytes N`, and where the bytes of the folder are known ` percent N`.
+/// Returns the progress of a sender with these numbers, in one line: `entries N placed N resolved N
+/// dropped N filtered N waiting N shards N attempts N failed N`, where an attempt has failed ` last
+/// CAUSE`, ` segment N bytes N`, and where the bytes of the folder are known ` percent N`.
 pub fn send_line(alloc: Global, numbers: &SendNumbers) -> Result<Vec<u8>, AllocError>
     ensures { IfOk result (λ line. line.items ≡ send_line numbers.now) }
 {
@@ -131,8 +131,8 @@ pub fn send_line(alloc: Global, numbers: &SendNumbers) -> Result<Vec<u8>, AllocE
     Ok(out)
 }
 
-/// The progress of a receiver with these numbers, in one line: `connections N accepted N samples
-/// N`, and ` status_NNN N` for each status.
+/// Returns the progress of a receiver with these numbers, in one line: `connections N accepted N
+/// samples N`, and ` status_NNN N` for each status.
 pub fn receive_line(alloc: Global, numbers: &ReceiveNumbers) -> Result<Vec<u8>, AllocError>
     ensures { IfOk result (λ line. line.items ≡ receive_line numbers.now) }
 {
@@ -145,8 +145,8 @@ pub fn receive_line(alloc: Global, numbers: &ReceiveNumbers) -> Result<Vec<u8>, 
     Ok(out)
 }
 
-/// How many samples a sender has dropped, in one line: `dropped N noseries N badlabels N notrising
-/// N`, and ` status_NNN N` for each status.
+/// Returns how many samples a sender has dropped, in one line: `dropped N noseries N badlabels N
+/// notrising N`, and ` status_NNN N` for each status.
 pub fn drops_line(alloc: Global, drops: &Drops) -> Result<Vec<u8>, AllocError>
     ensures { IfOk result (λ line. line.items ≡ drops_line drops.now) }
 {

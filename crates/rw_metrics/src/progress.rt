@@ -19,8 +19,8 @@ pub enum Screen {
     Lines,
 }
 
-/// What stands behind a line: on a terminal the rest of the one before is cleared, and the next one
-/// is written over it, unless it is the last one.
+/// Returns what stands behind a line: on a terminal the rest of the one before is cleared, and the
+/// next one is written over it, unless it is the last one.
 fn line_end(screen: Screen, is_last: bool) -> &'static [u8] {
     match screen {
         Screen::Terminal if is_last => b"\x1b[K\n",

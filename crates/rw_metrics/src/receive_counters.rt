@@ -65,7 +65,7 @@ impl ReceiveCounters {
         self.label_sets.fetch_max(count as u64, Ordering::Relaxed);
     }
 
-    /// What was counted.
+    /// Returns what was counted.
     pub fn numbers(&self, alloc: Global) -> Result<ReceiveNumbers, AllocError> {
         let statuses = self.statuses.read(alloc)?;
         let ended = read(&self.ended);

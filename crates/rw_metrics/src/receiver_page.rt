@@ -66,7 +66,7 @@ fn push_held(out: &mut Vec<u8>, n: &ReceiveNumbers) -> Result<(), AllocError>
     Ok(())
 }
 
-/// The page of a receiver with these numbers.
+/// Returns the page of a receiver with these numbers.
 pub fn receive_page(alloc: Global, numbers: &ReceiveNumbers) -> Result<Vec<u8>, AllocError>
     ensures { IfOk result (λ page. page.items ≡ receive_page numbers.now) }
 {

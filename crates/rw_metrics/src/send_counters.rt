@@ -28,7 +28,7 @@ impl DropCounters {
         })
     }
 
-    /// How many of them were never sent.
+    /// Returns how many of them were never sent.
     fn unsent(&self) -> u64 {
         read(&self.no_series)
             .saturating_add(read(&self.bad_labels))
@@ -214,7 +214,7 @@ impl SendCounters {
         }
     }
 
-    /// How many samples were dropped.
+    /// Returns how many samples were dropped.
     pub fn dropped(&self) -> u64 {
         read(&self.drops.all)
     }
@@ -246,7 +246,7 @@ impl SendCounters {
         }
     }
 
-    /// What was counted.
+    /// Returns what was counted.
     pub fn numbers(&self, alloc: Global) -> Result<SendNumbers, AllocError> {
         let drops = self.drops.numbers(alloc)?;
         let failures = self.failures.numbers(alloc)?;

@@ -125,7 +125,7 @@ fn push_attempts(out: &mut Vec<u8>, n: &SendNumbers) -> Result<(), AllocError>
     Ok(())
 }
 
-/// The page of a sender with these numbers.
+/// Returns the page of a sender with these numbers.
 pub fn send_page(alloc: Global, numbers: &SendNumbers) -> Result<Vec<u8>, AllocError>
     ensures { IfOk result (λ page. page.items ≡ send_page numbers.now) }
 {

@@ -55,7 +55,7 @@ pub(crate) fn begin<'s, E, L: Naming + Send + Sync + 's, R: Wait + Clock + Sync>
 }
 
 impl<L: Naming> Busy<L> {
-    /// What became of it by now. Nobody is waited for.
+    /// Returns what became of it by now. Nobody is waited for.
     pub(crate) fn try_end<R: Threads>(self, rt: &R) -> Connection<L> {
         if self.has_ended.load(Ordering::SeqCst) {
             Connection::Ended(self.wait(rt))

@@ -64,7 +64,7 @@ impl Model for PlainQueue {
 }
 
 impl PlainQueue {
-    /// An empty queue that holds at most `capacity` items, marks included.
+    /// Returns an empty queue that holds at most `capacity` items, marks included.
     pub fn new(alloc: Global, capacity: usize) -> Result<PlainQueue, AllocError>
         ensures { IfOk result
             (λ q. q ≡ record {
@@ -146,14 +146,14 @@ impl PlainQueue {
         self.killed = true;
     }
 
-    /// The items that the queue holds, the front first.
+    /// Returns the items that the queue holds, the front first.
     pub fn iter(&self) -> Iter<'_, Item>
         ensures { deque_iter_rest result ≡ self.now.items }
     {
         self.items.iter()
     }
 
-    /// How many items the queue holds, marks included.
+    /// Returns how many items the queue holds, marks included.
     pub fn len(&self) -> usize
         ensures len { result ≡ length self.now.items }
         ensures within { result ≤ self.now.capacity }
@@ -161,7 +161,7 @@ impl PlainQueue {
         self.items.len()
     }
 
-    /// Whether the queue holds no item.
+    /// Returns whether the queue holds no item.
     pub fn is_empty(&self) -> bool
         ensures { IsTrue result ↔ (self.now.items ≡ []) }
     {

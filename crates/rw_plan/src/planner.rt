@@ -131,7 +131,7 @@ impl Planner {
         Ok(())
     }
 
-    /// The plan of the entries. A planner of which a call was refused has none.
+    /// Returns the plan of the entries. A planner of which a call was refused has none.
     pub fn into_text(self) -> Result<Vec<u8>, AllocError>
         ensures text { IfOk result (λ v. v.items ≡ plan_text self.choice self.entries) }
         ensures sound { OnOk result (self.has_failed ≡ false) }

@@ -16,7 +16,7 @@ use std::thread;
 use std::thread::{JoinHandle, Scope, Threads};
 use std::time::Clock;
 
-/// The next connection.
+/// Returns the next connection.
 fn accepted(listener: &TcpListener) -> Result<TcpStream, ToolFault>
     ensures { IfErr result (λ e. e ≡ Device) }
 {

@@ -37,8 +37,8 @@ impl Model for FinalHead {
 }
 
 impl FinalHead {
-    /// The head once all seats are back. It holds what it held at first, and what was stored from
-    /// each seat over all its connections.
+    /// Returns the head once all seats are back. It holds what it held at first, and what was
+    /// stored from each seat over all its connections.
     pub(crate) fn gather<L: Naming>(shared: SharedHead<L>, seats: Vec<Seat<L>>) -> FinalHead
         requires { vec_len seats ≡ shared.seats }
         ensures gathered { HasGathered L.opening seats.items result.store }

@@ -7,7 +7,7 @@ ghost use Rattle.rw_relabel.specs.Rules.{value_of};
 
 use std::alloc::{AllocError, Global};
 
-/// The value of the label of this name, or the empty text.
+/// Returns the value of the label of this name, or the empty text.
 fn value_in<'a>(labels: &'a [(String, String)], name: &str) -> &'a str
     ensures { result.now ≡ value_of (map text_label labels.now) name.now }
 {
@@ -19,7 +19,7 @@ fn value_in<'a>(labels: &'a [(String, String)], name: &str) -> &'a str
     ""
 }
 
-/// The values of the labels of these names, with the separator between them.
+/// Returns the values of the labels of these names, with the separator between them.
 pub(crate) fn join_values(
     alloc: Global,
     labels: &[(String, String)],

@@ -101,7 +101,7 @@ impl Rule {
         })
     }
 
-    /// Whether a series with these labels passes this rule.
+    /// Returns whether a series with these labels passes this rule.
     pub(crate) fn lets_pass(
         &self,
         alloc: Global,

@@ -25,15 +25,15 @@ impl Model for Rules {
 }
 
 impl Rules {
-    /// A list of these rules. This takes no memory.
+    /// Returns a list of these rules. This takes no memory.
     pub fn new(rules: Vec<Rule>) -> Rules
         ensures { result ≡ rules.items }
     {
         Rules { rules }
     }
 
-    /// Whether a series with these labels is kept: every `Keep` rule matches it, and no `Drop` rule
-    /// does.
+    /// Returns whether a series with these labels is kept: every `Keep` rule matches it, and no
+    /// `Drop` rule does.
     #[tactic(auto, unfolding(crate::specs::Rules::keeps))]
     pub fn keeps(&self, labels: &LabelSet) -> Result<bool, AllocError>
         ensures { IfOk result (λ b. b ≡ keeps self.now labels.now) }

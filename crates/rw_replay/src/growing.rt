@@ -13,7 +13,7 @@ pub(crate) struct Growing {
 impl Growing {
     ghost use Rattle.std.specs.Prelude.{◌≡◌, [], false};
 
-    /// A writer that holds nothing.
+    /// Returns a writer that holds nothing.
     pub(crate) fn new(alloc: Global) -> Growing
         ensures bytes { result.bytes.items ≡ [] }
         ensures sound { result.failed ≡ false }

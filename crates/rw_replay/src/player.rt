@@ -136,7 +136,7 @@ impl Player {
         Ok(())
     }
 
-    /// The state that the lines have led to, as text.
+    /// Returns the state that the lines have led to, as text.
     pub(crate) fn state(&self) -> Result<Vec<u8>, AllocError>
         ensures { IfOk result (λ text. text.items ≡ state_text self.now.machine.world) }
     {

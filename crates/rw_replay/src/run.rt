@@ -17,7 +17,7 @@ use rw_settings::Settings;
 use rw_types::{Sink, Source, read_to_end, write_all};
 use std::alloc::{AllocError, Global};
 
-/// The commands of a script.
+/// Returns the commands of a script.
 fn commands_of(alloc: Global, text: &[u8]) -> Result<Vec<Command>, ToolFault>
     ensures ok { IfOk result (λ commands. IsScript text.now (map order_of commands.items)) }
     ensures err { IfErr result (IsFaultOfText text.now) }
@@ -43,7 +43,7 @@ fn read_commands<R: Source>(alloc: Global, reader: &mut R) -> Result<Vec<Command
     commands_of(alloc, &text)
 }
 
-/// The text of the state that commands lead to.
+/// Returns the text of the state that commands lead to.
 fn state_after(
     alloc: Global,
     settings: Settings,

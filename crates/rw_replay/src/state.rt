@@ -20,7 +20,7 @@ fn push_all_received(out: &mut Vec<u8>, world: &World) -> Result<(), AllocError>
     Ok(())
 }
 
-/// The state of a world as text, one fact a line.
+/// Returns the state of a world as text, one fact a line.
 pub(crate) fn text_of(alloc: Global, world: &World) -> Result<Vec<u8>, AllocError>
     ensures { IfOk result (λ text. text.items ≡ state_text world.now.world) }
 {

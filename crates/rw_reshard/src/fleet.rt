@@ -98,7 +98,7 @@ fn make_shards<M: Make>(
     Ok(())
 }
 
-/// Whether all shards are drained.
+/// Returns whether all shards are drained.
 fn all_drained<S: Shard>(shards: &[S]) -> bool
     ensures { result ≡ list_all S.is_drained shards.now }
 {
@@ -106,7 +106,7 @@ fn all_drained<S: Shard>(shards: &[S]) -> bool
 }
 
 impl<S, G: Stage> Fleet<S, G> {
-    /// The shards of this epoch, in the order of their numbers.
+    /// Returns the shards of this epoch, in the order of their numbers.
     pub fn shards_mut(&mut self) -> &mut [S]
         ensures* writes_back { sem 𝓛 (lends_shards S.row G.row G.Stage self.entry result) }
         ensures shards { result.now ≡ self.old.running }
@@ -114,7 +114,7 @@ impl<S, G: Stage> Fleet<S, G> {
         self.running.as_mut_slice()
     }
 
-    /// The shards of this epoch, and those of the next one that a refused `next` has made.
+    /// Returns the shards of this epoch, and those of the next one that a refused `next` has made.
     pub fn into_shards(self) -> (Vec<S>, Vec<S>)
         ensures running { result.0.items ≡ self.running }
         ensures made { result.1.items ≡ self.made }
@@ -132,7 +132,7 @@ impl<S, G: Stage> Fleet<S, G> {
 }
 
 impl<S: Shard> Fleet<S, Running> {
-    /// The `n` shards of epoch 0. Where memory runs out, those that were made come back.
+    /// Returns the `n` shards of epoch 0. Where memory runs out, those that were made come back.
     pub fn first<M: Make<S = S>>(
         alloc: Global,
         n: u32,

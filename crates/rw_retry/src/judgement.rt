@@ -16,8 +16,8 @@ pub enum Judgement {
     Refused,
 }
 
-/// What a reply of this status means for its batch (Remote-Write 1.0, "Retries & backoff"). This
-/// takes no memory.
+/// Returns what a reply of this status means for its batch (Remote-Write 1.0, "Retries & backoff").
+/// This takes no memory.
 pub fn judge(status: StatusCode) -> Judgement
     ensures { result ≡ judgement_of status }
 {

@@ -50,8 +50,8 @@ impl Model for Router {
 }
 
 impl Router {
-    /// A router before the first entry of a log. `choice` says which series are sent. This takes no
-    /// memory.
+    /// Returns a router before the first entry of a log. `choice` says which series are sent. This
+    /// takes no memory.
     pub fn new(alloc: Global, choice: Choice) -> Router
         ensures cache { result.cache
             ≡ record { choice = choice; definitions = []; noted = map.empty } }
@@ -147,8 +147,8 @@ impl Router {
         self.cache.note(series, t);
     }
 
-    /// The number of the series in which a sample of `reference` at time `t` would be sent next;
-    /// `None` where it would not be. This takes no memory.
+    /// Returns the number of the series in which a sample of `reference` at time `t` would be sent
+    /// next; `None` where it would not be. This takes no memory.
     pub fn would_send(&self, reference: u64, t: i64) -> Option<u64>
         ensures some { (before : List Entry) → Knows before self.now.cache
             → IfSome result (WouldSend self.now.cache.choice before reference t) }
@@ -161,7 +161,7 @@ impl Router {
         }
     }
 
-    /// How many samples were placed whose series the rules drop.
+    /// Returns how many samples were placed whose series the rules drop.
     pub fn filtered(&self) -> u64
         ensures { result ≡ self.now.filtered }
     {

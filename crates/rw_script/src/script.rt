@@ -12,8 +12,8 @@ use crate::ways::Ways;
 use rw_text::{TextFault, first_line};
 use std::alloc::{AllocError, Global};
 
-/// The command of a line; an empty line has none. It does not go with others that let the log grow
-/// in the other way.
+/// Returns the command of a line; an empty line has none. It does not go with others that let the
+/// log grow in the other way.
 fn next_command(alloc: Global, line: &[u8], ways: Ways) -> Result<Option<Command>, TextFault>
     ensures ok { IfOk result (λ found. MatchOption found (length line.now ≡ 0)
         (λ c. (0 < length line.now) × IsOrder line.now (order_of c)

@@ -59,7 +59,7 @@ impl<N> TcpConnect<N> {
 }
 
 impl<N: Net<Stream = TcpStream> + Clock + Copy> TcpConnect<N> {
-    /// A transport to the addresses, with the timeout.
+    /// Returns a transport to the addresses, with the timeout.
     fn to_receiver(&self) -> Result<TcpTransport<N>, AllocError>
         ensures receiver { IfOk result (λ transport. transport.receiver ≡ self.now) }
         ensures unused { IfOk result (λ transport. transport.seen ≡ []) }

@@ -32,7 +32,7 @@ pub struct SegmentFile<R> {
 }
 
 impl<R> SegmentFile<R> {
-    /// The name of the file in its folder; empty where the folder cannot be read.
+    /// Returns the name of the file in its folder; empty where the folder cannot be read.
     pub fn name(&self) -> &str
         ensures { result.now ≡ string_bytes self.now.name }
     {
@@ -41,7 +41,7 @@ impl<R> SegmentFile<R> {
 }
 
 impl<R: Files> SegmentFile<R> {
-    /// How many bytes it has now; none where that cannot be asked.
+    /// Returns how many bytes it has now; none where that cannot be asked.
     fn bytes(&self) -> u64 {
         match fs::metadata(&self.rt, self.path.as_path()) {
             Ok(metadata) => metadata.len(),
@@ -77,7 +77,7 @@ pub(crate) struct SegmentName {
     pub(crate) name: String,
 }
 
-/// The number of a segment by the name of its file; none where it is no name of a segment.
+/// Returns the number of a segment by the name of its file; none where it is no name of a segment.
 pub(crate) fn number_of(name: &str) -> Option<u64>
     ensures { MatchOption result ((n : ℕ) → n < 2 ^ 64 → IsNameOf name.now n → ⊥)
         (IsNameOf name.now) }
@@ -103,7 +103,7 @@ pub(crate) fn fault_of(error: &io::Error) -> ToolFault {
     }
 }
 
-/// The names of a folder's segments, in order.
+/// Returns the names of a folder's segments, in order.
 pub(crate) fn names_in<R: Files + AllocGlobal + Copy>(
     rt: &R,
     dir: &str,
@@ -136,7 +136,7 @@ pub(crate) fn names_in<R: Files + AllocGlobal + Copy>(
     Ok(names)
 }
 
-/// The file of a segment. The counters are told when it is opened.
+/// Returns the file of a segment. The counters are told when it is opened.
 pub(crate) fn file_of<R: Files + AllocGlobal + Copy>(
     rt: &R,
     dir: &str,
@@ -187,9 +187,9 @@ pub(crate) fn count_bytes<R: Files<File = File> + AllocGlobal + Copy>(
     }
 }
 
-/// The segments of a log in a folder, in the order of their numbers: the files whose names are one
-/// to eight decimal digits, and of two names of one number the shorter first. Other names are
-/// passed over. Of a folder that cannot be read there is one segment, which cannot be read.
+/// Returns the segments of a log in a folder, in the order of their numbers: the files whose names
+/// are one to eight decimal digits, and of two names of one number the shorter first. Other names
+/// are passed over. Of a folder that cannot be read there is one segment, which cannot be read.
 /// Counters are told how many bytes the segments have, and of each one that is opened.
 pub fn segment_files<R: Files<File = File> + AllocGlobal + Copy>(
     rt: &R,

@@ -40,12 +40,12 @@ pub struct Folder<R> {
     counters: Arc<SendCounters, Global>,
 }
 
-/// The path of a segment.
+/// Returns the path of a segment.
 fn path_of(alloc: Global, dir: &str, name: &str) -> Result<PathBuf, AllocError> {
     Path::new(dir).join(alloc, name)
 }
 
-/// The first of the names in order that comes after this one.
+/// Returns the first of the names in order that comes after this one.
 fn name_after(names: Vec<SegmentName>, current: &Option<Current>) -> Option<SegmentName> {
     for next in names {
         let is_after = match current {
@@ -129,7 +129,7 @@ impl<R: Files<File = File> + AllocGlobal + Copy> Folder<R> {
         }
     }
 
-    /// The segment after the current one that is there now.
+    /// Returns the segment after the current one that is there now.
     fn next_name(&self) -> Result<Option<SegmentName>, ReadFault> {
         match names_in(&self.rt, self.dir.as_str()) {
             Ok(names) => Ok(name_after(names, &self.current)),
@@ -152,7 +152,7 @@ impl<R: Files<File = File> + AllocGlobal + Copy> Folder<R> {
         }
     }
 
-    /// The number that is missing before the segment that was seen.
+    /// Returns the number that is missing before the segment that was seen.
     fn missing(&self) -> Option<u64> {
         match (&self.current, &self.ahead) {
             (Some(current), Some(ahead)) => {

@@ -47,14 +47,14 @@ impl<O: Open> Opened<O> {
         !self.failed
     }
 
-    /// What it opens.
+    /// Returns what it opens.
     pub fn place(&self) -> &O
         ensures { result.now ≡ self.now.place }
     {
         &self.place
     }
 
-    /// Each read fails, and nothing is opened.
+    /// Returns each read fails, and nothing is opened.
     pub(crate) fn unreadable(place: O) -> Opened<O> {
         Opened {
             place,

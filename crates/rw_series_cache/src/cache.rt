@@ -53,8 +53,8 @@ impl Model for Cache {
 }
 
 impl Cache {
-    /// A cache that has taken no definition. `choice` says which series are kept. This takes no
-    /// memory.
+    /// Returns a cache that has taken no definition. `choice` says which series are kept. This
+    /// takes no memory.
     pub fn new(alloc: Global, choice: Choice) -> Cache
         ensures { result ≡ record { choice = choice; definitions = []; noted = map.empty } }
     {
@@ -66,7 +66,7 @@ impl Cache {
         }
     }
 
-    /// Which label names are accepted.
+    /// Returns which label names are accepted.
     pub fn names(&self) -> Names
         ensures { result ≡ self.now.choice.names }
     {
@@ -97,7 +97,7 @@ impl Cache {
         Ok(())
     }
 
-    /// What is known of `reference`, by its last definition.
+    /// Returns what is known of `reference`, by its last definition.
     pub fn look(&self, reference: u64) -> Known<'_>
         ensures answer { Answers self.now.choice self.now.definitions reference result }
 
@@ -114,8 +114,8 @@ impl Cache {
         }
     }
 
-    /// Whether `t`, in milliseconds since the Unix epoch, is later than what is noted of the
-    /// series, or nothing is. This takes no memory.
+    /// Returns whether `t`, in milliseconds since the Unix epoch, is later than what is noted of
+    /// the series, or nothing is. This takes no memory.
     pub fn rises(&self, series: u64, t: i64) -> bool
         requires within { series < length (series_of self.now.choice self.now.definitions) }
         ensures { result ≡ is_after (map.get self.now.noted series) t }
@@ -136,7 +136,7 @@ impl Cache {
         self.latest.set(series as usize, t);
     }
 
-    /// How many series the rules have kept so far.
+    /// Returns how many series the rules have kept so far.
     pub fn series_count(&self) -> usize
         ensures { result ≡ length (series_of self.now.choice self.now.definitions) }
     {

@@ -53,7 +53,7 @@ impl Timestamps {
         Ok(())
     }
 
-    /// What is noted at a place.
+    /// Returns what is noted at a place.
     pub(crate) fn get(&self, place: usize) -> Option<i64>
         requires { place < self.now.places }
         ensures { result ≡ map.get self.now.times place }

@@ -35,7 +35,7 @@ impl Verdicts {
         }
     }
 
-    /// What was found of a reference. This takes no memory.
+    /// Returns what was found of a reference. This takes no memory.
     pub(crate) fn get(&self, reference: u64) -> Option<Verdict>
         ensures { result ≡ verdict_in self.now reference }
     {
@@ -85,7 +85,7 @@ impl Verdicts {
         }
     }
 
-    /// How many places the table may have by now.
+    /// Returns how many places the table may have by now.
     fn most_places(&self) -> usize
         ensures { result ≤ 4 * self.now.definitions + 1024 }
     {

@@ -12,7 +12,7 @@ pub fn accept_in_ticks(listener: &TcpListener) -> io::Result<()> {
     limit_accepts(listener, Duration::from_millis(TICK_MS))
 }
 
-/// The next connection, where one comes within a tick. An accept that fails, as for want of
+/// Returns the next connection, where one comes within a tick. An accept that fails, as for want of
 /// descriptors, is counted, and naps for a tick; not so one that was interrupted, or whose client
 /// has gone.
 pub fn next_connection<C: Clock>(

@@ -82,7 +82,7 @@ pub(crate) struct Patient<'s, C> {
     patience: Patience,
 }
 
-/// Whether a call gave up because its tick was over, or was interrupted.
+/// Returns whether a call gave up because its tick was over, or was interrupted.
 fn is_passing(error: &io::Error) -> bool {
     matches!(
         error.kind(),
@@ -91,7 +91,7 @@ fn is_passing(error: &io::Error) -> bool {
 }
 
 impl<'s, C: Clock + Copy> Patient<'s, C> {
-    /// A connection outside a request.
+    /// Returns a connection outside a request.
     pub(crate) fn new(
         stream: &'s TcpStream,
         post: &'s Post<'s>,
@@ -111,12 +111,12 @@ impl<'s, C: Clock + Copy> Patient<'s, C> {
         })
     }
 
-    /// Whether the connection was closed because it took too long, or for another one.
+    /// Returns whether the connection was closed because it took too long, or for another one.
     pub(crate) fn is_cut(&self) -> bool {
         self.stage.get().is_cut
     }
 
-    /// Whether nothing more is waited for.
+    /// Returns whether nothing more is waited for.
     fn is_over(&self) -> bool {
         match self.post.sign.wish() {
             Wish::Work => false,
@@ -125,8 +125,8 @@ impl<'s, C: Clock + Copy> Patient<'s, C> {
         }
     }
 
-    /// Whether the request or the reply has had its time, or is behind its rate while another
-    /// client waits for a place.
+    /// Returns whether the request or the reply has had its time, or is behind its rate while
+    /// another client waits for a place.
     fn is_late(&self) -> bool {
         let pace = self.stage.get().pace;
         if !pace.is_within(self.post.request_ms.get()) {
@@ -135,7 +135,7 @@ impl<'s, C: Clock + Copy> Patient<'s, C> {
         !pace.is_within(GRACE_MS) && self.post.place_request.meet()
     }
 
-    /// Whether a read is to be given up that has waited for these ticks.
+    /// Returns whether a read is to be given up that has waited for these ticks.
     fn is_cut_after(&self, ticks: u64) -> bool {
         if self.stage.get().is_inside {
             return self.is_late();

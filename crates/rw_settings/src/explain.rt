@@ -413,7 +413,7 @@ fn refusal_as_used(alloc: Global, pattern: &str) -> Result<Option<&'static str>,
     }
 }
 
-/// The pattern that a rule sets; `None` where it sets none.
+/// Returns the pattern that a rule sets; `None` where it sets none.
 fn pattern_of(rule: &Value) -> Option<&str> {
     match rule.as_table() {
         None => None,
@@ -471,7 +471,8 @@ fn notes_of(alloc: Global, document: &Table) -> Result<Vec<SettingsNote>, AllocE
     Ok(notes)
 }
 
-/// The line and the column of what follows these bytes, both from 1. A column counts characters.
+/// Returns the line and the column of what follows these bytes, both from 1. A column counts
+/// characters.
 fn position_after(bytes: &[u8]) -> (usize, usize) {
     let mut line = 1usize;
     let mut column = 1usize;
@@ -486,7 +487,7 @@ fn position_after(bytes: &[u8]) -> (usize, usize) {
     (line, column)
 }
 
-/// The note on a text that is no TOML from here on.
+/// Returns the note on a text that is no TOML from here on.
 #[tactic(auto, unfolding(crate::specs::Notes::noted))]
 fn syntax_note(alloc: Global, before: &[u8], message: &str) -> Result<Vec<SettingsNote>, AllocError>
     ensures { IfOk result (λ v. noted v.items ≡ Some NotToml) }
@@ -517,10 +518,10 @@ fn notes_of_text(alloc: Global, text: &str) -> Result<Vec<SettingsNote>, AllocEr
     }
 }
 
-/// A note for each fault of a text of settings: those of `send` and `receive` first, key by key,
-/// then those of the rules in their order, and at last the patterns that are refused. By contract
-/// the least fault noted is the one that `read_settings` judges, but that a bad pattern may be
-/// noted besides.
+/// Returns a note for each fault of a text of settings: those of `send` and `receive` first, key by
+/// key, then those of the rules in their order, and at last the patterns that are refused. By
+/// contract the least fault noted is the one that `read_settings` judges, but that a bad pattern
+/// may be noted besides.
 #[tactic(auto, unfolding(crate::specs::Settings::settings_in))]
 pub fn explain_settings(alloc: Global, text: &[u8]) -> Result<Vec<SettingsNote>, AllocError>
     ensures { IfOk result (λ v. IsNoted (result_err (settings_in text.now)) (noted v.items)) }

@@ -55,8 +55,8 @@ impl From<AllocError> for SettingsFault {
 }
 
 impl SettingsFault {
-    /// The number that stands for the fault: 0 for `OutOfMemory`, and 1 to 5 for the faults of the
-    /// text.
+    /// Returns the number that stands for the fault: 0 for `OutOfMemory`, and 1 to 5 for the faults
+    /// of the text.
     pub fn number(self) -> u8
         ensures { result ≡ fault_number self }
     {
@@ -71,7 +71,7 @@ impl SettingsFault {
     }
 }
 
-/// The lesser of two faults, where there is any.
+/// Returns the lesser of two faults, where there is any.
 pub(crate) fn lesser(
     fault: Option<SettingsFault>,
     other: Option<SettingsFault>,
@@ -91,7 +91,7 @@ pub(crate) fn lesser(
     }
 }
 
-/// The least fault, where there is any.
+/// Returns the least fault, where there is any.
 #[tactic(auto, unfolding(crate::specs::Faults::least))]
 pub(crate) fn least(faults: &[Option<SettingsFault>]) -> Option<SettingsFault>
     ensures { result ≡ least faults.now }

@@ -39,7 +39,7 @@ pub(crate) fn push_note(
     Ok(())
 }
 
-/// What is wrong with a value, which may be missing.
+/// Returns what is wrong with a value, which may be missing.
 fn wrong(alloc: Global, value: Option<&Value>, fault: SettingsFault) -> Result<String, AllocError> {
     match (value, fault) {
         (None, _) => String::from_str(alloc, "is missing"),
@@ -77,7 +77,7 @@ pub(crate) fn note_value(
     push_note(notes, fault, place, text)
 }
 
-/// The known key that is nearest to `key`, where one differs in at most two letters.
+/// Returns the known key that is nearest to `key`, where one differs in at most two letters.
 fn nearest<'a>(alloc: Global, known: &[&'a str], key: &str) -> Result<Option<&'a str>, AllocError> {
     let mut found = None;
     let mut least = 3;

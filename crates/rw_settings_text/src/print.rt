@@ -9,7 +9,7 @@ use crate::tables::{push_receive, push_rules, push_send};
 use rw_settings::{RuleFields, Settings, SettingsFault, read_rules, read_settings};
 use std::alloc::{AllocError, Global};
 
-/// The text of settings whose rules are written so.
+/// Returns the text of settings whose rules are written so.
 #[tactic(auto, unfolding(crate::specs::SettingsText::settings_text))]
 fn text_of(alloc: Global, settings: &Settings, rules: &[RuleFields]) -> Result<String, AllocError>
     requires { map written_rule rules.now ≡ settings.now.config.rules }

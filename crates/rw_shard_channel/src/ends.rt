@@ -249,7 +249,7 @@ impl Feed<Open> {
     }
 }
 
-/// The item at the front was taken out of the block.
+/// Returns the item at the front was taken out of the block.
 fn given(
     item: Item,
     receiver: RuledReceiver<Block, Log, InOrder>,
@@ -398,8 +398,8 @@ fn open_named<Q: Naming>(
 /// The most items of a block.
 const LONGEST: usize = 64;
 
-/// The two ends of a new queue, for shard `shard` of epoch `epoch`. It holds at most `capacity`
-/// items, marks included.
+/// Returns the two ends of a new queue, for shard `shard` of epoch `epoch`. It holds at most
+/// `capacity` items, marks included.
 pub fn open(
     alloc: Global,
     epoch: u64,

@@ -78,8 +78,8 @@ impl Model for Config {
 }
 
 impl ConfigFields {
-    /// The defaults: one shard at first and at most 50, queues of 10,000 items, batches of 2,000
-    /// samples, legacy names, and no rules.
+    /// Returns the defaults: one shard at first and at most 50, queues of 10,000 items, batches of
+    /// 2,000 samples, legacy names, and no rules.
     pub fn standard(alloc: Global) -> Result<ConfigFields, AllocError>
         ensures { IfOk result (λ c. c ≡ standard) }
     {
@@ -98,7 +98,7 @@ impl ConfigFields {
         })
     }
 
-    /// Which series are sent, by their names and by the rules.
+    /// Returns which series are sent, by their names and by the rules.
     pub fn into_choice(self) -> Choice
         ensures { result ≡ choice_of self }
     {
@@ -108,7 +108,7 @@ impl ConfigFields {
         }
     }
 
-    /// Whether `min_shards <= shards <= max_shards` and `min_backoff_ms <= max_backoff_ms`.
+    /// Returns whether `min_shards <= shards <= max_shards` and `min_backoff_ms <= max_backoff_ms`.
     pub fn is_ordered(&self) -> bool
         ensures { result ≡ is_ordered self.now }
     {
@@ -119,8 +119,8 @@ impl ConfigFields {
 }
 
 impl Config {
-    /// The configuration with these fields; `None` where `is_ordered` does not hold. This takes no
-    /// memory.
+    /// Returns the configuration with these fields; `None` where `is_ordered` does not hold. This
+    /// takes no memory.
     pub fn new(fields: ConfigFields) -> Option<Config>
         ensures { result ≡ (if is_ordered fields then Some fields else None) }
     {
@@ -131,7 +131,7 @@ impl Config {
         }
     }
 
-    /// The configuration with the default fields.
+    /// Returns the configuration with the default fields.
     pub fn standard(alloc: Global) -> Result<Config, AllocError>
         ensures { IfOk result (λ c. c ≡ standard) }
     {
@@ -140,7 +140,7 @@ impl Config {
         })
     }
 
-    /// The fields of the configuration.
+    /// Returns the fields of the configuration.
     pub fn fields(&self) -> &ConfigFields
         ensures fields { result.now ≡ self.now }
         ensures min_shards { self.now.min_shards ≤ self.now.shards }
@@ -150,7 +150,7 @@ impl Config {
         &self.fields
     }
 
-    /// The fields of the configuration, by value.
+    /// Returns the fields of the configuration, by value.
     pub fn into_fields(self) -> ConfigFields
         ensures { result ≡ self }
     {

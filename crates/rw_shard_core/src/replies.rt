@@ -32,7 +32,7 @@ enum Front {
     Decided(ReplyRead),
 }
 
-/// What stands at the front of a text whose heads may take `room` bytes.
+/// Returns what stands at the front of a text whose heads may take `room` bytes.
 fn front_of(text: &[u8], room: usize) -> Front
     ensures { Found room text.now result }
 {
@@ -60,7 +60,7 @@ fn front_of(text: &[u8], room: usize) -> Front
     }
 }
 
-/// The text behind its first `len` bytes.
+/// Returns the text behind its first `len` bytes.
 fn without(text: &[u8], len: usize) -> &[u8]
     requires { len ≤ length text.now }
     ensures { result.now ≡ drop len text.now }
@@ -68,8 +68,8 @@ fn without(text: &[u8], len: usize) -> &[u8]
     &text[len..]
 }
 
-/// What the bytes of a reply say (RFC 9112). Informational heads (status 100 to 199) are passed
-/// over, and what follows the head with the status is ignored.
+/// Returns what the bytes of a reply say (RFC 9112). Informational heads (status 100 to 199) are
+/// passed over, and what follows the head with the status is ignored.
 ///
 /// A head is what `httparse` reads as one: empty lines may come first and count among its bytes,
 /// and LF alone ends a line. This takes no memory.

@@ -53,7 +53,7 @@ fn name_all(ledger: &mut Ledger, places: &[Place], status: u16)
     }
 }
 
-/// Whether none of these samples is named.
+/// Returns whether none of these samples is named.
 fn are_unnamed(ledger: &Ledger, places: &[Place]) -> bool
     ensures { IsTrue result ↔ All (λ p. get ledger.now.names p ≡ None) (positions_of places.now) }
 {
@@ -117,8 +117,8 @@ impl Model for ShardCore {
         (samples_in s.taken) (samples_in s.resolved) (samples_in s.pending) };
 }
 
-/// Whether a place has the next number and a later position than the one before it, if there is
-/// one.
+/// Returns whether a place has the next number and a later position than the one before it, if
+/// there is one.
 fn follows(last: Option<Place>, place: Place) -> bool
     ensures { IsTrue result ↔ IfSome last (λ l. (place.seq ≡ l.seq + 1) × (l.pos < place.pos)) }
 {
@@ -128,7 +128,7 @@ fn follows(last: Option<Place>, place: Place) -> bool
     }
 }
 
-/// A copy of a target.
+/// Returns a copy of a target.
 fn copy_of(alloc: Global, target: &Target) -> Result<Target, AllocError>
     ensures { IfOk result (λ t. t ≡ target.now) }
 {
@@ -141,7 +141,7 @@ fn copy_of(alloc: Global, target: &Target) -> Result<Target, AllocError>
 }
 
 impl ShardCore {
-    /// A shard that has taken nothing. Its builder is full at `batch` samples.
+    /// Returns a shard that has taken nothing. Its builder is full at `batch` samples.
     pub fn new(
         alloc: Global,
         target: &Target,
@@ -171,15 +171,16 @@ impl ShardCore {
         })
     }
 
-    /// Whether the builder is to be frozen: it is full, or a mark was taken while it was not empty.
+    /// Returns whether the builder is to be frozen: it is full, or a mark was taken while it was
+    /// not empty.
     pub fn due(&self) -> bool
         ensures { result ≡ is_due self.now }
     {
         self.builder.is_full() || self.marked
     }
 
-    /// Whether the next item may be taken: no batch is open, the builder is not due, and the shard
-    /// was not killed.
+    /// Returns whether the next item may be taken: no batch is open, the builder is not due, and
+    /// the shard was not killed.
     pub fn can_take(&self) -> bool
         ensures can { result ≡ can_take self.now }
         ensures core { IsCore self.now }
@@ -187,22 +188,22 @@ impl ShardCore {
         !self.killed && self.current.is_none() && !self.due()
     }
 
-    /// Whether all samples that were taken are resolved: the builder is empty, and no batch is
-    /// open.
+    /// Returns whether all samples that were taken are resolved: the builder is empty, and no batch
+    /// is open.
     pub fn is_empty(&self) -> bool
         ensures { result ≡ is_empty (pending self.now) }
     {
         self.current.is_none() && self.builder.is_empty()
     }
 
-    /// Whether the End of the queue was taken.
+    /// Returns whether the End of the queue was taken.
     pub fn has_ended(&self) -> bool
         ensures { result ≡ self.now.ended }
     {
         self.ended
     }
 
-    /// The id of the open batch; `None` where no batch is open.
+    /// Returns the id of the open batch; `None` where no batch is open.
     pub fn batch_id(&self) -> Option<BatchId>
         ensures { result
             ≡ (if is_empty self.now.batch then None else Some (batch_id self.now.batch)) }
@@ -213,8 +214,8 @@ impl ShardCore {
         }
     }
 
-    /// Whether the item is a mark, or a sample of this shard of this epoch with the next number and
-    /// a later position than the sample before it.
+    /// Returns whether the item is a mark, or a sample of this shard of this epoch with the next
+    /// number and a later position than the sample before it.
     pub fn may_take(&self, item: &Item) -> bool
         ensures { IsTrue result ↔ MayTake item.now self.now }
     {
@@ -226,7 +227,7 @@ impl ShardCore {
         }
     }
 
-    /// The samples of the open batch, which only contracts see.
+    /// Returns the samples of the open batch, which only contracts see.
     pub fn open_samples(&self) -> History<Item>
         ensures { samples_in result ≡ self.now.batch }
     {
@@ -236,7 +237,7 @@ impl ShardCore {
         }
     }
 
-    /// The places of the samples that were taken and are not resolved, in order.
+    /// Returns the places of the samples that were taken and are not resolved, in order.
     pub fn pending_places(&self) -> &[Place]
         ensures { result.now ≡ places_of (pending self.now) }
     {
@@ -246,7 +247,8 @@ impl ShardCore {
         }
     }
 
-    /// Whether the ledger has room for each sample of the open batch, and names none of them.
+    /// Returns whether the ledger has room for each sample of the open batch, and names none of
+    /// them.
     pub fn has_room_in(&self, ledger: &Ledger) -> bool
         ensures { IsTrue result ↔ HasRoomFor self.now ledger.now }
     {
@@ -320,7 +322,7 @@ impl ShardCore {
         }
     }
 
-    /// A clone of the open batch's request.
+    /// Returns a clone of the open batch's request.
     fn request(&self) -> Result<Bytes, AllocError>
         requires { is_empty self.now.batch ≡ false }
         ensures { IfOk result (λ b. b ≡ request_for self.now) }
@@ -353,7 +355,7 @@ impl ShardCore {
         Ok(Some(Attempt { id, request }))
     }
 
-    /// Whether an attempt to send the open batch is under way.
+    /// Returns whether an attempt to send the open batch is under way.
     pub fn is_waiting(&self) -> bool
         ensures { result ≡ self.now.waiting }
     {
@@ -408,7 +410,7 @@ impl ShardCore {
         }
     }
 
-    /// Whether this is the id of the open batch, of which an attempt is under way.
+    /// Returns whether this is the id of the open batch, of which an attempt is under way.
     fn is_answer(&self, id: BatchId) -> bool
         ensures { result ≡ is_answer id self.now }
     {
@@ -421,8 +423,8 @@ impl ShardCore {
         }
     }
 
-    /// What a reply of this status to the batch `id` means. `None`, and nothing changes, where that
-    /// is not the open batch, no attempt is under way, or the shard was killed.
+    /// Returns what a reply of this status to the batch `id` means. `None`, and nothing changes,
+    /// where that is not the open batch, no attempt is under way, or the shard was killed.
     ///
     /// A batch that is done gives its room in the ledger back; one that is refused uses it, as each
     /// of its samples is named with the status. Any other batch stays open, to be sent again.

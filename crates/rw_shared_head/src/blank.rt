@@ -26,7 +26,7 @@ impl Model for Blank {
 }
 
 impl Blank {
-    /// A new one. It takes memory for one word.
+    /// Returns a new one. It takes memory for one word.
     pub fn new(alloc: Global, parts: u64) -> Result<Blank, AllocError>
         ensures { IfOk result (λ b. b.parts ≡ parts) }
     {
@@ -36,7 +36,7 @@ impl Blank {
         })
     }
 
-    /// The ledger, and no questions under a name.
+    /// Returns the ledger, and no questions under a name.
     pub(crate) fn named<L: Naming>(self) -> (ledger::Blank, Questions<L>)
         requires { self.table ≡ L.table }
         ensures name { result.0.name ≡ self.name }

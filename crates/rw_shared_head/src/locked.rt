@@ -39,7 +39,7 @@ impl<L: Naming> Model for Locked<L> {
 }
 
 impl<L: Naming> Locked<L> {
-    /// A head that was asked nothing yet, with what could still be stored.
+    /// Returns a head that was asked nothing yet, with what could still be stored.
     pub(crate) fn new(head: Head, questions: Questions<L>, rest: Share<L>) -> Locked<L>
         requires opening { head ≡ L.opening }
         requires nothing { questions.asked ≡ [] }
@@ -57,7 +57,7 @@ impl<L: Naming> Locked<L> {
         }
     }
 
-    /// The head, what it was asked, and what could still be stored.
+    /// Returns the head, what it was asked, and what could still be stored.
     pub(crate) fn into_parts(self) -> (Head, Questions<L>, Share<L>)
         ensures head { result.0 ≡ self.head }
         ensures questions { result.1 ≡ self.questions }

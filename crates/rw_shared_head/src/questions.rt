@@ -132,7 +132,7 @@ impl Model for Unnamed {
 }
 
 impl Unnamed {
-    /// A new table, of one word.
+    /// Returns a new table, of one word.
     pub(crate) fn new(alloc: Global) -> Result<Unnamed, AllocError> {
         let (table, pass) = Table::of_words(alloc, &[0], &())?;
         Ok(Unnamed { table, pass })
@@ -198,7 +198,7 @@ impl<L: Naming> Model for Seen<L> {
 }
 
 impl<L: Naming> Questions<L> {
-    /// A new seat, with the next number.
+    /// Returns a new seat, with the next number.
     pub(crate) fn give(&mut self, number: u64) -> Seen<L>
         requires next { number ≡ self.old.given }
         requires none_back { self.old.back ≡ [] }

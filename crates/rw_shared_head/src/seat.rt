@@ -43,7 +43,7 @@ impl<L: Naming> Model for Seat<L> {
 }
 
 impl<L: Naming> Seat<L> {
-    /// A seat of nothing stored.
+    /// Returns a seat of nothing stored.
     pub(crate) fn new(share: Share<L>, seen: Seen<L>) -> Seat<L>
         requires one_part { share.parts ≡ 1 }
         requires nothing { share.amount ≡ 0 }
@@ -82,7 +82,7 @@ impl<L: Naming> Seat<L> {
         questions.push(&mut self.seen, status, body);
     }
 
-    /// The share of the ledger, and what was seen.
+    /// Returns the share of the ledger, and what was seen.
     pub(crate) fn into_parts(self) -> (Share<L>, Seen<L>)
         ensures parts { result.0.parts ≡ 1 }
         ensures amount { result.0.amount ≡ self.stored }
@@ -91,14 +91,14 @@ impl<L: Naming> Seat<L> {
         (self.share, self.seen)
     }
 
-    /// How many samples the requests from this seat stored. This takes no memory.
+    /// Returns how many samples the requests from this seat stored. This takes no memory.
     pub fn stored(&self) -> u64
         ensures { result ≡ self.now.stored }
     {
         self.stored
     }
 
-    /// The head's answer to a request's body, under the lock: 204, 400, 429 or 503, as
+    /// Returns the head's answer to a request's body, under the lock: 204, 400, 429 or 503, as
     /// `Head::answer` gives it. May wait for the lock.
     pub fn answer<R: Wait>(&mut self, rt: &R, shared: &SharedHead<L>, body: &[u8]) -> u16
         ensures statuses { IsStatus result }

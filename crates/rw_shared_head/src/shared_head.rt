@@ -74,7 +74,7 @@ impl<L: Naming> SharedHead<L> {
         Ok((SharedHead { locked, all }, seats))
     }
 
-    /// The answer to a body from a seat, under the lock.
+    /// Returns the answer to a body from a seat, under the lock.
     pub(crate) fn ask<R: Wait>(&self, rt: &R, seat: &mut Seat<L>, body: &[u8]) -> Asked
         ensures statuses { IsStatus result.status }
         ensures asked { HasAsked L.opening seat.old body.now result.status seat.new }

@@ -359,33 +359,33 @@ impl<C: Connect + Drop> Shipper<C> {
         Ok(())
     }
 
-    /// How many entries were placed.
+    /// Returns how many entries were placed.
     pub fn entries_read(&self) -> u64
         ensures { result ≡ length self.now.log.placed }
     {
         self.feeder.count()
     }
 
-    /// The samples that were dropped so far without being put into a queue, as the report will name
-    /// them. Those of a batch that the receiver has refused are not among them: their workers name
-    /// them, and the report has them.
+    /// Returns the samples that were dropped so far without being put into a queue, as the report
+    /// will name them. Those of a batch that the receiver has refused are not among them: their
+    /// workers name them, and the report has them.
     pub fn dropped(&self) -> &Ledger
         ensures { result.now.names ≡ named (dropped self.now.log.choice self.now.log.placed) }
     {
         self.feeder.dropped()
     }
 
-    /// How many samples were placed so far whose series the rules drop, as the report will count
-    /// them.
+    /// Returns how many samples were placed so far whose series the rules drop, as the report will
+    /// count them.
     pub fn filtered(&self) -> u64
         ensures { result ≡ length (filtered self.now.log.choice self.now.log.placed) }
     {
         self.feeder.filtered()
     }
 
-    /// How far the samples have come, as far as the workers have told: advice on how many shards
-    /// are wanted. Samples that only wait for a batch to be full count as resolved. By contract as
-    /// many wait as can, at most.
+    /// Returns how far the samples have come, as far as the workers have told: advice on how many
+    /// shards are wanted. Samples that only wait for a batch to be full count as resolved. By
+    /// contract as many wait as can, at most.
     pub fn load(&self) -> Load
         ensures load { IsLoad self.now.fleet result }
         ensures placed { PlacesAll self.now.log self.now.fleet }

@@ -15,7 +15,7 @@ pub struct Deadline<C> {
 }
 
 impl<C: Clock> Deadline<C> {
-    /// The deadline `after` from now.
+    /// Returns the deadline `after` from now.
     pub fn new(clock: C, after: Duration) -> Deadline<C> {
         let begun = Instant::now(&clock).ok();
         Deadline {
@@ -25,8 +25,8 @@ impl<C: Clock> Deadline<C> {
         }
     }
 
-    /// The time that is left; `None` once the deadline has passed, and where the clock cannot be
-    /// read.
+    /// Returns the time that is left; `None` once the deadline has passed, and where the clock
+    /// cannot be read.
     pub fn left(&self) -> Option<Duration>
         ensures { IfSome result (λ left. 0 < as_nanos left) }
     {

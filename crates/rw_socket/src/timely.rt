@@ -15,12 +15,12 @@ pub struct Timely<'s, C> {
 }
 
 impl<'s, C: Clock> Timely<'s, C> {
-    /// The connection, to be read and written up to `deadline`.
+    /// Returns the connection, to be read and written up to `deadline`.
     pub fn new(stream: &'s TcpStream, deadline: Deadline<C>) -> Timely<'s, C> {
         Timely { stream, deadline }
     }
 
-    /// The time that is left, or the error `TimedOut`.
+    /// Returns the time that is left, or the error `TimedOut`.
     fn left(&self) -> io::Result<Duration> {
         self.deadline
             .left()

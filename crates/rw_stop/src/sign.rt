@@ -30,7 +30,7 @@ pub struct Sign {
     level: AtomicIn<Level>,
 }
 
-/// The wish at a level.
+/// Returns the wish at a level.
 fn wish_at(level: u64) -> Wish
     requires { level ≤ 2 }
     ensures work { level ≡ 0 → result ≡ Wish.Work }
@@ -45,14 +45,14 @@ fn wish_at(level: u64) -> Wish
 }
 
 impl Sign {
-    /// A sign that nobody has set: it says `Work`.
+    /// Returns a sign that nobody has set: it says `Work`.
     pub fn new() -> Sign {
         Sign {
             level: AtomicIn::new(0),
         }
     }
 
-    /// What is asked for now.
+    /// Returns what is asked for now.
     pub fn wish(&self) -> Wish {
         wish_at(self.level.load(Ordering::SeqCst))
     }

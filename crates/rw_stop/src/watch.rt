@@ -61,7 +61,7 @@ pub fn watch_file<R: Clock + Files>(rt: &R, path: &str, sign: &Sign) {
     }
 }
 
-/// Whether the first line of a file is `hard`. One that cannot be read has no such line.
+/// Returns whether the first line of a file is `hard`. One that cannot be read has no such line.
 fn begins_hard<R: Files>(rt: &R, path: &str) -> bool {
     let Ok(mut file) = fs::open(rt, path) else {
         return false;
@@ -70,7 +70,7 @@ fn begins_hard<R: Files>(rt: &R, path: &str) -> bool {
     file.read_exact(&mut line).is_ok() && line == *b"hard\n"
 }
 
-/// The next byte; `None` at the end of the input, and where it cannot be read.
+/// Returns the next byte; `None` at the end of the input, and where it cannot be read.
 fn next_byte<B: BufRead>(input: &mut B) -> Option<u8> {
     let mut byte = [0u8; 1];
     for _ in 0..u64::MAX {
@@ -87,7 +87,7 @@ fn next_byte<B: BufRead>(input: &mut B) -> Option<u8> {
     None
 }
 
-/// Whether a line asks for an end at once.
+/// Returns whether a line asks for an end at once.
 pub(crate) fn is_hard(line: &[u8]) -> bool
     ensures { IsTrue result ↔ (line.now ≡ 104 ∷ 97 ∷ 114 ∷ 100 ∷ []) }
 {

@@ -33,7 +33,7 @@ impl Model for Heard {
 }
 
 impl Heard {
-    /// The reply with this status.
+    /// Returns the reply with this status.
     pub(crate) fn into_reply(self) -> Reply
         ensures { result.status ≡ self }
     {
@@ -120,7 +120,7 @@ fn hear<R: Source>(reader: &mut R, text: &mut Vec<u8>) -> Result<ReplyRead, Read
     }
 }
 
-/// What this status says to a request, of which not all bytes may have been written.
+/// Returns what this status says to a request, of which not all bytes may have been written.
 fn answer_of(status: StatusCode, sent: bool) -> Result<Heard, NoReply>
     ensures reply { IfOk result (λ h. h ≡ status) }
     ensures sent { IfOk result (λ h. judgement_of h ≡ Judgement.Done → sent ≡ true) }

@@ -68,8 +68,8 @@ impl<N> Model for TcpTransport<N> {
 }
 
 impl<N: Net<Stream = TcpStream> + Clock + Copy> TcpTransport<N> {
-    /// A transport to these addresses of one receiver, which are tried in turn. The timeout is in
-    /// milliseconds, for a whole attempt: the connects, all writes and all reads together.
+    /// Returns a transport to these addresses of one receiver, which are tried in turn. The timeout
+    /// is in milliseconds, for a whole attempt: the connects, all writes and all reads together.
     /// `counters` are told of each attempt, and why it failed.
     pub fn new(
         alloc: Global,
@@ -92,8 +92,8 @@ impl<N: Net<Stream = TcpStream> + Clock + Copy> TcpTransport<N> {
         }
     }
 
-    /// A connection to the first address that answers. Those that were not tried yet share the time
-    /// that is left.
+    /// Returns a connection to the first address that answers. Those that were not tried yet share
+    /// the time that is left.
     fn connect(&self, deadline: &Deadline<N>) -> Option<TcpStream> {
         let mut untried = self.addresses.len().min(MOST_ADDRESSES) as u32;
         for address in &self.addresses {
@@ -172,8 +172,8 @@ fn exchange_through<C: Clock + Copy>(
     )
 }
 
-/// The reply that was heard. Counts an attempt that succeeded, and one that failed: it has no
-/// answer, or a status that does not take the batch.
+/// Returns the reply that was heard. Counts an attempt that succeeded, and one that failed: it has
+/// no answer, or a status that does not take the batch.
 fn counted<C: Clock>(
     counters: &SendCounters,
     deadline: &Deadline<C>,

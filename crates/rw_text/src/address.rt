@@ -27,8 +27,8 @@ fn port_of(digits: &[u8]) -> Option<u16>
 }
 
 impl<'a> Address<'a> {
-    /// The host without brackets around it, in which an IPv6 address may stand (RFC 3986, section
-    /// 3.2.2).
+    /// Returns the host without brackets around it, in which an IPv6 address may stand (RFC 3986,
+    /// section 3.2.2).
     pub fn name(&self) -> &'a str
         ensures { IsName self.now.host.now result.now }
     {

@@ -9,7 +9,7 @@ use crate::bytes::after;
 use itoa::Buffer;
 use std::alloc::AllocError;
 
-/// The number behind the digits of `front` once this digit follows them.
+/// Returns the number behind the digits of `front` once this digit follows them.
 fn with_digit(front: u64, digit: u8) -> Option<u64>
     requires { (48 ≤ digit) × (digit ≤ 57) }
     ensures { MatchOption result (2 ^ 64 ≤ front * 10 + (digit - 48))

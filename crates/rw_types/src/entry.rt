@@ -17,7 +17,7 @@ pub enum Entry {
 }
 
 impl Entry {
-    /// A copy of the entry.
+    /// Returns a copy of the entry.
     pub fn copy(&self, alloc: Global) -> Result<Entry, AllocError>
         ensures { IfOk result (λ e. e ≡ self.now) }
     {

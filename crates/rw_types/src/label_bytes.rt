@@ -8,15 +8,15 @@ ghost use Rattle.rw_types.specs.Labels.{Label, is_text, bytes_label, text_label}
 pub(crate) trait LabelBytes {
     ghost shown: { Self → Label };
 
-    /// The name.
+    /// Returns the name.
     fn name(&self) -> &[u8]
         ensures { result.now ≡ (shown self.now).0 };
 
-    /// The value.
+    /// Returns the value.
     fn value(&self) -> &[u8]
         ensures { result.now ≡ (shown self.now).1 };
 
-    /// Whether both are UTF-8.
+    /// Returns whether both are UTF-8.
     fn is_text(&self) -> bool
         ensures { result ≡ is_text (shown self.now) };
 }

@@ -65,8 +65,8 @@ impl From<AllocError> for LabelFault {
 }
 
 impl LabelFault {
-    /// The number that stands for the fault in plans and reports: 1 to 7, and 0 for `OutOfMemory`,
-    /// which is no fault of the labels.
+    /// Returns the number that stands for the fault in plans and reports: 1 to 7, and 0 for
+    /// `OutOfMemory`, which is no fault of the labels.
     pub fn number(self) -> u8
         ensures { result ≡ label_fault_number self }
     {

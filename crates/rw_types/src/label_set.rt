@@ -51,7 +51,7 @@ impl Model for LabelSet {
         × (s.hash ≡ labels_hash (map text_label s.labels.items)) };
 }
 
-/// The hash that a label set of these labels keeps.
+/// Returns the hash that a label set of these labels keeps.
 fn hash_of(labels: &[(String, String)]) -> u64
     ensures { result ≡ labels_hash (map text_label labels.now) }
 {
@@ -73,7 +73,7 @@ fn overwrite_fields(fields: &mut Vec<u8>, labels: &[(String, String)]) -> Result
     Ok(())
 }
 
-/// The bytes as a text.
+/// Returns the bytes as a text.
 fn text_of(alloc: Global, bytes: &[u8]) -> Result<String, AllocError>
     requires { is_utf8 bytes.now ≡ true }
     ensures { IfOk result (λ t. string_bytes t ≡ bytes.now) }
@@ -84,7 +84,7 @@ fn text_of(alloc: Global, bytes: &[u8]) -> Result<String, AllocError>
     }
 }
 
-/// A label as texts.
+/// Returns a label as texts.
 fn label_texts(alloc: Global, label: &(Vec<u8>, Vec<u8>)) -> Result<(String, String), AllocError>
     requires { is_text (bytes_label label.now) ≡ true }
     ensures { IfOk result (λ t. text_label t ≡ bytes_label label.now) }
@@ -139,7 +139,7 @@ fn overwrite_first(
     Ok(())
 }
 
-/// A copy of a label.
+/// Returns a copy of a label.
 fn copy_of(label: &(String, String)) -> Result<(String, String), AllocError>
     ensures { IfOk result (λ l. text_label l ≡ text_label label.now) }
 {
@@ -187,7 +187,7 @@ fn replace(
 }
 
 impl LabelSet {
-    /// The label set without labels. This takes no memory.
+    /// Returns the label set without labels. This takes no memory.
     pub fn empty(alloc: Global) -> LabelSet
         ensures { result ≡ [] }
     {
@@ -200,7 +200,7 @@ impl LabelSet {
         }
     }
 
-    /// The label set of these labels.
+    /// Returns the label set of these labels.
     fn of(labels: Vec<(String, String)>) -> Result<LabelSet, AllocError>
         requires { IsLabelSet Utf8 (map text_label labels.items) }
         ensures { IfOk result (λ s. s ≡ map text_label labels.items) }
@@ -238,8 +238,8 @@ impl LabelSet {
         Ok(())
     }
 
-    /// Whether there are more than `max_labels` labels, or more than `max_bytes` bytes of names and
-    /// values together.
+    /// Returns whether there are more than `max_labels` labels, or more than `max_bytes` bytes of
+    /// names and values together.
     pub fn is_over(&self, max_labels: usize, max_bytes: usize) -> bool
         ensures { result
             ≡ (nat_lt max_labels (length self.now) || nat_lt max_bytes (text_len self.now)) }
@@ -247,8 +247,8 @@ impl LabelSet {
         self.labels.len() > max_labels || are_longer_than(self.labels.as_slice(), max_bytes)
     }
 
-    /// The label set of `labels`, with legacy names, or the first fault that keeps them from being
-    /// one. A fault of the labels is found before memory is taken.
+    /// Returns the label set of `labels`, with legacy names, or the first fault that keeps them
+    /// from being one. A fault of the labels is found before memory is taken.
     pub fn check(alloc: Global, labels: &RawLabels) -> Result<LabelSet, LabelFault>
         ensures ok { IfOk result (λ s. s ≡ labels.now) }
         ensures label_set { IfOk result (λ _. IsLabelSet Legacy labels.now) }
@@ -258,8 +258,9 @@ impl LabelSet {
         LabelSet::check_as(alloc, Names::Legacy, labels)
     }
 
-    /// The label set of `labels`, or the first fault that keeps them from being one; `names` says
-    /// which names are accepted. A fault of the labels is found before memory is taken.
+    /// Returns the label set of `labels`, or the first fault that keeps them from being one;
+    /// `names` says which names are accepted. A fault of the labels is found before memory is
+    /// taken.
     pub fn check_as(alloc: Global, names: Names, labels: &RawLabels) -> Result<LabelSet, LabelFault>
         ensures ok { IfOk result (λ s. s ≡ labels.now) }
         ensures label_set { IfOk result (λ _. IsLabelSet names labels.now) }
@@ -273,7 +274,7 @@ impl LabelSet {
         Ok(LabelSet::of(texts_of(alloc, labels)?)?)
     }
 
-    /// The labels as (name, value), sorted by name in byte order.
+    /// Returns the labels as (name, value), sorted by name in byte order.
     pub fn as_slice(&self) -> &[(String, String)]
         ensures labels { map text_label result.now ≡ self.now }
         ensures label_set { IsLabelSet Utf8 self.now }
@@ -281,7 +282,7 @@ impl LabelSet {
         self.labels.as_slice()
     }
 
-    /// The fields of its labels in a series, in the canonical spelling (Remote-Write 1.0,
+    /// Returns the fields of its labels in a series, in the canonical spelling (Remote-Write 1.0,
     /// `TimeSeries`).
     pub fn fields(&self) -> &[u8]
         ensures fields { result.now ≡ label_fields self.now }

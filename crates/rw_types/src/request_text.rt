@@ -106,14 +106,15 @@ fn is_request_path(text: &[u8]) -> bool
 }
 
 impl HostName {
-    /// Whether `text` may be a host name: 1 to 255 bytes, each from `!` to `~`.
+    /// Returns whether `text` may be a host name: 1 to 255 bytes, each from `!` to `~`.
     pub fn is_host(text: &str) -> bool
         ensures { result ≡ is_host_name text.now }
     {
         is_host_name(text.as_bytes())
     }
 
-    /// The host name with this text; `None` where `is_host` refuses it. This takes no memory.
+    /// Returns the host name with this text; `None` where `is_host` refuses it. This takes no
+    /// memory.
     pub fn check(text: String) -> Option<HostName>
         ensures { result
             ≡ (if is_host_name (string_bytes text) then Some (string_bytes text) else None) }
@@ -134,7 +135,7 @@ impl HostName {
         })
     }
 
-    /// The host name as text.
+    /// Returns the host name as text.
     pub fn as_str(&self) -> &str
         ensures text { result.now ≡ self.now }
         ensures host { is_host_name result.now ≡ true }
@@ -144,15 +145,15 @@ impl HostName {
 }
 
 impl RequestPath {
-    /// Whether `text` may be a path: 1 to 255 bytes, of which the first is `/` and each other one
-    /// an ASCII letter, an ASCII digit or one of `/-._~%?=&`.
+    /// Returns whether `text` may be a path: 1 to 255 bytes, of which the first is `/` and each
+    /// other one an ASCII letter, an ASCII digit or one of `/-._~%?=&`.
     pub fn is_path(text: &str) -> bool
         ensures { result ≡ is_request_path text.now }
     {
         is_request_path(text.as_bytes())
     }
 
-    /// The path with this text; `None` where `is_path` refuses it. This takes no memory.
+    /// Returns the path with this text; `None` where `is_path` refuses it. This takes no memory.
     pub fn check(text: String) -> Option<RequestPath>
         ensures { result
             ≡ (if is_request_path (string_bytes text) then Some (string_bytes text) else None) }
@@ -174,7 +175,7 @@ impl RequestPath {
         })
     }
 
-    /// The path as text.
+    /// Returns the path as text.
     pub fn as_str(&self) -> &str
         ensures text { result.now ≡ self.now }
         ensures path { is_request_path result.now ≡ true }

@@ -28,7 +28,7 @@ impl Model for Room {
 }
 
 impl Room {
-    /// An empty writer with room for `room` bytes.
+    /// Returns an empty writer with room for `room` bytes.
     pub fn new(alloc: Global, room: usize) -> Result<Room, AllocError>
         ensures { IfOk result (λ r. r ≡ record { bytes = []; room = room; has_failed = false }) }
     {
@@ -39,14 +39,14 @@ impl Room {
         })
     }
 
-    /// The bytes that were written.
+    /// Returns the bytes that were written.
     pub fn as_slice(&self) -> &[u8]
         ensures { result.now ≡ self.now.bytes }
     {
         self.bytes.as_slice()
     }
 
-    /// The bytes that were written, without a copy.
+    /// Returns the bytes that were written, without a copy.
     pub fn into_bytes(self) -> Vec<u8>
         ensures { result.items ≡ self.bytes }
     {

@@ -36,7 +36,7 @@ impl<T> Std<T> {
         }
     }
 
-    /// The reader or writer of `std::io`, failed or not.
+    /// Returns the reader or writer of `std::io`, failed or not.
     pub fn into_inner(self) -> T
         ensures { result ≡ self.0 }
     {
@@ -45,7 +45,7 @@ impl<T> Std<T> {
     }
 }
 
-/// A read that goes on when it was interrupted.
+/// Returns a read that goes on when it was interrupted.
 fn read_uninterrupted<R: io::Read>(reader: &mut R, buf: &mut [u8]) -> Result<usize, Failed>
     ensures bound { ReadsAtMost result buf.new }
     ensures bytes { ReadConsumes (R.remaining reader.old) (R.remaining reader.new) result buf.new }
@@ -63,7 +63,7 @@ fn read_uninterrupted<R: io::Read>(reader: &mut R, buf: &mut [u8]) -> Result<usi
     Err(Failed)
 }
 
-/// A write of at least one byte that goes on when it was interrupted.
+/// Returns a write of at least one byte that goes on when it was interrupted.
 fn write_uninterrupted<W: io::Write>(writer: &mut W, bytes: &[u8]) -> Result<usize, Failed>
     ensures bound { WritesAtMost result bytes.now }
     ensures bytes { WriteAppends (W.contents writer.old) (W.contents writer.new) result bytes.now }

@@ -14,7 +14,7 @@ pub enum RecordType {
 }
 
 impl RecordType {
-    /// The type that a byte stands for.
+    /// Returns the type that a byte stands for.
     pub fn from_byte(byte: u8) -> Option<RecordType>
         ensures byte { IfSome result (λ holds. byte ≡ record_byte holds) }
         ensures none { result ≡ None → (byte ≢ 1) × (byte ≢ 2) }
@@ -26,7 +26,7 @@ impl RecordType {
         }
     }
 
-    /// The byte that stands for it.
+    /// Returns the byte that stands for it.
     pub fn to_byte(self) -> u8
         ensures { result ≡ record_byte self }
     {

@@ -49,8 +49,8 @@ impl fmt::Display for TailFault {
 impl Error for TailFault {}
 
 impl TailFault {
-    /// The number that stands for the fault in text: 1 to 8, and 0 for `OutOfMemory`, which is no
-    /// fault of the log.
+    /// Returns the number that stands for the fault in text: 1 to 8, and 0 for `OutOfMemory`, which
+    /// is no fault of the log.
     pub fn number(self) -> u8
         ensures { result ≡ log_fault_number self }
     {

@@ -14,7 +14,7 @@ use rw_wal_format::{FragmentType, HEADER_BYTES, PAGE_BYTES};
 /// Where fewer bytes than a header's are left in a page, they are zeros.
 static ZEROS: [u8; 6] = [0; 6];
 
-/// What stands before the data of a fragment.
+/// Returns what stands before the data of a fragment.
 #[tactic(auto, unfolding(rw_wal_format::specs::Writing::frame))]
 fn header(kind: FragmentType, part: &[u8]) -> [u8; HEADER_BYTES]
     requires { length part.now < 2 ^ 16 }
@@ -48,7 +48,7 @@ fn put_padding<W: Sink>(sink: &mut W, left: usize) -> Result<usize, Failed>
     Ok(left)
 }
 
-/// How many bytes of data a fragment at this offset has room for.
+/// Returns how many bytes of data a fragment at this offset has room for.
 fn room_in_page(offset: usize) -> usize
     requires { 7 ≤ page_size - offset % page_size }
     ensures { result ≡ page_size - offset % page_size - 7 }

@@ -55,8 +55,8 @@ fn put_labels(out: &mut Vec<u8>, labels: &[(Vec<u8>, Vec<u8>)]) -> Result<(), Al
     Ok(())
 }
 
-/// The bytes of a series record with one definition: `reference` stands for `labels` (wal.md,
-/// "Series records").
+/// Returns the bytes of a series record with one definition: `reference` stands for `labels`
+/// (wal.md, "Series records").
 pub fn series_record(
     alloc: Global,
     reference: u64,
@@ -102,8 +102,8 @@ fn put_samples(
     Ok(())
 }
 
-/// The bytes of a sample record (wal.md, "Sample records") with these samples, each as (reference,
-/// timestamp in milliseconds, value). The first one is the base of all deltas.
+/// Returns the bytes of a sample record (wal.md, "Sample records") with these samples, each as
+/// (reference, timestamp in milliseconds, value). The first one is the base of all deltas.
 pub fn sample_record(alloc: Global, samples: &[(u64, i64, Word)]) -> Result<Vec<u8>, AllocError>
     ensures { IfOk result (λ record_bytes. record_bytes.items ≡ bytes_of_samples samples.now) }
 {

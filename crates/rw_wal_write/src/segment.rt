@@ -15,7 +15,7 @@ use std::marker::Model;
 /// The most bytes of a record.
 const MAX_RECORD_BYTES: usize = 16 * 1024 * 1024;
 
-/// The bytes of records that are left in a segment, behind the headers of their fragments.
+/// Returns the bytes of records that are left in a segment, behind the headers of their fragments.
 fn room_in(pages: usize, offset: usize) -> usize
     requires { IsPlace pages offset }
     ensures { result ≡ room page_size pages offset }
@@ -53,7 +53,7 @@ impl<W: Sink> Model for SegmentWriter<W> {
 }
 
 impl<W: Sink> SegmentWriter<W> {
-    /// A writer of an empty segment, which has at most `pages` pages of 32 KiB.
+    /// Returns a writer of an empty segment, which has at most `pages` pages of 32 KiB.
     pub fn new(w: W, pages: usize) -> SegmentWriter<W>
         requires some { 1 ≤ pages }
         requires most { pages ≤ 4096 }
@@ -67,8 +67,8 @@ impl<W: Sink> SegmentWriter<W> {
         }
     }
 
-    /// A writer that goes on with a segment of at most `pages` pages of 32 KiB, of which `offset`
-    /// bytes are written.
+    /// Returns a writer that goes on with a segment of at most `pages` pages of 32 KiB, of which
+    /// `offset` bytes are written.
     pub fn resume(w: W, pages: usize, offset: usize) -> SegmentWriter<W>
         requires { IsPlace pages offset }
         ensures { result ≡ record { sink = w; pages = pages; offset = offset; closed = false } }
@@ -81,8 +81,8 @@ impl<W: Sink> SegmentWriter<W> {
         }
     }
 
-    /// The offset, in bytes, behind the records that were written whole, with their headers and
-    /// zeros.
+    /// Returns the offset, in bytes, behind the records that were written whole, with their headers
+    /// and zeros.
     pub fn offset(&self) -> usize
         ensures offset { result ≡ self.now.offset }
         ensures place { IsPlace self.now.pages result }
@@ -90,7 +90,7 @@ impl<W: Sink> SegmentWriter<W> {
         self.offset
     }
 
-    /// The device, failed or not.
+    /// Returns the device, failed or not.
     pub fn into_inner(self) -> W
         ensures sink { result ≡ self.sink }
         ensures failed { self.closed ≡ true → W.has_failed result ≡ true }

@@ -162,7 +162,7 @@ pub enum Task<'a> {
     },
 }
 
-/// The value of an option that is to be a HOST:PORT and is none.
+/// Returns the value of an option that is to be a HOST:PORT and is none.
 fn bad_value<'a>(options: &ArgMatches<'a>, option: &str) -> Option<&'a str> {
     let value = options.get_str(option)?;
     if read_address(value).is_some() {
@@ -171,7 +171,7 @@ fn bad_value<'a>(options: &ArgMatches<'a>, option: &str) -> Option<&'a str> {
     Some(value)
 }
 
-/// The option and the value of a HOST:PORT that is none, if the options have one.
+/// Returns the option and the value of a HOST:PORT that is none, if the options have one.
 fn bad_option<'a>(options: &ArgMatches<'a>) -> Option<(&'static str, &'a str)> {
     for option in ["to", "listen", "metrics"] {
         if let Some(value) = bad_value(options, option) {
@@ -181,13 +181,13 @@ fn bad_option<'a>(options: &ArgMatches<'a>) -> Option<(&'static str, &'a str)> {
     None
 }
 
-/// The option and the value of a HOST:PORT that is none, if the words have one.
+/// Returns the option and the value of a HOST:PORT that is none, if the words have one.
 pub fn bad_address<'a>(words: &ArgMatches<'a>) -> Option<(&'static str, &'a str)> {
     let (_, options) = words.subcommand()?;
     bad_option(options)
 }
 
-/// What the options of `inspect` ask for.
+/// Returns what the options of `inspect` ask for.
 fn inspect_task<'a>(options: &ArgMatches<'a>) -> Task<'a> {
     let dir = dir_of(options);
     let is_explained = options.get_flag("explain");
@@ -201,7 +201,7 @@ fn inspect_task<'a>(options: &ArgMatches<'a>) -> Task<'a> {
     }
 }
 
-/// The positions that the words ask for, in their order.
+/// Returns the positions that the words ask for, in their order.
 pub fn positions_of(alloc: Global, words: &ArgMatches<'_>) -> Result<Vec<u64>, AllocError> {
     let mut positions = Vec::new(alloc);
     if let Some((_, options)) = words.subcommand() {
@@ -216,7 +216,7 @@ pub fn positions_of(alloc: Global, words: &ArgMatches<'_>) -> Result<Vec<u64>, A
     Ok(positions)
 }
 
-/// What the options of `log` ask for.
+/// Returns what the options of `log` ask for.
 fn log_task<'a>(options: &ArgMatches<'a>) -> Option<Task<'a>> {
     Some(Task::Log {
         hex: options.get_flag("hex"),
@@ -226,7 +226,7 @@ fn log_task<'a>(options: &ArgMatches<'a>) -> Option<Task<'a>> {
     })
 }
 
-/// What the options of `body` ask for.
+/// Returns what the options of `body` ask for.
 fn body_task<'a>(options: &ArgMatches<'a>) -> Task<'a> {
     Task::Body {
         hex: options.get_flag("hex"),
@@ -234,7 +234,7 @@ fn body_task<'a>(options: &ArgMatches<'a>) -> Task<'a> {
     }
 }
 
-/// What the options of a command ask for that has no `--settings`.
+/// Returns what the options of a command ask for that has no `--settings`.
 fn plain_task<'a>(name: &str, options: &ArgMatches<'a>) -> Option<Task<'a>> {
     if name == "body" {
         Some(body_task(options))
@@ -247,7 +247,7 @@ fn plain_task<'a>(name: &str, options: &ArgMatches<'a>) -> Option<Task<'a>> {
     }
 }
 
-/// What the options of `plan` ask for.
+/// Returns what the options of `plan` ask for.
 fn plan_task<'a>(settings: SettingsFile<'a>, options: &ArgMatches<'a>) -> Task<'a> {
     Task::Plan {
         settings,
@@ -256,7 +256,7 @@ fn plan_task<'a>(settings: SettingsFile<'a>, options: &ArgMatches<'a>) -> Task<'
     }
 }
 
-/// What the options of a command ask for.
+/// Returns what the options of a command ask for.
 fn task_named<'a>(name: &str, options: &ArgMatches<'a>) -> Option<Task<'a>> {
     let settings = settings_of(options);
     if name == "plan" {
@@ -274,7 +274,7 @@ fn task_named<'a>(name: &str, options: &ArgMatches<'a>) -> Option<Task<'a>> {
     }
 }
 
-/// What the words ask for; none where a HOST:PORT is none, which `bad_address` tells.
+/// Returns what the words ask for; none where a HOST:PORT is none, which `bad_address` tells.
 pub fn task_of<'a>(words: &ArgMatches<'a>) -> Option<Task<'a>> {
     let (name, options) = words.subcommand()?;
     task_named(name, options)

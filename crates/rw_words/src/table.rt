@@ -358,7 +358,7 @@ fn receive() -> &'static Words {
     &RECEIVE
 }
 
-/// All commands.
+/// Returns all commands.
 pub(crate) fn commands() -> [&'static Words; 8] {
     [
         body(),

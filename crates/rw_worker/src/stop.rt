@@ -41,7 +41,7 @@ impl Model for Stopped {
 }
 
 impl StopFlag {
-    /// A flag that is not set.
+    /// Returns a flag that is not set.
     pub fn new(alloc: Global) -> Result<StopFlag, AllocError> {
         let is_set = Arc::new(alloc, AtomicBool::new(false))?;
         Ok(StopFlag { is_set, name: 0 })

@@ -47,12 +47,12 @@ impl Tally {
         self.told.is_sending.store(false, Ordering::Relaxed);
     }
 
-    /// How many samples were told last.
+    /// Returns how many samples were told last.
     pub fn read(&self) -> u64 {
         self.told.resolved.load(Ordering::Relaxed)
     }
 
-    /// Whether a batch is on its way, or tried again.
+    /// Returns whether a batch is on its way, or tried again.
     pub fn is_sending(&self) -> bool {
         self.told.is_sending.load(Ordering::Relaxed)
     }

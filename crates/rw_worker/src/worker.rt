@@ -53,8 +53,8 @@ impl Model for Worker {
 }
 
 impl Worker {
-    /// The worker of the shard `shard` of the epoch `epoch`. Where memory is refused its end of the
-    /// queue comes back.
+    /// Returns the worker of the shard `shard` of the epoch `epoch`. Where memory is refused its
+    /// end of the queue comes back.
     pub fn new(
         alloc: Global,
         config: &Config,
@@ -127,7 +127,7 @@ impl Worker {
         unreachable!()
     }
 
-    /// The state before the first step.
+    /// Returns the state before the first step.
     fn begin<T: Transport, P: Pause>(self, transport: T, _pause: &P) -> (Intake, Sending<T>)
         ensures { IsState T.tells T.seen P.tells P.paused self transport _pause.now result.0
             result.1 _pause.now }

@@ -24,7 +24,7 @@ impl Engine {
         requests_are_read();
     }
 
-    /// The bytes of the request with this number.
+    /// Returns the bytes of the request with this number.
     pub(crate) fn request(&self, k: usize) -> Option<&[u8]>
         ensures { option_map (λ b. b.now) result
             ≡ option_map (λ (r : Request). r.bytes) (slice_get self.now.world.requests k) }

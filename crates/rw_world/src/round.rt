@@ -37,7 +37,7 @@ fn is_same(a: BatchId, b: BatchId) -> bool
     a.epoch == b.epoch && a.shard == b.shard && a.seq == b.seq
 }
 
-/// The number of the newest request with this id.
+/// Returns the number of the newest request with this id.
 fn newest(requests: &[Sent], id: BatchId) -> u64
     ensures { result ≡ newest_from id 0 requests.now 0 }
 {
@@ -53,8 +53,8 @@ fn newest(requests: &[Sent], id: BatchId) -> u64
 }
 
 impl Engine {
-    /// Whether a sample of this reference and timestamp may be placed: only one that is sent needs
-    /// room.
+    /// Returns whether a sample of this reference and timestamp may be placed: only one that is
+    /// sent needs room.
     fn can_place_known(&self, reference: u64, t: i64) -> bool
         ensures { result
             ≡ can_place_known self.now.setup self.now.world t
@@ -69,7 +69,7 @@ impl Engine {
         }
     }
 
-    /// Whether the next entry may be placed.
+    /// Returns whether the next entry may be placed.
     fn can_place(&self) -> bool
         ensures { result ≡ can_place self.now.setup self.now.world }
     {
@@ -107,8 +107,8 @@ impl Engine {
         self.senders.first_flushing()
     }
 
-    /// The open batch of this shard is sent, or where it waits its newest request arrives and is
-    /// replied to.
+    /// Returns the open batch of this shard is sent, or where it waits its newest request arrives
+    /// and is replied to.
     fn exchange(&self, i: usize) -> Next
         requires { IsOpen (slice_get self.now.world.shards i) }
         ensures { events_of result
@@ -120,7 +120,7 @@ impl Engine {
         }
     }
 
-    /// Whether each shard is to be put its End.
+    /// Returns whether each shard is to be put its End.
     fn is_ending(&self) -> bool
         ensures { result ≡ (is_finished self.now.world || is_some self.now.world.draining) }
     {
@@ -130,8 +130,8 @@ impl Engine {
         self.draining.is_some()
     }
 
-    /// A mark is put where one is to come and there is room for it, or else the next shards take
-    /// over.
+    /// Returns a mark is put where one is to come and there is room for it, or else the next shards
+    /// take over.
     fn mark(&self) -> Next
         ensures { events_of result
             ≡ first_of_these (if is_finished self.now.world || is_some self.now.world.draining
@@ -148,7 +148,7 @@ impl Engine {
         }
     }
 
-    /// What comes next.
+    /// Returns what comes next.
     fn next(&self) -> Next
         ensures { events_of result ≡ next_events self.now.setup self.now.world }
     {

@@ -12,7 +12,7 @@ use rw_plain_queue::Kind;
 use rw_wal_tail::Piece;
 use std::alloc::AllocError;
 
-/// Whether the event is a request's arrival.
+/// Returns whether the event is a request's arrival.
 fn is_arrive(event: &Event) -> bool
     ensures { result ≡ is_arrive event.now }
 {
@@ -23,7 +23,7 @@ fn is_arrive(event: &Event) -> bool
 }
 
 impl Engine {
-    /// The End that a shard is to be put, or none where that is a Flush.
+    /// Returns the End that a shard is to be put, or none where that is a Flush.
     fn mark_kind(&self) -> Option<Kind>
         ensures { result ≡ mark_kind self.now.world }
     {
@@ -133,7 +133,8 @@ impl Engine {
         self.draining = Some(n);
     }
 
-    /// Whether the shards at hand have nothing left, and not all that is to be sent was placed.
+    /// Returns whether the shards at hand have nothing left, and not all that is to be sent was
+    /// placed.
     fn may_restart(&self) -> bool
         ensures { result ≡ (not (is_finished self.now.world) && all_drained self.now.world) }
     {

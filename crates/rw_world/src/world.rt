@@ -154,9 +154,9 @@ impl World {
         self.engine.settle()
     }
 
-    /// An orderly shutdown: no more is read, all that was read is placed and sent, and this is how
-    /// the work has ended. Where memory is refused the world is that after some of its rounds, and
-    /// a call that comes later goes on from there.
+    /// Returns an orderly shutdown: no more is read, all that was read is placed and sent, and this
+    /// is how the work has ended. Where memory is refused the world is that after some of its
+    /// rounds, and a call that comes later goes on from there.
     pub fn settle(&mut self) -> Result<Outcome, AllocError>
         ensures rounds { HasShutDown self.old self.new }
         ensures report { IfOk result (λ o. report self.new.world ≡ Some (ending_of o)) }
@@ -187,8 +187,8 @@ impl World {
         self.engine.report()
     }
 
-    /// The samples that the receiver holds of a label set in order, as (timestamp in milliseconds,
-    /// value).
+    /// Returns the samples that the receiver holds of a label set in order, as (timestamp in
+    /// milliseconds, value).
     pub fn received(&self, labels: &LabelSet) -> Result<Vec<(i64, Word)>, AllocError>
         ensures list { IfOk result (λ v. v.items ≡ list_of self.now.world.head.store labels.now) }
         // What holds of every world.
@@ -198,8 +198,8 @@ impl World {
         self.engine.received(labels)
     }
 
-    /// The label sets of which the receiver holds samples, by byte order of their lists of (name,
-    /// value). This takes no memory.
+    /// Returns the label sets of which the receiver holds samples, by byte order of their lists of
+    /// (name, value). This takes no memory.
     pub fn label_sets(&self) -> LabelSets<'_>
         ensures list { result ≡ label_sets self.now.world.head.store }
         ensures fits { length result < 2 ^ 63 }
@@ -207,8 +207,8 @@ impl World {
         self.engine.label_sets()
     }
 
-    /// The bytes of the request with this number, from 0, of all that were sent: what goes over the
-    /// network.
+    /// Returns the bytes of the request with this number, from 0, of all that were sent: what goes
+    /// over the network.
     pub fn request(&self, k: usize) -> Option<&[u8]>
         ensures bytes { option_map (λ b. b.now) result
             ≡ option_map (λ (r : Request). r.bytes) (slice_get self.now.world.requests k) }
@@ -219,14 +219,14 @@ impl World {
         self.engine.request(k)
     }
 
-    /// How many samples were placed whose series the rules drop.
+    /// Returns how many samples were placed whose series the rules drop.
     pub fn filtered(&self) -> u64
         ensures { result ≡ self.now.world.filtered }
     {
         self.engine.filtered()
     }
 
-    /// The dropped samples.
+    /// Returns the dropped samples.
     pub fn ledger(&self) -> &Ledger
         ensures { result.now.names ≡ self.now.world.names }
     {

@@ -45,7 +45,7 @@ pub enum Ahead {
     Sample(u64, i64),
 }
 
-/// What an entry is.
+/// Returns what an entry is.
 fn ahead_of(entry: &Entry) -> Ahead
     ensures { result ≡ ahead_of (Some entry.now) }
 {
@@ -80,7 +80,7 @@ fn drain(tail: &mut Tail, entries: &mut Vec<Entry>) -> Result<Option<TailFault>,
 }
 
 impl Log {
-    /// A log of which no piece has come.
+    /// Returns a log of which no piece has come.
     pub fn new(alloc: Global) -> Log
         ensures { result ≡ [] }
     {
@@ -115,7 +115,7 @@ impl Log {
         }
     }
 
-    /// How many entries there are.
+    /// Returns how many entries there are.
     pub fn len(&self) -> u64
         ensures len { result ≡ length (entries self.now) }
         ensures small { result < 2 ^ 60 }
@@ -123,7 +123,7 @@ impl Log {
         self.tail.entries_read()
     }
 
-    /// The entry at a position.
+    /// Returns the entry at a position.
     pub fn entry(&self, pos: u64) -> Result<Option<Entry>, AllocError>
         ensures { IfOk result (λ e. e ≡ slice_get (entries self.now) pos) }
     {
@@ -133,7 +133,7 @@ impl Log {
         }
     }
 
-    /// What stands at a position.
+    /// Returns what stands at a position.
     pub fn ahead(&self, pos: u64) -> Ahead
         ensures { result ≡ ahead_of (slice_get (entries self.now) pos) }
     {
@@ -143,7 +143,7 @@ impl Log {
         }
     }
 
-    /// The fault at which reading ended, if it did.
+    /// Returns the fault at which reading ended, if it did.
     pub fn fault(&self) -> Option<TailFault>
         ensures { result ≡ fault self.now }
     {

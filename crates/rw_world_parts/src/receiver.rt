@@ -30,7 +30,7 @@ pub fn limits_at(alloc: Global, limits: Limits, path: &RequestPath) -> Result<Li
     }
 }
 
-/// A copy of a host.
+/// Returns a copy of a host.
 pub fn copy_of(alloc: Global, host: &HostName) -> Result<HostName, AllocError>
     ensures { IfOk result (λ h. h ≡ host.now) }
 {
@@ -40,7 +40,7 @@ pub fn copy_of(alloc: Global, host: &HostName) -> Result<HostName, AllocError>
     }
 }
 
-/// What the receiver replies to a request.
+/// Returns what the receiver replies to a request.
 fn ask(
     alloc: Global,
     sent: &Sent,
@@ -62,7 +62,7 @@ fn ask(
     exchange(alloc, request, head, limits)
 }
 
-/// The receiver's answer to a request. Where memory runs out there is none.
+/// Returns the receiver's answer to a request. Where memory runs out there is none.
 pub fn answer_to(
     alloc: Global,
     sent: &Sent,

@@ -128,35 +128,35 @@ fn first_flushing(shards: &[WorldShard]) -> Option<usize>
 }
 
 impl Shards {
-    /// The first shard whose batch is open.
+    /// Returns the first shard whose batch is open.
     pub fn first_open(&self) -> Option<usize>
         ensures { result ≡ position is_open self.now.shards }
     {
         first_open(&self.shards)
     }
 
-    /// The first shard whose builder is due and has samples.
+    /// Returns the first shard whose builder is due and has samples.
     pub fn first_due(&self) -> Option<usize>
         ensures { result ≡ position is_ready self.now.shards }
     {
         first_due(&self.shards)
     }
 
-    /// The first shard that may take what stands in its queue.
+    /// Returns the first shard that may take what stands in its queue.
     pub fn first_taking(&self) -> Option<usize>
         ensures { result ≡ position may_take self.now.shards }
     {
         first_taking(&self.shards)
     }
 
-    /// The first shard into whose queue a mark may be put.
+    /// Returns the first shard into whose queue a mark may be put.
     pub fn first_flushing(&self) -> Option<usize>
         ensures { result ≡ position (may_flush self.now.capacity) self.now.shards }
     {
         first_flushing(&self.shards)
     }
 
-    /// The id of this shard's open batch that waits for its reply.
+    /// Returns the id of this shard's open batch that waits for its reply.
     pub fn waiting_id(&self, i: usize) -> Option<BatchId>
         ensures { result ≡ waiting_id_at (slice_get self.now.shards i) }
     {
@@ -240,7 +240,7 @@ impl Shards {
         self.shards[i].reply(id, status, &mut self.ledger);
     }
 
-    /// Whether this shard's queue takes one more item.
+    /// Returns whether this shard's queue takes one more item.
     pub fn has_room(&self, i: usize) -> bool
         ensures { result ≡ room_at self.now.capacity (slice_get self.now.shards i) }
     {
@@ -294,7 +294,7 @@ impl Shards {
         Ok(())
     }
 
-    /// How many shards there are.
+    /// Returns how many shards there are.
     pub fn len(&self) -> usize
         ensures len { result ≡ length self.now.shards }
         ensures some { 1 ≤ result }
@@ -302,14 +302,14 @@ impl Shards {
         self.shards.len()
     }
 
-    /// Whether all shards are drained.
+    /// Returns whether all shards are drained.
     pub fn are_drained(&self) -> bool
         ensures { result ≡ list_all is_drained self.now.shards }
     {
         all_drained(&self.shards)
     }
 
-    /// The positions of the samples that were put and are not resolved, in order.
+    /// Returns the positions of the samples that were put and are not resolved, in order.
     pub fn pending(&self) -> Result<Vec<u64>, AllocError>
         ensures found { IfOk result (λ v. (pos : ℕ)
             → list_any (λ p. p == pos) v.items
@@ -323,14 +323,14 @@ impl Shards {
         Ok(positions)
     }
 
-    /// The dropped samples.
+    /// Returns the dropped samples.
     pub fn ledger(&self) -> &Ledger
         ensures { result.now.names ≡ self.now.names }
     {
         &self.ledger
     }
 
-    /// The first shards.
+    /// Returns the first shards.
     pub fn new(
         alloc: Global,
         target: Target,

@@ -22,8 +22,8 @@ const MOST_SAMPLES: usize = 4096;
 /// How many fields of a series are read at a time.
 const MOST_FIELDS: usize = 4096;
 
-/// The field at the front of a message's bytes: the bytes of its series, where it is one, and the
-/// bytes behind it.
+/// Returns the field at the front of a message's bytes: the bytes of its series, where it is one,
+/// and the bytes behind it.
 pub fn message_part(bytes: &[u8]) -> Result<(Option<&[u8]>, &[u8]), WireFault>
     requires { 0 < length bytes.now }
     // A series is read, and then the rest.
@@ -45,7 +45,7 @@ pub fn message_part(bytes: &[u8]) -> Result<(Option<&[u8]>, &[u8]), WireFault>
     }
 }
 
-/// How many labels a series has, where the bytes are one. This takes no memory.
+/// Returns how many labels a series has, where the bytes are one. This takes no memory.
 pub fn label_count(bytes: &[u8]) -> usize
     ensures { IfOk (read_series bytes.now) (λ s. result ≡ length s.labels) }
 {
@@ -53,7 +53,7 @@ pub fn label_count(bytes: &[u8]) -> usize
     labels
 }
 
-/// The bytes of a series before its first sample, or before a fault.
+/// Returns the bytes of a series before its first sample, or before a fault.
 pub fn head_of(bytes: &[u8]) -> &[u8]
     ensures { (rest : List ℕ) × (bytes.now ≡ result.now ++ rest) }
 {
@@ -135,8 +135,8 @@ fn add_label(
     Ok(())
 }
 
-/// The labels of the series that the bytes spell, or the first fault in reading order. Its samples
-/// are judged too, and take no memory.
+/// Returns the labels of the series that the bytes spell, or the first fault in reading order. Its
+/// samples are judged too, and take no memory.
 pub fn read_labels(alloc: Global, bytes: &[u8]) -> Result<Vec<(String, String)>, WireFault>
     ensures found { IfOk result (λ labels. (samples : List Sample)
         × (read_series bytes.now ≡ Ok (series_of labels.items samples))) }

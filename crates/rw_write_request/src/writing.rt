@@ -130,9 +130,9 @@ fn put_all_series(out: &mut Vec<u8>, list: &[Series])
     }
 }
 
-/// The canonical spelling of a message: fields in the order of their numbers, the shortest varints,
-/// and neither scalars whose bits are all zero nor empty strings. It stands in one buffer of
-/// exactly its length; an `Err` is for that buffer alone, or for a length that does not fit 64
+/// Returns the canonical spelling of a message: fields in the order of their numbers, the shortest
+/// varints, and neither scalars whose bits are all zero nor empty strings. It stands in one buffer
+/// of exactly its length; an `Err` is for that buffer alone, or for a length that does not fit 64
 /// bits.
 pub fn encode(alloc: Global, message: &Message) -> Result<Vec<u8>, AllocError>
     ensures canonical { IfOk result (λ v. v.items ≡ canon message.now) }

@@ -133,8 +133,8 @@ pub fn unset(rt: &HostRuntime, fault: Unset) -> ExitCode
     }
 }
 
-/// The text of the command-line parser: help and version on standard output with status 0, and else
-/// what is wrong with the words.
+/// Returns the text of the command-line parser: help and version on standard output with status 0,
+/// and else what is wrong with the words.
 pub fn unparsed(rt: &HostRuntime, error: clap::Error) -> ExitCode {
     if error.kind() == ErrorKind::OutOfMemory {
         return ended(rt, Err(ToolFault::OutOfMemory));

@@ -32,7 +32,7 @@ pub fn files_of(
     })
 }
 
-/// Whether a folder has a checkpoint that is passed over.
+/// Returns whether a folder has a checkpoint that is passed over.
 pub fn passes_checkpoint_over(rt: &HostRuntime, dir: LogDir<'_>) -> bool {
     !dir.from_checkpoint && has_checkpoint(rt, dir.path)
 }

@@ -15,7 +15,7 @@ pub fn tell_unheard(rt: &HostRuntime, listen: Address<'_>, error: &Error) {
     let _ = eprintln!(rt; "  cannot listen on {host}:{port}: {error}");
 }
 
-/// What reads the lines of progress.
+/// Returns what reads the lines of progress.
 fn screen_of(rt: &HostRuntime) -> Screen {
     if rt.stderr().is_terminal() {
         Screen::Terminal
@@ -24,7 +24,7 @@ fn screen_of(rt: &HostRuntime) -> Screen {
     }
 }
 
-/// Whether progress is shown, or standard error is a terminal.
+/// Returns whether progress is shown, or standard error is a terminal.
 pub fn is_watched(rt: &HostRuntime, reporting: &Reporting<'_>) -> bool {
     reporting.has_progress || rt.stderr().is_terminal()
 }

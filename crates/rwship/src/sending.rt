@@ -293,7 +293,7 @@ fn start<R: Threads>(
     }
 }
 
-/// Whether the folder has no segment.
+/// Returns whether the folder has no segment.
 fn is_empty(log: &Log) -> bool {
     match log {
         Log::Whole(log) => log.missing.is_none() && log.files.is_empty(),

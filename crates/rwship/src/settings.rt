@@ -37,7 +37,7 @@ fn unreadable(rt: &HostRuntime, path: &str, error: &io::Error, is_explained: boo
     }
 }
 
-/// The text of a settings file, or the empty one where there is none.
+/// Returns the text of a settings file, or the empty one where there is none.
 fn text_of(rt: &HostRuntime, file: SettingsFile<'_>) -> Result<Vec<u8>, Unset>
     ensures { file.entry.path ≡ None → IfOk result (λ t. t.items ≡ []) }
 {
@@ -65,7 +65,7 @@ fn refused(rt: &HostRuntime, text: &[u8], fault: SettingsFault, is_explained: bo
     }
 }
 
-/// The settings that are asked for.
+/// Returns the settings that are asked for.
 pub fn settings_in(rt: &HostRuntime, file: SettingsFile<'_>) -> Result<Settings, Unset>
     ensures { file.entry.path ≡ None → IfOk result (λ s. toml.settings_in [] ≡ Ok s) }
 {
@@ -76,7 +76,7 @@ pub fn settings_in(rt: &HostRuntime, file: SettingsFile<'_>) -> Result<Settings,
     }
 }
 
-/// The settings that are asked for, as a text that gives each key.
+/// Returns the settings that are asked for, as a text that gives each key.
 pub fn printed_settings(rt: &HostRuntime, file: SettingsFile<'_>) -> Result<String, Unset>
     ensures { file.entry.path ≡ None
         → IfOk result (λ t. IsOkAnd (toml.settings_in []) (λ s. string_bytes t ≡ settings_text s)) }

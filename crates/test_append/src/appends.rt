@@ -135,7 +135,7 @@ fn many(alloc: Global, reference: u64, count: usize) -> Result<Vec<(u64, i64, Wo
     Ok(samples)
 }
 
-/// Whether the entry is this sample.
+/// Returns whether the entry is this sample.
 fn is_sample(entry: &Entry, sample: (u64, i64, Word)) -> bool {
     match entry {
         Entry::Sample { reference, t, word } => {

@@ -127,8 +127,8 @@ fn read_all(rt: &HostRuntime, log: LogFiles<HostRuntime>, text: &mut Vec<u8>) ->
     true
 }
 
-/// Whether the log in a folder is read as a row says. The folder is removed once it was opened, if
-/// that is asked for.
+/// Returns whether the log in a folder is read as a row says. The folder is removed once it was
+/// opened, if that is asked for.
 fn is_read(rt: &HostRuntime, dir: Path<'_>, row: &Row, goes: bool) -> Result<bool, AllocError> {
     let log = log_files(rt, dir.as_str(), None)?;
     if goes {
@@ -165,7 +165,7 @@ fn follow(folder: &mut Folder<HostRuntime>, text: &mut Vec<u8>) -> Result<Option
     Err(())
 }
 
-/// Whether the log in a folder is followed as a row says.
+/// Returns whether the log in a folder is followed as a row says.
 fn is_followed(rt: &HostRuntime, dir: Path<'_>, row: &Row) -> Result<bool, AllocError> {
     let alloc = rt.alloc();
     let counters = Arc::new(alloc, SendCounters::new(alloc)?)?;
@@ -176,7 +176,7 @@ fn is_followed(rt: &HostRuntime, dir: Path<'_>, row: &Row) -> Result<bool, Alloc
     Ok(missing == Ok(row.missing) && text.as_slice() == row.text.as_bytes())
 }
 
-/// The first row that does not hold, over folders that begin with this name.
+/// Returns the first row that does not hold, over folders that begin with this name.
 fn first_wrong(rt: &HostRuntime, name: &str) -> Result<Option<&'static str>, Fail> {
     for row in &ROWS {
         let dir = make_folder(rt, name, row)?;
@@ -225,7 +225,7 @@ static NO_FOLDER: Row = Row {
     missing: None,
 };
 
-/// Whether the log in a folder cannot be read, as it is or while it grows.
+/// Returns whether the log in a folder cannot be read, as it is or while it grows.
 fn is_unreadable(rt: &HostRuntime, dir: &str) -> Result<bool, AllocError> {
     let alloc = rt.alloc();
     let log = log_files(rt, dir, None)?;

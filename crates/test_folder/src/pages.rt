@@ -146,7 +146,7 @@ fn count_attempts(counters: &SendCounters) {
     }
 }
 
-/// Whether the page of a sender has this text.
+/// Returns whether the page of a sender has this text.
 fn is_senders(alloc: Global) -> Result<bool, AllocError> {
     let counters = SendCounters::new(alloc)?;
     count_sending(&counters);
@@ -161,7 +161,7 @@ fn a_sender_for_people(rt: HostRuntime) -> Result<(), Fail> {
     Ok(())
 }
 
-/// Whether the page of a receiver ends with this text.
+/// Returns whether the page of a receiver ends with this text.
 fn is_receivers(alloc: Global) -> Result<bool, AllocError> {
     let counters = ReceiveCounters::new(alloc)?;
     counters.begin_connection();

@@ -38,7 +38,7 @@ fn up(alloc: Global) -> Result<Arc<LabelSet>, LabelFault> {
     }
 }
 
-/// The sample of this number, of the queue of shard 0 in epoch 0.
+/// Returns the sample of this number, of the queue of shard 0 in epoch 0.
 fn sample(seq: u64, t: i64, labels: Arc<LabelSet>) -> Item
     ensures { result ≡ item.Sample
         (record { epoch = 0; shard = 0; seq = seq; pos = seq; series = 0 }) t 1 labels }
@@ -78,7 +78,7 @@ fn shown_by(report: &WorkerReport<Line<'_>>) -> Shown {
     }
 }
 
-/// A worker with such a queue; none where memory is refused.
+/// Returns a worker with such a queue; none where memory is refused.
 fn worker_of<R: Wait>(rt: &R, alloc: Global, config: &Config) -> Option<Worker> {
     let labels = up(alloc).ok()?;
     let (feed, drain) = open(alloc, 0, 0, 4).ok()?;
@@ -88,8 +88,8 @@ fn worker_of<R: Wait>(rt: &R, alloc: Global, config: &Config) -> Option<Worker> 
     Worker::new(alloc, config, 0, 0, drain).ok()
 }
 
-/// What a worker shows over a line where this call fails, counted from 1, and whether it came to
-/// that call.
+/// Returns what a worker shows over a line where this call fails, counted from 1, and whether it
+/// came to that call.
 fn shown_over_line<R: Wait>(
     rt: &R,
     alloc: Global,
@@ -104,7 +104,7 @@ fn shown_over_line<R: Wait>(
     (shown, calls.get() == 0)
 }
 
-/// The same of a new worker; none where memory is refused before it runs.
+/// Returns the same of a new worker; none where memory is refused before it runs.
 fn shown_at<R: Wait>(rt: &R, alloc: Global, failing: usize) -> Option<(Shown, bool)> {
     let stop = StopFlag::new(alloc).ok()?;
     let limits = Limits::standard(alloc).ok()?;
@@ -113,7 +113,7 @@ fn shown_at<R: Wait>(rt: &R, alloc: Global, failing: usize) -> Option<(Shown, bo
     Some(shown_over_line(rt, alloc, limits, worker, &stop, failing))
 }
 
-/// What the worker is to show.
+/// Returns what the worker is to show.
 fn wanted(has_failed: bool) -> Shown {
     Shown {
         exchanges: if has_failed { 3 } else { 2 },
@@ -124,8 +124,8 @@ fn wanted(has_failed: bool) -> Shown {
     }
 }
 
-/// The first call with whose failure a worker shows something else; MANY where all are well, and 0
-/// where there are few.
+/// Returns the first call with whose failure a worker shows something else; MANY where all are
+/// well, and 0 where there are few.
 fn wrong_call<R: Wait>(rt: &R, alloc: Global) -> usize {
     for failing in 1..MANY {
         match shown_at(rt, alloc, failing) {
@@ -143,7 +143,7 @@ fn each_call_may_fail(rt: HostRuntime) {
     assert_eq!(rt; wrong_call(&rt, rt.alloc()), MANY);
 }
 
-/// What a worker shows where no call fails; again where memory is refused before it begins.
+/// Returns what a worker shows where no call fails; again where memory is refused before it begins.
 fn shown_whole<R: Wait>(rt: &R, alloc: Global) -> Option<Shown> {
     match shown_at(rt, alloc, 0) {
         Some((shown, _)) => Some(shown),
@@ -151,7 +151,7 @@ fn shown_whole<R: Wait>(rt: &R, alloc: Global) -> Option<Shown> {
     }
 }
 
-/// Whether all is sent, and one request again at most.
+/// Returns whether all is sent, and one request again at most.
 fn goes_on<R: Wait>(rt: &R, alloc: Global) -> bool {
     match shown_whole(rt, alloc) {
         Some(shown) => shown == wanted(false) || shown == wanted(true),

@@ -18,7 +18,7 @@ struct Field<'a> {
     rest: &'a [u8],
 }
 
-/// A number, and what stands behind it.
+/// Returns a number, and what stands behind it.
 fn uvarint(text: &[u8]) -> Result<(u64, &[u8]), WireFault> {
     let mut value: u64 = 0;
     let mut scale: u64 = 1;
@@ -40,7 +40,7 @@ fn uvarint(text: &[u8]) -> Result<(u64, &[u8]), WireFault> {
     Err(WireFault::VarintTooBig)
 }
 
-/// The field number of a tag, if the tag is one of a message with these fields.
+/// Returns the field number of a tag, if the tag is one of a message with these fields.
 fn number_of(tag: u64, wires: Wires) -> Result<u64, WireFault> {
     let (number, wire) = (tag / 8, tag % 8);
     let wanted = match number {
@@ -56,7 +56,7 @@ fn number_of(tag: u64, wires: Wires) -> Result<u64, WireFault> {
     }
 }
 
-/// The first field of a text.
+/// Returns the first field of a text.
 fn first_field(text: &[u8], wires: Wires) -> Result<Field<'_>, WireFault> {
     let (tag, behind) = uvarint(text)?;
     let number = number_of(tag, wires)?;
@@ -177,7 +177,7 @@ fn spell_series(alloc: Global, text: &[u8], out: &mut Vec<u8>) -> Result<(), Wir
     Ok(())
 }
 
-/// The canonical spelling of the message that a text spells, or its first fault.
+/// Returns the canonical spelling of the message that a text spells, or its first fault.
 pub(crate) fn plain_spelling(alloc: Global, text: &[u8]) -> Result<Vec<u8>, WireFault> {
     let mut out = Vec::new(alloc);
     let mut rest = text;

@@ -26,7 +26,7 @@ enum Place {
     End,
 }
 
-/// Whether a byte stands for one of the start.
+/// Returns whether a byte stands for one of the start.
 fn is_like(byte: u8, wanted: u8) -> bool {
     match wanted {
         b'v' => byte == b'0' || byte == b'1',
@@ -35,7 +35,7 @@ fn is_like(byte: u8, wanted: u8) -> bool {
     }
 }
 
-/// Whether the start has such a byte here.
+/// Returns whether the start has such a byte here.
 fn begins(at: usize, byte: u8) -> bool {
     match START.get(at) {
         Some(wanted) => is_like(byte, *wanted),
@@ -43,17 +43,17 @@ fn begins(at: usize, byte: u8) -> bool {
     }
 }
 
-/// Whether a byte may stand in the name of a field.
+/// Returns whether a byte may stand in the name of a field.
 fn is_of_name(byte: u8) -> bool {
     byte.is_ascii_alphanumeric() || b"!#$%&'*+-.^_`|~".contains(&byte)
 }
 
-/// Whether a byte may stand in a reason or in a value.
+/// Returns whether a byte may stand in a reason or in a value.
 fn is_of_text(byte: u8) -> bool {
     byte == b'\t' || (byte >= b' ' && byte != 127)
 }
 
-/// The place behind a byte that is no part of a line's end.
+/// Returns the place behind a byte that is no part of a line's end.
 fn behind(place: Place, byte: u8) -> Option<Place> {
     match place {
         Place::Start(12) if byte == b' ' => Some(Place::Text),
@@ -65,7 +65,7 @@ fn behind(place: Place, byte: u8) -> Option<Place> {
     }
 }
 
-/// The place behind a line feed.
+/// Returns the place behind a line feed.
 fn behind_feed(place: Place) -> Option<Place> {
     match place {
         Place::Start(0) | Place::Empty => Some(Place::Start(0)),
@@ -75,7 +75,7 @@ fn behind_feed(place: Place) -> Option<Place> {
     }
 }
 
-/// The place behind a CR.
+/// Returns the place behind a CR.
 fn behind_return(place: Place) -> Option<Place> {
     match place {
         Place::Start(0) => Some(Place::Empty),
@@ -85,7 +85,7 @@ fn behind_return(place: Place) -> Option<Place> {
     }
 }
 
-/// The place behind a byte; none where no head has it.
+/// Returns the place behind a byte; none where no head has it.
 fn next(place: Place, byte: u8) -> Option<Place> {
     match byte {
         b'\n' => behind_feed(place),
@@ -94,7 +94,7 @@ fn next(place: Place, byte: u8) -> Option<Place> {
     }
 }
 
-/// What a reply says.
+/// Returns what a reply says.
 pub(crate) fn plain_reply(text: &[u8]) -> ReplyRead {
     let mut place = Place::Start(0);
     let mut status: u16 = 0;

@@ -20,7 +20,7 @@ enum Found<'a> {
     Fragment(u8, &'a [u8], &'a [u8]),
 }
 
-/// The CRC-32C of bytes, bit by bit.
+/// Returns the CRC-32C of bytes, bit by bit.
 fn crc_of(bytes: &[u8]) -> u32 {
     let mut crc = u32::MAX;
     for byte in bytes {
@@ -36,8 +36,8 @@ fn crc_of(bytes: &[u8]) -> u32 {
     !crc
 }
 
-/// The fragment of a type whose header's other six bytes, and what follows them, are here, `at`
-/// bytes into its page.
+/// Returns the fragment of a type whose header's other six bytes, and what follows them, are here,
+/// `at` bytes into its page.
 fn fragment(kind: u8, behind: &[u8], at: usize) -> Found<'_> {
     if behind.len() < 6 {
         return Found::Nothing;
@@ -57,7 +57,7 @@ fn fragment(kind: u8, behind: &[u8], at: usize) -> Found<'_> {
     Found::Fragment(kind, data, rest)
 }
 
-/// Whether all bytes are 0.
+/// Returns whether all bytes are 0.
 pub(crate) fn are_zeros(bytes: &[u8]) -> bool {
     for byte in bytes {
         if *byte != 0 {
@@ -67,7 +67,7 @@ pub(crate) fn are_zeros(bytes: &[u8]) -> bool {
     true
 }
 
-/// What stands `at` bytes into a page.
+/// Returns what stands `at` bytes into a page.
 fn found_at(text: &[u8], at: usize) -> Found<'_> {
     let Some((kind, behind)) = text.split_first() else {
         return Found::Nothing;

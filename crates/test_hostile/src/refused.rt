@@ -273,7 +273,7 @@ fn put_state_behind(alloc: Global, row: &Row<'_>, events: &[Event], text: &mut V
     }
 }
 
-/// Whether a world shows what a new one shows that is moved by events.
+/// Returns whether a world shows what a new one shows that is moved by events.
 fn shows_the_same(alloc: Global, world: &World, row: &Row<'_>, events: &[Event]) -> bool {
     let mut found = Vec::new(alloc);
     let mut wanted = Vec::new(alloc);
@@ -282,8 +282,8 @@ fn shows_the_same(alloc: Global, world: &World, row: &Row<'_>, events: &[Event])
         && found.as_slice() == wanted.as_slice()
 }
 
-/// Whether a world is moved by events. Where one is refused, it has to show what a world shows that
-/// is moved by the events before it, and to go on.
+/// Returns whether a world is moved by events. Where one is refused, it has to show what a world
+/// shows that is moved by the events before it, and to go on.
 fn is_moved(alloc: Global, world: &mut World, row: &Row<'_>, events: &[Event]) -> bool {
     let Err(refused) = world.run(events) else {
         return true;
@@ -292,7 +292,7 @@ fn is_moved(alloc: Global, world: &mut World, row: &Row<'_>, events: &[Event]) -
     shows_the_same(alloc, world, row, before) && world.run(rest).is_ok()
 }
 
-/// Whether the first requests that a world has sent have these bytes.
+/// Returns whether the first requests that a world has sent have these bytes.
 fn has_sent(world: &World, requests: &[&[u8]]) -> bool {
     for (k, bytes) in requests.iter().enumerate() {
         match world.request(k) {
@@ -303,7 +303,7 @@ fn has_sent(world: &World, requests: &[&[u8]]) -> bool {
     true
 }
 
-/// Whether a world goes through events and a shutdown to the state of its row.
+/// Returns whether a world goes through events and a shutdown to the state of its row.
 fn is_settled(alloc: Global, world: &mut World, row: &Row<'_>, events: &[Event]) -> bool {
     let mut text = Vec::new(alloc);
     is_moved(alloc, world, row, events)
@@ -313,7 +313,7 @@ fn is_settled(alloc: Global, world: &mut World, row: &Row<'_>, events: &[Event])
         && has_sent(world, row.requests)
 }
 
-/// Whether events and a shutdown lead a new world to the state of a row.
+/// Returns whether events and a shutdown lead a new world to the state of a row.
 fn goes(alloc: Global, row: &Row<'_>, events: &[Event]) -> bool {
     match new_world(alloc, row) {
         Some(mut world) => is_settled(alloc, &mut world, row, events),
@@ -321,7 +321,7 @@ fn goes(alloc: Global, row: &Row<'_>, events: &[Event]) -> bool {
     }
 }
 
-/// Whether a schedule leads to its state.
+/// Returns whether a schedule leads to its state.
 fn is_gone_through(alloc: Global, row: &Row<'_>) -> bool {
     let mut events = Vec::new(alloc);
     is_read(alloc, row.script, &mut events) && goes(alloc, row, &events)
@@ -331,7 +331,7 @@ fn rows() -> &'static [Row<'static>] {
     &ROWS
 }
 
-/// The first schedule that leads to another state.
+/// Returns the first schedule that leads to another state.
 fn wrong_row(alloc: Global, rows: &[Row<'_>]) -> Option<usize> {
     for (i, row) in rows.iter().enumerate() {
         if !is_gone_through(alloc, row) {

@@ -94,7 +94,8 @@ fn with_room(room: usize) -> Std<Interrupting> {
     Std::new(Interrupting { room, turn: false })
 }
 
-/// Whether readers give these texts, one after the other into one, and each read ends as it is to.
+/// Returns whether readers give these texts, one after the other into one, and each read ends as it
+/// is to.
 fn read_in_turn(alloc: Global) -> bool {
     let mut out = Vec::new(alloc);
     let whole = read_to_end(alloc, &mut b"whole".as_slice(), &mut out);
@@ -124,7 +125,7 @@ fn fills_its_room(alloc: Global) -> bool {
     }
 }
 
-/// Whether a room of seven bytes takes four of them, and no more then.
+/// Returns whether a room of seven bytes takes four of them, and no more then.
 fn takes_one_of_two(room: &mut Room) -> bool {
     let first = write_all(room, b"one ");
     let second = write_all(room, b"more");

@@ -13,8 +13,8 @@ fn put_sample(out: &mut Vec<u8>, word: u64, timestamp: i64) -> Result<(), AllocE
     Ok(())
 }
 
-/// Whether the message that is read of `ONE`, which `a_message_is_read` looks at, is spelled so,
-/// and as long as it is said to be.
+/// Returns whether the message that is read of `ONE`, which `a_message_is_read` looks at, is
+/// spelled so, and as long as it is said to be.
 fn is_one(alloc: Global) -> bool {
     match decode(alloc, &ONE) {
         Ok(message) => is_spelled(alloc, &message, &ONE) && encoded_len(&message) == Some(32),
@@ -60,7 +60,7 @@ static SAMPLES: [(u64, i64, &[u8]); 6] = [
     ),
 ];
 
-/// Whether a sample has this field.
+/// Returns whether a sample has this field.
 fn is_field_of(field: &mut Vec<u8>, word: u64, timestamp: i64, expected: &[u8]) -> bool {
     field.clear();
     put_sample(field, word, timestamp).is_ok() && field.as_slice() == expected
@@ -80,7 +80,7 @@ fn samples_are_spelled(rt: HostRuntime) {
     none_is_wrong(&rt, wrong_sample(&mut Vec::new(rt.alloc())));
 }
 
-/// Whether a series has its parts, which are as long as they are said to be.
+/// Returns whether a series has its parts, which are as long as they are said to be.
 fn has_parts(alloc: Global) -> bool {
     if label_field_len("__name__", "up") != Some(16) || bytes_field_len(30) != Some(32) {
         return false;

@@ -29,7 +29,7 @@ const CUT: [u8; 33] = [
     0x0a,
 ];
 
-/// Whether bytes that are cut off are found to be, at the first call.
+/// Returns whether bytes that are cut off are found to be, at the first call.
 fn is_truncated(alloc: Global, bytes: &[u8]) -> bool {
     decode(alloc, bytes).err() == Some(WireFault::Truncated)
         && check_message(bytes) == Err(WireFault::Truncated)

@@ -110,7 +110,7 @@ fn put_filler(out: &mut Vec<u8>, kind: u8, len: usize) -> Result<(), AllocError>
     put_fragment(out, kind, &data)
 }
 
-/// Whether a reader gives this of a front, and all of both then.
+/// Returns whether a reader gives this of a front, and all of both then.
 fn reads_in_two(alloc: Global, front: &[u8], back: &[u8], first: Seen) -> bool {
     let mut tail = Tail::new(alloc);
     let mut seen = NOTHING;
@@ -120,7 +120,7 @@ fn reads_in_two(alloc: Global, front: &[u8], back: &[u8], first: Seen) -> bool {
     is_so && seen == BOTH
 }
 
-/// What is read of a front of so many bytes.
+/// Returns what is read of a front of so many bytes.
 fn of_front(cut: usize) -> Seen {
     match cut {
         0..29 => NOTHING,
@@ -153,7 +153,8 @@ fn feed_by(tail: &mut Tail, text: &[u8], size: usize) -> Seen {
     seen
 }
 
-/// Whether a text in pieces of so many bytes gives this, and so many entries are read and skipped.
+/// Returns whether a text in pieces of so many bytes gives this, and so many entries are read and
+/// skipped.
 fn reads_all(alloc: Global, text: &[u8], size: usize, all: Seen, read: u64, skipped: u64) -> bool {
     let mut tail = Tail::new(alloc);
     let seen = feed_by(&mut tail, text, size);
@@ -165,7 +166,7 @@ fn byte_by_byte(rt: HostRuntime) {
     holds(&rt, reads_all(rt.alloc(), &UP, 1, BOTH, 2, 0));
 }
 
-/// What a copy of a reader has given in all once the copy is fed another piece.
+/// Returns what a copy of a reader has given in all once the copy is fed another piece.
 fn read_by_copy(tail: &Tail, seen: Seen, piece: &[u8]) -> Option<Seen> {
     let mut copy = tail.copy().ok()?;
     let mut all = seen;
@@ -173,7 +174,7 @@ fn read_by_copy(tail: &Tail, seen: Seen, piece: &[u8]) -> Option<Seen> {
     Some(all)
 }
 
-/// Whether a copy gives the rest, the reader does not without it, and does with it.
+/// Returns whether a copy gives the rest, the reader does not without it, and does with it.
 fn reads_beside_copy(alloc: Global) -> bool {
     let mut tail = Tail::new(alloc);
     let (front, back) = UP.split_at(40);
@@ -191,7 +192,7 @@ fn copy_reads_on_by_itself(rt: HostRuntime) {
     holds(&rt, reads_beside_copy(rt.alloc()));
 }
 
-/// What is there once a byte has another value.
+/// Returns what is there once a byte has another value.
 fn changed(at: usize, value: u8) -> Seen {
     let before = if at < 29 { NOTHING } else { DEFINITION };
     match (at, value) {
@@ -208,7 +209,7 @@ fn changed(at: usize, value: u8) -> Seen {
     }
 }
 
-/// Whether the text with this byte changed is read as it should be.
+/// Returns whether the text with this byte changed is read as it should be.
 fn is_as_changed(alloc: Global, text: &[u8], at: usize, value: u8) -> bool {
     let mut tail = Tail::new(alloc);
     let mut seen = NOTHING;
@@ -216,7 +217,7 @@ fn is_as_changed(alloc: Global, text: &[u8], at: usize, value: u8) -> bool {
     seen == changed(at, value)
 }
 
-/// The first value of the byte at this place that is read otherwise.
+/// Returns the first value of the byte at this place that is read otherwise.
 fn wrong_value(alloc: Global, at: usize) -> Option<u8> {
     let mut text = UP;
     for value in 0..=255u8 {
@@ -242,7 +243,7 @@ fn each_byte_changed(rt: HostRuntime) {
     none_is_wrong(&rt, wrong_change(rt.alloc()));
 }
 
-/// Whether each of the next calls answers this fault, whatever is fed between them.
+/// Returns whether each of the next calls answers this fault, whatever is fed between them.
 fn answers_only(tail: &mut Tail, fault: TailFault) -> bool {
     for _ in 0..3u32 {
         match tail.next_entry() {
@@ -256,7 +257,8 @@ fn answers_only(tail: &mut Tail, fault: TailFault) -> bool {
     true
 }
 
-/// Whether `UP` with its last byte changed gives its definition, and then nothing but this fault.
+/// Returns whether `UP` with its last byte changed gives its definition, and then nothing but this
+/// fault.
 fn repeats_its_fault(alloc: Global, fault: TailFault) -> bool {
     let mut text = UP;
     text[62] = 1;
@@ -302,7 +304,7 @@ fn feed_bytes(seen: &mut Seen, tail: &mut Tail, text: &[u8]) -> bool {
     is_early
 }
 
-/// Whether the fault comes with the last byte and not before, and stays.
+/// Returns whether the fault comes with the last byte and not before, and stays.
 fn is_fault_at_once(alloc: Global, text: &[u8], fault: TailFault) -> bool {
     let mut tail = Tail::new(alloc);
     let mut seen = NOTHING;
@@ -415,7 +417,7 @@ fn are_given(tail: &mut Tail, seen: &mut Seen, pieces: &[Piece], reads: bool) ->
     true
 }
 
-/// The segment and the offset of the fault, if there is one.
+/// Returns the segment and the offset of the fault, if there is one.
 fn place_of(tail: &Tail) -> Option<(u64, u64)> {
     match tail.fault_place() {
         Some(FaultPlace { segment, offset }) => Some((segment, offset)),
@@ -423,7 +425,7 @@ fn place_of(tail: &Tail) -> Option<(u64, u64)> {
     }
 }
 
-/// Whether this is seen of pieces.
+/// Returns whether this is seen of pieces.
 fn is_seen(alloc: Global, pieces: &[Piece], end: &End) -> bool {
     let mut tail = Tail::new(alloc);
     let mut seen = NOTHING;
@@ -471,7 +473,7 @@ fn put_page(text: &mut Vec<u8>, filler: usize, end: &[u8]) -> Result<(), AllocEr
     text.extend_from_slice(&UP)
 }
 
-/// Whether both records are read of such a page, and the filler is skipped.
+/// Returns whether both records are read of such a page, and the filler is skipped.
 fn is_page_read(alloc: Global, filler: usize, end: &[u8]) -> bool {
     let mut text = Vec::new(alloc);
     put_page(&mut text, filler, end).is_ok() && reads_all(alloc, &text, text.len(), BOTH, 2, 1)
@@ -516,7 +518,7 @@ const LONG: Seen = Seen {
     end: None,
 };
 
-/// Whether the record is read of its pages.
+/// Returns whether the record is read of its pages.
 fn is_long_record_read(alloc: Global) -> bool {
     let mut record = Vec::new(alloc);
     let mut text = Vec::new(alloc);
@@ -530,7 +532,7 @@ fn a_record_over_three_pages(rt: HostRuntime) {
     holds(&rt, is_long_record_read(rt.alloc()));
 }
 
-/// Whether a definition, a record of another type, two samples and no sample are logged.
+/// Returns whether a definition, a record of another type, two samples and no sample are logged.
 fn are_logged(alloc: Global, writer: &mut SegmentWriter<Room>) -> bool {
     let samples = [(1, 1000, Word(5)), (3, 990, Word(7))];
     is_logged(writer, up_record(alloc))
@@ -547,7 +549,7 @@ const WRITTEN: Seen = Seen {
     end: None,
 };
 
-/// Whether these records are read of their segment.
+/// Returns whether these records are read of their segment.
 fn is_written_read(alloc: Global) -> bool {
     let Ok(room) = Room::new(alloc, 1000) else {
         return false;
@@ -563,8 +565,8 @@ fn what_was_written_is_read(rt: HostRuntime) {
     holds(&rt, is_written_read(rt.alloc()));
 }
 
-/// Whether the fault is here of a segment whose first page is a fragment of this kind, and whose
-/// second page begins so.
+/// Returns whether the fault is here of a segment whose first page is a fragment of this kind, and
+/// whose second page begins so.
 fn is_place_past_page(alloc: Global, kind: u8, next: &[u8], offset: u64) -> bool {
     let mut text = Vec::new(alloc);
     let mut tail = Tail::new(alloc);

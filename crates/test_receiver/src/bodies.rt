@@ -24,7 +24,7 @@ pub(crate) const TWO: [u8; 66] = [
 /// The word of the value 1.
 pub(crate) const WORD_OF_ONE: u64 = 0x3ff0_0000_0000_0000;
 
-/// A head that is busy for one request.
+/// Returns a head that is busy for one request.
 fn busy(alloc: Global) -> Result<Head, AllocError> {
     let mut limits = Limits::standard(alloc)?;
     limits.busy_first = Bounded::new(1);
@@ -42,7 +42,7 @@ fn first_wrong(head: &mut Head, rows: &[(&[u8], u16, u64)]) -> Option<usize> {
     None
 }
 
-/// The first body that a head wrongly answers that is busy for this one.
+/// Returns the first body that a head wrongly answers that is busy for this one.
 fn wrong_of_busy(alloc: Global, first: &[u8]) -> Option<usize> {
     let rows = [
         (first, 429, 0),
@@ -171,7 +171,8 @@ fn status_of(alloc: Global, head: &mut Head, samples: Samples<'_>) -> u16 {
     }
 }
 
-/// Whether a head that holds the first two samples answers a request so, and then holds just this.
+/// Returns whether a head that holds the first two samples answers a request so, and then holds
+/// just this.
 fn is_answered_so(alloc: Global, row: &Later) -> bool {
     let Ok(mut head) = standard(alloc) else {
         return false;
@@ -182,7 +183,7 @@ fn is_answered_so(alloc: Global, row: &Later) -> bool {
         && head.total() == row.3.len() as u64
 }
 
-/// The first request that is answered otherwise, each by a head of its own.
+/// Returns the first request that is answered otherwise, each by a head of its own.
 fn wrong_by_itself(alloc: Global) -> Option<&'static str> {
     for row in later() {
         if !is_answered_so(alloc, row) {
@@ -216,7 +217,7 @@ fn later_samples_are_appended_and_earlier_ones_refused(rt: HostRuntime) {
     none_differs(&rt, wrong_in_turn(rt.alloc()));
 }
 
-/// The body of so many samples of one series, with no timestamp that is short.
+/// Returns the body of so many samples of one series, with no timestamp that is short.
 fn long_body(alloc: Global, count: i64) -> Result<Vec<u8>, AllocError> {
     let mut samples = Vec::new(alloc);
     for t in 0..count {
@@ -225,7 +226,7 @@ fn long_body(alloc: Global, count: i64) -> Result<Vec<u8>, AllocError> {
     encode(alloc, &message(alloc, &[(UP, &samples)])?)
 }
 
-/// The body of 10,000 samples of one series whose times rise, and of one more behind them.
+/// Returns the body of 10,000 samples of one series whose times rise, and of one more behind them.
 fn body_with_last(alloc: Global, last: i64) -> Result<Vec<u8>, AllocError> {
     let mut samples = Vec::new(alloc);
     for t in 0..10_000 {
@@ -235,8 +236,8 @@ fn body_with_last(alloc: Global, last: i64) -> Result<Vec<u8>, AllocError> {
     encode(alloc, &message(alloc, &[(UP, &samples)])?)
 }
 
-/// The first that a new head wrongly answers of these bodies: one whose last sample is too old, and
-/// one with a later one, twice.
+/// Returns the first that a new head wrongly answers of these bodies: one whose last sample is too
+/// old, and one with a later one, twice.
 fn wrong_of_parts(alloc: Global) -> Option<usize> {
     let (Ok(bad), Ok(good)) = (body_with_last(alloc, -1), body_with_last(alloc, 10_000)) else {
         return Some(0);
@@ -298,8 +299,8 @@ fn many_series(alloc: Global, is_falling: bool) -> Result<Vec<u8>, AllocError> {
     Ok(body)
 }
 
-/// The first that a new head wrongly answers of these bodies: as many series, and the same ones
-/// from the last one on.
+/// Returns the first that a new head wrongly answers of these bodies: as many series, and the same
+/// ones from the last one on.
 fn wrong_of_many(alloc: Global) -> Option<usize> {
     let (Ok(rising), Ok(falling)) = (many_series(alloc, false), many_series(alloc, true)) else {
         return Some(0);

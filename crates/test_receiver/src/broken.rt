@@ -40,13 +40,13 @@ fn end_of_broken(
     }
 }
 
-/// Whether the requests have all their replies, and two bodies are then stored.
+/// Returns whether the requests have all their replies, and two bodies are then stored.
 fn is_answered(alloc: Global, store: &mut Store) -> bool {
     let mut reader = REQUESTS;
     is_served_by(alloc, &mut reader, store, REPLIES, ServeEnd::Closed) && store.bodies.len() == 2
 }
 
-/// The same end, where the requests that come again are answered.
+/// Returns the same end, where the requests that come again are answered.
 fn end_before_answered(alloc: Global, reads: usize, writes: usize) -> Option<ServeEnd> {
     let mut store = Store::new(alloc);
     let end = end_of_broken(alloc, &mut store, reads, writes);
@@ -64,8 +64,8 @@ enum Side {
     Writer,
 }
 
-/// Whether the requests take more than ten calls of one side, and all is well where one of them
-/// fails.
+/// Returns whether the requests take more than ten calls of one side, and all is well where one of
+/// them fails.
 fn may_fail(alloc: Global, side: Side) -> bool {
     for n in 0..MANY {
         let (reads, writes) = match side {
@@ -87,7 +87,7 @@ fn each_read_and_each_write_may_fail(rt: HostRuntime) {
     holds(&rt, may_fail(rt.alloc(), Side::Writer));
 }
 
-/// Whether a room of 50 bytes holds the first reply, and both bodies are asked for.
+/// Returns whether a room of 50 bytes holds the first reply, and both bodies are asked for.
 fn holds_first_reply(alloc: Global) -> bool {
     let Ok(mut room) = Room::new(alloc, 50) else {
         return false;
@@ -135,7 +135,7 @@ fn is_whole(asked: usize, written: &[u8], end: ServeEnd) -> bool {
     }
 }
 
-/// Whether the requests leave whole replies, if there is memory for a room.
+/// Returns whether the requests leave whole replies, if there is memory for a room.
 fn leaves_whole_replies(alloc: Global) -> bool {
     let Ok(mut room) = Room::new(alloc, 128) else {
         return true;

@@ -119,7 +119,8 @@ fn sent_again() -> &'static [Row] {
     &SENT_AGAIN
 }
 
-/// Whether a connection with this input has this reply of a head. No, where memory is refused.
+/// Returns whether a connection with this input has this reply of a head. No, where memory is
+/// refused.
 fn replies_so(alloc: Global, head: &mut Head, input: &[u8], reply: &[u8]) -> bool {
     let (Ok(limits), Ok(mut room)) = (Limits::standard(alloc), Room::new(alloc, 1024)) else {
         return false;
@@ -134,7 +135,7 @@ fn replies_so(alloc: Global, head: &mut Head, input: &[u8], reply: &[u8]) -> boo
     serve(alloc, &mut reader, &mut room, head, &limits) == end && room.as_slice() == reply
 }
 
-/// Whether a request has its reply.
+/// Returns whether a request has its reply.
 fn is_replied(alloc: Global, head: &mut Head, row: &Row) -> bool {
     let mut input = Vec::new(alloc);
     let mut reply = Vec::new(alloc);
@@ -183,7 +184,8 @@ fn end_without_a_reply(alloc: Global, head: &mut Head, row: &Row) -> ServeEnd {
     serve(alloc, &mut reader, &mut writer, head, &limits)
 }
 
-/// Whether a request whose reply fails is stored, and its repeat has its reply and changes nothing.
+/// Returns whether a request whose reply fails is stored, and its repeat has its reply and changes
+/// nothing.
 fn is_stored_once(alloc: Global, head: &mut Head, row: &Row) -> bool {
     end_without_a_reply(alloc, head, row) == ServeEnd::Device
         && head.total() == row.3 as u64

@@ -8,13 +8,13 @@ use crate::rows::{holds, none_is_wrong};
 use rw_head::Head;
 use std::alloc::Global;
 
-/// How many samples and how many label sets a head holds.
+/// Returns how many samples and how many label sets a head holds.
 fn counts(head: &Head) -> (u64, usize) {
     (head.total(), head.label_sets().count())
 }
 
-/// The status of a body, asked for again where memory was refused and the head holds as much as
-/// before.
+/// Returns the status of a body, asked for again where memory was refused and the head holds as
+/// much as before.
 pub(crate) fn status_at_last(head: &mut Head, body: &[u8], before: (u64, usize)) -> u16 {
     let status = head.answer(body);
     if status == 503 && counts(head) == before {
@@ -79,7 +79,7 @@ fn answers_are_whole(head: &mut Head) -> bool {
     true
 }
 
-/// The same of a new head, if there is memory for one.
+/// Returns the same of a new head, if there is memory for one.
 fn are_whole(alloc: Global) -> bool {
     match narrow(alloc) {
         Ok(mut head) => answers_are_whole(&mut head),

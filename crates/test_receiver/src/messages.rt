@@ -46,7 +46,7 @@ fn words(alloc: Global, samples: Samples<'_>) -> Result<Vec<(Word, i64)>, AllocE
     Ok(words)
 }
 
-/// A message of these series.
+/// Returns a message of these series.
 pub(crate) fn message(alloc: Global, parts: Parts<'_>) -> Result<Message, AllocError> {
     let mut series = Vec::new(alloc);
     for part in parts {
@@ -57,7 +57,7 @@ pub(crate) fn message(alloc: Global, parts: Parts<'_>) -> Result<Message, AllocE
     Ok(Message { series })
 }
 
-/// The label set of these labels, whatever their names.
+/// Returns the label set of these labels, whatever their names.
 pub(crate) fn label_set(alloc: Global, labels: Labels<'_>) -> Result<LabelSet, LabelFault> {
     let texts = texts(alloc, labels)?;
     let mut set = LabelSet::empty(alloc);
@@ -65,19 +65,19 @@ pub(crate) fn label_set(alloc: Global, labels: Labels<'_>) -> Result<LabelSet, L
     Ok(set)
 }
 
-/// A head with the standard limits.
+/// Returns a head with the standard limits.
 pub(crate) fn standard(alloc: Global) -> Result<Head, AllocError> {
     Ok(Head::new(alloc, &Limits::standard(alloc)?))
 }
 
-/// A head that takes one label.
+/// Returns a head that takes one label.
 pub(crate) fn narrow(alloc: Global) -> Result<Head, AllocError> {
     let mut limits = Limits::standard(alloc)?;
     limits.max_labels = Bounded::new(1);
     Ok(Head::new(alloc, &limits))
 }
 
-/// The verdict on a message of these series.
+/// Returns the verdict on a message of these series.
 pub(crate) fn asked(alloc: Global, head: &mut Head, parts: Parts<'_>) -> Verdict {
     match message(alloc, parts) {
         Ok(message) => head.apply(&message),
@@ -85,13 +85,13 @@ pub(crate) fn asked(alloc: Global, head: &mut Head, parts: Parts<'_>) -> Verdict
     }
 }
 
-/// Whether what is held is just these samples.
+/// Returns whether what is held is just these samples.
 pub(crate) fn are_same(held: &[(i64, Word)], samples: Samples<'_>) -> bool {
     held.len() == samples.len()
         && held.iter().zip(samples).all(|(held, sample)| held.0 == sample.0 && held.1.0 == sample.1)
 }
 
-/// Whether the head holds just these samples of these labels. No, where memory is refused.
+/// Returns whether the head holds just these samples of these labels. No, where memory is refused.
 pub(crate) fn has_samples(
     alloc: Global,
     head: &Head,
@@ -107,8 +107,8 @@ pub(crate) fn has_samples(
     }
 }
 
-/// Whether the head holds the first samples of these, so many of each label set, and no others, and
-/// has a place for just the label sets that have some.
+/// Returns whether the head holds the first samples of these, so many of each label set, and no
+/// others, and has a place for just the label sets that have some.
 fn holds_first(alloc: Global, head: &Head, parts: Parts<'_>, counts: &[usize]) -> bool {
     let mut total: u64 = 0;
     let mut places: usize = 0;

@@ -52,14 +52,14 @@ static LEGACY: [Row; 4] = [
     (&[(UP, &[(10, 1)])], Verdict::Stored(1), &[1, 0, 0]),
 ];
 
-/// A head that takes these names.
+/// Returns a head that takes these names.
 fn head_of(alloc: Global, names: Names) -> Result<Head, AllocError> {
     let mut limits = Limits::standard(alloc)?;
     limits.names = names;
     Ok(Head::new(alloc, &limits))
 }
 
-/// The first row that a head does not answer so which takes these names.
+/// Returns the first row that a head does not answer so which takes these names.
 fn wrong_message(alloc: Global, names: Names, rows: &[Row]) -> Option<usize> {
     match head_of(alloc, names) {
         Ok(mut head) => first_wrong(alloc, &mut head, rows, &LAST),

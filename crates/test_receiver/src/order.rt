@@ -89,7 +89,7 @@ fn messages_are_taken_whole_or_not_at_all(rt: HostRuntime) {
     none_is_wrong(&rt, wrong_message(rt.alloc()));
 }
 
-/// Whether a label set is that of these labels.
+/// Returns whether a label set is that of these labels.
 fn is_of(alloc: Global, set: &LabelSet, labels: Labels<'_>) -> bool {
     match label_set(alloc, labels) {
         Ok(wanted) => *set == wanted,
@@ -97,7 +97,7 @@ fn is_of(alloc: Global, set: &LabelSet, labels: Labels<'_>) -> bool {
     }
 }
 
-/// Whether the head's label sets are these, in this order.
+/// Returns whether the head's label sets are these, in this order.
 fn has_label_sets(alloc: Global, head: &Head, list: &[Labels<'_>]) -> bool {
     let mut sets = head.label_sets();
     for labels in list {
@@ -109,7 +109,7 @@ fn has_label_sets(alloc: Global, head: &Head, list: &[Labels<'_>]) -> bool {
     sets.next().is_none()
 }
 
-/// Whether a series is that of these labels and samples. No, where memory is refused.
+/// Returns whether a series is that of these labels and samples. No, where memory is refused.
 fn is_series(
     alloc: Global,
     series: &HeldSeries<'_>,
@@ -122,7 +122,7 @@ fn is_series(
     }
 }
 
-/// Whether the head's series are these, in this order.
+/// Returns whether the head's series are these, in this order.
 fn has_series(alloc: Global, head: &Head, list: &[(Labels<'_>, Samples<'_>)]) -> bool {
     let mut all = head.series();
     for (labels, samples) in list {

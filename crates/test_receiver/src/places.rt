@@ -89,7 +89,8 @@ static ROWS: [Row; 9] = [
     ),
 ];
 
-/// The first wrong row, or the number of them where the head has other than five places at last.
+/// Returns the first wrong row, or the number of them where the head has other than five places at
+/// last.
 fn wrong_row(alloc: Global) -> Option<usize> {
     let Ok(mut head) = narrow(alloc) else {
         return Some(0);

@@ -39,8 +39,8 @@ pub(crate) fn put_all_lines(out: &mut Vec<u8>, texts: &[&[u8]]) -> Result<(), Al
     Ok(())
 }
 
-/// Whether an input has these replies for one who sends it and then waits for them: no more is read
-/// before they are written.
+/// Returns whether an input has these replies for one who sends it and then waits for them: no more
+/// is read before they are written.
 fn is_served_at_once(alloc: Global, input: &[u8], replies: &[u8]) -> bool {
     let heard = Cell::new(0);
     let mut reader = Waiting::new(input, replies.len(), &heard);
@@ -50,8 +50,8 @@ fn is_served_at_once(alloc: Global, input: &[u8], replies: &[u8]) -> bool {
     !reader.waited && writer.taken.as_slice() == replies
 }
 
-/// Whether an input has these replies and ends so: where it comes whole, where it comes byte by
-/// byte, and for one who waits.
+/// Returns whether an input has these replies and ends so: where it comes whole, where it comes
+/// byte by byte, and for one who waits.
 fn is_served_however_it_comes(alloc: Global, input: &[u8], replies: &[u8], how: ServeEnd) -> bool {
     let mut whole = input;
     let mut slow = Giving::new(input, 1, usize::MAX);
@@ -60,7 +60,7 @@ fn is_served_however_it_comes(alloc: Global, input: &[u8], replies: &[u8], how: 
         && is_served_at_once(alloc, input, replies)
 }
 
-/// The same, for an input and replies that are written with `|`.
+/// Returns the same, for an input and replies that are written with `|`.
 fn are_served(alloc: Global, input: &[&[u8]], replies: &[u8], how: ServeEnd) -> bool {
     let mut whole = Vec::new(alloc);
     let mut wanted = Vec::new(alloc);
@@ -288,7 +288,7 @@ fn is_so(alloc: Global, row: &Row) -> bool {
     }
 }
 
-/// The first row with other replies or another end.
+/// Returns the first row with other replies or another end.
 fn wrong_row(alloc: Global) -> Option<usize> {
     for (i, row) in ROWS.iter().enumerate() {
         if !is_so(alloc, row) {

@@ -17,7 +17,7 @@ use std::test::Fail;
 use std::thread;
 use std::thread::Threads;
 
-/// A blank of so many parts, made again where memory was refused.
+/// Returns a blank of so many parts, made again where memory was refused.
 pub(crate) fn blank(alloc: Global, parts: u64) -> Result<Blank, AllocError>
     ensures { IfOk result (λ b. b.parts ≡ parts) }
 {
@@ -82,7 +82,7 @@ fn asked_at_once<L: Naming + Send + Sync, R: Threads + Wait + Sync>(
     })
 }
 
-/// Whether both seats answered 204, and one of them stored the sample.
+/// Returns whether both seats answered 204, and one of them stored the sample.
 fn is_stored_once(alloc: Global, outcome: &Outcome) -> bool {
     outcome.statuses == (204, 204)
         && matches!(outcome.stored, (1, 0) | (0, 1))
@@ -110,8 +110,8 @@ pub(crate) enum Talk<'a> {
     Connection(&'a [u8], &'a [u8], u64),
 }
 
-/// The status of a body, asked for again where memory was refused and the seat has stored as much
-/// as before.
+/// Returns the status of a body, asked for again where memory was refused and the seat has stored
+/// as much as before.
 fn answered_at_last<L: Naming, R: Wait>(
     asking: &mut Asking<'_, R, L>,
     body: &[u8],
@@ -125,7 +125,7 @@ fn answered_at_last<L: Naming, R: Wait>(
     }
 }
 
-/// Whether each body has its status, and the seat then has stored so much.
+/// Returns whether each body has its status, and the seat then has stored so much.
 fn answers<L: Naming, R: Wait>(
     asking: &mut Asking<'_, R, L>,
     bodies: &[(&[u8], u16, u64)],
@@ -141,7 +141,7 @@ fn answers<L: Naming, R: Wait>(
     true
 }
 
-/// Whether a seat answers as it is to.
+/// Returns whether a seat answers as it is to.
 fn is_answered<L: Naming, R: Wait>(
     alloc: Global,
     asking: &mut Asking<'_, R, L>,
@@ -187,7 +187,7 @@ pub(crate) fn answered<L: Naming, R: Wait>(
     (is_so, shared.gather(seats))
 }
 
-/// A head that holds a sample.
+/// Returns a head that holds a sample.
 fn begun(alloc: Global) -> Result<Head, AllocError> {
     let mut head = match standard(alloc) {
         Ok(head) => head,
@@ -199,12 +199,12 @@ fn begun(alloc: Global) -> Result<Head, AllocError> {
     }
 }
 
-/// Whether the head holds these samples, looked for again where memory was refused.
+/// Returns whether the head holds these samples, looked for again where memory was refused.
 fn has_at_last(alloc: Global, head: &Head, samples: Samples<'_>) -> bool {
     has_samples(alloc, head, UP, samples) || has_samples(alloc, head, UP, samples)
 }
 
-/// Whether the head holds what it did before the bodies, or after them.
+/// Returns whether the head holds what it did before the bodies, or after them.
 fn holds_what_was_stored(alloc: Global, is_answered: Option<bool>, head: &Head) -> bool {
     let samples = [(1000, WORD_OF_ONE), (2000, WORD_OF_ONE)];
     match is_answered {

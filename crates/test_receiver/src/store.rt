@@ -56,7 +56,7 @@ impl Answer for Store {
     }
 }
 
-/// The limits of these tests: a body has at most 32 bytes.
+/// Returns the limits of these tests: a body has at most 32 bytes.
 fn limits(alloc: Global) -> Result<Limits, AllocError> {
     let mut limits = Limits::standard(alloc)?;
     limits.max_body_bytes = Bounded::new(32);
@@ -76,7 +76,7 @@ pub(crate) fn served<R: Source, W: Sink, A: Answer>(
     }
 }
 
-/// Whether a connection has these replies and ends so. No, where memory is refused.
+/// Returns whether a connection has these replies and ends so. No, where memory is refused.
 pub(crate) fn is_served_by<R: Source, A: Answer>(
     alloc: Global,
     reader: &mut R,
@@ -92,7 +92,7 @@ pub(crate) fn is_served_by<R: Source, A: Answer>(
     }
 }
 
-/// The same of a connection to an empty store.
+/// Returns the same of a connection to an empty store.
 pub(crate) fn is_served<R: Source>(
     alloc: Global,
     reader: &mut R,

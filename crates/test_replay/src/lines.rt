@@ -66,7 +66,7 @@ fn bad() -> &'static [&'static [u8]] {
     &BAD
 }
 
-/// Whether the fourth line of a script is found to be bad, which is this one.
+/// Returns whether the fourth line of a script is found to be bad, which is this one.
 fn is_refused(alloc: Global, line: &[u8]) -> bool {
     let mut script = Vec::new(alloc);
     put_script(&mut script, line).is_ok() && plays(alloc, "", &script, Err(ToolFault::Line(4)), b"")
@@ -159,7 +159,7 @@ fn push_raw(
     script.extend_from_slice(b"\n")
 }
 
-/// Whether a record of 16 MiB is read, and a longer one behind it is not.
+/// Returns whether a record of 16 MiB is read, and a longer one behind it is not.
 fn reads_most(alloc: Global, script: &mut Vec<u8>) -> Result<bool, AllocError> {
     let digits: Vec<u8> = vec![in alloc; b'3'; 64 * 1024]?;
     let is_longest = push_raw(script, &digits, 512, b"").is_ok()

@@ -20,7 +20,7 @@ pub(crate) fn run<S: Source>(
     Some((ended, output.into_bytes()))
 }
 
-/// Whether a script ends so, and this is written.
+/// Returns whether a script ends so, and this is written.
 pub(crate) fn plays(
     alloc: Global,
     settings: &str,
@@ -38,7 +38,7 @@ pub(crate) fn plays(
 /// What a schedule shows, its settings, its script and the state at its end.
 pub(crate) type Schedule<'a> = (&'a str, &'a str, &'a str, &'a str);
 
-/// What the first schedule shows that leads to another state, if there is one.
+/// Returns what the first schedule shows that leads to another state, if there is one.
 pub(crate) fn first_wrong(alloc: Global, rows: &[Schedule<'static>]) -> Option<&'static str> {
     for (name, settings, script, state) in rows {
         if !plays(alloc, settings, script.as_bytes(), Ok(()), state.as_bytes()) {

@@ -46,7 +46,8 @@ pub(crate) struct Door<'a, N> {
     pub(crate) sign: &'a Sign,
 }
 
-/// A request to store the sample 1 of `{__name__="up"}` at 1000 ms and so many more, less than 8.
+/// Returns a request to store the sample 1 of `{__name__="up"}` at 1000 ms and so many more, less
+/// than 8.
 fn request(alloc: Global, later: u8) -> Result<Vec<u8>, AllocError> {
     let mut bytes = Vec::from_slice(
         alloc,
@@ -57,7 +58,7 @@ fn request(alloc: Global, later: u8) -> Result<Vec<u8>, AllocError> {
     Ok(bytes)
 }
 
-/// A connection whose reads end, so that a test fails where a reply does not come.
+/// Returns a connection whose reads end, so that a test fails where a reply does not come.
 fn connected<N: Net<Stream = TcpStream>>(door: &Door<'_, N>) -> io::Result<TcpStream> {
     let stream = TcpStream::connect(door.net, door.address)?;
     stream.set_read_timeout(Some(Duration::from_secs(PATIENCE_SECONDS)))?;
@@ -199,7 +200,7 @@ fn writes_on<N: Net<Stream = TcpStream> + Clock>(
     Ok(())
 }
 
-/// What the clients read, each behind the one before. They ask for an end at last.
+/// Returns what the clients read, each behind the one before. They ask for an end at last.
 pub(crate) fn read_by<N: Net<Stream = TcpStream> + Clock>(
     door: &Door<'_, N>,
     clients: Clients,

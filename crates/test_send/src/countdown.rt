@@ -20,7 +20,7 @@ pub(crate) struct Countdown {
 }
 
 impl Countdown {
-    /// What is said at this look.
+    /// Returns what is said at this look.
     fn next(&mut self) -> Wish
         ensures { self.new.naps ≡ self.old.naps }
     {
@@ -69,7 +69,7 @@ pub(crate) struct Onlooker<'a> {
 }
 
 impl Onlooker<'_> {
-    /// Whether the counters tell that one sample was placed and none waits.
+    /// Returns whether the counters tell that one sample was placed and none waits.
     fn has_settled(&self) -> bool {
         match self.counters.numbers(self.alloc) {
             Ok(numbers) => numbers.placed == 1 && numbers.waiting == 0,

@@ -36,14 +36,14 @@ fn are_read<R: Files<File = File> + Drop>(
     true
 }
 
-/// Whether the segments of a folder hold this.
+/// Returns whether the segments of a folder hold this.
 fn holds(rt: &HostRuntime, dir: &str, wanted: &[u8]) -> Result<bool, AllocError> {
     let mut text = Vec::new(rt.alloc());
     let segments = segment_files(rt, dir, None)?;
     Ok(are_read(rt.alloc(), segments, &mut text) && text.as_slice() == wanted)
 }
 
-/// A new folder of this name.
+/// Returns a new folder of this name.
 pub(crate) fn new_folder(rt: &HostRuntime, name: &str) -> Result<PathBuf, Fail> {
     let temp = env::temp_dir(rt)?;
     let dir = temp.as_path().join(rt.alloc(), name)?;
@@ -99,7 +99,7 @@ fn put_long(text: &mut Vec<u8>) -> Result<(), AllocError> {
     Ok(())
 }
 
-/// Whether a file of the folder is read as it was written.
+/// Returns whether a file of the folder is read as it was written.
 fn is_read_back(rt: &HostRuntime, dir: &str, text: &[u8]) -> Result<bool, Fail> {
     fs::write(rt, Path::new(dir).join(rt.alloc(), "00000000")?, text)?;
     Ok(holds(rt, dir, text)?)

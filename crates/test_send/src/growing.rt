@@ -84,7 +84,7 @@ fn followed<R: Wait>(
     })
 }
 
-/// Whether these segments were given whole.
+/// Returns whether these segments were given whole.
 fn are_whole(kept: &Kept, wanted: &[&[u8]]) -> bool {
     if kept.whole.len() != wanted.len() {
         return false;
@@ -97,7 +97,7 @@ fn are_whole(kept: &Kept, wanted: &[&[u8]]) -> bool {
     true
 }
 
-/// Whether a row is so.
+/// Returns whether a row is so.
 fn does<R: Wait>(rt: &R, alloc: Global, row: &Row<'_>) -> Result<bool, AllocError> {
     let mut events = VecDeque::new(alloc);
     put_events(alloc, &mut events, row.0)?;

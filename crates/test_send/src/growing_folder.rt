@@ -33,7 +33,7 @@ pub(crate) enum Change {
     Dir(&'static str),
 }
 
-/// The text of a file that goes on.
+/// Returns the text of a file that goes on.
 fn has_grown<R: Files<File = File>>(rt: &R, path: Path<'_>, bytes: &[u8]) -> bool {
     let mut options = OpenOptions::new();
     options.append(true).create(true);
@@ -89,8 +89,8 @@ impl<R: Files<File = File> + AllocGlobal> Sign for Writer<R> {
     }
 }
 
-/// What was given, a bar behind each segment that is over, and at the end the number that is
-/// missing or a point.
+/// Returns what was given, a bar behind each segment that is over, and at the end the number that
+/// is missing or a point.
 fn text_of(alloc: Global, kept: &Kept, end: Option<u64>) -> Result<String, AllocError> {
     let mut text = Vec::new(alloc);
     for segment in &kept.whole {
@@ -214,7 +214,7 @@ fn follow_sending<R: Threads + Wait + Clock + Copy + Send + 'static>(
     ))
 }
 
-/// Whether a folder that is followed is told as one that cannot be read.
+/// Returns whether a folder that is followed is told as one that cannot be read.
 fn is_unreadable<R: Threads + Wait + Clock + Copy + Send + 'static>(
     rt: &HostRuntime,
     threads: &R,

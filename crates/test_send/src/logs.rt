@@ -29,7 +29,7 @@ pub(crate) fn samples(alloc: Global, count: u32) -> Result<Vec<u8>, AllocError> 
     Ok(text)
 }
 
-/// The segment of log text, of at most 4 pages.
+/// Returns the segment of log text, of at most 4 pages.
 pub(crate) fn segment(alloc: Global, text: &[u8]) -> Result<Vec<u8>, AllocError> {
     let mut reader = text;
     let mut writer = Room::new(alloc, 131_072)?;

@@ -82,8 +82,8 @@ fn connect_to<N: Net<Stream = TcpStream> + Drop>(
     Ok(TcpConnect::new(alloc, net, addresses, Bounded::new(10_000), counters))
 }
 
-/// Whether a receiver takes the connections of a sender, or one where there are none, ends well and
-/// has counted what it holds.
+/// Returns whether a receiver takes the connections of a sender, or one where there are none, ends
+/// well and has counted what it holds.
 fn receives<R: Threads + Wait + Clock + Sync>(
     rt: &R,
     alloc: Global,
@@ -110,7 +110,7 @@ fn receives<R: Threads + Wait + Clock + Sync>(
     has_ended && holds_as_printed(alloc, &counters, row.4)
 }
 
-/// Whether a sender ships a log and ends well.
+/// Returns whether a sender ships a log and ends well.
 fn sends<R: Threads + Wait + Clock + Copy + Send + 'static, C: Connect + Drop>(
     rt: &R,
     alloc: Global,
@@ -140,8 +140,8 @@ fn sends<R: Threads + Wait + Clock + Copy + Send + 'static, C: Connect + Drop>(
     }
 }
 
-/// Whether somebody else connects and says nothing, once a sender that does not connect has ended.
-/// A receiver ends after one connection.
+/// Returns whether somebody else connects and says nothing, once a sender that does not connect has
+/// ended. A receiver ends after one connection.
 fn passes_by<N: Net<Stream = TcpStream>>(net: &N, row: &Row<'_>, address: SocketAddr) -> bool {
     row.1 > 0 || TcpStream::connect(net, address).is_ok()
 }

@@ -148,7 +148,7 @@ fn shipped<R: Threads + Wait + Clock + Copy + Send + 'static>(
     }
 }
 
-/// Whether a run does as a row says, and is counted so.
+/// Returns whether a run does as a row says, and is counted so.
 fn does<R: Threads + Wait + Clock + Copy + Send + 'static>(
     rt: &R,
     alloc: Global,

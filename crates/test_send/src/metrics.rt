@@ -63,7 +63,7 @@ rwship_receive_samples_held 17
 rwship_receive_label_sets 3
 ";
 
-/// What is replied to a request that is all that a client writes.
+/// Returns what is replied to a request that is all that a client writes.
 fn reply_to<N: Net<Stream = TcpStream>>(
     net: &N,
     alloc: Global,
@@ -78,7 +78,8 @@ fn reply_to<N: Net<Stream = TcpStream>>(
     Ok(reply)
 }
 
-/// The first request that is answered otherwise, by the page of a receiver that has done nothing.
+/// Returns the first request that is answered otherwise, by the page of a receiver that has done
+/// nothing.
 fn wrong_reply<
     N: Net<Stream = TcpStream, Listener = TcpListener> + Threads + Clock + Copy + Send + 'static,
 >(rt: &N, alloc: Global) -> io::Result<Option<usize>> {
@@ -102,7 +103,7 @@ fn the_page_is_served(rt: HostRuntime) -> Result<(), Fail> {
     Ok(())
 }
 
-/// Whether this is the page of a receiver that has done something.
+/// Returns whether this is the page of a receiver that has done something.
 fn is_counted(alloc: Global) -> Result<bool, AllocError> {
     let counters = ReceiveCounters::new(alloc)?;
     counters.begin_connection();
@@ -127,7 +128,7 @@ fn a_receiver_counts(rt: HostRuntime) -> Result<(), Fail> {
 /// What is dropped of a log.
 static DROPPED: [(u64, Reason); 2] = [(3, Reason::NoSeries), (5, Reason::NotRising)];
 
-/// Whether these are the lines of a sender that has done something.
+/// Returns whether these are the lines of a sender that has done something.
 fn are_told(alloc: Global) -> Result<bool, AllocError> {
     let counters = SendCounters::new(alloc)?;
     counters.begin_segment(7);

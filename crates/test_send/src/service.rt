@@ -32,7 +32,7 @@ struct Row<'a> {
 /// The reply to a request that is taken.
 const TAKEN: &[u8] = b"HTTP/1.1 204 No Content\r\n\r\n";
 
-/// Whether these are so many replies to requests that were taken.
+/// Returns whether these are so many replies to requests that were taken.
 fn are_replies(read: &[u8], count: usize) -> bool {
     let mut left = read;
     for _ in 0..count {
@@ -48,12 +48,12 @@ fn are_replies(read: &[u8], count: usize) -> bool {
 /// a slow machine may do other work.
 const MOST_SECONDS: u64 = 15;
 
-/// Whether a service and its clients were done in time.
+/// Returns whether a service and its clients were done in time.
 fn is_quick<K: Clock>(clock: &K, begun: Instant) -> bool {
     matches!(begun.elapsed(clock), Ok(took) if took < Duration::from_secs(MOST_SECONDS))
 }
 
-/// A service with these bounds.
+/// Returns a service with these bounds.
 fn service_of(
     most: Bounded<1, 1_000>,
     idle_ms: Bounded<10, 3_600_000>,
@@ -67,7 +67,7 @@ fn service_of(
     }
 }
 
-/// Whether a service and its clients do as a row says, in time, and is counted so.
+/// Returns whether a service and its clients do as a row says, in time, and is counted so.
 fn does_with<R: Net<Stream = TcpStream, Listener = TcpListener> + Threads + Wait + Clock + Sync>(
     rt: &R,
     alloc: Global,
@@ -108,7 +108,7 @@ fn does_with<R: Net<Stream = TcpStream, Listener = TcpListener> + Threads + Wait
     Ok(is_done && are_replies(&read?, row.replies) && is_counted)
 }
 
-/// The place of the first row that goes otherwise.
+/// Returns the place of the first row that goes otherwise.
 fn wrong_row<R: Net<Stream = TcpStream, Listener = TcpListener> + Threads + Wait + Clock + Sync>(
     rt: &R,
     alloc: Global,

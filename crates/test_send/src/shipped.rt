@@ -133,8 +133,8 @@ fn receivers_of<R: Copy>(clock: &R, status: StatusCode) -> Receivers<R> {
 /// printed.
 type Row<'a> = (&'a [Part<'a>], u32, Wish, Result<(), FollowFault>, &'a [u8]);
 
-/// Whether a run does as a row says, where the number of shards is asked for at each turn, or
-/// never.
+/// Returns whether a run does as a row says, where the number of shards is asked for at each turn,
+/// or never.
 fn does<R: Threads + Wait + Clock + Copy + Send + 'static>(
     rt: &R,
     alloc: Global,
@@ -385,7 +385,7 @@ fn stopped_twice<R: Threads + Wait + Clock + Copy + Send + Sync + 'static>(
 const FOUR: &[u8] =
     b"series 1 {__name__=\"up\"}\nsample 1 10 1\nsample 1 20 1\nsample 1 30 1\nsample 1 40 1\n";
 
-/// Whether a log is stopped at once though its receiver is away.
+/// Returns whether a log is stopped at once though its receiver is away.
 fn is_stopped<R: Threads + Wait + Clock + Copy + Send + Sync + 'static>(
     rt: &R,
     alloc: Global,

@@ -7,7 +7,7 @@ use std::test::Fail;
 use std::time::{Clock, Duration};
 use std::{fs, io, thread};
 
-/// What is wished behind an input.
+/// Returns what is wished behind an input.
 fn wish_behind(alloc: Global, text: &[u8]) -> Wish {
     let sign = Sign::new();
     let mut input = text;
@@ -15,7 +15,7 @@ fn wish_behind(alloc: Global, text: &[u8]) -> Wish {
     sign.wish()
 }
 
-/// The place of the first input behind which something else is wished.
+/// Returns the place of the first input behind which something else is wished.
 fn wrong_input(alloc: Global) -> Option<usize> {
     INPUTS
         .iter()
@@ -71,7 +71,7 @@ fn write_later<R: Clock + Files>(rt: &R, path: &str, sign: &Sign) -> [Option<Wis
     [empty, other, hard]
 }
 
-/// The file comes behind the first look, and is looked at again.
+/// Returns the file comes behind the first look, and is looked at again.
 #[test]
 fn a_file_sets_a_sign(rt: HostRuntime) -> io::Result<()> {
     let sign = Sign::new();

@@ -47,8 +47,8 @@ impl Sign for Unset {
     }
 }
 
-/// A watch of five seconds between two looks, where something may wait for three, and the number of
-/// shards is asked for behind two.
+/// Returns a watch of five seconds between two looks, where something may wait for three, and the
+/// number of shards is asked for behind two.
 fn watch_by(ticks: &Ticks) -> Timed<&Ticks, Unset> {
     let poll = Duration::from_secs(5);
     let patience = Duration::from_secs(3);
@@ -70,7 +70,7 @@ static DUE: [(bool, bool); 9] = [
     (false, true),
 ];
 
-/// The first two questions of which one is answered otherwise.
+/// Returns the first two questions of which one is answered otherwise.
 fn wrong_answer(watch: &mut impl Watch) -> Option<usize> {
     for (i, due) in DUE.iter().enumerate() {
         let answers = (watch.is_flush_due(), watch.is_reshard_due());

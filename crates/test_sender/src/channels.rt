@@ -58,7 +58,7 @@ fn drained<R: Wait>(rt: &R, drain: Drain<Open>, positions: Vec<Option<u64>>) -> 
     unreachable!()
 }
 
-/// Whether all was taken as it was put, up to an orderly End.
+/// Returns whether all was taken as it was put, up to an orderly End.
 fn is_whole<R: Wait>(rt: &R, fed: Option<Feed<Ended>>, haul: Haul) -> bool
     requires { IfSome fed (λ f. IfSome haul.end (λ e. f.queue ≡ e.1.queue)) }
 {
@@ -73,7 +73,7 @@ fn is_whole<R: Wait>(rt: &R, fed: Option<Feed<Ended>>, haul: Haul) -> bool
     kind == Kind::Orderly && positions.as_slice() == [Some(5), None, Some(9)].as_slice()
 }
 
-/// Whether a thread takes all behind what it has put.
+/// Returns whether a thread takes all behind what it has put.
 fn takes_in_one_thread<R: Wait>(rt: &R, alloc: Global) -> Result<bool, AllocError> {
     let labels = no_labels(alloc)?;
     let positions = Vec::with_capacity(alloc, 3)?;
@@ -92,7 +92,7 @@ fn one_thread(rt: HostRuntime) {
     holds(&rt, takes_in_one_thread(&rt, rt.alloc()) == Ok(true));
 }
 
-/// Whether a thread takes all that another one puts.
+/// Returns whether a thread takes all that another one puts.
 fn takes_in_two_threads<R: Threads + Wait + Sync>(
     rt: &R,
     alloc: Global,
@@ -114,7 +114,7 @@ fn two_threads(rt: HostRuntime) {
     holds(&rt, takes_in_two_threads(&rt, rt.alloc()) == Ok(true));
 }
 
-/// Whether an end that waits for room is told when the other end is given up.
+/// Returns whether an end that waits for room is told when the other end is given up.
 fn feed_is_told<R: Threads + Wait + Sync>(rt: &R, alloc: Global) -> Result<bool, AllocError> {
     let (mut feed, drain) = open(alloc, 3, 1, 1)?;
     let is_put = feed.put(rt, Item::Flush).is_ok();
@@ -131,7 +131,7 @@ fn feed_is_told<R: Threads + Wait + Sync>(rt: &R, alloc: Global) -> Result<bool,
     Ok(is_put && is_told && is_told_at_end)
 }
 
-/// Whether an end that waits for an item is told.
+/// Returns whether an end that waits for an item is told.
 fn drain_is_told<R: Threads + Wait + Sync>(rt: &R, alloc: Global) -> Result<bool, AllocError> {
     let (feed, drain) = open(alloc, 3, 1, 1)?;
     let (haul, ()) = join(rt, || drained(rt, drain, Vec::new(alloc)), || drop(feed));

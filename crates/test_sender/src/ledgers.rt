@@ -58,12 +58,12 @@ fn give_back(ledger: &mut Ledger, n: usize) -> bool {
     ledger.left() == 0
 }
 
-/// Whether a position has this name, and the one behind it none.
+/// Returns whether a position has this name, and the one behind it none.
 fn is_named(ledger: &Ledger, pos: u64, reason: Reason) -> bool {
     ledger.get(pos) == Some(reason) && ledger.get(pos.saturating_add(1)).is_none()
 }
 
-/// Whether these are all names that there are.
+/// Returns whether these are all names that there are.
 fn has_names(ledger: &Ledger) -> bool {
     for (pos, reason) in SORTED {
         if !is_named(ledger, pos, reason) {
@@ -73,7 +73,7 @@ fn has_names(ledger: &Ledger) -> bool {
     ledger.total() == 4 && ledger.iter().eq(SORTED.iter())
 }
 
-/// Whether names can be made in room for five, and one of the five given back.
+/// Returns whether names can be made in room for five, and one of the five given back.
 fn names_stand(ledger: &mut Ledger) -> bool {
     add_room(ledger, 3)
         && add_room(ledger, 2)

@@ -27,7 +27,7 @@ pub struct Script {
 }
 
 impl Script {
-    /// The exchanges are counted from 1.
+    /// Returns the exchanges are counted from 1.
     pub fn new(
         alloc: Global,
         answers: Vec<Result<Reply, Lost>>,
@@ -47,12 +47,12 @@ impl Script {
         }
     }
 
-    /// The exchanges so far.
+    /// Returns the exchanges so far.
     pub fn notes(&self) -> &[Note] {
         &self.notes
     }
 
-    /// Whether memory sufficed to note all of them.
+    /// Returns whether memory sufficed to note all of them.
     pub fn is_complete(&self) -> bool {
         self.is_complete
     }

@@ -35,7 +35,8 @@ fn is_end(item: &Item, kind: Kind) -> bool {
     matches!(item, Item::End(of) if *of == kind)
 }
 
-/// Whether putting an End has a fault of this number, and gives it back, or none, where that is 0.
+/// Returns whether putting an End has a fault of this number, and gives it back, or none, where
+/// that is 0.
 fn puts(queue: &mut PlainQueue, kind: Kind, fault: u8) -> bool {
     match queue.put(Item::End(kind)) {
         Ok(()) => fault == 0,
@@ -43,7 +44,7 @@ fn puts(queue: &mut PlainQueue, kind: Kind, fault: u8) -> bool {
     }
 }
 
-/// Whether an End of this kind is taken, or nothing.
+/// Returns whether an End of this kind is taken, or nothing.
 fn takes(queue: &mut PlainQueue, kind: Option<Kind>) -> bool {
     match (queue.take(), kind) {
         (Some(item), Some(kind)) => is_end(&item, kind),
@@ -52,7 +53,7 @@ fn takes(queue: &mut PlainQueue, kind: Option<Kind>) -> bool {
     }
 }
 
-/// Whether Flushes alone are there.
+/// Returns whether Flushes alone are there.
 fn has_flushes(queue: &PlainQueue) -> bool {
     for item in queue.iter() {
         if !matches!(item, Item::Flush) {
@@ -62,7 +63,7 @@ fn has_flushes(queue: &PlainQueue) -> bool {
     true
 }
 
-/// Whether a step goes as it says.
+/// Returns whether a step goes as it says.
 fn does(queue: &mut PlainQueue, step: Step) -> bool {
     match step {
         Step::Put(kind, fault) => puts(queue, kind, fault),
@@ -82,7 +83,7 @@ fn does(queue: &mut PlainQueue, step: Step) -> bool {
     }
 }
 
-/// The first of these steps that goes otherwise.
+/// Returns the first of these steps that goes otherwise.
 fn wrong_step(queue: &mut PlainQueue, steps: &[Step]) -> Option<usize> {
     for (i, step) in steps.iter().enumerate() {
         if !does(queue, *step) {
@@ -92,7 +93,7 @@ fn wrong_step(queue: &mut PlainQueue, steps: &[Step]) -> Option<usize> {
     None
 }
 
-/// The same with a new queue of this capacity.
+/// Returns the same with a new queue of this capacity.
 fn wrong_step_of(alloc: Global, capacity: usize, steps: &[Step]) -> Option<usize> {
     match queue_of(alloc, capacity) {
         Ok(mut queue) => wrong_step(&mut queue, steps),

@@ -130,7 +130,7 @@ fn rows() -> &'static [Row] {
     &ROWS
 }
 
-/// The first row that reads otherwise.
+/// Returns the first row that reads otherwise.
 fn wrong_row(alloc: Global, rows: &[Row]) -> Option<usize> {
     for (i, row) in rows.iter().enumerate() {
         if !is_so(alloc, row) {
@@ -140,7 +140,7 @@ fn wrong_row(alloc: Global, rows: &[Row]) -> Option<usize> {
     None
 }
 
-/// How much of a text has to be there until it says something.
+/// Returns how much of a text has to be there until it says something.
 fn decisive(text: &[u8]) -> usize {
     for len in 0..text.len() {
         if read_reply(&text[..len]) != ReplyRead::Partial {

@@ -22,7 +22,7 @@ const UP: &[u8] = &[
 const UP_REQUEST: &[u8] =
     b"POST /api/v1/write HTTP/1.1\r\nHost: localhost:9090\r\nUser-Agent: rwship/1.0\r\nContent-Type: application/x-protobuf\r\nX-Prometheus-Remote-Write-Version: 0.1.0\r\nConnection: close\r\nContent-Length: 32\r\n\r\n";
 
-/// The sample numbered `seq`, at the position 10 + `seq`: 1 at 1000 ms of the series `up`.
+/// Returns the sample numbered `seq`, at the position 10 + `seq`: 1 at 1000 ms of the series `up`.
 fn up(alloc: Global, seq: u64) -> Result<Item, LabelFault> {
     sample(
         alloc,
@@ -109,7 +109,8 @@ fn take_sample(alloc: Global, shard: &mut Shard) -> bool {
     }
 }
 
-/// Whether freezing answers this. Where memory is refused nothing is changed, and it freezes again.
+/// Returns whether freezing answers this. Where memory is refused nothing is changed, and it
+/// freezes again.
 fn freezes(core: &mut ShardCore, ledger: &mut Ledger, done: bool) -> bool {
     let (due, left, pending) = (core.due(), ledger.left(), core.pending_places().len());
     if let Ok(answer) = core.freeze(ledger) {
@@ -122,7 +123,7 @@ fn freezes(core: &mut ShardCore, ledger: &mut Ledger, done: bool) -> bool {
         && core.freeze(ledger) == Ok(done)
 }
 
-/// Whether two attempts have the same bytes, if they are of one batch.
+/// Returns whether two attempts have the same bytes, if they are of one batch.
 fn is_again(last: &Option<Attempt>, attempt: &Attempt) -> bool {
     match last {
         Some(last) if last.id == attempt.id => {
@@ -132,8 +133,8 @@ fn is_again(last: &Option<Attempt>, attempt: &Attempt) -> bool {
     }
 }
 
-/// Whether this is an attempt to send the batch whose first sample has this number, with the bytes
-/// of the attempt before it, or none.
+/// Returns whether this is an attempt to send the batch whose first sample has this number, with
+/// the bytes of the attempt before it, or none.
 fn note_attempt(last: &mut Option<Attempt>, attempt: Option<Attempt>, seq: Option<u64>) -> bool {
     match attempt {
         Some(attempt) => {
@@ -158,8 +159,8 @@ fn sends(shard: &mut Shard, seq: Option<u64>) -> bool {
     }
 }
 
-/// Whether a reply of this status to the batch whose first sample has the number `seq` is judged
-/// so.
+/// Returns whether a reply of this status to the batch whose first sample has the number `seq` is
+/// judged so.
 fn judges(shard: &mut Shard, seq: u64, status: u16, wanted: Option<Judgement>) -> bool {
     let id = BatchId {
         epoch: 3,
@@ -175,7 +176,7 @@ fn judges(shard: &mut Shard, seq: u64, status: u16, wanted: Option<Judgement>) -
     }
 }
 
-/// Whether the open batch is the one that was sent last, with this head and this body.
+/// Returns whether the open batch is the one that was sent last, with this head and this body.
 fn is_sent(shard: &Shard, head: &[u8], body: &[u8]) -> bool {
     match &shard.last {
         Some(last) => {
@@ -186,7 +187,7 @@ fn is_sent(shard: &Shard, head: &[u8], body: &[u8]) -> bool {
     }
 }
 
-/// Whether what is seen is so.
+/// Returns whether what is seen is so.
 fn sees(shard: &Shard, step: Step) -> bool {
     match step {
         Step::CanTake(can) => shard.core.can_take() == can,
@@ -201,7 +202,7 @@ fn sees(shard: &Shard, step: Step) -> bool {
     }
 }
 
-/// Whether the sample of this number cannot be taken.
+/// Returns whether the sample of this number cannot be taken.
 fn is_not_taken(alloc: Global, core: &ShardCore, seq: u64) -> bool {
     match up(alloc, seq) {
         Ok(item) => !core.may_take(&item),
@@ -209,7 +210,7 @@ fn is_not_taken(alloc: Global, core: &ShardCore, seq: u64) -> bool {
     }
 }
 
-/// Whether a step goes as it says.
+/// Returns whether a step goes as it says.
 fn does(alloc: Global, shard: &mut Shard, step: Step) -> bool {
     match step {
         Step::Sample => take_sample(alloc, shard),
@@ -228,7 +229,7 @@ fn does(alloc: Global, shard: &mut Shard, step: Step) -> bool {
     }
 }
 
-/// The first of these steps that goes otherwise.
+/// Returns the first of these steps that goes otherwise.
 fn wrong_step(alloc: Global, shard: &mut Shard, steps: &[Step]) -> Option<usize> {
     for (i, step) in steps.iter().enumerate() {
         if !does(alloc, shard, *step) {
@@ -238,7 +239,7 @@ fn wrong_step(alloc: Global, shard: &mut Shard, steps: &[Step]) -> Option<usize>
     None
 }
 
-/// The same with a new shard.
+/// Returns the same with a new shard.
 fn wrong_step_of(alloc: Global, steps: &[Step]) -> Option<usize> {
     match core_of(alloc) {
         Ok(core) => {
@@ -372,7 +373,7 @@ fn request(alloc: Global, target: &Target) -> Result<Vec<u8>, AllocError> {
     }
 }
 
-/// Whether the request to a target that carries the message has that head.
+/// Returns whether the request to a target that carries the message has that head.
 fn is_requested_of(alloc: Global, target: &Target) -> bool {
     match request(alloc, target) {
         Ok(request) => request.strip_prefix(UP_REQUEST) == Some(UP),

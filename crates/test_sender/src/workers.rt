@@ -22,7 +22,7 @@ const UP: &[u8] =
 
 const ONE: Word = Word(0x3ff0_0000_0000_0000);
 
-/// A status, or no answer for 0.
+/// Returns a status, or no answer for 0.
 fn answer(status: u16) -> Result<Reply, Lost> {
     match StatusCode::from_u16(status) {
         Ok(status) => Ok(Reply { status }),
@@ -99,7 +99,7 @@ fn asks_as_wanted(script: &Script, wanted: &Wanted<'_>) -> bool {
         && notes.iter().all(|note| note.request.as_slice() == request)
 }
 
-/// Whether a report and the pauses are what is wanted.
+/// Returns whether a report and the pauses are what is wanted.
 fn reports_as_wanted(report: &WorkerReport<Script>, wanted: &Wanted<'_>) -> bool {
     ends_as_wanted(&report.end, wanted)
         && report.stopped.is_some() == wanted.stopped
@@ -115,7 +115,7 @@ fn waits_as_wanted(times: &Times, wanted: &Wanted<'_>) -> bool {
     }
 }
 
-/// Whether all was put.
+/// Returns whether all was put.
 fn fed<R: Wait>(rt: &R, feed: Feed<Open>, labels: Arc<LabelSet>, feeding: Feeding) -> bool
     requires { (feed.queue.epoch ≡ 3) × (feed.queue.shard ≡ 1) × (feed.put ≡ []) }
 {
@@ -126,7 +126,7 @@ fn fed<R: Wait>(rt: &R, feed: Feed<Open>, labels: Arc<LabelSet>, feeding: Feedin
     }
 }
 
-/// Whether the worker does as wanted.
+/// Returns whether the worker does as wanted.
 fn works_as_wanted<R: Wait>(
     rt: &R,
     alloc: Global,
@@ -153,7 +153,7 @@ fn script_of(alloc: Global, stop: &StopFlag, row: &Row<'_>) -> Result<Script, Al
     Ok(Script::new(alloc, answers(alloc, row.statuses)?, share, stops_at))
 }
 
-/// A worker of a queue that holds so many items, and the end that it is fed by.
+/// Returns a worker of a queue that holds so many items, and the end that it is fed by.
 fn worker_of(
     alloc: Global,
     config: &Config,
@@ -169,7 +169,7 @@ fn worker_of(
     }
 }
 
-/// Whether a worker that is fed all does as a row wants.
+/// Returns whether a worker that is fed all does as a row wants.
 fn fed_and_run<R: Wait>(
     rt: &R,
     alloc: Global,
@@ -192,7 +192,7 @@ fn config_of(alloc: Global, batch: u64) -> Result<Option<Config>, AllocError> {
     Ok(Config::new(fields))
 }
 
-/// Whether a worker does as a row wants.
+/// Returns whether a worker does as a row wants.
 fn does_as_wanted<R: Wait>(rt: &R, alloc: Global, row: &Row<'_>) -> Result<bool, LabelFault> {
     let labels = shared_metric(alloc, "up")?;
     match config_of(alloc, row.batch)? {
@@ -201,7 +201,7 @@ fn does_as_wanted<R: Wait>(rt: &R, alloc: Global, row: &Row<'_>) -> Result<bool,
     }
 }
 
-/// The name of the first row that a worker does not do.
+/// Returns the name of the first row that a worker does not do.
 fn wrong_row<R: Wait>(rt: &R, alloc: Global) -> Result<Option<&'static str>, LabelFault> {
     for row in &ROWS {
         if !does_as_wanted(rt, alloc, row)? {

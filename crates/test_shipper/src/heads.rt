@@ -34,7 +34,7 @@ fn put_seats<R: Drop, L: Endpoint>(seats: &mut Vec<Seat<L>>, lines: Vec<Line<R, 
     }
 }
 
-/// A receiver over the head, and so many seats of it.
+/// Returns a receiver over the head, and so many seats of it.
 fn opened<L: Endpoint>(
     alloc: Global,
     limits: Limits,
@@ -56,7 +56,7 @@ fn opened<L: Endpoint>(
     Ok((Arc::new(alloc, receiver)?, seats))
 }
 
-/// The head, where all seats are back and nobody else has a part in it.
+/// Returns the head, where all seats are back and nobody else has a part in it.
 fn gathered<L: Endpoint>(
     receiver: Arc<Receiver<L>>,
     seats: Vec<Seat<L>>,
@@ -101,7 +101,7 @@ fn shipped<R: Threads + Wait + Copy + Send + 'static, L: Endpoint + Send + Sync 
     Some((is_so, gathered(receiver, seats, count)?))
 }
 
-/// The same for so many seats.
+/// Returns the same for so many seats.
 fn shipped_to_seats<R: Threads + Wait + Copy + Send + 'static>(
     rt: &R,
     alloc: Global,
@@ -122,7 +122,7 @@ fn texts(alloc: Global, name: &str) -> Result<Vec<(String, String)>, AllocError>
     Ok(texts)
 }
 
-/// The labels of the metric of this name.
+/// Returns the labels of the metric of this name.
 fn labels(alloc: Global, name: &str) -> Result<LabelSet, LabelFault> {
     let texts = texts(alloc, name)?;
     let mut labels = LabelSet::empty(alloc);
@@ -130,7 +130,7 @@ fn labels(alloc: Global, name: &str) -> Result<LabelSet, LabelFault> {
     Ok(labels)
 }
 
-/// Whether these are the samples.
+/// Returns whether these are the samples.
 fn are(held: &[(i64, Word)], wanted: &[(i64, u64)]) -> bool {
     for (a, b) in held.iter().zip(wanted) {
         if a.0 != b.0 || a.1 != Word(b.1) {
@@ -140,7 +140,7 @@ fn are(held: &[(i64, Word)], wanted: &[(i64, u64)]) -> bool {
     held.len() == wanted.len()
 }
 
-/// Whether the head has these samples for the metric of this name, and no others.
+/// Returns whether the head has these samples for the metric of this name, and no others.
 fn holds(
     alloc: Global,
     head: &Head,
@@ -152,7 +152,7 @@ fn holds(
     Ok(head.total() == wanted.len() as u64 && are(&held, wanted))
 }
 
-/// Whether a head has what a row wants.
+/// Returns whether a head has what a row wants.
 fn has_all<R: Threads + Wait + Copy + Send + 'static>(
     rt: &R,
     alloc: Global,
@@ -273,7 +273,8 @@ fn shipped_whole<R: Threads + Wait + Copy + Send + 'static>(
     Ok(Some(ship(rt, alloc, config, log, limits, Quick)?))
 }
 
-/// Whether it is complete, names the sample that does not rise, and the head has the others.
+/// Returns whether it is complete, names the sample that does not rise, and the head has the
+/// others.
 fn is_whole(alloc: Global, shipped: &Shipped) -> Result<bool, LabelFault> {
     let holds = holds(alloc, &shipped.head, "c", &[(10, ONE), (20, TWO)])?;
     Ok(

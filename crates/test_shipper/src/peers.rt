@@ -33,7 +33,7 @@ struct Gate {
 }
 
 impl Gate {
-    /// Whether it was opened in time.
+    /// Returns whether it was opened in time.
     fn opens(&self) -> bool {
         for _ in 0..TURNS {
             if self.has_answered.load(Ordering::SeqCst) {
@@ -44,7 +44,7 @@ impl Gate {
         false
     }
 
-    /// Whether the worker may go on, which opens the gate for the one that is held.
+    /// Returns whether the worker may go on, which opens the gate for the one that is held.
     fn passes(&self) -> bool {
         if self.is_held {
             return self.opens();
@@ -67,7 +67,7 @@ pub(crate) struct Peer {
 }
 
 impl Peer {
-    /// The requests so far.
+    /// Returns the requests so far.
     pub(crate) fn requests(&self) -> &[Vec<u8>] {
         &self.requests
     }

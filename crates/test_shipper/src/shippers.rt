@@ -64,7 +64,7 @@ fn peers_of(
     })
 }
 
-/// Whether one request was made, with this body, or none for no body.
+/// Returns whether one request was made, with this body, or none for no body.
 fn has_sent(peer: Option<&Peer>, body: &[u8]) -> bool {
     let Some(peer) = peer else {
         return false;
@@ -90,7 +90,7 @@ fn has_loads(work: &Work, loads: Option<&[Load]>) -> bool {
     }
 }
 
-/// Whether a shipper does as a row wants.
+/// Returns whether a shipper does as a row wants.
 fn does<R: Threads + Wait + Copy + Send + 'static>(rt: &R, alloc: Global, row: &Row<'_>) -> bool {
     let Ok(peers) = peers_of(alloc, row.status, row.receivers, None) else {
         return false;
@@ -360,8 +360,8 @@ static STOPPED: [Task<'static>; 2] = [
     },
 ];
 
-/// Whether a fault was kept, if there was one, and the report names just what was placed and is not
-/// resolved.
+/// Returns whether a fault was kept, if there was one, and the report names just what was placed
+/// and is not resolved.
 fn is_kept(work: &Work, stop: Stop) -> bool {
     let is_whole = work.has_no_fault();
     let ends = match (is_whole, stop) {
@@ -371,8 +371,8 @@ fn is_kept(work: &Work, stop: Stop) -> bool {
     work.accounts_for_all(4) && ends && (is_whole || work.keeps_its_fault())
 }
 
-/// Whether the fault of a task is kept; none where it does not start, or where there is no memory
-/// for what is compared.
+/// Returns whether the fault of a task is kept; none where it does not start, or where there is no
+/// memory for what is compared.
 fn keeps_its_fault<R: Threads + Wait + Copy + Send + 'static>(
     rt: &R,
     alloc: Global,
@@ -383,7 +383,7 @@ fn keeps_its_fault<R: Threads + Wait + Copy + Send + 'static>(
     Some(is_kept(&work, task.stop))
 }
 
-/// The same, again where there was none.
+/// Returns the same, again where there was none.
 fn keeps_any_fault<R: Threads + Wait + Copy + Send + 'static>(
     rt: &R,
     alloc: Global,
@@ -412,8 +412,8 @@ static NO_CALLS: Task<'static> = Task {
     limit: None,
 };
 
-/// Whether a shipper of two shards does not start if there is memory for this number of receivers,
-/// and nothing that it began keeps its part of what the receivers share.
+/// Returns whether a shipper of two shards does not start if there is memory for this number of
+/// receivers, and nothing that it began keeps its part of what the receivers share.
 fn leaves_nothing<R: Threads + Wait + Copy + Send + 'static>(
     rt: &R,
     alloc: Global,
@@ -444,8 +444,8 @@ static ONE_EACH: Task<'static> = Task {
     limit: None,
 };
 
-/// Whether each of two shards makes one request, where the receiver of this shard is held until the
-/// other one has answered.
+/// Returns whether each of two shards makes one request, where the receiver of this shard is held
+/// until the other one has answered.
 fn send_at_once<R: Threads + Wait + Copy + Send + 'static>(
     rt: &R,
     alloc: Global,
@@ -471,7 +471,7 @@ fn workers_send_at_once(rt: HostRuntime) -> Result<(), Fail> {
     Ok(())
 }
 
-/// Whether this load is told in time.
+/// Returns whether this load is told in time.
 fn comes_to(shipper: &Shipper<Peers>, load: Load) -> bool {
     for _ in 0..TURNS {
         thread::yield_now();
@@ -486,7 +486,7 @@ fn comes_to(shipper: &Shipper<Peers>, load: Load) -> bool {
 /// to be told in time then.
 type Fed<'a> = (u64, u64, Samples<'a>, Load);
 
-/// Whether it is, with no call behind the one that fed.
+/// Returns whether it is, with no call behind the one that fed.
 fn resolves_in_time<R: Threads + Wait + Copy + Send + 'static>(
     rt: &R,
     alloc: Global,
@@ -522,7 +522,7 @@ fn a_sample_that_waits_for_a_full_batch_is_no_backlog(rt: HostRuntime) {
     assert_eq!(rt; resolves_in_time(&rt, rt.alloc(), &fed), Ok(true));
 }
 
-/// Whether a sample that a flush cut off is told as waiting, where its receiver is busy.
+/// Returns whether a sample that a flush cut off is told as waiting, where its receiver is busy.
 fn waits_in_time<R: Threads + Wait + Copy + Send + 'static>(
     rt: &R,
     alloc: Global,
@@ -565,7 +565,7 @@ static LIMITED: [(&[Call<'static>], u64, Option<u64>, &[usize]); 9] = [
     (LARGE, 6, Some(1), &[232, 232, 232]),
 ];
 
-/// How many bytes stand behind the empty line of a request.
+/// Returns how many bytes stand behind the empty line of a request.
 fn body_len(request: &[u8]) -> usize {
     for i in 0..request.len() {
         let rest = &request[i..];
@@ -576,7 +576,7 @@ fn body_len(request: &[u8]) -> usize {
     0
 }
 
-/// Whether the bodies of the requests are so long.
+/// Returns whether the bodies of the requests are so long.
 fn has_lens(peer: &Peer, lens: &[usize]) -> bool {
     for (request, len) in peer.requests().iter().zip(lens) {
         if body_len(request) != *len {
@@ -586,7 +586,7 @@ fn has_lens(peer: &Peer, lens: &[usize]) -> bool {
     peer.requests().len() == lens.len()
 }
 
-/// Whether all is sent, in bodies that are so long, where batches have this limit.
+/// Returns whether all is sent, in bodies that are so long, where batches have this limit.
 fn sends_in<R: Threads + Wait + Copy + Send + 'static>(
     rt: &R,
     alloc: Global,
@@ -606,7 +606,7 @@ fn sends_in<R: Threads + Wait + Copy + Send + 'static>(
     }
 }
 
-/// The number of the first limit at which all is not sent as it says.
+/// Returns the number of the first limit at which all is not sent as it says.
 fn wrong_limit<R: Threads + Wait + Copy + Send + 'static>(rt: &R, alloc: Global) -> Option<usize> {
     for (i, (calls, placed, limit, lens)) in LIMITED.iter().enumerate() {
         let task = Task {

@@ -99,7 +99,7 @@ pub(crate) fn ends_so(outcome: &Outcome, ending: Ending<'_>) -> bool {
     }
 }
 
-/// Whether these are all numbers from one up to another.
+/// Returns whether these are all numbers from one up to another.
 fn are_all(numbers: &[u64], from: u64, to: u64) -> bool {
     let mut next = from;
     for number in numbers {
@@ -112,7 +112,7 @@ fn are_all(numbers: &[u64], from: u64, to: u64) -> bool {
 }
 
 impl Work {
-    /// Whether it is what is wanted. Each worker that was not stopped takes all.
+    /// Returns whether it is what is wanted. Each worker that was not stopped takes all.
     pub(crate) fn is(&self, wanted: &Wanted<'_>) -> bool {
         self.faults.as_slice() == wanted.faults
             && ends_so(&self.outcome, wanted.ending)
@@ -122,7 +122,7 @@ impl Work {
             && self.counts_all()
     }
 
-    /// Whether a call failed, and each later one answered as it did.
+    /// Returns whether a call failed, and each later one answered as it did.
     pub(crate) fn keeps_its_fault(&self) -> bool {
         let mut kept = None;
         for fault in &self.faults {
@@ -134,7 +134,7 @@ impl Work {
         kept.is_some()
     }
 
-    /// Whether no call failed.
+    /// Returns whether no call failed.
     pub(crate) fn has_no_fault(&self) -> bool {
         for fault in &self.faults {
             if fault.is_some() {
@@ -144,8 +144,8 @@ impl Work {
         true
     }
 
-    /// Whether nothing is named, and of the samples behind so many series, which are all of one
-    /// series, just those are listed as abandoned that were placed behind the resolved ones.
+    /// Returns whether nothing is named, and of the samples behind so many series, which are all of
+    /// one series, just those are listed as abandoned that were placed behind the resolved ones.
     pub(crate) fn accounts_for_all(&self, series: u64) -> bool {
         let mut known = series;
         for resolved in &self.resolved {
@@ -163,8 +163,8 @@ impl Work {
         is_so && self.named.is_empty()
     }
 
-    /// Whether nothing is filtered, each shard has a part beside the feeder's, and is whole or
-    /// stopped.
+    /// Returns whether nothing is filtered, each shard has a part beside the feeder's, and is whole
+    /// or stopped.
     fn counts_all(&self) -> bool {
         let shards = self.resolved.len();
         self.filtered == 0
@@ -246,7 +246,7 @@ fn counted<T: Transport>(
     (resolved, transport)
 }
 
-/// What a report says, and the transports.
+/// Returns what a report says, and the transports.
 fn work_of<T: Transport + Drop>(
     alloc: Global,
     faults: Vec<Option<FeedFault>>,

@@ -38,7 +38,7 @@ const LEFT_OUT_SEGMENT: &str =
 
 const ONE_OF_A: &str = "0a130a0d0a085f5f6e616d655f5f12016112021001";
 
-/// Whether a run over an input ends so, and writes this.
+/// Returns whether a run over an input ends so, and writes this.
 fn writes(
     alloc: Global,
     input: &[u8],
@@ -86,7 +86,7 @@ static ROWS: [Row; 17] = [
     Bytes(CHANGED_SEGMENT, ToolFault::Log(TailFault::BadCrc)),
 ];
 
-/// Whether the text of a segment gives the text of the body, and a newline.
+/// Returns whether the text of a segment gives the text of the body, and a newline.
 fn writes_text(alloc: Global, segment: &str, body: &str) -> bool {
     match format!(in alloc; "{body}\n") {
         Ok(line) => writes(alloc, segment.as_bytes(), true, Ok(()), line.as_bytes()),
@@ -94,7 +94,7 @@ fn writes_text(alloc: Global, segment: &str, body: &str) -> bool {
     }
 }
 
-/// Whether the bytes of a segment have this outcome, and give the bytes of the body.
+/// Returns whether the bytes of a segment have this outcome, and give the bytes of the body.
 fn writes_bytes(alloc: Global, segment: &str, outcome: Result<(), ToolFault>, body: &[u8]) -> bool {
     match read_digits(alloc, segment.as_bytes()) {
         Ok(Some(segment)) => writes(alloc, &segment, false, outcome, body),
@@ -102,7 +102,7 @@ fn writes_bytes(alloc: Global, segment: &str, outcome: Result<(), ToolFault>, bo
     }
 }
 
-/// Whether they give the bytes of this text of a body.
+/// Returns whether they give the bytes of this text of a body.
 fn writes_bytes_of(alloc: Global, segment: &str, body: &str) -> bool {
     match read_digits(alloc, body.as_bytes()) {
         Ok(Some(body)) => writes_bytes(alloc, segment, Ok(()), &body),

@@ -13,7 +13,7 @@ use std::{env, fs, process};
 /// The room of what a run writes.
 const ROOM: usize = 1 << 17;
 
-/// The fault of a run over log text.
+/// Returns the fault of a run over log text.
 pub(crate) fn fault(
     alloc: Global,
     text: &[u8],
@@ -139,7 +139,7 @@ static ROWS: [Row; 68] = [
     Segment(&[65_523], "", 2, FULL, 0),
 ];
 
-/// Whether a text is this one without its blanks.
+/// Returns whether a text is this one without its blanks.
 fn is_without_blanks(text: &[u8], spaced: &[u8]) -> bool {
     let mut rest = text;
     for byte in spaced {
@@ -154,8 +154,8 @@ fn is_without_blanks(text: &[u8], spaced: &[u8]) -> bool {
     rest.is_empty()
 }
 
-/// What is written of one record: the text of a fragment, with its type, length and CRC, and a
-/// newline. The CRC is not compared.
+/// Returns what is written of one record: the text of a fragment, with its type, length and CRC,
+/// and a newline. The CRC is not compared.
 fn is_fragment_of(output: &[u8], rec: &str) -> bool {
     output.len() > 15
         && output.starts_with(b"01")
@@ -163,7 +163,7 @@ fn is_fragment_of(output: &[u8], rec: &str) -> bool {
         && is_without_blanks(&output[14..output.len() - 1], rec.as_bytes())
 }
 
-/// Whether a line stands for this record.
+/// Returns whether a line stands for this record.
 fn stands_for(alloc: Global, line: &str, rec: &str) -> bool {
     let Ok(mut output) = Room::new(alloc, ROOM) else {
         return false;
@@ -179,7 +179,7 @@ fn put_line(text: &mut Vec<u8>, line: &[u8]) -> Result<(), AllocError> {
     text.extend_from_slice(b"\nraw\n")
 }
 
-/// Whether a run has this fault or none, and writes so many bytes.
+/// Returns whether a run has this fault or none, and writes so many bytes.
 fn fills(
     alloc: Global,
     text: &[u8],
@@ -194,7 +194,7 @@ fn fills(
     fault(alloc, text, &mut output, hex, pages) == wanted && output.as_slice().len() == len
 }
 
-/// Whether a fault is found in the fourth line, which is this one, and nothing is written.
+/// Returns whether a fault is found in the fourth line, which is this one, and nothing is written.
 fn is_refused(alloc: Global, line: &[u8]) -> bool {
     let mut text = Vec::new(alloc);
     put_line(&mut text, line).is_ok() && fills(alloc, &text, true, 1, Some(ToolFault::Line(4)), 0)
@@ -217,8 +217,8 @@ fn put_runs(text: &mut Vec<u8>, lens: &[usize], last: &str) -> Result<(), AllocE
     text.extend_from_slice(last.as_bytes())
 }
 
-/// Whether a run over `raw` lines of these lengths, and what follows them, has this fault or none,
-/// and writes so many bytes.
+/// Returns whether a run over `raw` lines of these lengths, and what follows them, has this fault
+/// or none, and writes so many bytes.
 fn is_segment(
     alloc: Global,
     lens: &[usize],
@@ -289,7 +289,8 @@ impl Sink for ByteByByte {
     }
 }
 
-/// Whether a writer that takes so many bytes has them, and the run fails where there are more.
+/// Returns whether a writer that takes so many bytes has them, and the run fails where there are
+/// more.
 fn fails_after(alloc: Global, left: usize) -> bool {
     let whole = b"010001b34623a602010001b34623a602\n";
     let mut reader = b"raw 02\nraw 02".as_slice();
@@ -309,7 +310,7 @@ fn fails_after(alloc: Global, left: usize) -> bool {
         && whole.as_slice().starts_with(&writer.taken)
 }
 
-/// The number of bytes after which a writer does otherwise.
+/// Returns the number of bytes after which a writer does otherwise.
 fn wrong_writer(alloc: Global) -> Option<usize> {
     for left in 0..34 {
         if !fails_after(alloc, left) {
@@ -324,7 +325,7 @@ fn fails_with_its_writer(rt: HostRuntime) {
     none_is_wrong(&rt, wrong_writer(rt.alloc()));
 }
 
-/// The length of a file, if there is one.
+/// Returns the length of a file, if there is one.
 fn len_of(rt: &HostRuntime, path: &str) -> Option<usize> {
     match fs::read(rt, path) {
         Ok(bytes) => Some(bytes.len()),
@@ -332,7 +333,7 @@ fn len_of(rt: &HostRuntime, path: &str) -> Option<usize> {
     }
 }
 
-/// Whether the file of a folder with this number has this length, or is not there.
+/// Returns whether the file of a folder with this number has this length, or is not there.
 fn has_file(rt: &HostRuntime, dir: &str, number: u32, len: Option<usize>) -> bool {
     match format!(in rt.alloc(); "{dir}/{number:08}") {
         Ok(path) => len_of(rt, path.as_str()) == len,
@@ -340,7 +341,7 @@ fn has_file(rt: &HostRuntime, dir: &str, number: u32, len: Option<usize>) -> boo
     }
 }
 
-/// Whether `raw` lines of these lengths are logged into a folder with this fault, or none.
+/// Returns whether `raw` lines of these lengths are logged into a folder with this fault, or none.
 fn logs_into(
     rt: &HostRuntime,
     dir: &str,
@@ -374,12 +375,12 @@ static FOLDERS: [(&[usize], usize, Option<ToolFault>, [Option<usize>; 3]); 4] = 
     ),
 ];
 
-/// Whether the first three files of a folder have these lengths.
+/// Returns whether the first three files of a folder have these lengths.
 fn has_files(rt: &HostRuntime, dir: &str, lens: [Option<usize>; 3]) -> bool {
     has_file(rt, dir, 0, lens[0]) && has_file(rt, dir, 1, lens[1]) && has_file(rt, dir, 2, lens[2])
 }
 
-/// The first row after which the folder has other files, or another fault.
+/// Returns the first row after which the folder has other files, or another fault.
 fn wrong_folder(rt: &HostRuntime, dir: &str) -> Option<usize> {
     for (i, (lens, pages, wanted, files)) in FOLDERS.iter().enumerate() {
         if !logs_into(rt, dir, lens, *pages, *wanted) || !has_files(rt, dir, *files) {
@@ -389,7 +390,7 @@ fn wrong_folder(rt: &HostRuntime, dir: &str) -> Option<usize> {
     None
 }
 
-/// A folder of this test alone, which is not there yet.
+/// Returns a folder of this test alone, which is not there yet.
 fn new_folder(rt: &HostRuntime) -> Result<PathBuf, Fail> {
     let temp = env::temp_dir(rt)?;
     let name = format!(in rt.alloc(); "rwship-log-test-{}", process::id(rt.process()))?;

@@ -26,7 +26,7 @@ static SCRIPT_LINES: [Row; 4] = [
     (b"wait", Some("no event begins")),
 ];
 
-/// Whether this is said where it is wanted.
+/// Returns whether this is said where it is wanted.
 fn is_said(note: Option<&str>, wanted: Option<&str>) -> bool {
     match (note, wanted) {
         (None, None) => true,
@@ -35,7 +35,7 @@ fn is_said(note: Option<&str>, wanted: Option<&str>) -> bool {
     }
 }
 
-/// The first row of which something else is said, counted over both tables.
+/// Returns the first row of which something else is said, counted over both tables.
 fn wrong_note(alloc: Global) -> Result<Option<usize>, AllocError> {
     for (i, (line, wanted)) in LOG_LINES.iter().enumerate() {
         if !is_said(log_line_note(alloc, line)?, *wanted) {

@@ -9,7 +9,7 @@ use rw_types::Room;
 use rw_wal_format::TailFault;
 use std::alloc::Global;
 
-/// The segment of log text. Nothing, where memory is refused or a line is bad.
+/// Returns the segment of log text. Nothing, where memory is refused or a line is bad.
 fn segment_of(alloc: Global, log: &str) -> Vec<u8> {
     let Ok(mut room) = Room::new(alloc, 4096) else {
         return Vec::new(alloc);
@@ -36,7 +36,7 @@ fn ended(
     }
 }
 
-/// Whether a run under these settings ends so, and writes this.
+/// Returns whether a run under these settings ends so, and writes this.
 fn plans(
     alloc: Global,
     settings: &[u8],
@@ -161,7 +161,7 @@ static ROWS: [Row; 9] = [
     (b"", Digits(b"01\n0g"), Err(ToolFault::Line(2)), ""),
 ];
 
-/// The segment of log text with another last byte.
+/// Returns the segment of log text with another last byte.
 fn damaged_segment_of(alloc: Global, log: &str) -> Vec<u8> {
     let mut segment = segment_of(alloc, log);
     if let Some(last) = segment.last_mut() {

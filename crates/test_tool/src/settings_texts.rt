@@ -193,7 +193,7 @@ rule 2, regex: is of type integer; it takes a text
     ),
 ];
 
-/// Whether settings are printed so.
+/// Returns whether settings are printed so.
 fn is_printed(alloc: Global, text: &[u8], want: &str) -> bool {
     match print_settings(alloc, text) {
         Ok(printed) => printed.as_str() == want,
@@ -201,12 +201,12 @@ fn is_printed(alloc: Global, text: &[u8], want: &str) -> bool {
     }
 }
 
-/// The settings of one rule with this pattern.
+/// Returns the settings of one rule with this pattern.
 fn with_pattern(alloc: Global, pattern: &str) -> Result<String, AllocError> {
     format!(in alloc; "[[rule]]\naction = 'drop'\nsource_labels = ['a', '\"']\nregex = {pattern}")
 }
 
-/// Whether settings are printed with this end, and these are printed as they are.
+/// Returns whether settings are printed with this end, and these are printed as they are.
 fn ends_and_stays(alloc: Global, text: &[u8], end: &str) -> bool {
     match print_settings(alloc, text) {
         Ok(once) => {
@@ -216,7 +216,7 @@ fn ends_and_stays(alloc: Global, text: &[u8], end: &str) -> bool {
     }
 }
 
-/// The same of the settings of one rule with this pattern.
+/// Returns the same of the settings of one rule with this pattern.
 fn is_pattern_printed(alloc: Global, pattern: &str, end: &str) -> bool {
     match with_pattern(alloc, pattern) {
         Ok(text) => ends_and_stays(alloc, text.as_bytes(), end),
@@ -239,7 +239,7 @@ fn put_notes(lines: &mut String, notes: &[SettingsNote]) -> Result<(), AllocErro
     Ok(())
 }
 
-/// Whether this is told of a text.
+/// Returns whether this is told of a text.
 fn is_told(alloc: Global, text: &[u8], want: &str) -> bool {
     let mut lines = String::new(alloc);
     match explain_settings(alloc, text) {
