@@ -1,4 +1,5 @@
--- A batch (Remote-Write 1.0): a stretch of one shard's samples, with one id and one body for good.
+-- A batch (Remote-Write 1.0): a stretch of one shard's samples, with one id and one body
+-- permanently.
 use Rattle.std.specs.Global.{Global}
 use Rattle.std.specs.Prelude.{◌≡◌, ℕ, ◌+◌, ◌-◌, ◌≤◌, Vec, vec_capacity, List, [], ◌∷◌, ◌++◌, length, Some, slice_get}
 use Rattle.rw_types.specs.declared.place.Place.{Place}
@@ -9,8 +10,7 @@ use Rattle.rw_batch.specs.Grouping.{LabelledSample, message}
 use Rattle.rw_batch.specs.Kept.{Fielded, Rowed, samples_alone}
 use Rattle.rw_batch.specs.declared.batch.BatchId.{BatchId}
 
--- samples that are taken until there are so many: where each stands and what it is, in the same
--- order
+-- samples that are taken until there are so many: where each is and what it is, in the same order
 pub record Building : Type 0 where
   pub batch : ℕ
   pub places : List Place
@@ -21,7 +21,7 @@ pub record Frozen : Type 0 where
   pub places : List Place
   pub body : List ℕ
 
--- the place is the next one of the same shard, where there is one before it
+-- the place is the next one of the same shard, if there is one before it
 abbrev pub Follows : List Place → Place → Type 0
 Follows ps p = (last : Place) → slice_get ps (length ps - 1) ≡ Some last → (p.epoch ≡ last.epoch) × (p.shard ≡ last.shard) × (p.seq ≡ last.seq + 1)
 

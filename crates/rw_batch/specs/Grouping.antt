@@ -29,7 +29,7 @@ abbrev pub series_at : List LabelledSample → ℕ → TimeSeries
 series_at xs place = get_or (message xs) place (record { labels = []; samples = [] })
 
 -- a message with one more sample: at the end of the series with its labels, else in a new series
--- behind the others
+-- after the others
 unfoldable pub with_sample : Labels → Sample → WriteRequest → WriteRequest
 with_sample l s [] = record { labels = l; samples = s ∷ [] } ∷ []
 with_sample l s (g ∷ gs) =
@@ -43,6 +43,6 @@ labels_of gs = map (λ g. g.labels) gs
 abbrev pub sample_count : WriteRequest → ℕ
 sample_count gs = sum_by (λ g. length g.samples) gs
 
--- labels, with one that goes to the end where it is new
+-- labels, with one that goes to the end if it is new
 abbrev pub with_labels : Labels → List Labels → List Labels
 with_labels l ls = if list_any (labels_eq l) ls then ls else ls ++ l ∷ []

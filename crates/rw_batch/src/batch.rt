@@ -7,7 +7,7 @@ use bytes::Bytes;
 use rw_types::Place;
 use std::marker::Model;
 
-/// What names a batch: the place of its first sample.
+/// What identifies a batch: the place of its first sample.
 #[derive(Clone, Copy, Debug, PartialEq, Eq)]
 pub struct BatchId {
     /// The epoch of its shard.
@@ -18,8 +18,8 @@ pub struct BatchId {
     pub seq: u64,
 }
 
-/// Consecutive samples of one shard. Its id and its body stay as they are: each attempt to send it
-/// uses the one body.
+/// Consecutive samples of one shard. Its id and its body do not change: each attempt to send it
+/// uses the same body.
 #[derive(Drop)]
 pub struct Batch {
     pub(crate) places: Vec<Place>,

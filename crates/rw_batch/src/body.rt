@@ -15,7 +15,7 @@ use rw_types::put_bytes;
 use rw_write_request::{put_series_head, series_head_len};
 use std::alloc::AllocError;
 
-/// Returns how many bytes the field of series number `place` of the message takes; `None` where the
+/// Returns how many bytes the field of series number `place` of the message takes, or `None` if the
 /// number does not fit 64 bits.
 fn series_len(rows: &Rows, place: usize) -> Option<usize>
     requires { place < length (message rows.now.samples) }
@@ -27,7 +27,7 @@ fn series_len(rows: &Rows, place: usize) -> Option<usize>
     head.checked_add(bytes)
 }
 
-/// Returns how many bytes the body takes; `None` where the number does not fit 64 bits.
+/// Returns how many bytes the body takes, or `None` if the number does not fit 64 bits.
 pub(crate) fn body_len(rows: &Rows) -> Option<usize>
     ensures some { IfSome result (λ n. n ≡ length (canon (message rows.now.samples))) }
     ensures none { IfNone result (2 ^ 64 ≤ length (canon (message rows.now.samples))) }

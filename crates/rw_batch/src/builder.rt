@@ -44,7 +44,7 @@ impl Model for Builder {
     ghost invariant = { λ b. IsBuilding b.batch b.places b.fields b.rows };
 }
 
-/// Returns whether a place is the next one of the same shard, where there is one before it.
+/// Returns whether a place is the next one of the same shard, or there is no place before it.
 fn follows(places: &[Place], place: &Place) -> bool
     ensures { IsTrue result ↔ Follows places.now place.now }
 {
@@ -144,7 +144,7 @@ impl Builder {
         self.fields.get(k)
     }
 
-    /// Returns how many bytes the body of the batch takes; `None` where the number does not fit 64
+    /// Returns how many bytes the body of the batch takes, or `None` if the number does not fit 64
     /// bits.
     pub fn body_len(&self) -> Option<usize>
         ensures some { IfSome result (λ n. n ≡ length (batch_of self.now).body) }
@@ -190,8 +190,8 @@ impl Builder {
         Ok(Bytes::from_vec(body)?)
     }
 
-    /// Makes the batch of the samples, and room in the ledger for a name of each. Where memory runs
-    /// out, the builder comes back and the ledger is as it was.
+    /// Makes the batch of the samples, and reserves room in the ledger for a name of each. If
+    /// memory runs out, the builder comes back and the ledger is as it was.
     pub fn freeze(self, ledger: &mut Ledger) -> Result<Batch, (Builder, AllocError)>
         requires { 0 < length self.samples }
         ensures batch { IfOk result (λ b. b ≡ batch_of self) }
@@ -208,7 +208,7 @@ impl Builder {
         }
     }
 
-    /// Makes the batch of the samples as `freeze` does, with `body`, which was made before. Where
+    /// Makes the batch of the samples as `freeze` does, with `body`, which was made before. If
     /// memory runs out, the builder comes back and the ledger is as it was.
     pub fn freeze_with(
         self,

@@ -46,7 +46,7 @@ fn part(bytes: &[u8], start: usize, end: usize) -> &[u8]
 }
 
 impl Fields {
-    /// No fields, and room for those of `room` samples.
+    /// Returns an empty list of fields, with room for those of `room` samples.
     pub(crate) fn new(alloc: Global, room: usize) -> Result<Fields, AllocError>
         requires { room ≤ 10000 }
         ensures { IfOk result (λ f. f ≡ record { room = room; samples = [] }) }

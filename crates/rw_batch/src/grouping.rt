@@ -21,7 +21,7 @@ use std::marker::Model;
 pub struct Grouping {
     numbers: IndexSet<u64>,
     series: Vec<Series>,
-    /// Where the last sample went, unless it opened a series: a hint alone.
+    /// The place of the last sample's series, unless it opened one: only a hint.
     last: usize,
 }
 
@@ -61,7 +61,7 @@ fn series_of(alloc: Global, labels: &LabelSet, sample: (Word, i64)) -> Result<Se
     Ok(Series { labels, samples })
 }
 
-/// Puts a sample behind those of a series.
+/// Puts a sample after those of a series.
 fn push_sample(series: &mut Series, sample: (Word, i64)) -> Result<(), AllocError>
     ensures ok { OnOk result (series.new
         ≡ record { labels = series.old.labels; samples = series.old.samples ++ sample ∷ [] }) }
@@ -101,7 +101,7 @@ impl Grouping {
     }
 
     /// Adds a sample of value `word`, at time `t` in milliseconds since the Unix epoch, to the
-    /// series that `number` stands for. Its labels are copied where that series is new. An `Err`
+    /// series that `number` stands for. Its labels are copied if that series is new. An `Err`
     /// changes nothing.
     pub fn add(
         &mut self,
@@ -135,9 +135,9 @@ impl Grouping {
         }
     }
 
-    /// Returns the place of the series of a number. That of the last sample is looked at first, and
-    /// then the next one: samples of a series come together, or the series of a log in the same
-    /// order again and again.
+    /// Returns the place of the series of a number. The place of the last sample is tried first,
+    /// and then the next one: samples of a series come together, or the series of a log come in the
+    /// same order again and again.
     fn place_of(&self, number: u64) -> Option<usize>
         ensures some { IfSome result (λ place. slice_get self.now.numbers place ≡ Some number) }
         ensures none { IfNone result (list_any (λ m. number == m) self.now.numbers ≡ false) }

@@ -12,7 +12,7 @@ use std::marker::Model;
 /// For how many shards there is a room: an epoch has no more.
 const MAX_SHARDS: usize = 1000;
 
-/// Returns how many bytes a message of a sample alone takes; none where the number does not fit 64
+/// Returns how many bytes a message of a sample alone takes; none if the number does not fit 64
 /// bits.
 #[tactic(auto, unfolding(crate::specs::Sizes::bytes_of))]
 fn len_alone(labels: &LabelSet, word: Word, t: i64) -> Option<usize>
@@ -22,7 +22,7 @@ fn len_alone(labels: &LabelSet, word: Word, t: i64) -> Option<usize>
     series_field_len(labels.as_slice(), &[(word, t)])
 }
 
-/// Returns what is left of a room behind a sample; none where the sample does not fit.
+/// Returns what is left of a room after a sample; none if the sample does not fit.
 fn left_of(room: u64, labels: &LabelSet, word: Word, t: i64) -> Option<u64>
     ensures fits { IfSome result (λ left. room ≡ bytes_of labels.now (word, t) + left) }
     ensures over { IfNone result (room < bytes_of labels.now (word, t)) }
@@ -42,8 +42,8 @@ fn fill(rooms: &mut [u64], limit: u64)
     }
 }
 
-/// How many bytes the samples of each shard may still count before a mark, where batches have a
-/// limit. A sample counts as many bytes as a message of it alone takes.
+/// How many bytes the samples of each shard may still count before a mark, if batches have a limit.
+/// A sample counts as many bytes as a message of it alone takes.
 #[derive(Drop)]
 pub struct Cuts {
     limit: Option<u64>,
@@ -78,7 +78,7 @@ impl Cuts {
         Ok(Cuts { limit, rooms })
     }
 
-    /// Counts nothing for any shard, as behind a mark in each queue.
+    /// Counts nothing for any shard, as after a mark in each queue.
     pub fn reset(&mut self)
         ensures limit { self.new.limit ≡ self.old.limit }
         ensures full { AreFull self.new.limit self.new.rooms }
@@ -88,7 +88,7 @@ impl Cuts {
         }
     }
 
-    /// Counts a sample for the shard numbered `shard`. The result says whether a mark has to stand
+    /// Counts a sample for the shard numbered `shard`. The result says whether a mark has to be
     /// before it, as it would take what was counted since the last one above the limit.
     pub fn count(&mut self, shard: usize, labels: &LabelSet, word: Word, t: i64) -> bool
         requires { shard < MAX_SHARDS }

@@ -23,8 +23,8 @@ fn after_byte(code: u32, byte: u8) -> u32
     code_before_zeros(low ^ byte, 0) ^ (code >> 8)
 }
 
-/// Returns the code after eight more bytes: since the division is linear over `^`, it is the sum of
-/// what each byte would give with zero bytes after it, the code being added to the first four.
+/// Returns the code after eight more bytes. The division is linear over `^`, so it is the sum of
+/// what each byte would give with zero bytes after it, where the code is added to the first four.
 #[inline]
 fn after_eight(code: u32, bytes: &[u8; 8]) -> u32
     ensures { result ≡ fold crc_byte code bytes.now }

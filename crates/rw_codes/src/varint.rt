@@ -62,14 +62,14 @@ fn reserve_for(out: &mut Vec<u8>, n: u64) -> Result<(), AllocError>
     ensures ok { OnOk result (vec_len out.new + length (uvarint n) ≤ vec_capacity out.new) }
     ensures full { OnErr result (vec_capacity out.old < vec_len out.old + length (uvarint n)) }
 {
-    // ten bytes are enough for any number
+    // Ten bytes are enough for any number.
     if out.capacity() - out.len() >= 10 {
         return Ok(());
     }
     out.reserve(uvarint_len(n))
 }
 
-/// `put_uvarint` for a number of any length.
+/// Appends a varint of any length, as `put_uvarint` does.
 #[inline(never)]
 fn put_groups(out: &mut Vec<u8>, n: u64) -> Result<(), AllocError>
     ensures ok { OnOk result (out.new.items ≡ out.old.items ++ uvarint n) }
@@ -81,8 +81,8 @@ fn put_groups(out: &mut Vec<u8>, n: u64) -> Result<(), AllocError>
     Ok(())
 }
 
-/// Appends the varint of `n`, in its shortest form ("Base 128 Varints"). Memory can run out only
-/// where the vector has no room for it; an `Err` leaves its bytes as they were.
+/// Appends the varint of `n`, in its shortest form ("Base 128 Varints"). Memory can run out only if
+/// the vector has no room for it. An `Err` leaves its bytes as they were.
 #[inline]
 pub fn put_uvarint(out: &mut Vec<u8>, n: u64) -> Result<(), AllocError>
     ensures ok { OnOk result (out.new.items ≡ out.old.items ++ uvarint n) }
@@ -96,7 +96,7 @@ pub fn put_uvarint(out: &mut Vec<u8>, n: u64) -> Result<(), AllocError>
     put_groups(out, n)
 }
 
-/// `get_uvarint` for a number of any length.
+/// Reads a varint of any length, as `get_uvarint` does.
 #[inline(never)]
 fn get_groups(bytes: &[u8]) -> Result<(u64, usize), CodeFault>
     ensures ok { IfOk result (λ x. read_uvarint bytes.now ≡ Ok (x.0, drop x.1 bytes.now)) }
@@ -123,8 +123,8 @@ fn get_groups(bytes: &[u8]) -> Result<(u64, usize), CodeFault>
 }
 
 /// Reads the varint at the front of `bytes` ("Base 128 Varints"): its number, and how many bytes it
-/// takes. These are one to ten, also where fewer would do.
-// Most numbers of a log take one byte or two, so these are read where the call stands.
+/// takes. These are one to ten, even if fewer would do.
+// Most numbers of a log take one byte or two, so these are read inline.
 #[inline]
 pub fn get_uvarint(bytes: &[u8]) -> Result<(u64, usize), CodeFault>
     ensures ok { IfOk result (λ x. read_uvarint bytes.now ≡ Ok (x.0, drop x.1 bytes.now)) }
@@ -142,7 +142,7 @@ pub fn get_uvarint(bytes: &[u8]) -> Result<(u64, usize), CodeFault>
 }
 
 /// Appends the ZigZag varint of `z`, in its shortest form ("Signed Integers"). Memory can run out
-/// only where the vector has no room for it; an `Err` leaves its bytes as they were.
+/// only if the vector has no room for it. An `Err` leaves its bytes as they were.
 #[inline]
 pub fn put_varint(out: &mut Vec<u8>, z: i64) -> Result<(), AllocError>
     ensures ok { OnOk result (out.new.items ≡ out.old.items ++ varint z) }

@@ -1,4 +1,4 @@
--- Where a body has one answer, a connection has one text of replies.
+-- If a body has one answer, a connection has one text of replies.
 use Rattle.std.specs.Prelude.{◌≡◌, ℕ, List}
 use Rattle.rw_endpoint.specs.Serving.{Serves}
 use Rattle.rw_endpoint.specs.declared.serve_end.ServeEnd.{ServeEnd}

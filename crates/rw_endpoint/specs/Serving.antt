@@ -8,7 +8,7 @@ use Rattle.rw_endpoint.specs.declared.finding.Finding.TheVariants.{Refused, Body
 use Rattle.rw_endpoint.specs.declared.serve_end.ServeEnd.{ServeEnd}
 use Rattle.rw_endpoint.specs.declared.serve_end.ServeEnd.TheVariants.{Eof, Closed, Torn, Device, OutOfMemory}
 
--- no head can stand at the front of the input
+-- no head can be at the front of the input
 pub record IsNoRequest {S : Type 0} (input : List ℕ) (old : S) (text : List ℕ) (closes : Bool) (new : S) : Type 0 where
   pub never : NeverHasHead input
   pub written : text ≡ reply 400 true
@@ -74,7 +74,7 @@ pub data Serves {S : Type 0} (path : List ℕ) (limit : ℕ) (answers : S → Li
       Serves path limit answers rest middle text new how →
       Serves path limit answers input old (first ++ text) new how
 
--- what a writer holds after serving that input, where it held some bytes before
+-- what a writer holds after serving that input, if it held some bytes before
 abbrev pub HasWritten : {S : Type 0} → List ℕ → ℕ → (S → List ℕ → ℕ → S → Type 0) → List ℕ → S → List ℕ → Option (List ℕ) → S → ServeEnd → Type 0
 HasWritten path limit answers input old before contents new how =
     (text : List ℕ) × (contents ≡ Some (before ++ text)) × Serves path limit answers input old text new how

@@ -27,7 +27,7 @@ abbrev pub first_length : List NameValue → Option ℕ
 first_length [] = None
 first_length (field ∷ fields) = if is_named (codes "content-length") field then length_value field.1 else first_length fields
 
--- that length, where each Content-Length is the same
+-- that length, if each Content-Length is the same
 abbrev pub agreed : Option ℕ → List NameValue → Option ℕ
 agreed None fields = None
 agreed (Some n) fields = if each_value (codes "content-length") (is_length n) fields then Some n else None

@@ -56,7 +56,7 @@ fn are_lengths(buf: &[u8], headers: &[HeaderSpan], n: u64) -> bool
     true
 }
 
-/// Returns the length of the body that the fields announce, where they agree on one.
+/// Returns the length of the body that the fields announce, if they agree on one.
 pub(crate) fn announced(buf: &[u8], headers: &[HeaderSpan]) -> Option<u64>
     requires { All (IsHeaderWithin (length buf.now)) headers.now }
     ensures { result ≡ announced (map (header_bytes buf.now) headers.now) }

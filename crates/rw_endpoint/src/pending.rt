@@ -8,7 +8,8 @@ use std::marker::Model;
 pub(crate) const MAX_HEAD_BYTES: usize = 8192;
 
 /// The bytes of a connection that were read and are not used yet, at most as many as a head has.
-/// They take no memory from an allocator, so a head is read and judged where there is none.
+/// They take no memory from an allocator, so a head is read and judged even when memory is
+/// exhausted.
 #[derive(Drop)]
 pub(crate) struct Pending {
     bytes: [u8; MAX_HEAD_BYTES],
@@ -26,7 +27,7 @@ impl Model for Pending {
 }
 
 impl Pending {
-    /// No bytes.
+    /// Returns a buffer without bytes.
     pub(crate) fn new() -> Pending
         ensures { result ≡ [] }
     {

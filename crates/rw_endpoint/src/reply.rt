@@ -1,4 +1,4 @@
-//! The replies, which need no memory.
+//! The replies, which take no memory.
 
 ghost use Rattle.std.specs.Prelude.{◌≡◌, ◌||◌, IsTrue, true, false};
 ghost use Rattle.rw_endpoint.specs.Judgement.{is_refusal};

@@ -30,7 +30,7 @@ pub(crate) fn length_value(text: &[u8]) -> Option<u64>
     Some(n)
 }
 
-/// Returns the text without the spaces and tabs that it begins with.
+/// Returns the text without the spaces and tabs at its front.
 fn without_blanks(text: &[u8]) -> &[u8]
     ensures { result.now ≡ skip_ows text.now }
 {
@@ -42,7 +42,7 @@ fn without_blanks(text: &[u8]) -> &[u8]
     &text[text.len()..]
 }
 
-/// Returns whether a semicolon and then the parameter of Remote-Write 1.0 stand here, and nothing
+/// Returns whether the text is a semicolon and then the parameter of Remote-Write 1.0, and nothing
 /// else.
 fn is_write_request(rest: &[u8]) -> bool
     ensures { result ≡ is_write_request rest.now }

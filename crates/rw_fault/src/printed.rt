@@ -30,8 +30,8 @@ impl fmt::Display for ToolFault {
 impl Error for ToolFault {}
 
 impl ToolFault {
-    /// Returns the exit status of the program: 1 for a fault of the data, 3 for want of memory, 4
-    /// for a device.
+    /// Returns the exit status of the program: 1 for a fault of the data, 3 because memory ran out,
+    /// 4 for a device.
     pub fn exit_status(self) -> u8
         ensures { result ≡ exit_status self }
     {

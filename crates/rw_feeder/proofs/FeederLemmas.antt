@@ -78,7 +78,7 @@ pub same_tail : (tail after : Fed) (router : Routing) (names : FinMap nat_cmp Re
 same_tail tail after router names n ps hand h pieces given =
     same_taken tail after router names n ps hand h (record { count = given ∙ h.taken.count; rest = h.taken.rest; begins = ap entries pieces ∙ h.taken.begins })
 
--- a name for the next position leaves those behind it without one
+-- a name for the next position leaves those after it without one
 pub named_below : (names now : FinMap nat_cmp Reason) (n : ℕ) (reason : Reason) → ((p : ℕ) → n ≤ p → get names p ≡ None) → now ≡ insert names n reason → (p : ℕ) → n < p → get now p ≡ None
 named_below names now n reason h is p lt =
     ap (λ m. get m p) is ∙ get-insert nat_cmp_total names n reason p ∙ ap (λ b. cond b (Some reason) (get names p)) (nat_cmp-apart n p lt) ∙ h p (omega arith)

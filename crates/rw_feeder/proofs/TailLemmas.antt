@@ -16,7 +16,7 @@ use Rattle.rw_wal_tail.proofs.AnswerLemmas.{next_is, end_is, fault_is, has_some,
 abbrev pub Said : Type 0
 Said = Result (Option Entry) TailFault
 
--- the element behind a beginning
+-- the element after a beginning
 next_rest : {X : Type 0} (front rest : List X) (x : X) → slice_get (front ++ rest) (length front) ≡ Some x → (later : List X) × (rest ≡ x ∷ later)
 next_rest [] [] x e = absurd (cc)
 next_rest [] (y ∷ ys) x e = let same : y ≡ x = cc in (ys, ap (λ z. z ∷ ys) same)
@@ -62,7 +62,7 @@ took_none t after taken said d is a n = ⊎_elim
     (out, ap (λ (x : Fed). x.pieces) m, ap (λ (x : Fed). x.given) m))
     a
 
--- a fault, or want of memory
+-- a fault, or out of memory
 pub took_fault : (t after : Fed) (said : Said) (f : TailFault) → said ≡ Err f → after ≡ answered t said → (after.pieces ≡ t.pieces) × (after.given ≡ t.given)
 took_fault t after said f is n =
     let m = n ∙ ap (answered t) is in
@@ -83,7 +83,7 @@ refused : (f : TailFault) → is_out_of_memory f ≡ true → f ≡ OutOfMemory
 refused OutOfMemory e = refl
 refused f e = absurd cc
 
--- memory is refused only where an entry comes next, or at the end of a count
+-- memory runs out only if an entry comes next, or at the end of a count
 pub read_refused : (choice : Choice) (t : Fed) (placed hand : List Entry) (s : Sorting) (said : Said) (f : TailFault) → record { choice = choice; pieces = t.pieces; placed = placed; hand = hand } ≡ s
     → HasTaken t (placed ++ hand) → said ≡ Err f → is_out_of_memory f ≡ true → (said ≡ Err OutOfMemory → (t.given < length (entries t.pieces)) ⊎ (2 ^ 60 ≤ size_of t.pieces))
     → (length s.placed < length (entries s.pieces)) ⊎ (2 ^ 60 ≤ size_of s.pieces)

@@ -30,7 +30,7 @@ pub enum Next {
 }
 
 /// Reads the entries of a log and routes them: it names the samples that are dropped, counts those
-/// whose series the rules drop, and gives the others with their series.
+/// whose series the rules drop, and returns the others with their series.
 ///
 /// It keeps no sample. Contracts see the rules, the pieces of the log, the entries that were
 /// placed, and those that were read and are to be placed.
@@ -62,7 +62,7 @@ impl Model for Feeder {
 }
 
 impl Feeder {
-    /// Before the first piece of a log. This takes no memory.
+    /// Returns a feeder before the first piece of a log. This takes no memory.
     pub fn new(alloc: Global, choice: Choice) -> Feeder
         ensures { result ≡ record { choice = choice; pieces = []; placed = []; hand = [] } }
     {
@@ -75,7 +75,7 @@ impl Feeder {
         }
     }
 
-    /// The next piece of the log.
+    /// Takes the next piece of the log.
     pub fn feed(&mut self, piece: &Piece) -> Result<(), AllocError>
         ensures ok { OnOk result
             (self.new ≡ record self.old { pieces = self.old.pieces ++ piece_of piece.now ∷ [] }) }
@@ -107,7 +107,7 @@ impl Feeder {
         }
     }
 
-    /// The next entry is a sample that is dropped.
+    /// Names the sample that comes next as dropped, for `reason`.
     fn name(&mut self, reason: Reason) -> Result<(), AllocError>
         requires { IsDropped self.old reason }
         ensures ok { OnOk result (HasPlaced self.old self.new) }
@@ -119,7 +119,8 @@ impl Feeder {
         Ok(())
     }
 
-    /// The sample that `place` gave was put: of the series of this number, at this time.
+    /// Notes that the sample that `place` returned was put: one of the series of this number, at
+    /// this time.
     pub fn sent(&mut self, series: u64, t: i64)
         requires { IsToBeSent self.old series t }
         ensures { HasPlaced self.old self.new }
@@ -128,7 +129,7 @@ impl Feeder {
         self.count = self.tail.entries_read();
     }
 
-    /// Places the entry that was read, or gives the sample that is to be sent.
+    /// Places the entry that was read, or returns the sample that is to be sent.
     pub fn place(&mut self, entry: Entry) -> Result<Option<RoutedSample>, AllocError>
         requires { self.old.hand ≡ entry ∷ [] }
         ensures ok { IfOk result (λ found. Judges self.old self.new entry found) }
@@ -157,8 +158,7 @@ impl Feeder {
         self.count
     }
 
-    /// Returns the samples that were dropped so far. This takes no memory, and its time does not
-    /// grow.
+    /// Returns the samples that were dropped so far. This takes no memory, and constant time.
     pub fn dropped(&self) -> &Ledger
         ensures { result.now.names ≡ named (dropped self.now.choice self.now.placed) }
     {

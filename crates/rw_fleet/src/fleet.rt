@@ -27,8 +27,8 @@ use std::mem::replace;
 use std::sync::Wait;
 use std::thread::Threads;
 
-/// The shards at work, and those that have ended, in the order of their epochs. A fleet has to be
-/// ended by `finish`.
+/// The shards at work, and those that have ended, in the order of their epochs. A shard set has to
+/// be ended by `finish`.
 pub struct ShardSet<C: Connect + Drop> {
     alloc: Global,
     config: Config,
@@ -71,9 +71,9 @@ impl<C: Connect + Drop> Model for ShardSet<C> {
 }
 
 impl<C: Connect + Drop> ShardSet<C> {
-    /// Returns a fleet before epoch 0 is opened: it has no shard. The workers of all epochs look at
-    /// `stop`: where another thread sets it they leave what is not sent and let go of their queues,
-    /// so that nobody waits for room in them.
+    /// Returns a shard set before epoch 0 is opened: it has no shard. The workers of all epochs
+    /// look at `stop`: if another thread sets it, they abandon what is not sent and let go of their
+    /// queues, so that nobody waits for room in them.
     pub fn new(alloc: Global, config: Config, connect: C, stop: StopFlag) -> ShardSet<C>
         ensures { result ≡ record { config = config; epoch = 0; current = []; ended = [] } }
     {
@@ -113,8 +113,8 @@ impl<C: Connect + Drop> ShardSet<C> {
         fields.capacity.get() as usize + fields.batch.get() as usize
     }
 
-    /// Returns how far the samples of all shards have come, as far as the workers have told. Those
-    /// that only wait for a full batch count as resolved.
+    /// Returns how far the samples of all shards have come, as of the last updates of the workers.
+    /// Those that only wait for a full batch count as resolved.
     pub fn load(&self) -> Load
         ensures { IsLoad self.now result }
     {
@@ -229,7 +229,7 @@ impl<C: Connect + Drop> ShardSet<C> {
         resolution_of(&self.joined)
     }
 
-    /// Ends all shards at work, and waits for their workers, which are told to stop where `kind` is
+    /// Ends all shards at work, and waits for their workers, which are stopped at once if `kind` is
     /// `Hard`. Returns the shards of all epochs, and whether all that was put into them is
     /// resolved.
     pub fn finish<R: Threads + Wait>(

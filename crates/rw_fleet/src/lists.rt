@@ -17,7 +17,7 @@ use std::alloc::{AllocError, Global};
 use std::sync::Wait;
 use std::thread::Threads;
 
-/// Opens the queues of an epoch, and starts their workers, until one cannot be had.
+/// Opens the queues of an epoch, and starts their workers, until one cannot be started.
 pub(crate) fn open_all<C: Connect, R: Threads + Wait + Copy + Send + 'static>(
     rt: &R,
     alloc: Global,

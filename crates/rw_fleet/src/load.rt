@@ -3,8 +3,8 @@
 ghost use Rattle.std.specs.Prelude.{◌≡◌, ◌+◌, ℕ};
 ghost use Rattle.rw_fleet.specs.Loads.{load_of};
 
-/// How far the samples of all shards have come, as far as is known: advice on how many shards are
-/// wanted.
+/// How far the samples of all shards have come, as far as is known. It is best effort, and decides
+/// how many shards are wanted.
 #[derive(Clone, Copy, Debug, PartialEq, Eq)]
 pub struct Load {
     /// How many samples were put into queues.

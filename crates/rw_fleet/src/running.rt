@@ -49,9 +49,9 @@ pub(crate) struct RunningShard<T: Transport + Send + Drop + 'static> {
     epoch: u64,
     shard: u32,
     feed: Feed<Open>,
-    /// Of the samples that were put.
+    /// The positions of the samples that were put.
     window: Window,
-    /// Of those that the worker has resolved.
+    /// Counts those that the worker has resolved.
     tally: Tally,
     worker: Snapshot<Worker>,
     handle: PromisedHandle<WorkerReport<T>, Begun<T>>,
@@ -152,8 +152,8 @@ impl<T: Transport + Send + Drop + 'static> RunningShard<T> {
         self.window.len()
     }
 
-    /// Returns how many samples wait to be resolved, as far as the worker has told: at most `most`,
-    /// and none where they only wait for the `batch` samples of a full batch.
+    /// Returns how many samples wait to be resolved, as of the last update of the worker: at most
+    /// `most`, and none if they only wait for the `batch` samples of a full batch.
     pub(crate) fn waiting(&self, batch: u64, most: u64) -> u64
         ensures { result ≤ left_at_work most self.now }
     {
@@ -215,15 +215,14 @@ impl<T: Transport + Send + Drop + 'static> RunningShard<T> {
         Ok(())
     }
 
-    /// Hands over what was put and is held back, where the worker still takes. It may wait for
-    /// room.
+    /// Hands over what was put and is held back, if the worker still takes. It may wait for room.
     pub(crate) fn hand_over<R: Wait>(&mut self, rt: &R)
         ensures { self.new ≡ self.old }
     {
         let _ = self.feed.hand_over(rt);
     }
 
-    /// Puts an End, where the worker still takes. It may wait for room.
+    /// Puts an End if the worker still takes. It may wait for room.
     pub(crate) fn end<R: Wait>(self, rt: &R, kind: Kind) -> StoppingShard<T>
         ensures setup { result.setup ≡ self.setup }
         ensures put { samples_in result.put ≡ samples_in self.put }

@@ -9,8 +9,8 @@ Grown (x ∷ []) (y ∷ ys) = (more : List ℕ) × (y ≡ x ++ more)
 Grown (x ∷ w ∷ xs) (y ∷ ys) = (y ≡ x) × Grown (w ∷ xs) ys
 
 -- What is there at a moment: the segments that were given whole, what was given of the current one
--- and what is left of it, those after it, and the number of the one that is missing behind them,
--- where one is.
+-- and what is left of it, those after it, and the number of the one that is missing after them,
+-- if one is.
 pub record Moment : Type 0 where
   pub done : List (List ℕ)
   pub given : List ℕ
@@ -28,14 +28,14 @@ pub record Later (old : Moment) (bytes : List ℕ) (new : Moment) : Type 0 where
   pub given : new.given ≡ old.given ++ bytes
   pub grown : Grown (texts old) (texts new)
 
--- where both moments are known; what is known stays known, and what is not does not come to be
+-- if both moments are known; what is known stays known, and what is not does not come to be
 abbrev pub Passes : Option Moment → List ℕ → Option Moment → Type 0
 Passes None bytes None = ⊤
 Passes None bytes (Some n) = ⊥
 Passes (Some m) bytes None = ⊥
 Passes (Some m) bytes (Some n) = Later m bytes n
 
--- a fact of the moment, where it is known
+-- a fact of the moment, if it is known
 abbrev pub Known : Option Moment → (Moment → Type 0) → Type 0
 Known None p = ⊤
 Known (Some m) p = p m
@@ -52,11 +52,11 @@ IsFollowed m = 0 < length m.after
 abbrev pub IsLast : Moment → Type 0
 IsLast m = m.after ≡ []
 
--- the segment of this number is missing behind the current one
+-- the segment of this number is missing after the current one
 abbrev pub HasGap : ℕ → Moment → Type 0
 HasGap n m = IsLast m × (m.gap ≡ Some n)
 
--- A read gives the next bytes of the current segment, and no byte only where nothing is left of it.
+-- A read gives the next bytes of the current segment, and no byte only if nothing is left of it.
 abbrev pub Reads : {E : Type 0} → Option Moment → Option Moment → Result ℕ E → List ℕ → Type 0
 Reads old new r buf = MatchResult r (λ n. Passes old (take n buf) new × (n ≡ 0 → 0 < length buf → Known new IsRead)) (λ _. Passes old [] new)
 
@@ -72,7 +72,7 @@ Steps None (Some n) = ⊥
 Steps (Some m) None = ⊥
 Steps (Some m) (Some n) = Stepped m n
 
--- What a consumer was fed: whole segments, and a beginning of one more.
+-- What a consumer was fed: whole segments, and a prefix of one more.
 pub record Meal : Type 0 where
   pub whole : List (List ℕ)
   pub begun : List ℕ
@@ -90,7 +90,7 @@ pub record IsGivenAt (meal : Meal) (m : Moment) : Type 0 where
   pub whole : meal.whole ≡ m.done
   pub begun : meal.begun ≡ m.given
 
--- What was fed is a beginning of the texts, in order.
+-- What was fed is a prefix of the texts, in order.
 pub record IsBeginning (meal : Meal) (segments : List (List ℕ)) : Type 0 where
   pub rest : List ℕ
   pub after : List (List ℕ)

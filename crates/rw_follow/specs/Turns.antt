@@ -21,7 +21,7 @@ given_by turn.Flush buf meal = meal
 given_by turn.Nothing buf meal = meal
 given_by (turn.Stopped s) buf meal = meal
 
--- its bytes stand in a buffer of this length
+-- its bytes are in a buffer of this length
 abbrev pub IsWithin : Turn → ℕ → Type 0
 IsWithin (turn.Piece n) len = n ≤ len
 IsWithin turn.Over len = ⊤

@@ -17,7 +17,7 @@ use std::marker::Model;
 /// How a following is ended by a sign.
 #[derive(Clone, Copy, Debug, PartialEq, Eq)]
 pub enum Stop {
-    /// All that stands was given.
+    /// All that is was given.
     Orderly,
     /// At once.
     Hard,
@@ -26,7 +26,7 @@ pub enum Stop {
 /// How a following goes on.
 #[derive(Clone, Copy, Debug, PartialEq, Eq)]
 pub enum Turn {
-    /// So many bytes of the current segment stand in the front of the buffer.
+    /// So many bytes of the current segment are in the front of the buffer.
     Piece(usize),
     /// The current segment is over.
     Over,
@@ -89,7 +89,7 @@ impl Follower {
 
     /// Takes a turn. A segment is over once another one was seen to come after it and, read again
     /// after that, it gives no more bytes. Told to end, it is at its end once nothing is left of
-    /// what stands; until then it takes no nap. It naps once where nothing is left and no segment
+    /// what is; until then it takes no sleep. It sleeps once if nothing is left and no segment
     /// comes after the current one, and nowhere else.
     pub fn turn<S: Segments, W: Watch>(
         &mut self,

@@ -21,7 +21,7 @@ pub enum Ahead {
 /// The segments of a log, read in order while the log grows at its end. Before each call and within
 /// one the log may grow.
 pub trait Segments {
-    /// What is there, and what was given of it, where that is known.
+    /// What is there, and what was given of it, if that is known.
     ghost now: { Self → Option Moment };
 
     /// Whether no call from here on fails.

@@ -23,8 +23,8 @@ pub struct Timed<K, G> {
     is_due: bool,
 }
 
-/// Returns whether so much time has passed since a moment, which is forgotten then. Where there is
-/// no moment, it is now. None where the clock cannot be read.
+/// Returns whether so much time has passed since a moment, which is forgotten then. If there is no
+/// moment, it is now. None if the clock cannot be read.
 fn has_passed<K: Clock>(clock: &K, since: &mut Option<Instant>, time: Duration) -> Option<bool> {
     let Ok(now) = Instant::now(clock) else {
         return None;

@@ -7,7 +7,7 @@ ghost use Rattle.std.specs.Prelude.{◌≡◌};
 pub enum Wish {
     /// To go on.
     Work,
-    /// To read what stands, and end.
+    /// To read what is, and end.
     End,
     /// To end at once.
     Hard,
@@ -30,10 +30,10 @@ pub trait Watch {
     /// What it said last of a flush.
     ghost due: { Self → Bool };
 
-    /// It has told of each nap so far. A watch need not tell of any.
+    /// It has told of each sleep so far. A watch need not tell of any.
     ghost tells: { Self → Type 0 };
 
-    /// How many naps there were so far.
+    /// How many sleeps there were so far.
     ghost naps: { Self → ℕ };
 
     /// Returns what is wished now.

@@ -14,7 +14,7 @@ use Rattle.rw_head.specs.Head.{status_of}
 use Rattle.rw_head.specs.Store.{Store}
 use Rattle.rw_head.specs.Verdicts.{LabelLimits, taken, taken_all}
 
--- what is no message is bad, where memory is there
+-- what is no message is bad, if memory is there
 abbrev pub verdict_of : WireFault → Verdict
 verdict_of OutOfMemory = NoMemory
 verdict_of Truncated = BadBody
@@ -54,7 +54,7 @@ abbrev pub SeriesGives : Result (Unit {0}) Verdict → LabelLimits → Store →
 SeriesGives (Ok u) limits store series next = Takes limits store series next
 SeriesGives (Err v) limits store series next = v ≢ NoMemory → (status_of v ≡ 400) × Refuses limits store series
 
--- the same of one that stages it only where its labels are known
+-- the same of one that stages it only if its labels are known
 abbrev pub KnownGives : Result Bool Verdict → LabelLimits → Store → Result TimeSeries WireFault → Store → Type 0
 KnownGives (Ok true) limits store series next = Takes limits store series next
 KnownGives (Ok false) limits store series next = next ≡ store

@@ -46,7 +46,7 @@ answer_to h found =
     if nat_lt 0 h.busy then record { status = 429; head = record h { busy = h.busy - 1 } }
     else answered h (judged_body h found)
 
--- the answer to a body, where memory is there
+-- the answer to a body, if memory is there
 abbrev pub answer : State → List ℕ → Answer
 answer h body = answer_to h (read body)
 

@@ -1,4 +1,4 @@
--- The lists of a head while it judges a message: how each stood before, and how it would stand.
+-- The lists of a head while it judges a message: how each stood before, and how it would be.
 use Rattle.std.specs.Prelude.{◌≡◌, ◌≢◌, ℕ, ◌+◌, ◌-◌, ◌^◌, ◌<◌, ◌≤◌, int_lt, Bool, true, false, if◌then◌else◌, nat_eq, List, [], ◌∷◌, ◌++◌, length, map, drop, slice_index, slice_index_or, slice_set, AllPairs, Option, Some, None, Result, Ok, Err}
 use Rattle.std.specs.BTreeMap.{BTreeMap, get, Updates}
 use Rattle.std.specs.FinMap.{empty}
@@ -124,8 +124,9 @@ abbrev pub StoreGives : Result (Unit {0}) Verdict → Result Store Verdict → S
 StoreGives (Ok u) given store = given ≡ Ok store
 StoreGives (Err v) given store = v ≢ NoMemory → given ≡ Err v
 
--- Lists at their places, of which those at touched places differ from what is kept, and the last are of fresh label sets. Counted are the samples that are kept, and those
--- that are staged behind them.
+-- Lists at their places, of which those at touched places differ from what is kept, and the last
+-- are of fresh label sets. Counted are the samples that are kept, and those that are staged after
+-- them.
 pub record IsSound (index : BTreeMap Labels ℕ) (lists : List Lists) (touched : List ℕ) (fresh : List Labels) (count staged_count : ℕ) : Type 0 where
   pub places : HasPlaces index lists
   pub settled : Settled touched lists

@@ -14,7 +14,8 @@ use std::marker::Model;
 /// How many samples a block has.
 const BLOCK_LEN: usize = 120;
 
-/// Samples one after the other: full blocks, and an open one behind them, which grows as it fills. Contracts see the list of all.
+/// Samples one after the other: full blocks, and an open one after them, which grows as it fills.
+/// Contracts see the list of all.
 #[derive(Debug, Drop)]
 pub(crate) struct Blocks {
     sealed: Vec<Box<Block>>,
@@ -54,7 +55,7 @@ fn begins_after(samples: &[(i64, Word)], t: i64) -> bool
     }
 }
 
-/// Whether the sample stands among these.
+/// Whether the sample is among these.
 fn holds(samples: &[(i64, Word)], t: i64, word: Word) -> bool
     requires { Rises IsEarlier samples.now }
     ensures { result ≡ holds (t, word) samples.now }
@@ -77,7 +78,7 @@ fn count_begun(sealed: &[Box<Block>], t: i64) -> usize
     }
 }
 
-/// Makes a block of the samples behind the others.
+/// Makes a block of the samples after the others.
 fn seal(sealed: &mut Vec<Box<Block>>, samples: &[(i64, Word)]) -> Result<(), AllocError>
     requires { length samples.now ≡ 120 }
     ensures ok { OnOk result (map (λ b. b.value) sealed.new.items
@@ -190,7 +191,7 @@ impl Blocks {
         }
     }
 
-    /// Whether the sample stands among these. First its block is found by where the blocks begin.
+    /// Whether the sample is among these. First its block is found by where the blocks begin.
     pub(crate) fn holds(&self, t: i64, word: Word) -> bool
         requires { Rises IsEarlier self.now }
         ensures { result ≡ holds (t, word) self.now }
@@ -240,7 +241,7 @@ impl Blocks {
         &self.sealed
     }
 
-    /// The samples behind the full blocks.
+    /// The samples after the full blocks.
     pub(crate) fn open(&self) -> &[(i64, Word)]
         ensures samples { result.now ≡ open_of self.now }
         ensures few { length result.now < 120 }

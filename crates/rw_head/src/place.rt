@@ -109,7 +109,7 @@ impl Place {
         self.name.labels()
     }
 
-    /// The bytes of a series behind the head that is kept, where it begins with that.
+    /// The bytes of a series after the head that is kept, if it begins with that.
     pub(crate) fn behind_head<'a>(&self, series: &'a [u8]) -> Option<&'a [u8]>
         ensures { IfSome result (λ rest. (head : List ℕ)
             × IsHeadOf head self.now × (series.now ≡ head ++ rest.now)) }
@@ -125,8 +125,8 @@ impl Place {
         }
     }
 
-    /// Keeps the head of a series, where it spells this label set, is short, and none is kept. It is kept for speed alone: where memory runs
-    /// out, it is not.
+    /// Keeps the head of a series, if it spells this label set, is short, and none is kept. It is
+    /// kept for speed alone: if memory runs out, it is not.
     pub(crate) fn learn(&mut self, series: &[u8])
         ensures { self.new ≡ self.old }
     {

@@ -20,8 +20,8 @@ use std::alloc::{AllocError, Global};
 use std::collections::{BTreeMap, btree_map};
 use std::mem;
 
-/// The places of label sets: each has its own, in the order in which they came. It is noted which one came behind which the last time, and with
-/// which bytes a series of it began.
+/// The places of label sets: each has its own, in the order in which they came. It is noted which
+/// one came after which the last time, and with which bytes a series of it began.
 #[derive(Debug, Drop)]
 pub(crate) struct Places {
     tree: BTreeMap<Name, usize>,
@@ -32,7 +32,7 @@ pub(crate) struct Places {
     ghost hinted: { length after.items ≡ length names.items },
 }
 
-/// Puts an item behind the others, where there is room for it.
+/// Puts an item after the others, if there is room for it.
 pub(crate) fn put<T: Drop>(items: &mut Vec<T>, item: T)
     requires { vec_len items.old < vec_capacity items.old }
     ensures { items.new.items ≡ items.old.items ++ item ∷ [] }
@@ -82,7 +82,7 @@ impl Places {
         self.names.as_slice()
     }
 
-    /// The place that is expected next, if the label set of these labels stands there.
+    /// The place that is expected next, if the label set of these labels is there.
     fn expected(&self, texts: &[(String, String)]) -> Option<usize>
         ensures place { IfSome result (λ n.
             get labels_cmp self.now.tree (map text_label texts.now) ≡ Some n) }
@@ -106,8 +106,9 @@ impl Places {
         self.last = place;
     }
 
-    /// The place of the label set of these labels, or a name for it where it has none. First it is looked for at the place that came after the
-    /// last one the time before; where it stands there, it was judged when it came, and this takes no memory.
+    /// The place of the label set of these labels, or a name for it if it has none. First it is
+    /// looked for at the place that came after the last one the time before; if it is there, it was
+    /// judged when it came, and this takes no memory.
     pub(crate) fn find(
         &mut self,
         alloc: Global,
@@ -141,7 +142,8 @@ impl Places {
         }
     }
 
-    /// The place of a series and its bytes behind the head, where it begins with the head of the label set that is expected next. This takes no memory.
+    /// The place of a series and its bytes after the head, if it begins with the head of the label
+    /// set that is expected next. This takes no memory.
     pub(crate) fn known<'a>(&mut self, series: &'a [u8]) -> Option<(usize, &'a [u8])>
         ensures tree { self.new.tree ≡ self.old.tree }
         ensures names { self.new.names.items ≡ self.old.names.items }

@@ -14,8 +14,8 @@ use rw_types::Word;
 use std::alloc::{AllocError, Global};
 use std::marker::Model;
 
-/// The samples of one series in order. Those of a message that is not judged yet are staged behind the others.
-/// Contracts see the samples that are kept, and these together with the staged ones.
+/// The samples of one series in order. Those of a message that is not judged yet are staged after
+/// the others. Contracts see the samples that are kept, and these together with the staged ones.
 #[derive(Debug, Drop)]
 pub(crate) struct SampleList {
     samples: Blocks,
@@ -102,7 +102,7 @@ impl SampleList {
         Ok(samples)
     }
 
-    /// The full blocks, where nothing is staged.
+    /// The full blocks, if nothing is staged.
     pub(crate) fn sealed(&self) -> &[Box<Block>]
         requires { self.now.staged ≡ self.now.kept }
         ensures { map (λ b. b.value) result.now ≡ sealed_of self.now.kept }
@@ -110,7 +110,7 @@ impl SampleList {
         self.samples.sealed()
     }
 
-    /// The samples behind the full blocks, where nothing is staged.
+    /// The samples after the full blocks, if nothing is staged.
     pub(crate) fn open(&self) -> &[(i64, Word)]
         requires { self.now.staged ≡ self.now.kept }
         ensures samples { result.now ≡ open_of self.now.kept }

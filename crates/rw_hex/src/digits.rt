@@ -31,7 +31,7 @@ pub(crate) fn is_foreign(c: u8) -> bool
     !(is_digit(c) || matches!(c, b' ' | b'\t' | b'\r' | b'\n'))
 }
 
-/// Returns the bytes of the pairs of digits, where no digit is left over. All other characters are
+/// Returns the bytes of the pairs of digits, if no digit is left over. All other characters are
 /// passed over.
 pub(crate) fn pairs(alloc: Global, text: &[u8]) -> Result<Option<Vec<u8>>, AllocError>
     ensures { IfOk result (λ r. option_map (λ v. v.items) r ≡ bytes_of (values text.now)) }

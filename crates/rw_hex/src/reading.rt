@@ -10,7 +10,7 @@ use crate::digits::{is_digit, is_foreign, pairs};
 use crate::fault::HexFault;
 use std::alloc::{AllocError, Global};
 
-/// Returns the line on which stands what follows a text.
+/// Returns the line on which is what follows a text.
 fn line_after(front: &[u8]) -> u64
     requires { length front.now + 1 < 2 ^ 64 }
     ensures { result ≡ line_after front.now }
@@ -53,7 +53,7 @@ fn are_digits(text: &[u8]) -> bool
 }
 
 /// Returns the bytes that a whole text of lower case digits stands for. Spaces, tabs, CR and LF may
-/// stand anywhere in it.
+/// be anywhere in it.
 pub fn read(alloc: Global, text: &[u8]) -> Result<Vec<u8>, HexFault>
     ensures bytes { IfOk result (λ v. read_text text.now ≡ Ok v.items) }
     ensures fault { IfErr result (IsFaultOf text.now) }
@@ -67,8 +67,8 @@ pub fn read(alloc: Global, text: &[u8]) -> Result<Vec<u8>, HexFault>
     }
 }
 
-/// Returns the bytes that a text of lower case digits alone stands for; `None` where another
-/// character stands in it, or their number is odd. The empty text stands for no bytes.
+/// Returns the bytes that a text of lower case digits alone stands for; `None` if another character
+/// is in it, or their number is odd. The empty text stands for no bytes.
 pub fn read_digits(alloc: Global, text: &[u8]) -> Result<Option<Vec<u8>>, AllocError>
     ensures { IfOk result (λ r. option_map (λ v. v.items) r ≡ read_digits text.now) }
 {

@@ -66,12 +66,12 @@ pub record IsOneEpoch (config : ConfigFields) (s : Shipping Line) : Type 0 where
   pub none_ended : s.fleet.ended ≡ []
   pub shards : length s.fleet.current ≡ config.shards
 
--- Some first pieces of the log were fed: all of them, and all of their entries placed, where
--- `shipped.fed` is `Ok`, and all entries before the fault, where it says damaged (`feeds`). The
+-- Some first pieces of the log were fed: all of them, and all of their entries placed, if
+-- `shipped.fed` is `Ok`, and all entries before the fault, if it says damaged (`feeds`). The
 -- shipper's own report is in `gathered`: what its workers were put, sent and read of each reply,
 -- and that the parts name exactly what was dropped or refused so, and that the seats of the workers
 -- were all that the head, which was `opening`, was asked. So it holds what is owed (`held`). Work
--- is abandoned only where the shipper failed, as `shipped.fed` then says, or a worker was cut.
+-- is abandoned only if the shipper failed, as `shipped.fed` then says, or a worker was cut.
 pub record IsShippedTo (opening : State) (path : List ℕ) (limit : ℕ) (config : ConfigFields) (log : List Piece) (shipped : Shipped) : Type 0 where
   pub fed : ℕ
   pub s : Shipping Line

@@ -21,7 +21,7 @@ use std::sync::{Arc, Wait};
 /// The most bytes of a reply.
 const REPLY_ROOM: usize = 86;
 
-/// Serves a connection with one request. Gives what the seat answered, where it was asked.
+/// Serves a connection with one request. Gives what the seat answered, if it was asked.
 fn ask<R: Wait, L: Endpoint>(
     alloc: Global,
     receiver: &Receiver<L>,

@@ -28,7 +28,7 @@ use std::thread::Threads;
 #[derive(Drop)]
 pub struct Shipped {
     pub outcome: Outcome,
-    /// `Ok` where the whole log was read and placed, and else why it was not.
+    /// `Ok` if the whole log was read and placed, and else why it was not.
     pub fed: Result<(), FeedFault>,
     /// The samples that were not sent, or were refused: as in the report of a shipper.
     pub parts: Vec<Ledger>,
@@ -226,7 +226,7 @@ fn count_of(config: &Config) -> u64
 /// Each shard asks a seat of the head, over the receiver's endpoint, which has the path of the
 /// configured target and reads bodies of up to 64 MiB, whatever `limits` says of these two; no
 /// batch takes more. The pieces are fed one after the other, up to the fault of the log. What is
-/// left where a queue was cut, or memory was refused, the outcome lists.
+/// left if a queue was cut, or memory ran out, the outcome lists.
 ///
 /// An `Err` means that memory or a thread was refused at the beginning, or memory for the report.
 pub fn ship<R: Threads + Wait + Copy + Send + 'static, P: Pause + Copy + Send + Drop + 'static>(

@@ -92,7 +92,7 @@ pub finder_none : (positions : List ℕ) (es : List Entry) (choice : Choice) (ca
 finder_none positions es choice cache notes e is c n =
     rw (e, n) record { counted = refl; choice = ap (λ (k : Taken). k.choice) c ∙ is; defined = sym (ap (λ (k : Taken). k.definitions) c); noted = refl }
 
--- an entry was taken, and its text noted where it is asked for
+-- an entry was taken, and its text noted if it is asked for
 pub finder_more : (positions : List ℕ) (es now : List Entry) (e : Entry) (count up : ℕ) (cache new : Taken) (notes grown : List (ℕ × Vec ℕ Global)) (note : Option (Vec ℕ Global)) → IsFinder positions es count cache notes
     → now ≡ es ++ e ∷ [] → up ≡ count + 1 → new.choice ≡ cache.choice → ((before : List Entry) → definitions_of before ≡ cache.definitions → definitions_of (before ++ e ∷ []) ≡ new.definitions)
     → notes_in (length es) note ≡ note_of positions es e → map told grown ≡ map told notes ++ notes_in count note → IsFinder positions now up new grown

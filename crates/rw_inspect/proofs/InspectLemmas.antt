@@ -46,7 +46,7 @@ rows-push done [] (r ∷ rs) text row h one = absurd h
 rows-push done (t ∷ ts) [] text row h one = absurd h
 rows-push done (t ∷ ts) (r ∷ rs) text row h one = (h.0, rows-push (done ++ t ∷ []) ts rs text row h.1 (subst (λ d. IsRow d text row) (sym (append_assoc done (t ∷ []) ts)) one))
 
--- there are rows where there are texts
+-- there are rows if there are texts
 pub first_row : (texts : List (List ℕ)) (rows : List Segment) (len : ℕ) (b : Bool) → AreRows [] texts rows → len ≡ length rows → b ≡ nat_eq len 0 → b ≡ none_yet texts
 first_row [] [] len b h e is = is ∙ ap (λ n. nat_eq n 0) e
 first_row [] (r ∷ rs) len b h e is = absurd h
@@ -160,7 +160,7 @@ inspected_none t counted rows e c r =
       rows_are = tt;
     }
 
--- a segment was read behind others
+-- a segment was read after others
 pub reads_segment : (is_first : Bool) (left_before left_after : Option (List ℕ)) (old begun_at new : Fed) (before anew after : Counted) (found : ℕ × Option TailFault) (row : Segment)
     → HasTakenAll old before.entries None → begun_at ≡ record old { pieces = begun is_first old.pieces } → anew ≡ record before { here = [] }
     → ReadsText left_before left_after begun_at new anew after found → row.bytes ≡ found.0 → row.sums ≡ sums_of after.here → old.skipped + row.passed ≡ new.skipped
@@ -177,7 +177,7 @@ reads_segment is_first left_before left_after old begun_at new before anew after
   passed = passed;
 }
 
--- where the next segment begins, the entries that were taken are those of the log
+-- if the next segment begins, the entries that were taken are those of the log
 pub begins_next : (is_first : Bool) (old begun_at : Fed) (before anew : Counted) → HasTakenAll old before.entries None → begun_at ≡ record old { pieces = begun is_first old.pieces } → anew ≡ record before { here = [] }
     → HasTaken begun_at anew.entries
 begins_next is_first old begun_at before anew h b a =

@@ -62,7 +62,7 @@ ends_at_fault t after said f is plain answer m =
       };
     }
 
--- a fault that is no want of memory
+-- a fault that is not out of memory
 pub is_of_log : (f : TailFault) → (f ≡ OutOfMemory → ⊥) → is_out_of_memory f ≡ false
 is_of_log OutOfMemory other = absurd (other refl)
 is_of_log f other = refl

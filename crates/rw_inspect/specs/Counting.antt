@@ -17,12 +17,12 @@ use Rattle.rw_inspect.specs.declared.sums.Sums.{Sums}
 use Rattle.rw_inspect.specs.declared.troubles.Trouble.{Trouble}
 use Rattle.rw_relabel.specs.Choices.{legacy}
 
--- the entries so far, and those of the segment at hand
+-- the entries so far, and those of the current segment
 pub record Counted : Type 0 where
   pub entries : List Entry
   pub here : List Entry
 
--- what is counted of entries; where no rules are given, all label sets are series
+-- what is counted of entries; if no rules are given, all label sets are series
 unfoldable pub counts_of : List Entry → Counts
 counts_of entries = record {
   sums = sums_of entries;

@@ -33,7 +33,7 @@ AreRead lefts [] = ⊤
 AreRead [] (text ∷ texts) = ⊥
 AreRead (left ∷ lefts) (text ∷ texts) = IsRead left text × AreRead lefts texts
 
--- the same, and where no fault was found they are those of all
+-- the same, and if no fault was found they are those of all
 pub record ReadsFirst (lefts : List (Option (List ℕ))) (texts : List (List ℕ)) (found : Option TailFault) : Type 0 where
   pub read : AreRead lefts texts
   pub whole : found ≡ None → length texts ≡ length lefts
@@ -46,7 +46,7 @@ abbrev pub log_of : List (List ℕ) → List Piece
 log_of [] = []
 log_of (text ∷ texts) = bytes text ∷ flat_map behind texts
 
--- What is found in a segment behind others: its bytes, the entries that it adds to the log, and the
+-- What is found in a segment after others: its bytes, the entries that it adds to the log, and the
 -- records passed over in it.
 pub record IsRow (done : List (List ℕ)) (text : List ℕ) (row : Segment) : Type 0 where
   pub length_is : row.bytes ≡ length text
@@ -97,7 +97,7 @@ pub record IsReportOf (texts : List (List ℕ)) (r : Report) : Type 0 where
   pub fault_is : fault_in r.damage ≡ fault (log_of texts)
 
 -- The report of the first segments of these sources, up to the end of one with a fault; of all
--- where there is none.
+-- if there is none.
 pub record IsReportOfFirst (lefts : List (Option (List ℕ))) (r : Report) : Type 0 where
   pub texts : List (List ℕ)
   pub read : ReadsFirst lefts texts (fault (log_of texts))

@@ -15,7 +15,7 @@ pub record Gives (e : Entry) (old new : Fed) : Type 0 where
   pub fed : new.pieces ≡ old.pieces
   pub has : (taken : List Entry) → HasTaken old taken → HasTaken new (taken ++ e ∷ [])
 
--- all entries were taken, with this fault behind them, if there is one
+-- all entries were taken, with this fault after them, if there is one
 pub record HasTakenAll (t : Fed) (taken : List Entry) (found : Option TailFault) : Type 0 where
   pub taken_all : HasTaken t taken
   pub read : HasRead t.pieces taken found
@@ -30,7 +30,7 @@ abbrev pub ComesNext : Fed → Fed → Next → Type 0
 ComesNext old new (next.Entry e) = Gives e old new
 ComesNext old new (next.End found) = Ends found old new
 
--- entries were counted, of the segment at hand
+-- entries were counted, of the current segment
 pub record Grows (old new : Counted) : Type 0 where
   pub more : List Entry
   pub entries_are : new.entries ≡ old.entries ++ more

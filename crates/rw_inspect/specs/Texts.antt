@@ -15,7 +15,7 @@ use Rattle.rw_inspect.specs.declared.sums.Sums.{Sums}
 abbrev pub right_text : ℕ → List ℕ → List ℕ
 right_text width text = take (width - length text) (codes "                        ") ++ text
 
--- a number behind its name
+-- a number after its name
 unfoldable pub field_text : List ℕ → ℕ → List ℕ
 field_text name n = name ++ decimal n
 
@@ -38,7 +38,7 @@ escaped b =
 unfoldable pub quoted : List ℕ → List ℕ
 quoted text = 34 ∷ flat_map escaped text ++ 34 ∷ []
 
--- one behind its name
+-- one after its name
 unfoldable pub quoted_field : List ℕ → List ℕ → List ℕ
 quoted_field name text = name ++ quoted text
 
@@ -125,7 +125,7 @@ abbrev pub placed : (Segment → ℕ → List ℕ) → List Segment → Option F
 placed text segments None = []
 placed text segments (Some p) = any_spot text (slice_get segments p.segment) p.offset
 
--- a fault, where it stands, and what to do next
+-- a fault, where it is, and what to do next
 unfoldable pub damage_text : List Segment → Damage → List ℕ
 damage_text segments d =
     codes "fault: " ++ fault_words d.fault ++ codes "\n" ++ placed spot_text segments d.place ++ codes "next: " ++ next_step d.fault ++ codes "\n"

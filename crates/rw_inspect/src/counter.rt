@@ -25,7 +25,7 @@ pub(crate) enum Judged {
 }
 
 /// Counts the entries of a log. It keeps no sample. Contracts see all entries so far, and those of
-/// the segment at hand.
+/// the current segment.
 #[derive(Drop)]
 pub struct Counter {
     taken: History<Entry>,
@@ -49,8 +49,7 @@ impl Model for Counter {
         c.troubles };
 }
 
-/// Returns what becomes of a sample with this reference and timestamp, where all label sets are
-/// kept.
+/// Returns what becomes of a sample with this reference and timestamp, if all label sets are kept.
 fn judge(cache: &Cache, reference: u64, t: i64) -> Judged
     ensures judged { IsJudged cache.now reference t result }
     ensures noted { CanBeNoted cache.now t result }
@@ -69,7 +68,7 @@ fn judge(cache: &Cache, reference: u64, t: i64) -> Judged
     }
 }
 
-/// Places the sample at a position: it is noted where it rises.
+/// Places the sample at a position: it is noted if it rises.
 fn place(
     cache: &mut Cache,
     troubles: &mut Troubles,
@@ -149,7 +148,7 @@ impl Counter {
         self.sums_here = Sums::new();
     }
 
-    /// Returns what the entries of the segment at hand add up to.
+    /// Returns what the entries of the current segment add up to.
     pub fn sums_here(&self) -> Sums
         ensures { result ≡ sums_of self.now.here }
     {

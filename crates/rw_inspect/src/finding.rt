@@ -112,7 +112,7 @@ fn push_sample(
     push_known(out, known)
 }
 
-/// Adds an entry that stands behind those of the cache.
+/// Adds an entry that is after those of the cache.
 fn push_entry(
     out: &mut Vec<u8>,
     alloc: Global,
@@ -144,7 +144,7 @@ fn text_noted<'a>(notes: &'a [(u64, Vec<u8>)], position: u64) -> Option<&'a [u8]
     None
 }
 
-/// Returns the name of the segment in which a position stands.
+/// Returns the name of the segment in which a position is.
 fn name_at<'a>(segments: &'a [Segment], position: u64) -> &'a str
     ensures { result.now ≡ name_at segments.now position }
 {
@@ -180,7 +180,7 @@ fn push_not_there(out: &mut Vec<u8>, position: u64) -> Result<(), AllocError>
     out.extend_from_slice(b" is not there\n")
 }
 
-/// Takes the definition of an entry, where it is one.
+/// Takes the definition of an entry, if it is one.
 fn define(cache: &mut Cache, entry: Entry) -> Result<(), AllocError>
     ensures choice { OnOk result (cache.new.choice ≡ cache.old.choice) }
     ensures defined { OnOk result
@@ -194,7 +194,7 @@ fn define(cache: &mut Cache, entry: Entry) -> Result<(), AllocError>
     }
 }
 
-/// Adds the text of an entry, where there is one. This takes no memory.
+/// Adds the text of an entry, if there is one. This takes no memory.
 fn add_note(notes: &mut Vec<(u64, Vec<u8>)>, position: u64, note: Option<Vec<u8>>)
     requires { vec_len notes.old < vec_capacity notes.old }
     ensures { map told notes.new.items ≡ map told notes.old.items ++ notes_in position note }
@@ -205,7 +205,7 @@ fn add_note(notes: &mut Vec<(u64, Vec<u8>)>, position: u64, note: Option<Vec<u8>
 }
 
 /// Notes the entries at some positions of a log. Contracts see the positions, all entries so far,
-/// and those of the segment at hand.
+/// and those of the current segment.
 #[derive(Drop)]
 struct Finder {
     alloc: Global,
@@ -245,7 +245,7 @@ impl Finder {
         }
     }
 
-    /// Returns the text of the next entry, where its position is asked for.
+    /// Returns the text of the next entry, if its position is asked for.
     fn note_of(&self, entry: &Entry) -> Result<Option<Vec<u8>>, AllocError>
         ensures { IfOk result (λ note. notes_in (length self.now.entries) note
             ≡ note_of self.now.positions.items self.now.entries entry.now) }
@@ -336,7 +336,7 @@ impl Taker for Finder {
 /// LABELS`, or `POS SEGMENT sample REF T VALUE LABELS` with the label set that its reference stands
 /// for there, each line ended by LF. `bad FAULT` stands for labels that are no label set, whatever
 /// names are taken, `noseries` for those of a reference without a definition before it, and `POS is
-/// not there` where there is no entry.
+/// not there` if there is no entry.
 pub fn find_entries<S: Source + Drop>(
     alloc: Global,
     segments: Vec<Named<S>>,

@@ -1,4 +1,4 @@
-//! The entries of the segment at hand, added up.
+//! The entries of the current segment, added up.
 
 ghost use Rattle.std.specs.Prelude.{◌≡◌, ◌++◌, ◌∷◌, [], OnOk, OnErr};
 ghost use Rattle.rw_inspect.specs.Sums.{sums_of};
@@ -9,7 +9,7 @@ use rw_types::Entry;
 use std::alloc::AllocError;
 use std::marker::Model;
 
-/// What the entries of the segment at hand add up to. Contracts see the entries.
+/// What the entries of the current segment add up to. Contracts see the entries.
 #[derive(Drop)]
 pub(crate) struct Here {
     entries: History<Entry>,

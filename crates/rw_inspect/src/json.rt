@@ -153,7 +153,7 @@ fn push_spot(out: &mut Vec<u8>, segment: &Segment, offset: u64) -> Result<(), Al
     push_field(out, b",\"behind\":", segment.bytes.saturating_sub(offset))
 }
 
-/// Adds where a fault stands.
+/// Adds if a fault is.
 fn push_place(
     out: &mut Vec<u8>,
     segments: &[Segment],

@@ -33,7 +33,7 @@ fn next_of(tail: &mut Tail) -> Result<Next, AllocError>
     }
 }
 
-/// Takes the entries that the reader of the log has left, and answers the fault behind them, if
+/// Takes the entries that the reader of the log has left, and answers the fault after them, if
 /// there is one.
 fn take_all<T: Taker>(tail: &mut Tail, taker: &mut T) -> Result<Option<TailFault>, AllocError>
     requires { HasTaken tail.old (T.counted taker.old).entries }
@@ -74,15 +74,14 @@ fn feed_some<S: Source>(
     Ok(Some(count as u64))
 }
 
-/// So many bytes and some more. A number that does not fit is want of memory.
+/// So many bytes and some more. A number that does not fit is out of memory.
 fn sum(bytes: u64, more: u64) -> Result<u64, AllocError>
     ensures { IfOk result (λ n. n ≡ bytes + more) }
 {
     bytes.checked_add(more).ok_or(AllocError)
 }
 
-/// Reads a segment to its end, also behind a fault, counts its bytes, and lets its entries be
-/// taken.
+/// Reads a segment to its end, also after a fault, counts its bytes, and lets its entries be taken.
 pub(crate) fn read_text<S: Source, T: Taker>(
     source: &mut S,
     chunk: &mut [u8],

@@ -18,7 +18,7 @@ pub struct Segment {
 #[derive(Clone, Copy, Debug, PartialEq, Eq)]
 pub struct Damage {
     pub fault: TailFault,
-    /// Where it stands.
+    /// Where it is.
     pub place: Option<FaultPlace>,
 }
 

@@ -27,7 +27,7 @@ fn pages_of(bytes: u64) -> u64
     }
 }
 
-/// Returns a sum. One that does not fit is want of memory.
+/// Returns a sum. One that does not fit is out of memory.
 fn sum(a: u64, b: u64) -> Result<u64, AllocError>
     ensures { IfOk result (λ n. n ≡ a + b) }
 {

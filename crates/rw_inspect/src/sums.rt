@@ -13,13 +13,13 @@ pub struct Sums {
     /// Definitions of series.
     pub series: u64,
     pub samples: u64,
-    /// The least timestamp of a sample, where there is a sample.
+    /// The least timestamp of a sample, if there is a sample.
     pub earliest: Option<i64>,
     /// The greatest one.
     pub latest: Option<i64>,
 }
 
-/// One more. A count that does not fit is want of memory.
+/// One more. A count that does not fit is out of memory.
 pub(crate) fn one_more(count: u64) -> Result<u64, AllocError>
     ensures { IfOk result (λ n. n ≡ count + 1) }
 {

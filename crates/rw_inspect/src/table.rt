@@ -130,7 +130,7 @@ fn push_file(out: &mut Vec<u8>, segment: &Segment) -> Result<(), AllocError>
     out.extend_from_slice(segment.name.as_bytes())
 }
 
-/// Adds an offset, and how many bytes stand from there on.
+/// Adds an offset, and how many bytes are from there on.
 #[tactic(auto, unfolding(crate::specs::Texts::offset_text))]
 fn push_offset(out: &mut Vec<u8>, offset: u64, behind: u64) -> Result<(), AllocError>
     ensures { OnOk result (out.new.items ≡ out.old.items ++ offset_text offset behind) }
@@ -149,7 +149,7 @@ fn push_spot(out: &mut Vec<u8>, segment: &Segment, offset: u64) -> Result<(), Al
     push_offset(out, offset, segment.bytes.saturating_sub(offset))
 }
 
-/// Adds where a fault stands.
+/// Adds if a fault is.
 fn push_place(
     out: &mut Vec<u8>,
     segments: &[Segment],
@@ -166,7 +166,7 @@ fn push_place(
     }
 }
 
-/// Adds a fault, where it stands, and what to do next.
+/// Adds a fault, where it is, and what to do next.
 #[tactic(auto, unfolding(crate::specs::Texts::damage_text))]
 fn push_damage(out: &mut Vec<u8>, segments: &[Segment], damage: &Damage) -> Result<(), AllocError>
     ensures { OnOk result (out.new.items ≡ out.old.items ++ damage_text segments.now damage.now) }

@@ -10,7 +10,7 @@ use rw_types::Entry;
 use std::alloc::AllocError;
 
 /// What takes the entries of a log, segment by segment. Contracts see all entries so far, and those
-/// of the segment at hand.
+/// of the current segment.
 pub trait Taker {
     /// What it is to do, which stays.
     type Task;
@@ -34,7 +34,7 @@ pub trait Taker {
             }) }
         ensures task { OnOk result (task self.new ≡ task self.old) };
 
-    /// Returns what the entries of the segment at hand add up to.
+    /// Returns what the entries of the current segment add up to.
     fn sums_here(&self) -> Sums
         ensures sums { result ≡ sums_of (counted self.now).here };
 }

@@ -10,7 +10,7 @@ use std::alloc::{AllocError, AllocFailed, Global};
 /// Why a call of a journal failed.
 #[derive(Clone, Copy, Debug, PartialEq, Eq)]
 pub enum JournalError {
-    /// Memory was refused.
+    /// Memory ran out.
     OutOfMemory,
     /// The device failed.
     Failed,

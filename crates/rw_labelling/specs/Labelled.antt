@@ -14,7 +14,7 @@ abbrev pub unless_faulty : Option LabelFault → Labels → Option Labels
 unless_faulty None l = Some l
 unless_faulty (Some f) l = None
 
--- labels, where they are a label set with legacy names
+-- labels, if they are a label set with legacy names
 abbrev pub if_label_set : Option Labels → Option Labels
 if_label_set None = None
 if_label_set (Some l) = unless_faulty (label_fault Legacy l) l

@@ -23,7 +23,7 @@ const LABELS: &str =
 
 const TOO_LONG: &str = "its record has more than 16 MiB";
 
-/// Returns what is wrong behind `series `.
+/// Returns what is wrong after `series `.
 fn note_on_series(alloc: Global, rest: &[u8]) -> Result<&'static str, AllocError> {
     let Some((number, labels)) = split_at_byte(rest, b' ') else {
         return Ok(FORMS);
@@ -38,7 +38,7 @@ fn note_on_series(alloc: Global, rest: &[u8]) -> Result<&'static str, AllocError
     }
 }
 
-/// Returns what is wrong behind `sample `.
+/// Returns what is wrong after `sample `.
 fn note_on_sample(rest: &[u8]) -> &'static str {
     let Some((number, behind)) = split_at_byte(rest, b' ') else {
         return FORMS;
@@ -89,7 +89,7 @@ fn is_record(alloc: Global, line: &[u8]) -> Result<bool, AllocError>
     Ok(true)
 }
 
-/// Returns what is wrong with a line of log text, without its LF; nothing where it stands for a
+/// Returns what is wrong with a line of log text, without its LF; nothing if it stands for a
 /// record. The words are advice.
 pub fn log_line_note(alloc: Global, line: &[u8]) -> Result<Option<&'static str>, AllocError>
     ensures { IfOk result (λ note. MatchOption note

@@ -44,8 +44,8 @@ fn is_event(alloc: Global, line: &[u8]) -> Result<bool, AllocError>
     Ok(true)
 }
 
-/// Returns what is wrong with a line of an event script, without its LF; nothing where it is an
-/// event. The words are advice.
+/// Returns what is wrong with a line of an event script, without its LF; nothing if it is an event.
+/// The words are advice.
 pub fn script_line_note(alloc: Global, line: &[u8]) -> Result<Option<&'static str>, AllocError>
     ensures { IfOk result (λ note. MatchOption note
         ((o : Order) × IsOrder line.now o)

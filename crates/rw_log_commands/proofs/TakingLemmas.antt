@@ -109,7 +109,7 @@ one_more_taken t new before after e r h answer done some grown =
     let less : length es - (t.given + 1) < length es - t.given = omega (arith, lt) in
     rw now record { fed = refl; has = record { front = all; within = omega (arith, lt) }; fewer = less }
 
--- where there is no further entry, all were taken, and there is no fault
+-- if there is no further entry, all were taken, and there is no fault
 pub all_taken : (t new : Fed) (taken : List Entry) (r : Result (Option Entry) TailFault) → HasTaken t taken → Answer t.pieces t.given r → new ≡ answered t r → r ≡ Ok None
     → HasTakenAll t.pieces new taken
 all_taken t new taken r h answer done none =
@@ -154,7 +154,7 @@ goes_on-taken before after taken h x same =
       within = omega (arith, same, h.given, len, length-append (entries before.pieces) x.more);
     }
 
--- where all were taken and one more piece is fed, what was taken is the first entries of all
+-- if all were taken and one more piece is fed, what was taken is the first entries of all
 pub more_fed : (left_before left_after : Option (List ℕ)) (pieces : List Piece) (before after : Fed) (taken : List Entry) → HasTakenAll pieces before taken → FeedsMore left_before left_after before after
     → HasTaken after taken
 more_fed left_before left_after pieces before after taken h more =

@@ -37,7 +37,7 @@ have_room pages offset (rec ∷ recs) =
 abbrev pub segment_of : List (List ℕ) → List ℕ
 segment_of recs = log_all page_size 0 recs
 
--- the length of the longest record; 0 where there is none
+-- the length of the longest record; 0 if there is none
 abbrev pub longest_of : List (List ℕ) → ℕ
 longest_of [] = 0
 longest_of (rec ∷ recs) = max (length rec) (longest_of recs)

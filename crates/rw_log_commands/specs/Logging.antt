@@ -44,7 +44,7 @@ abbrev pub WritesLog : Bool → ℕ → Option (List ℕ) → Option (List ℕ) 
 WritesLog hex pages left_before left_after before after =
     (recs : List (List ℕ)) × ReadsRecords pages left_before left_after recs × Appends before after (output_of hex (segment_of recs))
 
--- a beginning of it was written
+-- a prefix of it was written
 abbrev pub WritesLogPart : Bool → ℕ → Option (List ℕ) → Option (List ℕ) → Option (List ℕ) → Option (List ℕ) → Type 0
 WritesLogPart hex pages left_before left_after before after =
     (recs : List (List ℕ)) × ReadsRecords pages left_before left_after recs

@@ -34,7 +34,7 @@ abbrev pub WritesBody : Bool → Option (List ℕ) → Option (List ℕ) → Opt
 WritesBody hex left_before left_after before after =
     (segment : List ℕ) × ReadsInput hex None left_before left_after segment × Appends before after (output_of hex (body_of segment))
 
--- the same, and a beginning of its body was written
+-- the same, and a prefix of its body was written
 abbrev pub WritesPart : Bool → Option (List ℕ) → Option (List ℕ) → Option (List ℕ) → Option (List ℕ) → Type 0
 WritesPart hex left_before left_after before after =
     (segment : List ℕ) × ReadsInput hex None left_before left_after segment

@@ -88,7 +88,7 @@ pub fn run_log<R: Source, W: Sink>(
     ensures no_other { (f : TailFault) → result ≡ Err (Log f) → ⊥ }
     ensures untouched { IfErr result (λ e. e ≢ Device → writer.new ≡ writer.old) }
 
-    // Where a device fails, the writer holds a beginning of the output.
+    // If a device fails, the writer holds a prefix of the output.
     ensures device { result ≡ Err Device
         → ((R.has_failed reader.new ≡ true) × (writer.new ≡ writer.old))
         ⊎ ((W.has_failed writer.new ≡ true)

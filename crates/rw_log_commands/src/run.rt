@@ -100,8 +100,8 @@ pub fn run_body<R: Source, W: Sink>(
     ensures writer_sound { OnOk result
         (W.has_failed writer.old ≡ false → W.has_failed writer.new ≡ false) }
 
-    // A fault of the data is the one that the input has, and nothing is written then, or where
-    // memory ran out.
+    // A fault of the data is the one that the input has, and nothing is written then, or if memory
+    // ran out.
     ensures log { (f : TailFault) → result ≡ Err (Log f)
         → ReadsFault hex f (R.remaining reader.old) (R.remaining reader.new) }
     ensures line { (n : ℕ) → result ≡ Err (Line n)
@@ -109,7 +109,7 @@ pub fn run_body<R: Source, W: Sink>(
     ensures no_full { result ≡ Err SegmentFull → ⊥ }
     ensures untouched { IfErr result (λ e. e ≢ Device → writer.new ≡ writer.old) }
 
-    // Where a device fails, the writer holds a beginning of the output.
+    // If a device fails, the writer holds a prefix of the output.
     ensures device { result ≡ Err Device
         → ((R.has_failed reader.new ≡ true) × (writer.new ≡ writer.old))
         ⊎ ((W.has_failed writer.new ≡ true)

@@ -1,4 +1,4 @@
--- The pieces of a log that stands in several segments.
+-- The pieces of a log that is in several segments.
 use Rattle.std.specs.Prelude.{◌≡◌, ℕ, ◌<◌, ◌≤◌, Bool, true, false, List, [], ◌∷◌, ◌++◌, length, Option, Some, None, ⊤}
 use Rattle.std.specs.Io.KnownBytes.{Consumes}
 use Rattle.rw_wal_format.specs.Pieces.{Piece, bytes, next_segment}
@@ -22,7 +22,7 @@ abbrev pub AreShort : List Piece → Type 0
 AreShort [] = ⊤
 AreShort (piece ∷ pieces) = IsShort piece × AreShort pieces
 
--- a reader gave all that it had left, where that is known
+-- a reader gave all that it had left, if that is known
 abbrev pub IsAllOf : Option (List ℕ) → List ℕ → Type 0
 IsAllOf None text = ⊤
 IsAllOf (Some left) text = text ≡ left
@@ -34,7 +34,7 @@ AreAllOf [] (text ∷ texts) = ⊥
 AreAllOf (left ∷ lefts) [] = ⊥
 AreAllOf (left ∷ lefts) (text ∷ texts) = IsAllOf left text × AreAllOf lefts texts
 
--- one segment for each reader, in order, with all that it had left; no piece where there is no
+-- one segment for each reader, in order, with all that it had left; no piece if there is no
 -- reader
 abbrev pub IsLogOf : List (Option (List ℕ)) → List Piece → Type 0
 IsLogOf [] pieces = pieces ≡ []
@@ -49,7 +49,7 @@ abbrev pub HasMoreBytes : List (Option (List ℕ)) → List Piece → Type 0
 HasMoreBytes lefts pieces = (rest : List ℕ) × (later : List Piece) × (0 < length rest)
     × IsLogOf lefts (pieces ++ bytes rest ∷ later)
 
--- before a segment's bytes stands word of it, unless it is the first
+-- before a segment's bytes is word of it, unless it is the first
 abbrev pub OpensSegment : Bool → List Piece → List Piece → Type 0
 OpensSegment true old new = new ≡ old
 OpensSegment false old new = new ≡ old ++ next_segment ∷ []
@@ -66,7 +66,7 @@ pub record IsFed (left : Option (List ℕ)) (old new : List Piece) : Type 0 wher
   pub is_more : IsMore text more
   pub all : IsAllOf left text
 
--- a beginning of it was fed
+-- a prefix of it was fed
 pub record IsFedPart (left : Option (List ℕ)) (old new : List Piece) : Type 0 where
   pub text : List ℕ
   pub rest : List ℕ

@@ -23,7 +23,7 @@ pub record StaysOpen {T : Type 0} (old new : Shipping T) : Type 0 where
 abbrev pub IsKept : {T : Type 0} → Shipping T → Shipping T → Type 0
 IsKept old new = (new.log.choice ≡ old.log.choice) × (new.fleet.config ≡ old.fleet.config)
 
--- how many shards are wanted where there are n, under this load
+-- how many shards are wanted if there are n, under this load
 abbrev pub wanted_under : (fewest most n : ℕ) → Load → ℕ
 wanted_under fewest most n load = wanted n load.placed load.resolved load.backlog fewest most
 
@@ -38,7 +38,7 @@ pub record IsNextEpoch {T : Type 0} (old new : Shards T) : Type 0 where
   pub epoch : new.epoch ≡ old.epoch + 1
   pub fresh : AreFresh new.epoch new.current
 
--- where more is to come, there are as many shards as are wanted under the load; where there were as
+-- if more is to come, there are as many shards as are wanted under the load; if there were as
 -- many before, all stays as it is
 pub record IsSet {T : Type 0} (more : Bool) (fewest most : ℕ) (old new : Shipping T) : Type 0 where
   pub load : Load
@@ -54,8 +54,8 @@ pub record IsSet {T : Type 0} (more : Bool) (fewest most : ℕ) (old new : Shipp
 abbrev pub HasPutAll : {T : Type 0} → Shipping T → Type 0
 HasPutAll s = (s.log.placed ≡ entries s.log.pieces) × PlacesAll s.log s.fleet
 
--- all that a reader had left was fed, behind word of a next segment unless it is the first, and
--- then the number of shards was set, where more is to come
+-- all that a reader had left was fed, after word of a next segment unless it is the first, and
+-- then the number of shards was set, if more is to come
 pub record IsShipped {T : Type 0} (fewest most : ℕ) (first : Bool) (left : Option (List ℕ)) (more : Bool) (old new : Shipping T) : Type 0 where
   pub begun : List Piece
   pub begins : OpensSegment first old.log.pieces begun
@@ -74,7 +74,7 @@ abbrev pub AreShipped : {T : Type 0} → (fewest most : ℕ) → Bool → List (
 AreShipped fewest most first [] old new = new ≡ old
 AreShipped {T} fewest most first (left ∷ lefts) old new = (next : Shipping T) × IsShipped fewest most first left (is_some_more lefts) old next × AreShipped fewest most false lefts next new
 
--- the reading halted before a segment or within it, or the number of shards could not be set behind
+-- the reading halted before a segment or within it, or the number of shards could not be set after
 -- it
 pub record HasHalted {T : Type 0} (first : Bool) (left : Option (List ℕ)) (old new : Shipping T) : Type 0 where
   pub fed : Shipping T

@@ -125,8 +125,8 @@ fn let_catch_up<R: Clock, C: Connect + Drop>(rt: &R, shipper: &Shipper<C>) {
     }
 }
 
-/// Changes the number of shards to what is wanted under the load, where that is another one and
-/// more is to come.
+/// Changes the number of shards to what is wanted under the load, if that is another one and more
+/// is to come.
 pub fn resharded<R: Threads + Wait + Clock + Copy + Send + 'static, C: Connect + Drop>(
     rt: &R,
     shipper: &mut Shipper<C>,
@@ -164,7 +164,7 @@ pub fn resharded<R: Threads + Wait + Clock + Copy + Send + 'static, C: Connect +
 }
 
 /// Changes the number of shards to what is wanted under what was placed and resolved since the
-/// clock asked last, where it asks and that is another one.
+/// clock asked last, if it asks and that is another one.
 pub fn retuned<R: Threads + Wait + Clock + Copy + Send + 'static, C: Connect + Drop>(
     rt: &R,
     shipper: &mut Shipper<C>,

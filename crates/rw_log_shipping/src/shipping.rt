@@ -134,7 +134,7 @@ fn ship_segment<R: Wait, S: Source + Drop, C: Connect + Drop>(
     unreachable!()
 }
 
-/// Tells that the next segment begins, where it is not the first one.
+/// Tells that the next segment begins, if it is not the first one.
 pub fn begin_segment<R: Wait, C: Connect + Drop>(
     rt: &R,
     shipper: &mut Shipper<C>,

@@ -41,7 +41,7 @@ pair_of p = (p.1, p.2)
 abbrev pub owed : FinMap nat_cmp Reason → List Point → List Point
 owed names ps = filter (λ (p : Point). is_none (get names p.0)) ps
 
--- the head holds a beginning of the label set's logged samples, less the named ones. Of a label set
+-- the head holds a prefix of the label set's logged samples, less the named ones. Of a label set
 -- that the rules do not keep none are logged samples: there it holds nothing
 abbrev pub HoldsBeginning : Setup → World → Labels → Type 0
 HoldsBeginning c w l = Begins (list_of w.head.store l) (map pair_of (owed w.names (kept_points c.choice (log w) l)))
@@ -76,7 +76,7 @@ OwedRises c w = (l : Labels) → Rises IsEarlier (map pair_of (owed_below c w w.
 abbrev pub IsWhole : Setup → World → Type 0
 IsWhole c w = (end : ℕ) → report w ≡ Some (Complete end) → (l : Labels) → HoldsAll c w end l
 
--- as where the log was found damaged behind what was placed
+-- as if the log was found damaged after what was placed
 abbrev pub IsWholeBeforeDamage : Setup → World → Type 0
 IsWholeBeforeDamage c w = (f : TailFault) → report w ≡ Some (Damaged f) → (l : Labels) → HoldsAll c w w.placed l
 
@@ -84,7 +84,7 @@ IsWholeBeforeDamage c w = (f : TailFault) → report w ≡ Some (Damaged f) → 
 abbrev pub HoldsNothingElse : Setup → World → Type 0
 HoldsNothingElse c w = (l : Labels) → kept_points c.choice (log w) l ≡ [] → list_of w.head.store l ≡ []
 
--- a queue whose End was taken hands out nothing, nor does any after a kill
+-- a queue whose End was taken returns nothing, nor does any after a kill
 abbrev pub IsClosedForGood : Setup → World → Type 0
 IsClosedForGood c w = (i : ℕ) (s : Shard) → slice_get w.shards i ≡ Some s → (s.core.ended ≡ true) ⊎ (w.killed ≡ true) → happens c w (event.Take i) ≡ w
 
@@ -111,7 +111,7 @@ AccountedEntry c w p (Some (Sample r t word)) =
 abbrev pub HasOneClassEach : Setup → World → Type 0
 HasOneClassEach c w = (p : ℕ) → (p < w.placed → AccountedEntry c w p (slice_get (log w) p)) × ((p < w.placed → ⊥) → get w.names p ≡ None)
 
--- at this position stands a sample of a series that the rules drop
+-- at this position is a sample of a series that the rules drop
 abbrev pub is_filtered : Standing → Bool
 is_filtered Unknown = false
 is_filtered (Bad f) = false
@@ -145,8 +145,8 @@ CarriesEachBatch c w = (k : ℕ) (r : Request) → slice_get w.requests k ≡ So
 abbrev pub SendsSameBytes : World → Type 0
 SendsSameBytes w = (i j : ℕ) (r q : Request) → slice_get w.requests i ≡ Some r → slice_get w.requests j ≡ Some q → r.id ≡ q.id → r.bytes ≡ q.bytes
 
--- no batch is both taken and refused for good, in whatever order: two replies to one id never say
--- so
+-- no batch is both taken and refused permanently, in whatever order: two replies to one id never
+-- say so
 abbrev pub NeverTakesAndRefuses : Setup → World → Type 0
 NeverTakesAndRefuses c w =
     (i j : ℕ) (a b : Reply) → slice_get w.replies i ≡ Some a → slice_get w.replies j ≡ Some b → a.id ≡ b.id →
@@ -193,7 +193,7 @@ refusals c (e ∷ es) w = refused_in w e (is_over w) ++ refusals c es (happens c
 abbrev pub Stands : ℕ × ℕ → List (ℕ × ℕ) → Type 0
 Stands q xs = (k : ℕ) × (slice_get xs k ≡ Some q)
 
--- a status is named of a position exactly where it stands among what was refused
+-- a status is named of a position exactly if it is among what was refused
 abbrev pub NamesExactly : FinMap nat_cmp Reason → List (ℕ × ℕ) → Type 0
 NamesExactly names refused =
     (p s : ℕ) → (get names p ≡ Some (Status s) → Stands (p, s) refused) × (Stands (p, s) refused → get names p ≡ Some (Status s))
@@ -208,7 +208,7 @@ pub record CanWork (c : Setup) : Type 0 where
   pub batch : 1 ≤ c.batch
   pub shards : 1 ≤ c.shards
 
--- what `settle` leaves: a report; where nothing was killed, that all is through or that the log was
+-- what `settle` leaves: a report; if nothing was killed, that all is through or that the log was
 -- damaged, and the head holds all of it
 pub record IsSettled (c : Setup) (w v : World) : Type 0 where
   pub reports : (e : Ending) × (report v ≡ Some e)

@@ -1,4 +1,4 @@
--- One shard of the machine of events: its queue, and the core behind it.
+-- One shard of the machine of events: its queue, and the core after it.
 use Rattle.std.specs.Prelude.{ℕ, Bool, true, false, ◌&&◌, if◌then◌else◌, List, [], ◌∷◌, ◌++◌, length, ◌==◌, nat_lt}
 use Rattle.rw_plain_queue.specs.Items.{Placed}
 use Rattle.rw_plain_queue.specs.declared.item.Kind.{Kind}

@@ -35,7 +35,7 @@ change (suc i) f (s ∷ ss) = s ∷ change i f ss
 abbrev pub changed : World → ℕ → (Shard → Shard) → World
 changed w i f = record w { shards = change i f w.shards }
 
--- Feed: the piece comes behind the others
+-- Feed: the piece comes after the others
 abbrev pub feed : World → Piece → World
 feed w piece = if is_some w.closed then w else record w { pieces = w.pieces ++ piece_of piece ∷ [] }
 
@@ -76,7 +76,7 @@ place_entry c w None = w
 place_entry c w (Some (Def r l)) = record w { series = with_series w.series (standing_of c.choice (Some l)); placed = suc w.placed }
 place_entry c w (Some (Sample r t word)) = place_sample c w t word (known c.choice (take w.placed (log w)) r)
 
--- Place: the next entry, as its reference stands before it
+-- Place: the next entry, as its reference is before it
 abbrev pub place : Setup → World → World
 place c w = if is_some w.draining then w else place_entry c w (slice_get (log w) w.placed)
 
@@ -190,7 +190,7 @@ unless_over c w (event.Arrive k how) over = arrive c w how (slice_get w.requests
 unless_over c w e true = w
 unless_over c w e false = act c w e
 
--- one event: where its guard fails nothing changes, and once there is a report only requests go on
+-- one event: if its guard fails nothing changes, and once there is a report only requests go on
 -- arriving
 abbrev pub happens : Setup → World → Event → World
 happens c w e = unless_over c w e (is_over w)

@@ -24,8 +24,8 @@ pub enum Event {
     /// The next entry of the log is placed: a definition is taken, a sample is put into its shard's
     /// queue, named as dropped, or filtered.
     Place,
-    /// A mark is put into this shard's queue: an End where all is placed after a `Close` or the
-    /// number of shards changes, else a Flush.
+    /// A mark is put into this shard's queue: an End if all is placed after a `Close` or the number
+    /// of shards changes, else a Flush.
     Flush(u64),
     /// This shard takes the front of its queue.
     Take(u64),
@@ -41,7 +41,7 @@ pub enum Event {
     Lost(u64),
     /// The number of shards is to become this.
     Reshard(u64),
-    /// The next shards take over, once the shards at hand have nothing left.
+    /// The next shards take over, once the current shards have nothing left.
     Restart,
     /// No more is read, and all is to be sent that was read.
     Close,

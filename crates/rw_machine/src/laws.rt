@@ -29,7 +29,7 @@ pub fn logged_samples_arrive_in_order()
         → HoldsNothingElse c (run c events (start c)) }
 {}
 
-/// A queue whose End was taken hands out nothing more, nor does any queue once everything was
+/// A queue whose End was taken returns nothing more, nor does any queue once everything was
 /// stopped.
 pub fn closed_queues_hand_out_nothing()
     ensures { (c : Setup) (events : List Event) → IsClosedForGood c (run c events (start c)) }
@@ -46,8 +46,8 @@ pub fn each_sample_has_one_class()
 {}
 
 /// What was sent under one id is one batch, whose fate does not change: a batch that the head has
-/// taken is never refused later, and one that was refused for good is never taken later. A resolved
-/// sample that is not named is in the store.
+/// taken is never refused later, and one that was refused permanently is never taken later. A
+/// resolved sample that is not named is in the store.
 pub fn each_batch_has_one_fate()
     ensures one_batch { (c : Setup) (events : List Event)
         → HasOneBatchEachId (run c events (start c)) }

@@ -20,7 +20,7 @@ counters name help = about name (codes "counter") help
 unfoldable pub labelled : (name label value : List ℕ) → ℕ → List ℕ
 labelled name label value n = name ++ codes "{" ++ label ++ codes "=\"" ++ value ++ codes "\"} " ++ decimal n ++ codes "\n"
 
--- how often a status came, which stands behind a prefix
+-- how often a status came, which is after a prefix
 unfoldable pub status_sample : (name label prefix : List ℕ) → ℕ × ℕ → List ℕ
 status_sample name label prefix count = name ++ codes "{" ++ label ++ codes "=\"" ++ prefix ++ decimal count.0 ++ codes "\"} " ++ decimal count.1 ++ codes "\n"
 

@@ -27,7 +27,7 @@ cause_text cause.BadReply = codes "bad_reply"
 cause_text cause.Memory = codes "memory"
 cause_text (cause.Status status) = codes "status_" ++ decimal status
 
--- ` last CAUSE`, where an attempt has failed
+-- ` last CAUSE`, if an attempt has failed
 unfoldable pub last_told : Option Cause → List ℕ
 last_told None = []
 last_told (Some c) = codes " last " ++ cause_text c
@@ -36,7 +36,7 @@ last_told (Some c) = codes " last " ++ cause_text c
 abbrev pub percent : ℕ → ℕ → ℕ
 percent bytes all = min (bytes * 100 / all) 100
 
--- ` percent N` of a folder, where its bytes are known
+-- ` percent N` of a folder, if its bytes are known
 unfoldable pub percent_told : ℕ → ℕ → List ℕ
 percent_told bytes all = if all == 0 then [] else told (codes "percent") (percent bytes all)
 

@@ -13,14 +13,13 @@ pub enum Cause {
     Ended,
     /// What came is no reply.
     BadReply,
-    /// Memory was refused.
+    /// Memory ran out.
     Memory,
     /// The receiver answered with this status, by which it does not take the batch.
     Status(u16),
 }
 
-/// Returns the number of a cause, behind which an atomic word keeps it: that of a status is its
-/// own.
+/// Returns the number of a cause, after which an atomic word keeps it: that of a status is its own.
 pub(crate) fn number_of(cause: Cause) -> u64 {
     match cause {
         Cause::Connect => 1,

@@ -97,7 +97,7 @@ pub(crate) fn push_labelled(
     Ok(())
 }
 
-/// Adds how often a status came, under a label, behind a prefix.
+/// Adds how often a status came, under a label, after a prefix.
 #[tactic(auto, unfolding(crate::specs::Exposition::status_sample))]
 fn push_status(
     out: &mut Vec<u8>,
@@ -120,7 +120,7 @@ fn push_status(
     Ok(())
 }
 
-/// Adds how often each of these statuses came, under a label, behind a prefix.
+/// Adds how often each of these statuses came, under a label, after a prefix.
 pub(crate) fn push_statuses(
     out: &mut Vec<u8>,
     name: &str,

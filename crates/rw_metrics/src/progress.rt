@@ -19,8 +19,8 @@ pub enum Screen {
     Lines,
 }
 
-/// Returns what stands behind a line: on a terminal the rest of the one before is cleared, and the
-/// next one is written over it, unless it is the last one.
+/// Returns what follows a line: on a terminal the rest of the one before is cleared, and the next
+/// one is written over it, unless it is the last one.
 fn line_end(screen: Screen, is_last: bool) -> &'static [u8] {
     match screen {
         Screen::Terminal if is_last => b"\x1b[K\n",
@@ -37,7 +37,7 @@ fn write_line<W: Write>(writer: &mut W, line: Vec<u8>, ending: &[u8]) -> Result<
     Ok(())
 }
 
-/// Writes where the counters stand.
+/// Writes if the counters are.
 fn show<W: Write>(
     writer: &mut W,
     screen: Screen,
@@ -48,7 +48,7 @@ fn show<W: Write>(
     write_line(writer, line, line_end(screen, false))
 }
 
-/// Writes where the counters stand, once a second.
+/// Writes if the counters are, once a second.
 fn show_on<C: Clock, W: Write>(
     clock: &C,
     writer: &mut W,
@@ -103,8 +103,8 @@ fn write_last<W: Write>(
     }
 }
 
-/// Writes where the counters stand in the end, and of a sender how many samples were dropped, by
-/// reason: each in a line of its own. What follows is not written where memory is refused.
+/// Writes if the counters are in the end, and of a sender how many samples were dropped, by reason:
+/// each in a line of its own. What follows is not written if memory runs out.
 pub fn write_end<W: Write>(writer: &mut W, screen: Screen, alloc: Global, counters: &Counters) {
     let _ = write_last(writer, screen, alloc, counters);
 }

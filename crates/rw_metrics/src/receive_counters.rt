@@ -6,7 +6,7 @@ use std::alloc::{AllocError, Global};
 use std::sync::atomic::{AtomicU64, Ordering};
 
 /// What a receiver does, counted by its threads and read by others. This is advice: nothing is
-/// claimed of it, and nothing that is promised stands on it.
+/// claimed of it, and nothing that is promised is on it.
 #[derive(Drop)]
 pub struct ReceiveCounters {
     accepted: AtomicU64,

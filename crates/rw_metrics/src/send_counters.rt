@@ -94,7 +94,7 @@ impl FailureCounters {
 }
 
 /// What a sender does, counted by its threads and read by others. This is advice: nothing is
-/// claimed of it, and nothing that is promised stands on it.
+/// claimed of it, and nothing that is promised is on it.
 #[derive(Drop)]
 pub struct SendCounters {
     entries: AtomicU64,
@@ -203,7 +203,7 @@ impl SendCounters {
         }
     }
 
-    /// These are the samples that were dropped so far as the log was read, in order: those behind
+    /// These are the samples that were dropped so far as the log was read, in order: those after
     /// the ones that were told before are told.
     pub fn drop_unsent(&self, names: &[(u64, Reason)]) {
         let told = self.drops.unsent() as usize;

@@ -41,7 +41,7 @@ pub struct SendNumbers {
     pub entries: u64,
     /// Bytes of the log that were read.
     pub bytes: u64,
-    /// Bytes of the folder's segments as it was looked at; 0 where they are not known.
+    /// Bytes of the folder's segments as it was looked at; 0 if they are not known.
     pub folder_bytes: u64,
     /// The number of the segment that is read.
     pub segment: u64,
@@ -49,9 +49,9 @@ pub struct SendNumbers {
     pub segment_bytes: u64,
     /// Samples that were put into a queue.
     pub placed: u64,
-    /// Of them, those that were answered for, or only wait for a batch to be full.
+    /// Of them, those that were acknowledged, or only wait for a batch to be full.
     pub resolved: u64,
-    /// Of them, those that wait to be answered for.
+    /// Of them, those that wait to be acknowledged.
     pub waiting: u64,
     /// Samples that the rules have filtered.
     pub filtered: u64,

@@ -27,8 +27,8 @@ pub(crate) enum Connection<L: Naming> {
     Ended(Seat<L>),
 }
 
-/// Serves a connection in a thread of the scope, or here, where no thread can be made. One for
-/// which memory is refused is closed.
+/// Serves a connection in a thread of the scope, or here, if no thread can be made. One for which
+/// memory runs out is closed.
 pub(crate) fn begin<'s, E, L: Naming + Send + Sync + 's, R: Wait + Clock + Sync>(
     scope: &Scope<'s, E>,
     rt: &'s R,

@@ -25,7 +25,7 @@ const SOME: usize = 16;
 #[derive(Drop)]
 pub struct Places<L: Naming> {
     free: Vec<Seat<L>>,
-    /// Whoever was not looked at for longest stands in front.
+    /// Whoever was not looked at for longest is in front.
     busy: VecDeque<Busy<L>>,
 }
 
@@ -77,7 +77,7 @@ impl<L: Naming> Places<L> {
     }
 
     /// Waits until a seat is free, or a stop is wished. While all are taken it asks connections
-    /// that are silent or behind their rates to end.
+    /// that are silent or after their rates to end.
     fn wait_for_seat<R: Threads + Wait + Clock>(&mut self, rt: &R, post: &Post<'_>)
         ensures { self.new ≡ self.old }
     {

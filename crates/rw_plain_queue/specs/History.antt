@@ -20,7 +20,7 @@ IsNumbered ps = (k : ℕ) (p : Place) → slice_get ps k ≡ Some p → p.seq �
 abbrev pub StandsBefore : Place → Place → Type 0
 StandsBefore p q = p.pos < q.pos
 
--- nothing stands after an End
+-- nothing is after an End
 abbrev pub EndIsLast : List Item → Type 0
 EndIsLast put = (before after : List Item) (kind : Kind) → put ≡ before ++ End kind ∷ after → after ≡ []
 

@@ -10,7 +10,7 @@ pub enum Kind {
     Orderly,
     /// The number of shards changes.
     Reshard,
-    /// The sender stops at once, and leaves what is not sent.
+    /// The sender stops at once, and abandons what is not sent.
     Hard,
 }
 

@@ -22,14 +22,14 @@ pub(crate) struct SampleCounts {
     pub(crate) noseries: u64,
 }
 
-/// One more. A count that does not fit is want of memory.
+/// One more. A count that does not fit is out of memory.
 fn one_more(count: u64) -> Result<u64, AllocError>
     ensures { IfOk result (λ n. n ≡ count + 1) }
 {
     count.checked_add(1).ok_or(AllocError)
 }
 
-/// Adds a count behind its word.
+/// Adds a count after its word.
 #[tactic(auto, unfolding(crate::specs::Plan::count_text))]
 fn push_count(out: &mut Vec<u8>, word: &[u8], count: u64) -> Result<(), AllocError>
     ensures { OnOk result (out.new.items ≡ out.old.items ++ count_text word.now count) }

@@ -41,7 +41,7 @@ pub struct Service<'a> {
 /// ended by LF. How a connection ends is no fault.
 ///
 /// A failed accept is `Device`; the connections that were accepted before it are still served to
-/// their ends. A thread that cannot be made counts as refused memory. Waits until so many
+/// their ends. A thread that cannot be made counts as failed allocation. Waits until so many
 /// connections have come and ended. Once the last one has come, or none can be accepted any more,
 /// the listener is closed, so that further clients are refused at once.
 ///
@@ -64,8 +64,7 @@ pub fn run_receive<R: Threads + Wait + Clock + Sync, W: Sink>(
     ensures faults { IfErr result (λ e. (e ≡ OutOfMemory) ⊎ (e ≡ Device)) }
     ensures memory { result ≡ Err OutOfMemory → writer.new ≡ writer.old }
 
-    // A failed accept has written nothing. Where the writer fails, it holds a beginning of the
-    // text.
+    // A failed accept has written nothing. If the writer fails, it holds a prefix of the text.
     ensures device { result ≡ Err Device → (writer.new ≡ writer.old)
         ⊎ ((W.has_failed writer.new ≡ true)
         × WritesHeldPart settings.now.limits service.entry.most
@@ -91,7 +90,7 @@ pub fn run_receive<R: Threads + Wait + Clock + Sync, W: Sink>(
 
 /// Serves any number of connections over one head until the sign is set, and then prints what the
 /// head holds, as `run_receive` does. A seat is used again once its connection has ended. Each
-/// connection has a thread; where none can be made, it is served before the next one is accepted.
+/// connection has a thread; if none can be made, it is served before the next one is accepted.
 ///
 /// Once an end is wished, the listener is closed. A connection that is in a request finishes it,
 /// and each other one is closed; once an end at once is wished, each is. The sign is looked at five
@@ -101,7 +100,7 @@ pub fn run_receive<R: Threads + Wait + Clock + Sync, W: Sink>(
 /// request is not complete after `request_ms` milliseconds and one more for each byte of it:
 /// nothing of that request is taken. If all places are taken and a client waits for one, a
 /// connection is closed that has been silent for a second, or whose request is more than a second
-/// behind 1,000 bytes a second. An accept that fails is made again, after a nap where it failed for
+/// after 1,000 bytes a second. An accept that fails is made again, after a sleep if it failed for
 /// want of something, as of descriptors. A listener whose accepts cannot be given a time is
 /// `Device`.
 pub fn run_receive_until<R: Threads + Wait + Clock + Sync, W: Sink>(
@@ -120,8 +119,8 @@ pub fn run_receive_until<R: Threads + Wait + Clock + Sync, W: Sink>(
     ensures faults { IfErr result (λ e. (e ≡ OutOfMemory) ⊎ (e ≡ Device)) }
     ensures memory { result ≡ Err OutOfMemory → writer.new ≡ writer.old }
 
-    // A listener that cannot be set has written nothing. Where the writer fails, it holds a
-    // beginning of the text.
+    // A listener that cannot be set has written nothing. If the writer fails, it holds a prefix of
+    // the text.
     ensures device { result ≡ Err Device → (writer.new ≡ writer.old)
         ⊎ ((W.has_failed writer.new ≡ true)
         × WritesHeldPart settings.now.limits service.entry.most

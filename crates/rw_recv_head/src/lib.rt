@@ -1,5 +1,5 @@
 //! The receiving head: what a receiver of samples holds, and the same for many threads under one
-//! lock. This crate passes on what those two crates have.
+//! lock. This crate re-exports what those two crates have.
 #![tactic(auto)]
 
 pub use rw_head::{

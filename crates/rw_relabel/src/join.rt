@@ -1,4 +1,4 @@
-//! The text that a rule's pattern is held against.
+//! The text that the pattern of a rule is matched against.
 
 ghost use Rattle.std.specs.Prelude.{◌≡◌, map, string_bytes, IfOk};
 ghost use Rattle.std.specs.List.{join_by};

@@ -8,8 +8,8 @@ use rw_types::LabelSet;
 use std::alloc::AllocError;
 use std::marker::Model;
 
-/// A list of rules, which decides which series are kept; where it is empty all are. Contracts see
-/// the list of their configurations.
+/// A list of rules, which decides which series are kept; an empty list keeps all. Contracts see the
+/// list of their configurations.
 #[derive(Debug, Drop)]
 pub struct Rules {
     rules: Vec<Rule>,

@@ -57,8 +57,8 @@ fn is_clean(alloc: Global, text: &[u8], entries: u64, at: usize) -> Result<bool,
     Ok(read.fault.is_none() && entries <= read.entries)
 }
 
-/// Returns where the last segment is cut: at its end, or after its last whole record if a crash
-/// tore it. `Damaged` is returned if it does not end within the page in which reading stops.
+/// Returns if the last segment is cut: at its end, or after its last whole record if a crash tore
+/// it. `Damaged` is returned if it does not end within the page in which reading stops.
 pub(crate) fn find_cut(
     alloc: Global,
     text: &[u8],

@@ -74,7 +74,7 @@ fn read_earlier<J: Journal, S: EntrySink>(
     Ok(())
 }
 
-/// Reads the last segment, and returns where it is to be cut, and the bytes after that place.
+/// Reads the last segment, and returns if it is to be cut, and the bytes after that place.
 fn read_last<J: Journal, S: EntrySink>(
     journal: &mut J,
     alloc: Global,

@@ -26,8 +26,8 @@ fn ends_record(byte: u8) -> bool {
     }
 }
 
-/// Returns where the last whole record before an offset ends, by the headers of the fragments
-/// alone: no checksum is looked at. The result is a proposal, which the caller has to check.
+/// Returns if the last whole record before an offset ends, by the headers of the fragments alone:
+/// no checksum is looked at. The result is a proposal, which the caller has to check.
 pub fn whole_len(text: &[u8], stop: usize) -> usize
     ensures within { result ≤ length text.now }
 {

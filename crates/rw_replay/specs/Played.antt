@@ -22,7 +22,7 @@ pub record Played : Type 0 where
 abbrev pub segment_pages : ℕ
 segment_pages = 4096
 
--- a record has no room behind so many bytes of a segment
+-- a record has no room after so many bytes of a segment
 abbrev pub is_full : ℕ → List ℕ → Bool
 is_full offset rec = nat_lt (room page_size segment_pages offset) (length rec)
 
@@ -30,7 +30,7 @@ is_full offset rec = nat_lt (room page_size segment_pages offset) (length rec)
 abbrev pub next_segment : Order
 next_segment = order_of_event (event.Feed piece.NextSegment)
 
--- the lines that feed a record to the log: it is written behind what there is, or where it has no
+-- the lines that feed a record to the log: it is written after what there is, or if it has no
 -- room there at the front of a next segment
 abbrev pub feeds : ℕ → List ℕ → List Order
 feeds offset rec =

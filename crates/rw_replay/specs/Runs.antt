@@ -42,7 +42,7 @@ WritesState c left_before left_after before after =
     (orders : List Order) × ReadsScript left_before left_after orders
     × ((text : List ℕ) × IsPrinted c orders text × Appends before after text)
 
--- a beginning of it was written
+-- a prefix of it was written
 abbrev pub WritesStatePart : Setup → Option (List ℕ) → Option (List ℕ) → Option (List ℕ) → Option (List ℕ) → Type 0
 WritesStatePart c left_before left_after before after =
     (orders : List Order) × ReadsScript left_before left_after orders

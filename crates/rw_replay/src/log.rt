@@ -31,7 +31,7 @@ fn end_writing(writer: SegmentWriter<Growing>) -> Written
     }
 }
 
-/// Writes a record behind so many bytes of a segment; none where it has no room there.
+/// Writes a record after so many bytes of a segment; none if it has no room there.
 pub(crate) fn write_behind(
     alloc: Global,
     offset: usize,

@@ -86,7 +86,7 @@ impl Player {
         }
     }
 
-    /// A record is written behind the others.
+    /// A record is written after the others.
     fn log(&mut self, rec: &[u8]) -> Result<(), AllocError>
         requires some { 0 < length rec.now }
         requires short { length rec.now ≤ 16 * 1024 * 1024 }

@@ -79,14 +79,14 @@ pub fn run_replay<R: Source, W: Sink>(
         (W.has_failed writer.old ≡ false → W.has_failed writer.new ≡ false) }
 
     // The only fault of the data is the first line that makes the text no script. Nothing is
-    // written then, or where memory ran out.
+    // written then, or if memory ran out.
     ensures line { (n : ℕ) → result ≡ Err (Line n)
         → ReadsBadLine (R.remaining reader.old) (R.remaining reader.new) n }
     ensures no_log { (f : TailFault) → result ≡ Err (Log f) → ⊥ }
     ensures no_full { result ≡ Err SegmentFull → ⊥ }
     ensures untouched { IfErr result (λ e. e ≢ Device → writer.new ≡ writer.old) }
 
-    // Where a device fails, the writer holds a beginning of the state.
+    // If a device fails, the writer holds a prefix of the state.
     ensures device { result ≡ Err Device
         → ((R.has_failed reader.new ≡ true) × (writer.new ≡ writer.old))
         ⊎ ((W.has_failed writer.new ≡ true)

@@ -9,7 +9,7 @@ pub record Shards (S : Type 0) : Type 0 where
   pub wanted : ℕ
   pub made : List S
 
--- the same, where other shards were written over the first n; there are n of them when a slice was
+-- the same, if other shards were written over the first n; there are n of them when a slice was
 -- lent
 abbrev pub refilled : {S : Type 0} → ℕ → Shards S → List S → Shards S
 refilled n f shards = record f { running = take n (shards ++ drop (length shards) f.running) }

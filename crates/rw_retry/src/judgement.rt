@@ -10,7 +10,7 @@ use http::StatusCode;
 pub enum Judgement {
     /// 2xx: the receiver has it.
     Done,
-    /// 429 and 5xx: it is sent again, the same bytes.
+    /// 429 and 5xx: it is sent again, with the same bytes.
     Again,
     /// Any other status: the receiver will never take it.
     Refused,

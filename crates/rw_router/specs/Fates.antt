@@ -14,7 +14,7 @@ pub data Fate : Type 0 where
   Filters : Fate
   Sends : (labels : List (List ℕ × List ℕ)) → Fate
 
--- a sample of a kept series is sent where it rises, and dropped where it does not
+-- a sample of a kept series is sent if it rises, and dropped if it does not
 abbrev pub kept_fate : Bool → Labels → Fate
 kept_fate true l = Sends l
 kept_fate false l = Drops NotRising

@@ -25,12 +25,12 @@ pub enum Routed {
     Sample(RoutedSample),
 }
 
-/// Decides what becomes of each entry of a log, in order. A sample is dropped where it has no
-/// series, where the labels of its series are not a label set, or where it is not later than those
-/// before it in its series; it is counted where the rules drop its series; each other one is sent.
+/// Decides what becomes of each entry of a log, in order. A sample is dropped if it has no series,
+/// if the labels of its series are not a label set, or if it is not later than those before it in
+/// its series. It is counted if the rules drop its series. Each other sample is sent.
 ///
-/// It keeps no sample. Contracts see what it knows of the series, and how many samples were placed
-/// whose series the rules drop.
+/// The router keeps no sample. Contracts see what it knows of the series, and how many samples were
+/// placed whose series the rules drop.
 #[derive(Drop)]
 pub struct Router {
     cache: Cache,
@@ -64,9 +64,9 @@ impl Router {
         }
     }
 
-    /// Places the next entry of the log, which stands at position `pos`, or says what the caller
-    /// has to do with its sample: to name a dropped one in the ledger, or to put one that is sent
-    /// and then to call `sent`. An `Err` changes nothing.
+    /// Places the next entry of the log, which is at position `pos`, or returns what the caller has
+    /// to do with its sample: list a dropped one in the ledger, or put one that is sent and then
+    /// call `sent`. An `Err` changes nothing.
     pub fn place(&mut self, pos: u64, entry: Entry) -> Result<Routed, AllocError>
         requires few { self.old.filtered < 2 ^ 60 }
         ensures ok { (before : List Entry) → Knows before self.old.cache
@@ -129,7 +129,7 @@ impl Router {
         }
     }
 
-    /// Notes that the sample which `place` returned was put: one of series number `series`, at time
+    /// Notes that the sample that `place` returned was put: one of series number `series`, at time
     /// `t` in milliseconds since the Unix epoch. This takes no memory.
     pub fn sent(&mut self, series: u64, t: i64)
         requires { IsRising self.old.cache series t }
@@ -148,7 +148,7 @@ impl Router {
     }
 
     /// Returns the number of the series in which a sample of `reference` at time `t` would be sent
-    /// next; `None` where it would not be. This takes no memory.
+    /// next, or `None` if it would not be sent. This takes no memory.
     pub fn would_send(&self, reference: u64, t: i64) -> Option<u64>
         ensures some { (before : List Entry) → Knows before self.now.cache
             → IfSome result (WouldSend self.now.cache.choice before reference t) }

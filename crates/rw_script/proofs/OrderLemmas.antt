@@ -1,4 +1,4 @@
--- The words of script lines, told apart, and what stands behind them.
+-- The words of script lines, told apart, and what follows them.
 use Rattle.std.proofs.Common.{◌≡◌, ◌==◌, ◌^◌, ◌<◌, ◌*◌, ◌+◌, nat_lt, ℕ, List, [], ◌∷◌, ◌++◌, All, true, false, not, Option, Some, None, if◌then◌else◌, codes, refl, sym, ap, ◌∙◌, subst, inl, inr, arith}
 use Rattle.std.proofs.Math.ListN.{get_or}
 use Rattle.std.proofs.lemmas.List.Elements.{All-nil, All-cons}

@@ -1,4 +1,4 @@
--- Script lines: a word and what stands behind it, with single spaces.
+-- Script lines: a word and what follows it, with single spaces.
 use Rattle.std.specs.Prelude.{◌≡◌, ◌⊎◌, ◌^◌, ◌<◌, ℕ, List, ◌∷◌, ◌++◌, Some, codes}
 use Rattle.rw_hex.specs.HexText.{read_digits}
 use Rattle.rw_text.specs.Numbers.{IsNumber}
@@ -72,7 +72,7 @@ IsBare (arrives request how) = ⊥
 IsBare (bare word) = Unit {0}
 IsBare (numbered word number) = ⊥
 
--- what stands behind the word and a space
+-- what follows the word and a space
 abbrev pub IsBehind : List ℕ → Order → Type 0
 IsBehind text (logged rec) = IsRecordOf text rec
 IsBehind text (fed bytes) = read_digits text ≡ Some bytes
@@ -80,7 +80,7 @@ IsBehind text (arrives request how) = IsArrival text request how
 IsBehind text (bare word) = ⊥
 IsBehind text (numbered word number) = IsCount text number
 
--- a word and, behind a space, the rest of the line
+-- a word and, after a space, the rest of the line
 abbrev pub IsWordAnd : List ℕ → List ℕ → Order → Type 0
 IsWordAnd word rest o = (word ≡ word_of o) × IsBehind rest o
 

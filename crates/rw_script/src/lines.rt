@@ -15,7 +15,7 @@ use rw_text::{TextFault, read_number, read_record, split_at_byte};
 use rw_wal_tail::Piece;
 use std::alloc::Global;
 
-/// Returns what stands behind `log `.
+/// Returns what follows `log `.
 fn read_log(alloc: Global, line: &[u8]) -> Result<Command, TextFault>
     ensures ok { IfOk result (λ c. IsWordAnd (codes "log") line.now (order_of c)) }
     ensures err { result ≡ Err TextFault.NotOfForm → (rec : List ℕ) → IsRecordOf line.now rec → ⊥ }
@@ -24,7 +24,7 @@ fn read_log(alloc: Global, line: &[u8]) -> Result<Command, TextFault>
     Ok(Command::Log(rec))
 }
 
-/// Returns what stands behind `feed `.
+/// Returns what follows `feed `.
 fn read_feed(alloc: Global, digits: &[u8]) -> Result<Command, TextFault>
     ensures ok { IfOk result (λ c. IsWordAnd (codes "feed") digits.now (order_of c)) }
     ensures err { result ≡ Err TextFault.NotOfForm → (bytes : List ℕ)
@@ -36,7 +36,7 @@ fn read_feed(alloc: Global, digits: &[u8]) -> Result<Command, TextFault>
     }
 }
 
-/// Returns what stands behind `arrive `.
+/// Returns what follows `arrive `.
 fn read_arrival(text: &[u8]) -> Option<Event>
     ensures { MatchOption result
         ((request : ℕ) (how : How) → IsArrival text.now request how → ⊥)
@@ -54,7 +54,7 @@ fn read_arrival(text: &[u8]) -> Option<Event>
     Some(Event::Arrive(request, how))
 }
 
-/// Returns a word and the number behind it.
+/// Returns a word and the number after it.
 fn read_numbered(word: &[u8], number: &[u8]) -> Option<Event>
     ensures { MatchOption result
         ((w : NumberedWord) (n : ℕ) → word.now ≡ numbered_text w → IsCount number.now n → ⊥)
@@ -69,7 +69,7 @@ fn read_numbered(word: &[u8], number: &[u8]) -> Option<Event>
     Some(word.event(number))
 }
 
-/// Returns a word and what stands behind it.
+/// Returns a word and what follows it.
 fn read_word_and(alloc: Global, word: &[u8], rest: &[u8]) -> Result<Command, TextFault>
     ensures ok { IfOk result (λ c. IsWordAnd word.now rest.now (order_of c)) }
     ensures err { result ≡ Err TextFault.NotOfForm → (o : Order) → IsWordAnd word.now rest.now o

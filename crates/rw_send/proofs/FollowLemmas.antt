@@ -200,7 +200,7 @@ said_answers now old new fed o (Err (fault.Tool f)) same h = err_answers (HasRea
 said_answers now old new fed o (Err (fault.Missing n)) same h = h
 said_answers now old new fed o (Err fault.Stopped) same h = let e = same (λ bad. cc) in subst (λ (w : Wish). FollowAnswers now w fed o (Err fault.Stopped)) (sym e) h
 
--- and where the sign is looked at once more
+-- and if the sign is looked at once more
 pub signed_answers : (now : Option Moment) (old new : Wish) (fed : Meal) (o : Outcome) (answer result : Result (Unit {0}) FollowFault)
     → (result ≡ answer) ⊎ ((answer ≡ left_undone) × (result ≡ Err fault.Stopped) × (new ≡ wish.Hard)) → ((answer ≡ left_undone → ⊥) → new ≡ old)
     → FollowAnswers now old fed o answer → FollowAnswers now new fed o result
@@ -209,7 +209,7 @@ signed_answers now old new fed o answer result (inr (e, stopped, hard)) same h =
     let left = subst (λ (r : Result (Unit {0}) FollowFault). FollowAnswers now old fed o r) e h in
     subst (λ (r : Result (Unit {0}) FollowFault). FollowAnswers now new fed o r) (sym stopped) (left, hard)
 
--- where a following ends early, the shipper has halted so
+-- if a following ends early, the shipper has halted so
 
 pub halts_so : {T : Type 0} (s : Shipping T) (now : Option Moment) (unsure : Type 0) (ended : Result Stop Cut) (shipped : Result (Unit {0}) Halt)
     → shipped ≡ shipped_by ended → IfErr ended (IsCut s now unsure) → IfErr shipped (IsHalted s)

@@ -49,7 +49,7 @@ no_meal = record { whole = []; begun = [] }
 abbrev pub meal_of : List Piece → Meal
 meal_of pieces = meal_after no_meal pieces
 
--- some bytes put no mark where there is no limit, a flush puts one to each shard, and where nothing
+-- some bytes put no mark if there is no limit, a flush puts one to each shard, and if nothing
 -- is to be done all stays
 abbrev pub MarksBy : {T : Type 0} → Turn → Shipping T → Shipping T → Type 0
 MarksBy (turn.Piece n) old new = old.limit ≡ None → map marks_of new.fleet.current ≡ map marks_of old.fleet.current
@@ -72,7 +72,7 @@ FailsWith s (halt.Damaged f) = ⊤
 FailsWith s halt.Failed = IsSome s.fault
 FailsWith s halt.Unreadable = ⊥
 
--- or memory was refused for the bytes of this turn, which were not fed
+-- or memory ran out for the bytes of this turn, which were not fed
 abbrev pub HaltsAt : {T : Type 0} → Turn → Shipping T → Shipping T → Halt → Type 0
 HaltsAt turn old new (halt.Damaged f) = ⊤
 HaltsAt turn old new halt.Failed =
@@ -84,20 +84,20 @@ abbrev pub HasGivenMore : Option Moment → Meal → Type 0
 HasGivenMore now fed =
     (more : List ℕ) × (0 < length more) × Known now (λ m. IsGivenAt (with_piece fed more) m)
 
--- The shipper failed, the log is damaged, or memory was refused for bytes that the log has given.
+-- The shipper failed, the log is damaged, or memory ran out for bytes that the log has given.
 abbrev pub HaltsFor : {T : Type 0} → Shipping T → Option Moment → Halt → Type 0
 HaltsFor s now (halt.Damaged f) = ⊤
 HaltsFor s now halt.Failed = IsSome s.fault ⊎ HasGivenMore now (meal_of s.log.pieces)
 HaltsFor s now halt.Unreadable = ⊥
 
--- Where the shipper takes no more, the log has the fault for which it does not. A call that failed
+-- If the shipper takes no more, the log has the fault for which it does not. A call that failed
 -- was one of a log of which calls may fail (`unsure`). A segment is missing that the log says is.
 abbrev pub IsCut : {T : Type 0} → Shipping T → Option Moment → (unsure : Type 0) → Cut → Type 0
 IsCut s now unsure (cut.Broken (broken.Unreadable f)) = unsure
 IsCut s now unsure (cut.Broken (broken.Missing n)) = Known now (HasGap n)
 IsCut s now unsure (cut.Halted h) = IsHalted s h × HaltsFor s now h
 
--- how the reading ended: by a hard sign, and where a segment is missing, as where it cannot be read
+-- how the reading ended: by a hard sign, and if a segment is missing, as if it cannot be read
 abbrev pub shipped_by : Result Stop Cut → Result (Unit {0}) Halt
 shipped_by (Ok stop.Orderly) = Ok tt
 shipped_by (Ok stop.Hard) = Err halt.Unreadable
@@ -110,7 +110,7 @@ abbrev pub told : Result (Unit {0}) ToolFault → Result (Unit {0}) FollowFault
 told (Ok u) = Ok u
 told (Err f) = Err (fault.Tool f)
 
--- how it is answered, where the shipper's stop is answered so
+-- how it is answered, if the shipper's stop is answered so
 abbrev pub answer_by : Result Stop Cut → Result (Unit {0}) ToolFault → Result (Unit {0}) FollowFault
 answer_by (Ok stop.Orderly) answer = told answer
 answer_by (Ok stop.Hard) answer = Err fault.Stopped
@@ -118,17 +118,17 @@ answer_by (Err (cut.Broken (broken.Missing n))) answer = Err (fault.Missing n)
 answer_by (Err (cut.Broken (broken.Unreadable f))) answer = told answer
 answer_by (Err (cut.Halted h)) answer = told answer
 
--- the answer where work was left that nobody asked to leave
+-- the answer if work was left that nobody asked to leave
 abbrev pub left_undone : Result (Unit {0}) FollowFault
 left_undone = Err (fault.Tool tool.OutOfMemory)
 
--- it was told to end, and all that stood was fed
+-- it was told to end, and all that was there was fed
 abbrev pub HasRead : Option Moment → Wish → Meal → Type 0
 HasRead now said fed = (said ≡ wish.End) × Known now (HadAll fed)
 
--- How a following answers whose report has this outcome: all is well only where it was told to end,
--- all that stood was fed and the outcome is complete; a missing segment is one that the log says is
--- missing; and it ends at once only where it was told to.
+-- How a following answers whose report has this outcome: all is well only if it was told to end,
+-- all that was there was fed and the outcome is complete; a missing segment is one that the log
+-- says is missing; and it ends at once only if it was told to.
 abbrev pub FollowAnswers : Option Moment → Wish → Meal → Outcome → Result (Unit {0}) FollowFault → Type 0
 FollowAnswers now said fed o (Ok u) = Answers (HasRead now said fed) ⊤ o (Ok u)
 FollowAnswers now said fed o (Err (fault.Tool f)) = Answers (HasRead now said fed) ⊤ o (Err f)
@@ -136,7 +136,7 @@ FollowAnswers now said fed o (Err (fault.Missing n)) = IsAbandoned o × Known no
 FollowAnswers now said fed o (Err fault.Stopped) = IsAbandoned o × (said ≡ wish.Hard)
 
 -- Why a following that answers so was stopped at once: it was asked to, a segment is missing, a
--- call failed of a log of which calls may fail (`unsure`), or memory was refused for bytes that the
+-- call failed of a log of which calls may fail (`unsure`), or memory ran out for bytes that the
 -- log has given.
 abbrev pub FollowStopsAtOnce : Option Moment → Wish → (unsure : Type 0) → Meal
     → Result (Unit {0}) FollowFault → Type 0

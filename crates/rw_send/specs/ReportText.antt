@@ -34,7 +34,7 @@ pub record IsTextOf {T : Type 0} (r : Report T) (text : List ℕ) : Type 0 where
   pub ends : IsEnding r.outcome ending
   pub text_is : text ≡ work_text names r.filtered (Some ending)
 
--- a beginning of the text was written
+-- a prefix of the text was written
 pub record WritesPart {T : Type 0} (r : Report T) (before after : Option (List ℕ)) : Type 0 where
   pub text : List ℕ
   pub text_of : IsTextOf r text

@@ -28,7 +28,7 @@ EndsFor cause s r =
     EndBy Orderly s.fleet r.workers.items
     ⊎ (EndBy Hard s.fleet r.workers.items × IsAbandoned r.outcome × (IsSome s.fault ⊎ cause))
 
--- work is abandoned only where a worker was cut, the shipper failed, or for this cause
+-- work is abandoned only if a worker was cut, the shipper failed, or for this cause
 abbrev pub IsCutFor : {T : Type 0} → (cause : Type 0) → Shipping T → Report T → Type 0
 IsCutFor cause s r =
     IsAbandoned r.outcome → ListsCut r.workers.items ⊎ (IsSome s.fault ⊎ cause)
@@ -64,9 +64,9 @@ answer_to (outcome.Complete end) = Ok tt
 answer_to (outcome.Abandoned placed samples) = Err fault.OutOfMemory
 answer_to (outcome.Damaged f) = Err (fault.Log f)
 
--- How a run answers whose report has this outcome: all is well only where the log was fed whole and
+-- How a run answers whose report has this outcome: all is well only if the log was fed whole and
 -- the outcome is complete, a fault of the log is that of the outcome, and otherwise the work is
--- abandoned; for a device's fault only where one can fail.
+-- abandoned; for a device's fault only if one can fail.
 abbrev pub Answers : (whole unsure : Type 0) → Outcome → Result (Unit {0}) ToolFault → Type 0
 Answers whole unsure o (Ok u) = IsComplete o × whole
 Answers whole unsure o (Err (fault.Log f)) = o ≡ outcome.Damaged f
@@ -84,7 +84,7 @@ StopsAtOnce refused unsure (Err fault.Device) = unsure
 StopsAtOnce refused unsure (Err (fault.Line n)) = ⊥
 StopsAtOnce refused unsure (Err fault.SegmentFull) = ⊥
 
--- A beginning of the segments that readers had left, which are sure or not, was shipped in short
+-- A prefix of the segments that readers had left, which are sure or not, was shipped in short
 -- pieces, and after each segment the number of shards was set; with this report and this answer.
 pub record IsSent {T : Type 0} (tells : T → Type 0) (seen : T → List Exchange) (is_for : ℕ → ℕ → T → Type 0) (c : ConfigFields) (limit : Option ℕ) (lefts : List (Option (List ℕ))) (sures : List Bool) (r : Report T) (answer : Result (Unit {0}) ToolFault) : Type 0 where
   pub pieces : List Piece
@@ -105,7 +105,7 @@ pub record IsPrinted {T : Type 0} (tells : T → Type 0) (seen : T → List Exch
   pub text_of : IsTextOf report text
   pub written : Appends before after text
 
--- a beginning of it was written
+-- a prefix of it was written
 pub record IsPrintedPart {T : Type 0} (tells : T → Type 0) (seen : T → List Exchange) (is_for : ℕ → ℕ → T → Type 0) (c : ConfigFields) (limit : Option ℕ) (lefts : List (Option (List ℕ))) (sures : List Bool) (before after : Option (List ℕ)) : Type 0 where
   pub answer : Result (Unit {0}) ToolFault
   pub report : Report T

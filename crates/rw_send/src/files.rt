@@ -32,7 +32,7 @@ pub struct SegmentFile<R> {
 }
 
 impl<R> SegmentFile<R> {
-    /// Returns the name of the file in its folder; empty where the folder cannot be read.
+    /// Returns the name of the file in its folder; empty if the folder cannot be read.
     pub fn name(&self) -> &str
         ensures { result.now ≡ string_bytes self.now.name }
     {
@@ -41,7 +41,7 @@ impl<R> SegmentFile<R> {
 }
 
 impl<R: Files> SegmentFile<R> {
-    /// Returns how many bytes it has now; none where that cannot be asked.
+    /// Returns how many bytes it has now; none if that cannot be asked.
     fn bytes(&self) -> u64 {
         match fs::metadata(&self.rt, self.path.as_path()) {
             Ok(metadata) => metadata.len(),
@@ -77,7 +77,7 @@ pub(crate) struct SegmentName {
     pub(crate) name: String,
 }
 
-/// Returns the number of a segment by the name of its file; none where it is no name of a segment.
+/// Returns the number of a segment by the name of its file; none if it is no name of a segment.
 pub(crate) fn number_of(name: &str) -> Option<u64>
     ensures { MatchOption result ((n : ℕ) → n < 2 ^ 64 → IsNameOf name.now n → ⊥)
         (IsNameOf name.now) }

@@ -21,8 +21,8 @@ pub(crate) struct Current {
 }
 
 /// The segments of a log in a folder, as they come: the files whose names are one to eight decimal
-/// digits, by number, and of two names of one number the shorter first. What stands in them nobody
-/// can know.
+/// digits, by number, and of two names of one number the shorter first. What is in them nobody can
+/// know.
 #[derive(Drop)]
 pub struct Folder<R> {
     rt: R,

@@ -56,7 +56,7 @@ fn told(answer: Result<(), ToolFault>) -> Result<(), FollowFault>
     }
 }
 
-/// How a following answers that ended so, where its shipper's stop is answered so.
+/// How a following answers that ended so, if its shipper's stop is answered so.
 fn answer_by(ended: Result<Stop, Cut>, answer: Result<(), ToolFault>) -> Result<(), FollowFault>
     ensures { result ≡ answer_by ended answer }
 {
@@ -127,15 +127,15 @@ fn ship_on<
 
 /// Ships a log while it grows, until the watch says that it is to end, then stops and prints the
 /// report as the command `send` does. Of what was read the labels and last timestamps of series,
-/// the samples that wait to be answered for and the dropped ones are kept, and nothing else.
+/// the samples that wait to be acknowledged and the dropped ones are kept, and nothing else.
 ///
 /// A segment is over once the next one is there and, read again after that was seen, it gives no
 /// more bytes. Between two of them the number of shards is changed to what is wanted under the
-/// load. Told to end, it reads what stands, and waits until the receiver has answered for all of
-/// it; told to end at once, it leaves what is not done. While it waits for room in a queue, or for
-/// the receiver, it sees that only where the stop flag of `line` is set too, behind the sign. The
-/// counters are told after each turn, and once the work has stopped. Where a segment is missing
-/// between two, or cannot be read, the work is stopped at once too.
+/// load. Told to end, it reads what is, and waits until the receiver has acknowledged all of it;
+/// told to end at once, it leaves what is not done. While it waits for room in a queue, or for the
+/// receiver, it sees that only if the stop flag of `line` is set too, after the sign. The counters
+/// are told after each turn, and once the work has stopped. If a segment is missing between two, or
+/// cannot be read, the work is stopped at once too.
 pub fn run_follow<
     R: Threads + Wait + Clock + Copy + Send + 'static,
     S: Segments,
@@ -180,7 +180,7 @@ pub fn run_follow<
         (K.contents writer.old) (K.contents writer.new)
         (Err (Tool OutOfMemory)) }
 
-    // A segment cannot be read, or the writer holds a beginning of the report.
+    // A segment cannot be read, or the writer holds a prefix of the report.
     ensures device { result ≡ Err (Tool Device)
         → IsFollowPrinted C.T.tells C.T.seen C.T.is_for settings.config line.entry.max_batch_bytes
         (S.is_sure segments.old) (S.now segments.new) (W.said watch.new)

@@ -184,7 +184,7 @@ fn obey<R: Threads + Wait + Clock + Copy + Send + 'static, C: Connect + Drop>(
     }
 }
 
-/// Sets the number of shards where that is due, and does what a turn of a follower asks for.
+/// Sets the number of shards if that is due, and does what a turn of a follower asks for.
 fn step<R: Threads + Wait + Clock + Copy + Send + 'static, C: Connect + Drop>(
     rt: &R,
     alloc: Global,

@@ -11,7 +11,7 @@ use rw_types::{Failed, Source};
 pub trait Open {
     type S: Source + Drop;
 
-    /// What a source that it opens has left, where that is known.
+    /// What a source that it opens has left, if that is known.
     ghost text: { Self → Option (List ℕ) };
 
     /// Opens it at its first byte.

@@ -117,16 +117,16 @@ fn ship<R: Threads + Wait + Clock + Copy + Send + 'static, S: Source + Drop, C: 
 
 /// Ships the segments of a log in their order, stops, and prints the report: `dropped POS REASON`
 /// by position, `filtered COUNT`, `abandoned POS` by position, and `report ..`, each line ended by
-/// LF. Of what was read the labels of series, the samples that wait to be answered for and the
+/// LF. Of what was read the labels of series, the samples that wait to be acknowledged and the
 /// dropped ones are kept, and nothing else.
 ///
 /// A segment is fed as it is read, in pieces of at most 64 KiB. Between two of them the number of
 /// shards is changed to what is wanted under the load, for which the workers are given a moment to
-/// catch up. A log fault ends the reading, and what stands before it is still shipped. Where memory
-/// or a thread is refused, a worker has gone or a segment cannot be read, the work is stopped at
-/// once. Where it could not start, or the report could not be printed for want of memory, nothing
-/// is printed. The counters are told after each piece, and once the work has stopped. Waits until
-/// the receiver has answered for all that was read, or the work is stopped.
+/// catch up. A log fault ends the reading, and what is before it is still shipped. If memory or a
+/// thread is refused, a worker has gone or a segment cannot be read, the work is stopped at once.
+/// If it could not start, or the report could not be printed because memory ran out, nothing is
+/// printed. The counters are told after each piece, and once the work has stopped. Waits until the
+/// receiver has acknowledged all that was read, or the work is stopped.
 pub fn run_send<
     R: Threads + Wait + Clock + Copy + Send + 'static,
     S: Source + Drop,
@@ -155,7 +155,7 @@ pub fn run_send<
         (map S.remaining segments.items) (map S.is_sure segments.items) (W.contents writer.old)
         (W.contents writer.new) (Err OutOfMemory) }
 
-    // A segment cannot be read, or the writer holds a beginning of the report.
+    // A segment cannot be read, or the writer holds a prefix of the report.
     ensures device { result ≡ Err Device
         → IsPrinted C.T.tells C.T.seen C.T.is_for settings.config line.entry.max_batch_bytes
         (map S.remaining segments.items) (map S.is_sure segments.items) (W.contents writer.old)

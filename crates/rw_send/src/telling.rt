@@ -13,8 +13,8 @@ pub struct Counted<'a, C> {
     pub counters: &'a SendCounters,
     /// None for no limit.
     pub max_batch_bytes: Option<u64>,
-    /// Where another thread sets it the workers leave what is not sent, and nothing waits for them
-    /// any more.
+    /// If another thread sets it the workers leave what is not sent, and nothing waits for them any
+    /// more.
     pub stop: StopFlag,
 }
 

@@ -1,5 +1,5 @@
 //! The sender of Remote-Write 1.0: its configuration, the state of a shard, its worker, and the
-//! shipper of a log over many shards. This crate passes on what the crates of the sender have.
+//! shipper of a log over many shards. This crate re-exports what the crates of the sender have.
 #![tactic(auto)]
 
 pub use rw_fleet::{Connect, Ends, Fault, Fed, Finished, Load, Resolution, ShardSet, StoppedShard};

@@ -44,7 +44,7 @@ StandsFor series (Some verdict.Filtered) Filtered = Unit {0}
 StandsFor series (Some (verdict.Kept number)) (Kept l) = HasNumber series l number
 StandsFor series _ _ = ⊥
 
--- labels are judged, and numbered where they are kept
+-- labels are judged, and numbered if they are kept
 pub record Judges (old new : Judged) (labels : Labels) (found : Verdict) : Type 0 where
   pub choice : new.choice ≡ old.choice
   pub series : new.series ≡ with_series old.series (standing_of old.choice (Some labels))

@@ -27,7 +27,7 @@ series_of choice entries = fold (with_entry choice) [] entries
 abbrev pub number_of : List Labels → Labels → ℕ
 number_of series l = position_or_len (labels_eq l) series
 
--- the labels have this number, and stand there
+-- the labels have this number, and are there
 pub record HasNumber (series : List Labels) (l : Labels) (number : ℕ) : Type 0 where
   pub numbered : number ≡ number_of series l
   pub stands : slice_get series number ≡ Some l

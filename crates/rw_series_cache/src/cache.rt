@@ -74,8 +74,8 @@ impl Cache {
     }
 
     /// Takes the next definition of the log: from here on `reference` stands for `labels`. A label
-    /// set that came before is not stored again, and the rules are not asked of it again. An `Err`
-    /// changes nothing.
+    /// set that came before is not stored again, and the rules are not evaluated for it again. An
+    /// `Err` changes nothing.
     pub fn define(&mut self, reference: u64, labels: RawLabels) -> Result<(), AllocError>
         ensures ok { OnOk result (self.new
             ≡ record self.old {
@@ -84,12 +84,13 @@ impl Cache {
             }) }
         ensures err { OnErr result (self.new ≡ self.old) }
 
-        // Memory is refused only of a label set, or of the first definition of a reference.
+        // Memory can run out only for labels that are a label set, or for the first definition of a
+        // reference.
         ensures sound { OnErr result
             ((label_fault self.old.choice.names labels ≡ None)
             ⊎ (known self.old.choice self.old.definitions reference ≡ Unknown)) }
     {
-        // The room is made first: once a label set has its number, nothing is refused any more.
+        // The room is made first: once a label set has its number, nothing can fail any more.
         self.verdicts.make_room(reference)?;
         let verdict = self.sets.judge(&labels, &mut self.latest)?;
         self.verdicts.put(reference, verdict);
@@ -114,8 +115,8 @@ impl Cache {
         }
     }
 
-    /// Returns whether `t`, in milliseconds since the Unix epoch, is later than what is noted of
-    /// the series, or nothing is. This takes no memory.
+    /// Returns whether `t`, in milliseconds since the Unix epoch, is later than the noted timestamp
+    /// of the series, or no timestamp is noted. This takes no memory.
     pub fn rises(&self, series: u64, t: i64) -> bool
         requires within { series < length (series_of self.now.choice self.now.definitions) }
         ensures { result ≡ is_after (map.get self.now.noted series) t }

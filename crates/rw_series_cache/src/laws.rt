@@ -46,8 +46,8 @@ pub fn numbers_stay()
         → HasNumber (series_of choice (entries ++ more)) labels number }
 {}
 
-/// Law: a sample belongs to the series that its reference stands for, where the rules keep it, and
-/// to no other.
+/// Law: a sample belongs to the series that its reference stands for, if the rules keep it, and to
+/// no other.
 pub fn points_entry_by_entry()
     ensures definition { (choice : Choice) (entries : List Entry) (labels other : Labels)
         (reference : ℕ)
@@ -65,7 +65,7 @@ pub fn points_entry_by_entry()
         ≡ kept_points choice entries labels }
 {}
 
-/// Law: the samples of a series below a position are those among the entries below it.
+/// Law: the samples of a series before a position are those among the entries before it.
 pub fn points_below_a_position()
     ensures { (choice : Choice) (entries : List Entry) (labels : Labels) (end : ℕ)
         → kept_points_below choice entries labels end

@@ -30,7 +30,7 @@ impl Model for Timestamps {
 }
 
 impl Timestamps {
-    /// Without a place. This takes no memory.
+    /// Returns timestamps without a place. This takes no memory.
     pub(crate) fn new(alloc: Global) -> Timestamps
         ensures places { result.places ≡ 0 }
         ensures times { result.times ≡ map.empty }
@@ -40,7 +40,7 @@ impl Timestamps {
         }
     }
 
-    /// Makes one more place, where there are no more than `count`.
+    /// Makes one more place, if there are at most `count`.
     pub(crate) fn make_place(&mut self, count: usize) -> Result<(), AllocError>
         requires { count ≤ self.old.places }
         ensures ok { OnOk result (count < self.new.places) }

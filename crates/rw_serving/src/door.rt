@@ -12,8 +12,8 @@ pub fn accept_in_ticks(listener: &TcpListener) -> io::Result<()> {
     limit_accepts(listener, Duration::from_millis(TICK_MS))
 }
 
-/// Returns the next connection, where one comes within a tick. An accept that fails, as for want of
-/// descriptors, is counted, and naps for a tick; not so one that was interrupted, or whose client
+/// Returns the next connection, if one comes within a tick. An accept that fails, as for want of
+/// descriptors, is counted, and sleeps for a tick; not so one that was interrupted, or whose client
 /// has gone.
 pub fn next_connection<C: Clock>(
     clock: &C,

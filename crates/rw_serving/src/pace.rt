@@ -4,7 +4,7 @@ ghost use Rattle.std.specs.Prelude.{◌+◌, ◌≤◌, ◌↔◌, IsTrue};
 
 use std::time::{Clock, Instant};
 
-/// For how many milliseconds a client may be behind its rate, or silent, before it can be closed in
+/// For how many milliseconds a client may be after its rate, or silent, before it can be closed in
 /// favour of one that waits for a place.
 pub(crate) const GRACE_MS: u64 = 1_000;
 

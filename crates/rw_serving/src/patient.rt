@@ -70,9 +70,8 @@ impl<C: Clock + Copy> Stage<C> {
 /// time of the patience fails with `TimedOut`, and so does each of them once the request or the
 /// reply has had its time (`Pace`). Once an end is wished, so does a read outside a request, and
 /// once an end at once is wished each of them. While another client waits for a place, so does a
-/// read or a write of a few connections that are silent or behind their rates. A request begins
-/// with a byte that is read, and ends with the bytes that are written. Nothing is claimed of the
-/// bytes.
+/// read or a write of a few connections that are silent or after their rates. A request begins with
+/// a byte that is read, and ends with the bytes that are written. Nothing is claimed of the bytes.
 #[derive(Clone, Copy, Drop)]
 pub(crate) struct Patient<'s, C> {
     stream: &'s TcpStream,
@@ -125,7 +124,7 @@ impl<'s, C: Clock + Copy> Patient<'s, C> {
         }
     }
 
-    /// Returns whether the request or the reply has had its time, or is behind its rate while
+    /// Returns whether the request or the reply has had its time, or is after its rate while
     /// another client waits for a place.
     fn is_late(&self) -> bool {
         let pace = self.stage.get().pace;

@@ -7,7 +7,7 @@ use std::sync::atomic::{AtomicU64, Ordering};
 const MOST_ENDS: u64 = 8;
 
 /// A request for places, which is made while a client waits for one. A few connections meet it, by
-/// ending: those that see first that they are silent or behind their rate.
+/// ending: those that see first that they are silent or after their rate.
 #[derive(Drop)]
 pub struct PlaceRequest {
     /// How many more connections it asks to end.

@@ -19,7 +19,7 @@ use std::time::Clock;
 /// What all connections have in common.
 #[derive(Clone, Copy, Drop)]
 pub struct Post<'a> {
-    /// Where memory is taken for a connection.
+    /// If memory is taken for a connection.
     pub alloc: Global,
     /// Those of the head.
     pub limits: &'a Limits,

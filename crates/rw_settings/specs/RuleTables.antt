@@ -58,7 +58,7 @@ abbrev pub with_rules_fault : Option SettingsFault → Items → Option Settings
 with_rules_fault fault no_items = fault
 with_rules_fault fault (item value rest) = with_rules_fault (lesser fault (rule_fault_of (as_table value))) rest
 
--- the action of a rule, where it has one
+-- the action of a rule, if it has one
 abbrev pub action_of : List ℕ → Action
 action_of text = if bytes_eq text (codes "drop") then Drop else Keep
 

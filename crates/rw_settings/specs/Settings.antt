@@ -52,7 +52,7 @@ settings_in text = if is_utf8 text then settings_if (parse_document text) else E
 abbrev pub IsRefusedRule : RuleConfig → Type 0
 IsRefusedRule rule = IsRefusedPattern rule.pattern ⊎ ((rule.source_labels ≡ []) × HasReadablePattern rule.pattern)
 
--- a fault is want of memory, or the one that was judged, or a rule is refused that was judged to be
+-- a fault is out of memory, or the one that was judged, or a rule is refused that was judged to be
 -- fine
 abbrev pub IsFaultOf : Result Settings SettingsFault → SettingsFault → Type 0
 IsFaultOf judged fault =

@@ -28,7 +28,7 @@ use regex::Regex;
 use std::alloc::{AllocError, Global};
 use toml::{Table, Value};
 
-/// Adds a note on the whole number at a key, where it has a fault.
+/// Adds a note on the whole number at a key, if it has a fault.
 fn note_number<const LOW: u64, const HIGH: u64>(
     alloc: Global,
     notes: &mut Vec<SettingsNote>,
@@ -52,7 +52,7 @@ fn note_number<const LOW: u64, const HIGH: u64>(
     )
 }
 
-/// Adds a note on the path at a key, where it has a fault.
+/// Adds a note on the path at a key, if it has a fault.
 fn note_path(
     alloc: Global,
     notes: &mut Vec<SettingsNote>,
@@ -76,7 +76,7 @@ fn note_path(
     )
 }
 
-/// Adds a note on the names at a key, where they have a fault.
+/// Adds a note on the names at a key, if they have a fault.
 fn note_names(
     alloc: Global,
     notes: &mut Vec<SettingsNote>,
@@ -98,7 +98,7 @@ fn note_names(
     )
 }
 
-/// Adds a note on the text at a key, where it has a fault.
+/// Adds a note on the text at a key, if it has a fault.
 fn note_text(
     alloc: Global,
     notes: &mut Vec<SettingsNote>,
@@ -121,7 +121,7 @@ fn note_text(
     )
 }
 
-/// Adds a note on the host of the table `send`, where it has a fault.
+/// Adds a note on the host of the table `send`, if it has a fault.
 fn note_host(alloc: Global, notes: &mut Vec<SettingsNote>, send: &Table) -> Result<(), AllocError>
     ensures { OnOk result (noted notes.new.items ≡ lesser (noted notes.old.items)
         (result_err (text_at is_host_name (get_member (codes "host") (table_view send.now))))) }
@@ -132,7 +132,7 @@ fn note_host(alloc: Global, notes: &mut Vec<SettingsNote>, send: &Table) -> Resu
     note_value(alloc, notes, "send.", "host", value, fault, takes)
 }
 
-/// Adds a note where shards or backoff are not between their bounds.
+/// Adds a note if shards or backoff are not between their bounds.
 #[tactic(auto, using(crate::proofs::NoteLemmas::lesser_of_none))]
 fn note_order(alloc: Global, notes: &mut Vec<SettingsNote>, send: &Table) -> Result<(), AllocError>
     ensures { OnOk result
@@ -212,7 +212,7 @@ fn note_receive(
     Ok(())
 }
 
-/// Adds a note on the action of a rule, where it has a fault.
+/// Adds a note on the action of a rule, if it has a fault.
 fn note_action(
     alloc: Global,
     notes: &mut Vec<SettingsNote>,
@@ -235,7 +235,7 @@ fn note_action(
     )
 }
 
-/// Adds a note on the source labels of a rule, where they have a fault.
+/// Adds a note on the source labels of a rule, if they have a fault.
 fn note_labels(
     alloc: Global,
     notes: &mut Vec<SettingsNote>,
@@ -323,7 +323,7 @@ fn note_part(
     push_note(notes, SettingsFault::WrongType, place, text)
 }
 
-/// Adds a note on each fault of what stands at `send`.
+/// Adds a note on each fault of what is at `send`.
 fn note_send_part(
     alloc: Global,
     notes: &mut Vec<SettingsNote>,
@@ -340,7 +340,7 @@ fn note_send_part(
     }
 }
 
-/// Adds a note on each fault of what stands at `receive`.
+/// Adds a note on each fault of what is at `receive`.
 fn note_receive_part(
     alloc: Global,
     notes: &mut Vec<SettingsNote>,
@@ -358,7 +358,7 @@ fn note_receive_part(
     }
 }
 
-/// Adds a note on each fault of what stands at `rule`, except that a pattern is refused.
+/// Adds a note on each fault of what is at `rule`, except that a pattern is refused.
 fn note_rules_part(
     alloc: Global,
     notes: &mut Vec<SettingsNote>,
@@ -413,7 +413,7 @@ fn refusal_as_used(alloc: Global, pattern: &str) -> Result<Option<&'static str>,
     }
 }
 
-/// Returns the pattern that a rule sets; `None` where it sets none.
+/// Returns the pattern that a rule sets; `None` if it sets none.
 fn pattern_of(rule: &Value) -> Option<&str> {
     match rule.as_table() {
         None => None,
@@ -424,7 +424,7 @@ fn pattern_of(rule: &Value) -> Option<&str> {
     }
 }
 
-/// Adds a note on the pattern of a rule, where it is refused.
+/// Adds a note on the pattern of a rule, if it is refused.
 fn note_pattern(
     alloc: Global,
     notes: &mut Vec<SettingsNote>,

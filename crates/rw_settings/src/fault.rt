@@ -71,7 +71,7 @@ impl SettingsFault {
     }
 }
 
-/// Returns the lesser of two faults, where there is any.
+/// Returns the lesser of two faults, if there is any.
 pub(crate) fn lesser(
     fault: Option<SettingsFault>,
     other: Option<SettingsFault>,
@@ -91,7 +91,7 @@ pub(crate) fn lesser(
     }
 }
 
-/// Returns the least fault, where there is any.
+/// Returns the least fault, if there is any.
 #[tactic(auto, unfolding(crate::specs::Faults::least))]
 pub(crate) fn least(faults: &[Option<SettingsFault>]) -> Option<SettingsFault>
     ensures { result ≡ least faults.now }

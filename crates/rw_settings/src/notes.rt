@@ -18,7 +18,7 @@ use toml::{Table, Value};
 pub struct SettingsNote {
     /// Which fault it is.
     pub fault: SettingsFault,
-    /// Where it is: a key as `send.shards`, a part of a rule as `rule 2, regex`, or a line and a
+    /// If it is: a key as `send.shards`, a part of a rule as `rule 2, regex`, or a line and a
     /// column.
     pub place: String,
     /// What is wrong there, and what the key takes.
@@ -54,7 +54,7 @@ fn wrong(alloc: Global, value: Option<&Value>, fault: SettingsFault) -> Result<S
     }
 }
 
-/// Adds a note on the value at a key, where it has a fault.
+/// Adds a note on the value at a key, if it has a fault.
 #[tactic(auto, using(crate::proofs::NoteLemmas::lesser_of_none))]
 pub(crate) fn note_value(
     alloc: Global,
@@ -77,7 +77,7 @@ pub(crate) fn note_value(
     push_note(notes, fault, place, text)
 }
 
-/// Returns the known key that is nearest to `key`, where one differs in at most two letters.
+/// Returns the known key that is nearest to `key`, if one differs in at most two letters.
 fn nearest<'a>(alloc: Global, known: &[&'a str], key: &str) -> Result<Option<&'a str>, AllocError> {
     let mut found = None;
     let mut least = 3;

@@ -107,7 +107,7 @@ fn settings_of_text(alloc: Global, text: &str) -> Result<Settings, SettingsFault
     settings_of(alloc, &document)
 }
 
-/// Returns the bytes as a text, where they are UTF-8.
+/// Returns the bytes as a text, if they are UTF-8.
 pub(crate) fn text_in(bytes: &[u8]) -> Option<&str>
     ensures text { IfSome result (λ t. t.now ≡ bytes.now) }
     ensures utf8 { is_some result ≡ is_utf8 bytes.now }
@@ -120,7 +120,7 @@ pub(crate) fn text_in(bytes: &[u8]) -> Option<&str>
 
 /// Reads the settings of a TOML text. A key that is missing has its default. The error is the least
 /// fault that holds anywhere in the text: a text that is not TOML has no other fault, and the
-/// regular expressions of rules are compiled only where nothing else is wrong.
+/// regular expressions of rules are compiled only if nothing else is wrong.
 #[tactic(auto, unfolding(crate::specs::Settings::settings_in))]
 pub fn read_settings(alloc: Global, text: &[u8]) -> Result<Settings, SettingsFault>
     ensures ok { IfOk result (λ s. settings_in text.now ≡ Ok s) }

@@ -100,7 +100,7 @@ pub(crate) fn rules_fault(rules: &[Value]) -> Option<SettingsFault>
     worst
 }
 
-/// Returns the action of a rule, where it has one.
+/// Returns the action of a rule, if it has one.
 fn action_of(text: &str) -> Action
     ensures { result ≡ action_of text.now }
 {
@@ -129,7 +129,7 @@ pub struct RuleFields {
     pub action: Action,
     /// The names of the labels whose values the pattern is held against.
     pub source_labels: Vec<String>,
-    /// What stands between these values.
+    /// What is between these values.
     pub separator: String,
     /// The regular expression (`regex`), as it is written.
     pub pattern: String,

@@ -57,7 +57,7 @@ pub(crate) fn value_at<'a>(table: &'a Table, key: &str) -> Option<&'a Value>
     table.get(key)
 }
 
-/// Returns a whole number, where it is in the range.
+/// Returns a whole number, if it is in the range.
 fn number_in<const LOW: u64, const HIGH: u64>(
     number: i64,
 ) -> Result<Option<Bounded<LOW, HIGH>>, SettingsFault>
@@ -101,7 +101,7 @@ pub(crate) fn number_fault<const LOW: u64, const HIGH: u64>(
     }
 }
 
-/// Returns the whole number at a key, or the default where none stands there that can be taken.
+/// Returns the whole number at a key, or the default if none is there that can be taken.
 pub(crate) fn number_or<const LOW: u64, const HIGH: u64>(
     table: &Table,
     key: &str,
@@ -129,7 +129,7 @@ pub(crate) fn text_fault(table: &Table, key: &str) -> Option<SettingsFault>
     }
 }
 
-/// Returns the text at a key, or the default where none stands there.
+/// Returns the text at a key, or the default if none is there.
 pub(crate) fn text_or<'a>(table: &'a Table, key: &str, default: &'a str) -> &'a str
     ensures { result.now
         ≡ found_or default.now (text_at any_text (get_member key.now (table_view table.now))) }
@@ -163,7 +163,7 @@ pub(crate) fn host_fault(table: &Table, key: &str) -> Option<SettingsFault>
     }
 }
 
-/// Returns the host at a key, or the default where none stands there that can be taken.
+/// Returns the host at a key, or the default if none is there that can be taken.
 pub(crate) fn host_or_default(
     alloc: Global,
     table: &Table,
@@ -198,7 +198,7 @@ pub(crate) fn path_fault(table: &Table, key: &str) -> Option<SettingsFault>
     }
 }
 
-/// Returns the path at a key, or the default where none stands there that can be taken.
+/// Returns the path at a key, or the default if none is there that can be taken.
 pub(crate) fn path_or_default(
     alloc: Global,
     table: &Table,
@@ -249,7 +249,7 @@ pub(crate) fn names_fault(table: &Table, key: &str) -> Option<SettingsFault>
     }
 }
 
-/// Returns the names at a key, or legacy ones where none stand there that can be taken.
+/// Returns the names at a key, or legacy ones if none are there that can be taken.
 pub(crate) fn names_or_legacy(table: &Table, key: &str) -> Names
     ensures { result ≡ found_or Legacy (names_at (get_member key.now (table_view table.now))) }
 {
@@ -259,8 +259,8 @@ pub(crate) fn names_or_legacy(table: &Table, key: &str) -> Names
     }
 }
 
-/// Returns the table at a key, or the empty one where no value stands there; `None` where a value
-/// of another type does.
+/// Returns the table at a key, or the empty one if no value is there; `None` if a value of another
+/// type does.
 pub(crate) fn section<'a>(document: &'a Table, key: &str, empty: &'a Table) -> Option<&'a Table>
     requires { table_view empty.now ≡ no_members }
     ensures { option_map (λ t. table_view t.now) result
@@ -272,8 +272,8 @@ pub(crate) fn section<'a>(document: &'a Table, key: &str, empty: &'a Table) -> O
     }
 }
 
-/// Returns the items of the list at a key, no items where no value stands there; `None` where a
-/// value of another type does.
+/// Returns the items of the list at a key, no items if no value is there; `None` if a value of
+/// another type does.
 pub(crate) fn list_at<'a>(table: &'a Table, key: &str) -> Option<&'a [Value]>
     ensures { option_map (λ v. items_view v.now) result
         ≡ list_at (get_member key.now (table_view table.now)) }
@@ -287,7 +287,7 @@ pub(crate) fn list_at<'a>(table: &'a Table, key: &str) -> Option<&'a [Value]>
     }
 }
 
-/// Returns the table at a key, or the empty one where none stands there.
+/// Returns the table at a key, or the empty one if none is there.
 pub(crate) fn section_or<'a>(document: &'a Table, key: &str, empty: &'a Table) -> &'a Table
     requires { table_view empty.now ≡ no_members }
     ensures { table_view result.now
@@ -299,7 +299,7 @@ pub(crate) fn section_or<'a>(document: &'a Table, key: &str, empty: &'a Table) -
     }
 }
 
-/// Returns the items of the list at a key, none where no list stands there.
+/// Returns the items of the list at a key, none if no list is there.
 pub(crate) fn list_or_none<'a>(table: &'a Table, key: &str) -> &'a [Value]
     ensures { items_view result.now
         ≡ part_or no_items (list_at (get_member key.now (table_view table.now))) }
@@ -310,7 +310,7 @@ pub(crate) fn list_or_none<'a>(table: &'a Table, key: &str) -> &'a [Value]
     }
 }
 
-/// Returns the table that a value is, or the empty one where it is none.
+/// Returns the table that a value is, or the empty one if it is none.
 pub(crate) fn table_or<'a>(value: &'a Value, empty: &'a Table) -> &'a Table
     requires { table_view empty.now ≡ no_members }
     ensures { table_view result.now ≡ part_or no_members (as_table (view value.now)) }

@@ -22,8 +22,8 @@ fn text_of(alloc: Global, settings: &Settings, rules: &[RuleFields]) -> Result<S
     Ok(out)
 }
 
-/// Prints the settings that a TOML text sets: each key with its value, also where the text leaves
-/// it out. Read again, the result gives the same settings. The errors are those of reading `text`.
+/// Prints the settings that a TOML text sets: each key with its value, also if the text leaves it
+/// out. Read again, the result gives the same settings. The errors are those of reading `text`.
 pub fn print_settings(alloc: Global, text: &[u8]) -> Result<String, SettingsFault>
     ensures text { IfOk result
         (λ t. IsOkAnd (settings_in text.now) (λ s. string_bytes t ≡ settings_text s)) }

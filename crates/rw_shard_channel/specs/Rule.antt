@@ -67,7 +67,7 @@ pub record IsRelayed (blocks : List Filled) (views : List Log) : Type 0 where
   pub history : IsHistory name.epoch name.shard put
   pub fits : (port : ℕ) (v : Log) → get_elem? views port ≡ some v → Fits writer reader name put taken port v
 
--- the items of the block join what was handed over, and an empty block stands in its place
+-- the items of the block join what was handed over, and an empty block is in its place
 abbrev pub HandsOver : Log → Log → List Item → List Item → Type 0
 HandsOver v w held left = (w ≡ feeder v.name (v.put ++ held)) × (left ≡ [])
 

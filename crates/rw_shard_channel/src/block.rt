@@ -57,7 +57,7 @@ impl Block {
         self.items.push_back_reserved(item);
     }
 
-    /// Takes the item at the back.
+    /// Removes the item at the back, or returns `None` if there is none.
     pub(crate) fn undo(&mut self) -> Option<Item>
         ensures item { MatchOption result (self.old.items ≡ [])
             (λ x. self.old.items ≡ self.new.items ++ x ∷ []) }
@@ -67,7 +67,7 @@ impl Block {
         self.items.pop_back()
     }
 
-    /// Takes the item at the front.
+    /// Removes the item at the front, or returns `None` if there is none.
     pub(crate) fn pop(&mut self) -> Option<Item>
         ensures item { MatchOption result (self.old.items ≡ [])
             (λ x. self.old.items ≡ x ∷ self.new.items) }

@@ -21,8 +21,7 @@ use std::marker::{Brand, Model, PhantomData};
 use std::sync::Wait;
 use std::{fmt, mem};
 
-/// The error of a call that found nobody at the other end of the queue. Nothing is claimed of the
-/// cause.
+/// The error of a call that found nobody at the other end of the queue. No clause says why.
 #[derive(Clone, Copy, Debug, PartialEq, Eq)]
 pub struct Gone;
 
@@ -34,8 +33,8 @@ impl fmt::Display for Gone {
 
 impl Error for Gone {}
 
-/// The end of a queue that puts. Contracts see its queue, how many items that holds at most, what
-/// was put, and how much of it was handed over to the channel.
+/// The end of a queue that puts. Contracts see its queue, the greatest number of items that it
+/// holds, what was put, and how much of it was handed over to the channel.
 #[derive(Drop)]
 pub struct Feed<S: Stage> {
     pub(crate) sender: RuledSender<Block, Log, InOrder>,
@@ -81,7 +80,7 @@ pub struct Drain<S: Stage> {
     pub(crate) pass: Pass<Block, Log>,
     /// What was received and is not taken yet.
     pub(crate) block: Block,
-    /// None once the end was given up, as `receiver` is.
+    /// `None` once the end was given up, as `receiver` is.
     pub(crate) returns: Option<Returns>,
     pub(crate) taken: History<Item>,
     pub(crate) stage: PhantomData<S>,
@@ -109,7 +108,7 @@ impl<S: Stage> Model for Drain<S> {
         × MatchOption d.returns S.let_go (λ r. r ≡ (log_of d.pass).name.most) };
 }
 
-/// What `Drain::take` gives, with the end as it then is.
+/// What `Drain::take` returns, with the end as it then is.
 #[derive(Drop)]
 pub enum Taken {
     /// A sample or a Flush.
@@ -120,8 +119,8 @@ pub enum Taken {
     Gone(Drain<Deserted>),
 }
 
-/// Hands a block over, and puts an empty one in its place. If nobody is at the other end, what was
-/// put does not change.
+/// Hands over a block, and replaces it by an empty one. If nobody is at the other end, what was put
+/// does not change.
 fn send<R: Wait>(
     rt: &R,
     sender: &RuledSender<Block, Log, InOrder>,
@@ -156,7 +155,7 @@ fn send<R: Wait>(
 }
 
 impl Feed<Open> {
-    /// Puts a sample or a Flush at the back. It may wait for room. Where nobody is at the other end
+    /// Puts a sample or a Flush at the back. It may wait for room. If nobody is at the other end,
     /// the item comes back, and what was put stays as it was.
     pub fn put<R: Wait>(&mut self, rt: &R, item: Item) -> Result<(), (Item, Gone)>
         requires { MayFollow self.old.queue.epoch self.old.queue.shard self.old.put item }
@@ -210,7 +209,7 @@ impl Feed<Open> {
         )
     }
 
-    /// Puts an End, the last item, of this kind. It may wait for room. Where nobody is at the other
+    /// Puts an End, the last item, of this kind. It may wait for room. If nobody is at the other
     /// end, this end comes back as it was.
     pub fn end<R: Wait>(self, rt: &R, kind: Kind) -> Result<Feed<Ended>, (Feed<Open>, Gone)>
         ensures put { MatchResult result (λ f. (f.queue ≡ self.queue) × (f.capacity ≡ self.capacity)
@@ -249,7 +248,7 @@ impl Feed<Open> {
     }
 }
 
-/// Returns the item at the front was taken out of the block.
+/// Returns the item that was taken out of the block, with the end.
 fn given(
     item: Item,
     receiver: RuledReceiver<Block, Log, InOrder>,

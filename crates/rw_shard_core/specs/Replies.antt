@@ -35,11 +35,11 @@ Answers status room text =
     (head : ResponseHead) × (rest : List ℕ) × BeginsWith room text head rest
     × (status ≡ status_code head) × (200 ≤ status) × (status < 1000)
 
--- a beginning of a head, for which there is room
+-- a prefix of a head, for which there is room
 abbrev pub EndsEarly : ℕ → List ℕ → Type 0
 EndsEarly room text = HasNoResponse text × MayBecomeResponse text × (length text < room)
 
--- no reply stands here
+-- no reply is here
 abbrev pub HasNoReply : ℕ → List ℕ → Type 0
 HasNoReply room text = (status : ℕ) → ¬ (Passes (Answers status) room text)
 
@@ -49,7 +49,7 @@ Reads room text (Status status) = Passes (Answers status) room text
 Reads room text Partial = Passes EndsEarly room text
 Reads room text Bad = (more : List ℕ) → HasNoReply room (text ++ more)
 
--- what stands at the front: an informational head of so many bytes, or what decides
+-- what is at the front: an informational head of so many bytes, or what decides
 abbrev pub Found : ℕ → List ℕ → Front → Type 0
 Found room text (Informational len) =
     (head : ResponseHead) × BeginsWith room text head (drop len text) × IsInformational head × (len ≡ length (print_response head))

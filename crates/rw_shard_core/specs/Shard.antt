@@ -1,4 +1,4 @@
--- One shard of a sender behind its queue: what it took, its builder and its open batch
+-- One shard of a sender after its queue: what it took, its builder and its open batch
 -- (Remote-Write 1.0, "Ordering" and "Retries & backoff").
 use Rattle.std.specs.Prelude.{◌≡◌, ℕ, ℤ, ◌+◌, ◌-◌, ◌<◌, ◌≤◌, List, [], ◌∷◌, ◌++◌, length, map, Bool, true, false, not, ◌&&◌, ◌||◌, ◌==◌, nat_le, Option, None, Some, Ok, All, IfSome, if◌then◌else◌, ⊤}
 use Rattle.std.specs.Ordering.{nat_cmp}
@@ -92,7 +92,7 @@ pending c = c.batch ++ c.builder
 abbrev pub is_due : Core → Bool
 is_due c = nat_le c.full (length c.builder) || c.marked
 
--- Take: the guard, but that something stands in the queue
+-- Take: the guard, but that something is in the queue
 abbrev pub can_take : Core → Bool
 can_take c = not c.killed && (is_empty c.batch && not (is_due c))
 

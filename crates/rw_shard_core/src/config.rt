@@ -18,7 +18,7 @@ pub struct Target {
 }
 
 impl Target {
-    /// `localhost:9090` and `/api/v1/write`: the receiver of a Prometheus on this machine.
+    /// Returns `localhost:9090` and `/api/v1/write`: the receiver of a Prometheus on this machine.
     pub fn standard(alloc: Global) -> Result<Target, AllocError>
         ensures { IfOk result (λ t. t
             ≡ record { host = codes "localhost:9090"; path = codes "/api/v1/write" }) }
@@ -35,7 +35,7 @@ impl Target {
 pub struct ConfigFields {
     /// The host and the path that requests name.
     pub target: Target,
-    /// How many shards there are at the beginning.
+    /// How many shards there are at the start.
     pub shards: Bounded<1, 1_000>,
     /// The fewest shards that resharding picks.
     pub min_shards: Bounded<1, 1_000>,
@@ -119,7 +119,7 @@ impl ConfigFields {
 }
 
 impl Config {
-    /// Returns the configuration with these fields; `None` where `is_ordered` does not hold. This
+    /// Returns the configuration with these fields, or `None` if `is_ordered` does not hold. This
     /// takes no memory.
     pub fn new(fields: ConfigFields) -> Option<Config>
         ensures { result ≡ (if is_ordered fields then Some fields else None) }

@@ -45,7 +45,7 @@ fn put_head(bytes: &mut Vec<u8>, host: &[u8], path: &[u8], digits: &[u8]) -> Res
 }
 
 /// Returns the head of a request to the target whose body has `len` bytes, and room for that body
-/// behind it.
+/// after it.
 fn head_for(alloc: Global, target: &Target, len: usize) -> Result<Vec<u8>, AllocError>
     ensures head { IfOk result
         (λ v. v.items ≡ request_head target.now.host target.now.path (decimal len)) }
@@ -83,7 +83,7 @@ pub(crate) struct Carrying {
     pub(crate) body: Bytes,
 }
 
-/// Returns the request that carries the samples of a builder, whole, in one buffer that is written
+/// Returns the whole request that carries the samples of a builder, in one buffer that is written
 /// once.
 pub(crate) fn request_with(
     alloc: Global,

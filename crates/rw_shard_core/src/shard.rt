@@ -1,4 +1,4 @@
-//! The state of one shard of a sender, behind its queue.
+//! The state of one shard of a sender behind its queue.
 
 ghost use Rattle.std.specs.Prelude.{◌≡◌, ◌↔◌, IsTrue, ◌+◌, ◌<◌, ◌≤◌, [], true, false, All, ◌&&◌, Some, None, if◌then◌else◌, IfOk, IfSome, OnOk, OnErr, length};
 ghost use Rattle.rw_retry.specs.Judgements.{judgement_of};
@@ -34,7 +34,7 @@ pub(crate) struct OpenBatch {
 /// An attempt to send the open batch of a shard.
 #[derive(Debug, Drop)]
 pub struct Attempt {
-    /// The id of the batch, with which a reply to the attempt is handed to `ShardCore::reply`.
+    /// The id of the batch, which goes to `ShardCore::reply` with the reply to the attempt.
     pub id: BatchId,
     /// The bytes of the request, the same at each attempt.
     pub request: Bytes,
@@ -70,7 +70,7 @@ fn are_unnamed(ledger: &Ledger, places: &[Place]) -> bool
 /// batch that is being sent.
 ///
 /// Samples are taken one after the other into a builder. When that is due it is frozen into a
-/// batch, which stays open and is sent as often as it takes, until a reply resolves it.
+/// batch, which stays open and is sent as often as needed, until a reply resolves it.
 #[derive(Drop)]
 pub struct ShardCore {
     alloc: Global,
@@ -117,8 +117,8 @@ impl Model for ShardCore {
         (samples_in s.taken) (samples_in s.resolved) (samples_in s.pending) };
 }
 
-/// Returns whether a place has the next number and a later position than the one before it, if
-/// there is one.
+/// Returns whether a place has the next number and a later position than the one before it, or
+/// there is none before it.
 fn follows(last: Option<Place>, place: Place) -> bool
     ensures { IsTrue result ↔ IfSome last (λ l. (place.seq ≡ l.seq + 1) × (l.pos < place.pos)) }
 {
@@ -203,7 +203,7 @@ impl ShardCore {
         self.ended
     }
 
-    /// Returns the id of the open batch; `None` where no batch is open.
+    /// Returns the id of the open batch, or `None` if no batch is open.
     pub fn batch_id(&self) -> Option<BatchId>
         ensures { result
             ≡ (if is_empty self.now.batch then None else Some (batch_id self.now.batch)) }
@@ -290,9 +290,9 @@ impl ShardCore {
         }
     }
 
-    /// Makes the builder the open batch, with its request, and makes room in the ledger for its
-    /// samples. `Ok(false)`, and nothing changes, where a batch is open, the builder is empty or
-    /// the shard was killed. An `Err` changes nothing.
+    /// Makes the builder the open batch, with its request, and reserves room in the ledger for its
+    /// samples. Returns `Ok(false)`, and changes nothing, if a batch is open, the builder is empty
+    /// or the shard was killed. An `Err` changes nothing.
     pub fn freeze(&mut self, ledger: &mut Ledger) -> Result<bool, AllocError>
         ensures done { IfOk result (λ done. done ≡ can_freeze self.old) }
         ensures core { OnOk result (self.new ≡ freeze self.old) }
@@ -334,8 +334,8 @@ impl ShardCore {
     }
 
     /// Begins an attempt to send the open batch, with the request that was made when it was frozen.
-    /// `None` where no batch is open, an attempt is under way, or the shard was killed. An `Err`
-    /// changes nothing.
+    /// Returns `None` if no batch is open, an attempt is under way, or the shard was killed. An
+    /// `Err` changes nothing.
     pub fn attempt(&mut self) -> Result<Option<Attempt>, AllocError>
         ensures attempt { IfOk result
             (λ a. a ≡ (if can_send self.old then Some (attempt_for self.old) else None)) }
@@ -375,8 +375,8 @@ impl ShardCore {
         }
     }
 
-    /// Gives up the attempt that is under way; the batch stays open. `false`, and nothing changes,
-    /// where there is none or the shard was killed.
+    /// Gives up the attempt that is under way; the batch stays open. Returns `false`, and changes
+    /// nothing, if there is none or the shard was killed.
     pub fn lost(&mut self) -> bool
         ensures lost { result ≡ awaits self.old }
         ensures core { self.new ≡ lose self.old }
@@ -410,7 +410,7 @@ impl ShardCore {
         }
     }
 
-    /// Returns whether this is the id of the open batch, of which an attempt is under way.
+    /// Returns whether this is the id of the open batch and an attempt to send it is under way.
     fn is_answer(&self, id: BatchId) -> bool
         ensures { result ≡ is_answer id self.now }
     {
@@ -423,8 +423,8 @@ impl ShardCore {
         }
     }
 
-    /// Returns what a reply of this status to the batch `id` means. `None`, and nothing changes,
-    /// where that is not the open batch, no attempt is under way, or the shard was killed.
+    /// Returns what a reply of this status to the batch `id` means. Returns `None`, and changes
+    /// nothing, if that is not the open batch, no attempt is under way, or the shard was killed.
     ///
     /// A batch that is done gives its room in the ledger back; one that is refused uses it, as each
     /// of its samples is named with the status. Any other batch stays open, to be sent again.

@@ -1,5 +1,5 @@
 //! The queue of a shard: the same on one thread, and between the two threads of a feeder and a
-//! worker. This crate passes on what those two crates have.
+//! worker. This crate re-exports what those two crates have.
 #![tactic(auto)]
 
 pub use rw_plain_queue::{Item, Kind, PlainQueue, PutFault, histories_go_on};

@@ -20,7 +20,7 @@ store_after head (body ∷ bodies) = store_after (record head { store = (judged_
 abbrev pub head_after : State → List (List ℕ) → ℕ → State
 head_after head bodies busy = record head { store = store_after head bodies; busy = busy }
 
--- the body, where the head takes it: where it answers 204
+-- the body, if the head takes it: if it answers 204
 abbrev pub taken_of : ℕ → List ℕ → List (List ℕ)
 taken_of status body = if status == 204 then body ∷ [] else []
 
@@ -46,7 +46,7 @@ HasStored body old new = (m : WriteRequest) × (read body ≡ Ok m) × (new ≤ 
 
 -- A seat of the head that was `opening` asked. The head had been asked `before` then: first what
 -- the seat knew, and since then by other seats alone. It answered as it does that holds what it
--- took of these. This question is the next one. Where it is answered 204 the head takes its body,
+-- took of these. This question is the next one. If it is answered 204 the head takes its body,
 -- and else nothing. Memory is refused to messages alone, by a head that is not busy.
 pub record HasAsked (opening : State) (old : Seated) (body : List ℕ) (status : ℕ) (new : Seated) : Type 0 where
   pub before : List Question
@@ -90,7 +90,7 @@ pub record Unused : Type 0 where
   pub parts : ℕ
   pub table : TableId
 
--- what stands under the lock
+-- what is under the lock
 pub record Held : Type 0 where
   pub head : State
   pub questions : Known

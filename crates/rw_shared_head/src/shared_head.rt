@@ -40,7 +40,7 @@ impl<L: Naming> Model for SharedHead<L> {
 
 impl<L: Naming> SharedHead<L> {
     /// Shares a head among so many seats, which are numbered, over a blank of one part for each of
-    /// them and one for the lock. Where memory runs out, the head comes back as it was.
+    /// them and one for the lock. If memory runs out, the head comes back as it was.
     pub fn seats(
         alloc: Global,
         blank: Blank,

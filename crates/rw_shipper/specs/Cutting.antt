@@ -19,7 +19,7 @@ AreCutBy limit [] (q ∷ qs) = ⊥
 AreCutBy limit (p ∷ ps) [] = ⊥
 AreCutBy limit (p ∷ ps) (q ∷ qs) = IsCutBy limit p q × AreCutBy limit ps qs
 
--- in each of these queues each sample is the first one behind a mark, or what is counted with it is
+-- in each of these queues each sample is the first one after a mark, or what is counted with it is
 -- within the limit
 abbrev pub AreWithin : ℕ → List ShardHistory → Type 0
 AreWithin limit [] = ⊤
@@ -51,12 +51,12 @@ pub record GoesCut (old new : Counting) (was now : List ShardHistory) : Type 0 w
   pub cut : AreCutBy old.limit was now
   pub counted : AreCounted new.limit new.rooms now
 
--- one shard was put a Flush where that is asked for
+-- one shard was put a Flush if that is asked for
 abbrev pub IsCutAt : Bool → ℕ → ShardHistory → List ShardHistory → List ShardHistory → Type 0
 IsCutAt true k was old new = new ≡ set old k (marked was)
 IsCutAt false k was old new = new ≡ old
 
--- a sample of so many bytes is counted for the shard numbered k, which was put a Flush where the
+-- a sample of so many bytes is counted for the shard numbered k, which was put a Flush if the
 -- sample does not fit
 pub record HasRoomMade (k bytes : ℕ) (old new : Counting) (was now : List ShardHistory) : Type 0 where
   pub lane : ShardHistory

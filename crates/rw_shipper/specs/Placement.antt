@@ -15,7 +15,7 @@ as_sent p = record { pos = p.place.pos; series = p.place.series; t = p.t; word =
 abbrev pub put_in : ShardHistory → List Sent
 put_in lane = map as_sent (samples_in lane.put)
 
--- the same shard with the samples that it had, and maybe more behind them
+-- the same shard with the samples that it had, and maybe more after them
 abbrev pub IsKept : ShardHistory → ShardHistory → Type 0
 IsKept old new = (new.setup ≡ old.setup) × (more : List Placed) × (samples_in new.put ≡ samples_in old.put ++ more)
 

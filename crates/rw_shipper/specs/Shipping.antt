@@ -56,7 +56,7 @@ IsRead log None damage = HasRead log.pieces log.placed damage
 IsRead log (Some f) damage = ⊤
 
 -- Each shard of the epoch has ended, by an End that asks for all. The next epoch has a queue only
--- where all that was put is resolved, and nothing was put into those that it has.
+-- if all that was put is resolved, and nothing was put into those that it has.
 abbrev pub HasCompared : {T : Type 0} → Shards T → Shards T → Type 0
 HasCompared old new = AreAll old new.ended × EndBy Reshard old (map finished_of new.ended) × ((new.current ≡ []) ⊎ (AreResolved new.ended × AreFresh new.epoch new.current))
 
@@ -94,7 +94,7 @@ Feeds s (Err (Damaged f)) = HasRead s.log.pieces s.log.placed (Some f) × (s.fau
 Feeds s (Err OutOfMemory) = s.fault ≡ Some queue_fault.OutOfMemory
 Feeds s (Err Gone) = s.fault ≡ Some queue_fault.Gone
 
--- the piece joins those that were fed; where memory was refused it may not have
+-- the piece joins those that were fed; if memory ran out it may not have
 abbrev pub Joins : Sorting → Sorting → Piece → Result (Unit {0}) FeedFault → Type 0
 Joins old new piece (Ok u) = new.pieces ≡ old.pieces ++ piece ∷ []
 Joins old new piece (Err (Damaged f)) = new.pieces ≡ old.pieces ++ piece ∷ []

@@ -1,5 +1,5 @@
-//! The sender in threads: what comes of a log is put into the queues of its shards, each with a
-//! worker of its own.
+//! The sender in threads: the samples of a log are put into the queues of its shards, each with its
+//! own worker.
 #![tactic(auto)]
 
 mod laws;

@@ -90,7 +90,7 @@ module _ (c : Setup) (exs : ℕ → ℕ → List Exchange) (arrivals : List Arri
       pub read : (k : ℕ) → k < n → AreRead (requests_of epoch k w.requests)
       pub earlier : (e k i : ℕ) (x : Exchange) → e < epoch → slice_get (exs e k) i ≡ Some x → IsSentAs (requests_of e k w.requests) i x
 
-    -- and shard k stands so
+    -- and shard k is so
     pub record Stands (j m k : ℕ) (held : Option Exchange) (steps : List Step) (sent : List Exchange) (w : World) : Type 0 where
       pub all : AtWorks j m w
       pub s : Shard

@@ -54,7 +54,7 @@ unsent lanes k = by_lane (slice_get lanes k)
     by_lane None = refl
     by_lane (Some l) = refl
 
--- where nothing is sent, all that is sent is read again
+-- if nothing is sent, all that is sent is read again
 none-sent : (rs : List Request) → map sent_bytes rs ≡ [] → AreRead rs
 none-sent [] e = none-read
 none-sent (r ∷ rs) e = let no : ⊥ = cc in absurd no

@@ -24,7 +24,7 @@ use Rattle.rw_simulation.specs.EpochRuns.{ShardFate}
 use Rattle.rw_simulation.specs.StoppedRuns.{IsNamedIn, NamesAll, IsOfOne, SendsAll}
 use Rattle.rw_simulation.proofs.Tallies.{Names, Passes}
 
--- ---- what stands in two lists
+-- ---- what is in two lists
 pub get-first : {X : Type 0} (xs ys : List X) (i : ℕ) (x : X) → slice_get xs i ≡ Some x → slice_get (xs ++ ys) i ≡ Some x
 get-first [] ys i x e = absurd (none-some x e)
 get-first (z ∷ zs) ys zero x e = e

@@ -1,4 +1,4 @@
--- The number of shards changes: those at hand are ended once all is resolved, and the next ones
+-- The number of shards changes: the current ones are ended once all is resolved, and the next ones
 -- begin.
 use Rattle.std.proofs.Common.{◌≡◌, ℕ, suc, ◌<◌, ◌≤◌, ◌&&◌, Bool, true, false, not, cond, nat_le, List, [], ◌∷◌, ◌++◌, length, None, Some, is_some, refl, ap, ◌∙◌}
 use Rattle.std.specs.FinMap.{empty}

@@ -34,7 +34,7 @@ Receives c OutOfMemory bytes head status next = (status ≡ 503) × (next ≡ he
 abbrev pub IsBefore : ℕ → ℕ → ℕ → Arrival → Type 0
 IsBefore epoch shard number a = (epoch < a.epoch) ⊎ ((epoch ≡ a.epoch) × (shard ≡ a.shard) × (number < a.number))
 
--- among the first n arrivals stands one of this exchange with this status
+-- among the first n arrivals is one of this exchange with this status
 pub record IsAnsweredBy (arrivals : List Arrival) (n epoch shard number status : ℕ) : Type 0 where
   pub at : ℕ
   pub early : at < n

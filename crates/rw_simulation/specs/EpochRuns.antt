@@ -73,7 +73,7 @@ pub record ShardFate : Type 0 where
   pub left : List Queued
   pub requests : List (List ℕ)
 
--- on the way there, where these requests were sent in all, with these samples to come
+-- on the way there, if these requests were sent in all, with these samples to come
 pub record IsOnTheWay (c : Setup) (epoch k : ℕ) (requests : List Request) (s : Shard) (todo : List Sent) (f : ShardFate) : Type 0 where
   pub coming : Coming
   pub ready : IsReady c k s coming

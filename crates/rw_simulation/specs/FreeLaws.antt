@@ -17,7 +17,7 @@ refused_freely c (Of e ∷ hs) w = refused_in w e (is_over w) ++ refused_freely 
 refused_freely c (Answered k status ∷ hs) w = refused_freely c hs (turned_away w status (slice_get w.requests k))
 
 -- Each placed sample is in one class, and the filtered ones are counted. A status is named exactly
--- where a reply with that status, which the sender took, refused a batch with the sample. Each id
+-- if a reply with that status, which the sender took, refused a batch with the sample. Each id
 -- has one batch, which each request with it carries as the same bytes, and the shards keep their
 -- lists.
 pub record KeepsLaws (c : Setup) (hs : List Happening) : Type 0 where

@@ -41,7 +41,7 @@ abbrev pub AreOfSteps : {T : Type 0} (tells : T → Type 0) (seen : T → List E
 AreOfSteps tells seen is_for exchanges [] h = ⊤
 AreOfSteps tells seen is_for exchanges (j ∷ js) h = (exchanges j.worker.value.queue.epoch j.worker.value.queue.shard ≡ exchanges_of h.0.report.steps) × AreOfSteps tells seen is_for exchanges js h.1
 
--- and there are no others. What a transport tells is the same, where it tells.
+-- and there are no others. What a transport tells is the same, if it tells.
 pub record AreExchangesOf {T : Type 0} (tells : T → Type 0) (seen : T → List Exchange) (is_for : ℕ → ℕ → T → Type 0) (js : List (StoppedShard T)) (worked : AreWorked tells seen is_for js) (exchanges : ℕ → ℕ → List Exchange) : Type 0 where
   pub each : AreOfSteps tells seen is_for exchanges js worked
   pub owned : (e k i : ℕ) (x : Exchange) → slice_get (exchanges e k) i ≡ Some x → (n : ℕ) × (j : StoppedShard T) × (slice_get js n ≡ Some j) × (j.worker.value.queue.epoch ≡ e) × (j.worker.value.queue.shard ≡ k)
@@ -60,7 +60,7 @@ owed_of_placed s names l = owed names (kept_points_below s.log.choice (entries s
 -- each once, less exactly those that the report names (`in_order`), and of these only samples that
 -- were placed (`of_placed`). What the report does not name of the placed ones rises strictly in
 -- time (`owed_rises`), and so does what the store holds (`rises`). Of a label set that the rules do
--- not keep it holds none. Where the shipper left nothing, the store holds all of the samples that
+-- not keep it holds none. If the shipper left nothing, the store holds all of the samples that
 -- were placed (`whole`); and else each that was placed and of which the report neither says that it
 -- was left nor names it (`settled`).
 pub record IsHeld {T : Type 0} (s : Shipping T) (r : Report T) (store : Store) : Type 0 where
@@ -81,7 +81,7 @@ ReceivesInOrder tells seen is_for s r =
     → EndBy Orderly s.fleet r.workers.items → (IsAbandoned r.outcome → ⊥)
     → (exchanges : ℕ → ℕ → List Exchange) (arrivals : List Arrival) (heads : ℕ → State) → AreExchangesOf tells seen is_for h.joined h.worked exchanges → IsOneReceiver c exchanges arrivals heads → IsHeld s r (heads (length arrivals)).store
 
--- and of every shipper that abandoned what was left, however it was stopped: a beginning of them.
+-- and of every shipper that abandoned what was left, however it was stopped: a prefix of them.
 -- `before` is the fleet as for the run of the machine.
 abbrev pub ReceivesAbandoned : {T : Type 0} → (T → Type 0) → (T → List Exchange) → (ℕ → ℕ → T → Type 0) → Shipping T → Report T → Type 0
 ReceivesAbandoned {T} tells seen is_for s r =

@@ -25,7 +25,7 @@ AreAskedFor path limit [] questions = questions ≡ []
 AreAskedFor path limit (x ∷ xs) questions = (mine : List Question) × (later : List Question) × (questions ≡ mine ++ later) × Asks path limit x mine × AreAskedFor path limit xs later
 
 -- From this seat the exchanges of a worker were asked, and nothing else; the head that was
--- `opening` answered them, behind what it had been asked before each.
+-- `opening` answered them, after what it had been asked before each.
 pub record IsSeatOf (path : List ℕ) (limit : ℕ) (opening : State) (exchanges : List Exchange) (s : Seated) : Type 0 where
   pub asked : AreAskedFor path limit exchanges (own s.number s.asked)
   pub answered : (n : ℕ) (q : Question) → slice_get s.asked n ≡ Some q → q.seat ≡ s.number → IsAnsweredAt opening (take n s.asked) q
@@ -40,7 +40,7 @@ pub record AreSeated (c : Setup) (exchanges : ℕ → ℕ → List Exchange) (op
   pub seat : (k : ℕ) (s : Seated) → slice_get seats k ≡ Some s → IsSeatOf c.target.path c.max_body opening (exchanges 0 k) s
   pub alone : (e k i : ℕ) (x : Exchange) → slice_get (exchanges e k) i ≡ Some x → (e ≡ 0) × (k < length seats)
 
--- So the head was one receiver of their requests, and holds what that holds behind the last one; no
+-- So the head was one receiver of their requests, and holds what that holds after the last one; no
 -- premise on the network is left.
 abbrev pub SeatsAsOne : Setup → (ℕ → ℕ → List Exchange) → State → List Seated → Store → Type 0
 SeatsAsOne c exchanges opening seats store =

@@ -66,12 +66,12 @@ pub record IsSharedReceiver (c : Setup) (exchanges : ℕ → ℕ → List Exchan
       × IsAnswered c opening (questions_in (take n comings)) x.request a.status a.question
   pub told : AreTold exchanges (map arrival_of comings)
 
--- the head behind the first n of them
+-- the head after the first n of them
 abbrev pub head_behind : State → List Coming → ℕ → State
 head_behind opening comings n = head_after opening (bodies_of (questions_in (take n comings))) 0
 
 -- It is one receiver, of a machine whose receiver is not busy by itself; and what it holds, once
--- all seats are back, is what that holds behind the last request.
+-- all seats are back, is what that holds after the last request.
 abbrev pub SharesAsOne : Setup → (ℕ → ℕ → List Exchange) → State → List Coming → Type 0
 SharesAsOne c exchanges opening comings =
     c.busy ≡ 0 → IsSharedReceiver c exchanges opening comings

@@ -89,7 +89,7 @@ pub record SendsAll {T : Type 0} (tells : T → Type 0) (seen : T → List Excha
   pub each : (k : ℕ) (f : Finished T) → slice_get fs k ≡ Some f → tells f.transport → map sent_bytes (requests_of (queue_of f.ends).epoch (queue_of f.ends).shard requests) ≡ map request_in (seen f.transport)
   pub owned : AllByRecursion (IsOfOne fs) requests
 
--- the machine's report is the outcome; the samples that are left it tells in rising order, where
+-- the machine's report is the outcome; the samples that are left it tells in rising order, if
 -- the shipper has them shard by shard
 abbrev pub Tells : Outcome → Option Ending → Type 0
 Tells (outcome.Complete end) found = found ≡ Some (Complete end)
@@ -115,7 +115,7 @@ pub record ComesTo {T : Type 0} (tells : T → Type 0) (seen : T → List Exchan
 abbrev pub IsRun : {T : Type 0} → (T → Type 0) → (T → List Exchange) → Setup → Shipping T → Report T → Type 0
 IsRun tells seen c s r = (hs : List Happening) × ComesTo tells seen c s r (world_of c hs) × KeepsLaws c hs
 
--- So it is of every shipper that left nothing, over whichever epochs its samples were placed, where
+-- So it is of every shipper that left nothing, over whichever epochs its samples were placed, if
 -- these had such numbers of shards and ended in turn;
 abbrev pub StopsAsRun : {T : Type 0} → (T → Type 0) → (T → List Exchange) → (ℕ → ℕ → T → Type 0) → Shipping T → Report T → Type 0
 StopsAsRun tells seen is_for s r =
@@ -136,7 +136,7 @@ StopsInOrder tells seen is_for s r =
 
 -- So it is of every shipper that abandoned what was left, however it was stopped. `before` is the
 -- fleet as it stood before its last shards were ended: that of the shipper, with the shards that a
--- failed reshard had begun; or where that had begun none, the fleet before it. The shards of the
+-- failed reshard had begun; or if that had begun none, the fleet before it. The shards of the
 -- epochs before had resolved all.
 abbrev pub StopsAbandoned : {T : Type 0} → (T → Type 0) → (T → List Exchange) → (ℕ → ℕ → T → Type 0) → Shipping T → Report T → Type 0
 StopsAbandoned {T} tells seen is_for s r =

@@ -95,7 +95,7 @@ pub record IsAfter (w : World) (i : ℕ) (s : Shard) (ledger : Named) (steps : L
   pub sent : map sent_bytes requests ≡ map request_in (exchanges_of steps)
   pub ids : AllByRecursion (IsIdOf s.core.epoch i) requests
 
--- The shard's lists are whole, and nothing waits behind an End: so it is not drained before the
+-- The shard's lists are whole, and nothing waits after an End: so it is not drained before the
 -- last step.
 pub record CanEnd (s : Shard) (steps : List Step) : Type 0 where
   pub kept : length s.put ≡ length s.core.resolved + (length s.core.batch + (length s.core.builder + length (samples_in s.queue)))

@@ -67,10 +67,10 @@ pub fn a_stopped_shipper_is_a_run<T: Transport>()
 /// before its exchange began, a status that a worker read is one that the receiver gave to that
 /// exchange, and the receiver is one head that began empty, and answers a request as the endpoint
 /// answers its batch, whose body reads again. Then it holds of each label set that the rules keep a
-/// beginning of its samples, in log order, each once, less exactly those that the report names, and
-/// of other label sets none. Where the shipper left nothing it holds all of them, and else each
-/// that the report neither lists as left nor names. `orderly` and `abandoned` ask of the shipper
-/// what those of `a_stopped_shipper_is_a_run` ask.
+/// prefix of its samples, in log order, each once, less exactly those that the report names, and of
+/// other label sets none. If the shipper left nothing it holds all of them, and else each that the
+/// report neither lists as left nor names. `orderly` and `abandoned` ask of the shipper what those
+/// of `a_stopped_shipper_is_a_run` ask.
 pub fn one_receiver_holds_the_samples<T: Transport>()
     ensures orderly { (s : Shipping T) (r : Report T) → ReceivesInOrder T.tells T.seen T.is_for s r }
     ensures abandoned { (s : Shipping T) (r : Report T)

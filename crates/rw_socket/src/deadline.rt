@@ -9,7 +9,7 @@ use std::time::{Clock, Duration, Instant};
 #[derive(Clone, Copy, Drop)]
 pub struct Deadline<C> {
     clock: C,
-    /// When the deadline was set; `None` where the clock could not be read.
+    /// When the deadline was set; `None` if the clock could not be read.
     begun: Option<Instant>,
     after: Duration,
 }
@@ -25,8 +25,8 @@ impl<C: Clock> Deadline<C> {
         }
     }
 
-    /// Returns the time that is left; `None` once the deadline has passed, and where the clock
-    /// cannot be read.
+    /// Returns the time that is left; `None` once the deadline has passed, and if the clock cannot
+    /// be read.
     pub fn left(&self) -> Option<Duration>
         ensures { IfSome result (λ left. 0 < as_nanos left) }
     {

@@ -16,7 +16,7 @@ use Rattle.rw_machine.specs.Worlds.{World, Ending, Complete, Abandoned, Damaged,
 abbrev pub point_text : Point → List ℕ
 point_text p = 32 ∷ signed_decimal p.0 ++ 61 ∷ value_text p.1
 
--- `received LABELS` and the samples; no line where there is none
+-- `received LABELS` and the samples; no line if there is none
 abbrev pub received_text : Labels → List Point → List ℕ
 received_text l [] = []
 received_text l (p ∷ ps) = codes "received " ++ labels_text l ++ flat_map point_text (p ∷ ps) ++ 10 ∷ []

@@ -16,8 +16,8 @@ const LONGEST: usize = 64;
 const LOOK_MS: u64 = 200;
 
 /// Reads `input` to its end, and then asks for an end in order, or to the first line `hard`, and
-/// asks for an end at once. An input that cannot be read counts as ended, and so it does where
-/// there is no memory for a line. At most 64 bytes of the input are kept.
+/// asks for an end at once. An input that cannot be read counts as ended, and so it does if there
+/// is no memory for a line. At most 64 bytes of the input are kept.
 pub fn watch_input<B: BufRead>(alloc: Global, input: &mut B, sign: &Sign) {
     let mut line = Vec::new(alloc);
     if line.reserve(LONGEST).is_err() {
@@ -44,7 +44,7 @@ pub fn watch_input<B: BufRead>(alloc: Global, input: &mut B, sign: &Sign) {
 }
 
 /// Looks five times a second for the file at `path`. It asks for an end in order once the file is
-/// there, and for an end at once when its first line is `hard`. Returns then, or where another has
+/// there, and for an end at once when its first line is `hard`. Returns then, or if another has
 /// asked for an end at once.
 pub fn watch_file<R: Clock + Files>(rt: &R, path: &str, sign: &Sign) {
     for _ in 0..u64::MAX {
@@ -70,7 +70,7 @@ fn begins_hard<R: Files>(rt: &R, path: &str) -> bool {
     file.read_exact(&mut line).is_ok() && line == *b"hard\n"
 }
 
-/// Returns the next byte; `None` at the end of the input, and where it cannot be read.
+/// Returns the next byte; `None` at the end of the input, and if it cannot be read.
 fn next_byte<B: BufRead>(input: &mut B) -> Option<u8> {
     let mut byte = [0u8; 1];
     for _ in 0..u64::MAX {

@@ -174,8 +174,8 @@ pub(crate) fn hear_answer<R: Source, W: Sink>(
 /// Writes a request, and reads until the status of its reply has come.
 ///
 /// A receiver may answer by the head of a request, and close the connection before the body has
-/// come. So the reply is read also where the writer failed; a status that takes the request counts
-/// only where the request was written whole.
+/// come. So the reply is read also if the writer failed; a status that takes the request counts
+/// only if the request was written whole.
 pub fn ask<R: Source, W: Sink>(
     alloc: Global,
     reader: &mut R,

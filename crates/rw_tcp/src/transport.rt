@@ -126,7 +126,7 @@ fn cause_of(fault: NoReply) -> Cause {
     }
 }
 
-/// This cause; or `Timeout`, where the deadline has passed.
+/// This cause; or `Timeout`, if the deadline has passed.
 fn cause_at<C: Clock>(cause: Cause, deadline: &Deadline<C>) -> Cause {
     match deadline.left() {
         Some(_) => cause,
@@ -152,7 +152,7 @@ fn exchange_over<R: Source, W: Sink>(
     }
 }
 
-/// Sends a request over a connection, where there is one, before the deadline.
+/// Sends a request over a connection, if there is one, before the deadline.
 fn exchange_through<C: Clock + Copy>(
     alloc: Global,
     stream: Option<TcpStream>,

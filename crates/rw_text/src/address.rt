@@ -27,7 +27,7 @@ fn port_of(digits: &[u8]) -> Option<u16>
 }
 
 impl<'a> Address<'a> {
-    /// Returns the host without brackets around it, in which an IPv6 address may stand (RFC 3986,
+    /// Returns the host without brackets around it, in which an IPv6 address may be (RFC 3986,
     /// section 3.2.2).
     pub fn name(&self) -> &'a str
         ensures { IsName self.now.host.now result.now }

@@ -9,7 +9,7 @@ use crate::bytes::after;
 use itoa::Buffer;
 use std::alloc::AllocError;
 
-/// Returns the number behind the digits of `front` once this digit follows them.
+/// Returns the number after the digits of `front` once this digit follows them.
 fn with_digit(front: u64, digit: u8) -> Option<u64>
     requires { (48 ≤ digit) × (digit ≤ 57) }
     ensures { MatchOption result (2 ^ 64 ≤ front * 10 + (digit - 48))
@@ -60,8 +60,8 @@ pub fn push_number(out: &mut Vec<u8>, n: u64) -> Result<(), AllocError>
     out.extend_from_slice(buffer.format(n).as_bytes())
 }
 
-/// Appends the decimal digits of `z`, with a minus before them where it is negative. An `Err`
-/// leaves `out` as it was.
+/// Appends the decimal digits of `z`, with a minus before them if it is negative. An `Err` leaves
+/// `out` as it was.
 pub fn push_integer(out: &mut Vec<u8>, z: i64) -> Result<(), AllocError>
     ensures ok { OnOk result (out.new.items ≡ out.old.items ++ signed_decimal z) }
     ensures err { OnErr result (out.new.items ≡ out.old.items) }

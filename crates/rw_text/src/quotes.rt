@@ -6,7 +6,7 @@ ghost use Rattle.rw_text.specs.LabelText.{escaped, quoted};
 use crate::bytes::{after, push_byte};
 use crate::fault::TextFault;
 
-/// Returns the byte that a text behind a backslash begins with, and what follows it.
+/// Returns the byte that a text after a backslash begins with, and what follows it.
 fn read_behind_backslash(text: &[u8]) -> Option<(u8, &[u8])>
     ensures { MatchOption result
         ((b : ℕ) (rest : List ℕ) → 92 ∷ text.now ≡ escaped b ++ rest → ⊥)

@@ -9,7 +9,7 @@ pub record Reserved : Type 0 where
   pub room : ℕ
   pub has_failed : Bool
 
--- What a reader has left loses some text at its front, where that is known, and what was there
+-- What a reader has left loses some text at its front, if that is known, and what was there
 -- before grows by this text.
 pub record ReadsOnto (left_before left_after : Option (List ℕ)) (before after : List ℕ) : Type 0 where
   pub text : List ℕ

@@ -17,7 +17,7 @@ word_of_int m =
     else if nat_le (nat_abs m) (2 ^ 53) then Some ((if int_lt m (pos 0) then 2 ^ 63 else 0) + magnitude_word (nat_abs m))
     else None
 
--- the size that a word has where it is that of a whole number: its highest bit and the fraction
+-- the size that a word has if it is that of a whole number: its highest bit and the fraction
 -- below it
 abbrev pub size_of_word : ℕ → ℕ
 size_of_word w =

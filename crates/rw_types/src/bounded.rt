@@ -23,7 +23,7 @@ impl<const LOW: u64, const HIGH: u64> Model for Bounded<LOW, HIGH> {
 }
 
 impl<const LOW: u64, const HIGH: u64> Bounded<LOW, HIGH> {
-    /// Returns the number as a `Bounded`; `None` where it is outside the range.
+    /// Returns the number as a `Bounded`, or `None` if it is outside the range.
     pub fn try_new(number: u64) -> Option<Self>
         ensures { result ≡ (if nat_le LOW number && nat_le number HIGH then Some number else None) }
     {
@@ -34,7 +34,7 @@ impl<const LOW: u64, const HIGH: u64> Bounded<LOW, HIGH> {
         }
     }
 
-    /// Returns the number as a `Bounded`, for a caller who knows that it is in the range.
+    /// Returns the number as a `Bounded`. The caller knows that it is in the range.
     pub fn new(number: u64) -> Self
         requires low { LOW ≤ number }
         requires high { number ≤ HIGH }

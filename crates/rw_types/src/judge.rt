@@ -110,7 +110,7 @@ fn have_values<L: LabelBytes>(labels: &[L]) -> bool
     labels.iter().all(|l| is_filled(l.value()))
 }
 
-/// Returns whether the name of a label comes before that of the next one in byte order.
+/// Returns whether the name of `label` comes before that of `next` in byte order.
 fn rise<L: LabelBytes>(label: &L, next: &L) -> bool
     ensures { result ≡ rise (L.shown label.now) (L.shown next.now) }
 {
@@ -143,7 +143,7 @@ pub(crate) fn are_longer_than<L: LabelBytes>(labels: &[L], most: usize) -> bool
     false
 }
 
-/// Returns the first fault of the labels, in the order of `LabelFault`; `None` where they are a
+/// Returns the first fault of the labels, in the order of `LabelFault`, or `None` if they are a
 /// label set. `names` says which names are accepted.
 pub(crate) fn fault_of<L: LabelBytes>(names: Names, labels: &[L]) -> Option<LabelFault>
     ensures { result ≡ label_fault names (map L.shown labels.now) }

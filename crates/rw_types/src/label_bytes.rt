@@ -1,10 +1,10 @@
-//! Labels as pairs of bytes or of texts, for those who only read them.
+//! Labels as pairs of bytes or of strings, for code that only reads them.
 
 ghost use Rattle.std.specs.Prelude.{◌≡◌};
 ghost use Rattle.std.specs.Str.{is_utf8};
 ghost use Rattle.rw_types.specs.Labels.{Label, is_text, bytes_label, text_label};
 
-/// A label, whatever holds its name and its value.
+/// A label, whatever type holds its name and its value.
 pub(crate) trait LabelBytes {
     ghost shown: { Self → Label };
 

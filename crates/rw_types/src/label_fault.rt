@@ -24,11 +24,11 @@ pub enum LabelFault {
     /// A name is empty.
     EmptyName,
     /// A name does not match `[a-zA-Z_][a-zA-Z0-9_]*`, or the value of `__name__` does not match
-    /// `[a-zA-Z_:][a-zA-Z0-9_:]*`. Only where legacy names are asked for (`Names::Legacy`).
+    /// `[a-zA-Z_:][a-zA-Z0-9_:]*`. This is a fault only with `Names::Legacy`.
     BadName,
     /// A value is empty.
     EmptyValue,
-    /// The names do not rise strictly in byte order: one stands too late, or twice.
+    /// The labels are not sorted by name in byte order, or a name is repeated.
     NotSorted,
     /// There are more than `MAX_LABELS` labels.
     TooMany,
@@ -65,8 +65,8 @@ impl From<AllocError> for LabelFault {
 }
 
 impl LabelFault {
-    /// Returns the number that stands for the fault in plans and reports: 1 to 7, and 0 for
-    /// `OutOfMemory`, which is no fault of the labels.
+    /// Returns the number that stands for the fault in plans and reports: 1 to 7, or 0 for
+    /// `OutOfMemory`, which is not a fault of the labels.
     pub fn number(self) -> u8
         ensures { result ≡ label_fault_number self }
     {

@@ -9,8 +9,8 @@ ghost use Rattle.rw_types.specs.LabelFields.{tag, string_field, label, label_fie
 
 use rw_codes::{push_uvarint, uvarint_len};
 
-/// Returns the length of a length-delimited field of `len` bytes, with a tag of one byte; `None`
-/// where it does not fit 64 bits.
+/// Returns the length of a length-delimited field of `len` bytes, with a tag of one byte, or `None`
+/// if it does not fit 64 bits.
 pub fn bytes_field_len(len: usize) -> Option<usize>
     ensures some { IfSome result (λ n. n ≡ 1 + length (uvarint len) + len) }
     ensures none { IfNone result (2 ^ 64 ≤ 1 + length (uvarint len) + len) }
@@ -39,7 +39,7 @@ fn label_len(name: &str, value: &str) -> Option<usize>
     name.checked_add(value)
 }
 
-/// Returns the length of the field of a label in its series; `None` where it does not fit 64 bits.
+/// Returns the length of the field of a label in its series, or `None` if it does not fit 64 bits.
 #[tactic(auto, unfolding(crate::specs::LabelFields::label_field))]
 pub fn label_field_len(name: &str, value: &str) -> Option<usize>
     ensures some { IfSome result (λ n. n ≡ length (label_field (name.now, value.now))) }
@@ -49,7 +49,7 @@ pub fn label_field_len(name: &str, value: &str) -> Option<usize>
     bytes_field_len(inner)
 }
 
-/// Returns the length of the fields of the labels in their series; `None` where it does not fit 64
+/// Returns the length of the fields of the labels in their series, or `None` if it does not fit 64
 /// bits.
 pub fn label_fields_len(labels: &[(String, String)]) -> Option<usize>
     ensures some { IfSome result (λ n. n ≡ length (label_fields (map text_label labels.now))) }

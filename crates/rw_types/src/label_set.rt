@@ -22,16 +22,16 @@ use std::hash::{FoldHasher, Hash, Hasher};
 use std::marker::Model;
 
 /// The labels that identify one series: sorted by name in byte order, no name twice, no name or
-/// value empty, at most `MAX_LABELS` labels and `MAX_LABEL_BYTES` bytes. The names are of the form
-/// that was asked for when the set was made, and UTF-8 in any case.
+/// value empty, at most `MAX_LABELS` labels and `MAX_LABEL_BYTES` bytes. The names have the form
+/// that was asked for when the set was made, and are UTF-8 in any case.
 ///
-/// Contracts see the list of (name, value); two label sets are equal where these lists are.
+/// Contracts see the list of (name, value). Two label sets are equal exactly if these lists are.
 #[derive(Debug, Drop)]
 pub struct LabelSet {
     labels: Vec<(String, String)>,
-    /// Their fields in a series of a message, kept so that a body takes them by one copy.
+    /// Their fields in a series of a message, kept so that a body gets them by one copy.
     fields: Vec<u8>,
-    /// The hash of all texts, kept so that a map looks at one number.
+    /// The hash of all strings, kept so that a map reads one number.
     hash: u64,
 }
 
@@ -60,7 +60,7 @@ fn hash_of(labels: &[(String, String)]) -> u64
     state.finish()
 }
 
-/// Makes `fields` the fields of the labels, in the room that it has as far as it goes.
+/// Makes `fields` the fields of the labels, and reuses the memory that it has.
 fn overwrite_fields(fields: &mut Vec<u8>, labels: &[(String, String)]) -> Result<(), AllocError>
     ensures { OnOk result (fields.new.items ≡ label_fields (map text_label labels.now)) }
 {
@@ -73,7 +73,7 @@ fn overwrite_fields(fields: &mut Vec<u8>, labels: &[(String, String)]) -> Result
     Ok(())
 }
 
-/// Returns the bytes as a text.
+/// Returns the bytes as a string.
 fn text_of(alloc: Global, bytes: &[u8]) -> Result<String, AllocError>
     requires { is_utf8 bytes.now ≡ true }
     ensures { IfOk result (λ t. string_bytes t ≡ bytes.now) }
@@ -84,7 +84,7 @@ fn text_of(alloc: Global, bytes: &[u8]) -> Result<String, AllocError>
     }
 }
 
-/// Returns a label as texts.
+/// Returns a copy of a label as strings.
 fn label_texts(alloc: Global, label: &(Vec<u8>, Vec<u8>)) -> Result<(String, String), AllocError>
     requires { is_text (bytes_label label.now) ≡ true }
     ensures { IfOk result (λ t. text_label t ≡ bytes_label label.now) }
@@ -92,7 +92,7 @@ fn label_texts(alloc: Global, label: &(Vec<u8>, Vec<u8>)) -> Result<(String, Str
     Ok((text_of(alloc, &label.0)?, text_of(alloc, &label.1)?))
 }
 
-/// Labels as texts.
+/// Returns copies of labels as strings.
 fn texts_of(
     alloc: Global,
     labels: &[(Vec<u8>, Vec<u8>)],
@@ -107,7 +107,7 @@ fn texts_of(
     Ok(texts)
 }
 
-/// Writes a text over another one, into the room that this has.
+/// Overwrites a string, and reuses the memory that it has.
 fn overwrite(text: &mut String, new: &str) -> Result<(), AllocError>
     ensures { OnOk result (string_bytes text.new ≡ new.now) }
 {
@@ -115,7 +115,7 @@ fn overwrite(text: &mut String, new: &str) -> Result<(), AllocError>
     text.push_str(new)
 }
 
-/// Writes a label over another one.
+/// Overwrites a label, and reuses the memory that it has.
 fn overwrite_label(label: &mut (String, String), new: &(String, String)) -> Result<(), AllocError>
     ensures { OnOk result (text_label label.new ≡ text_label new.now) }
 {
@@ -123,7 +123,7 @@ fn overwrite_label(label: &mut (String, String), new: &(String, String)) -> Resu
     overwrite(&mut label.1, &new.1)
 }
 
-/// Writes the first of the new labels over those that there are.
+/// Overwrites the labels with the first of the new ones.
 fn overwrite_first(
     labels: &mut Vec<(String, String)>,
     new: &[(String, String)],
@@ -146,7 +146,7 @@ fn copy_of(label: &(String, String)) -> Result<(String, String), AllocError>
     Ok((label.0.clone()?, label.1.clone()?))
 }
 
-/// Copies the labels behind those that there are.
+/// Appends copies of the new labels that come after those that were overwritten.
 fn append_copies(
     labels: &mut Vec<(String, String)>,
     new: &[(String, String)],
@@ -161,7 +161,7 @@ fn append_copies(
     Ok(())
 }
 
-/// Makes the labels the same as the new ones, in the room that they have as far as it goes.
+/// Makes the labels the same as the new ones, and reuses the memory that they have.
 fn replace_all(
     labels: &mut Vec<(String, String)>,
     new: &[(String, String)],
@@ -187,7 +187,7 @@ fn replace(
 }
 
 impl LabelSet {
-    /// Returns the label set without labels. This takes no memory.
+    /// Returns the empty label set. This takes no memory.
     pub fn empty(alloc: Global) -> LabelSet
         ensures { result ≡ [] }
     {
@@ -215,9 +215,9 @@ impl LabelSet {
         })
     }
 
-    /// Overwrites the set with the label set of `labels`, in the memory that it has as far as that
-    /// goes. `names` says which names are accepted. The first fault of the labels, found before
-    /// memory is taken, leaves the set as it was; after `OutOfMemory` it is empty.
+    /// Overwrites the set with the label set of `labels`, and reuses the memory that it has.
+    /// `names` says which names are accepted. The first fault of the labels is found before memory
+    /// is taken, and leaves the set as it was; after `OutOfMemory` the set is empty.
     pub fn assign(&mut self, names: Names, labels: &[(String, String)]) -> Result<(), LabelFault>
         ensures ok { OnOk result (self.new ≡ map text_label labels.now) }
         ensures label_set { OnOk result (IsLabelSet names (map text_label labels.now)) }
@@ -302,8 +302,8 @@ impl PartialEq for LabelSet {
 
     ghost laws = { partial_equiv_from_equiv (eq_by_cmp_equiv labels_cmp-total) };
 
-    // Labels that are not the same are not spelled alike, and one run of bytes is sooner compared
-    // than many texts.
+    // Label sets that differ have different fields, and one run of bytes is compared faster than
+    // many strings.
     fn eq(&self, other: &LabelSet) -> bool {
         self.fields == other.fields
     }
@@ -362,14 +362,14 @@ impl Hash for LabelSet {
     }
 }
 
-/// Law: the order of label sets calls two lists of labels equal exactly where they are the same
-/// list. The call does nothing.
+/// Law: the order of label sets calls two lists of labels equal exactly if they are the same list.
+/// The call does nothing.
 pub fn equal_where_same()
     ensures { (a b : Labels) → (is_eq (labels_cmp a b) ≡ true) ↔ (a ≡ b) }
 {}
 
-/// Law: with `Names::Utf8` no name is a bad one, and labels that are a label set with legacy names
-/// still are one. The call does nothing.
+/// Law: with `Names::Utf8` every name is accepted, and labels that are a label set with legacy
+/// names still are one. The call does nothing.
 pub fn utf8_takes_any_name()
     ensures no_bad_name { (labels : Labels) → label_fault Utf8 labels ≢ Some BadName }
     ensures legacy { (labels : Labels) → IsLabelSet Legacy labels → IsLabelSet Utf8 labels }

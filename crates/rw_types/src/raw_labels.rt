@@ -1,4 +1,4 @@
-//! Labels as they stand in a log, not yet checked.
+//! Labels as they are in a log, not yet checked.
 
 ghost use Rattle.std.specs.Prelude.{◌≡◌, ◌↔◌, ◌++◌, [], ◌∷◌, length, IsTrue, IfOk, OnOk, OnErr, map};
 ghost use Rattle.rw_types.specs.Labels.{bytes_label};

@@ -1,4 +1,4 @@
-//! The host and the path that HTTP requests name.
+//! The host and the path in the requests that carry messages.
 
 ghost use Rattle.std.specs.Prelude.{◌≡◌, ◌==◌, ◌&&◌, Some, None, true, codes, IfOk, string_bytes, if◌then◌else◌};
 ghost use Rattle.std.specs.List.{list_all};
@@ -113,7 +113,7 @@ impl HostName {
         is_host_name(text.as_bytes())
     }
 
-    /// Returns the host name with this text; `None` where `is_host` refuses it. This takes no
+    /// Returns the host name with this text, or `None` if `is_host` refuses it. This takes no
     /// memory.
     pub fn check(text: String) -> Option<HostName>
         ensures { result
@@ -126,7 +126,7 @@ impl HostName {
         }
     }
 
-    /// `localhost:9090`: the port of this machine at which Prometheus listens by default.
+    /// Returns `localhost:9090`, the address at which Prometheus listens by default.
     pub fn local_prometheus(alloc: Global) -> Result<HostName, AllocError>
         ensures { IfOk result (λ h. h ≡ codes "localhost:9090") }
     {
@@ -153,7 +153,7 @@ impl RequestPath {
         is_request_path(text.as_bytes())
     }
 
-    /// Returns the path with this text; `None` where `is_path` refuses it. This takes no memory.
+    /// Returns the path with this text, or `None` if `is_path` refuses it. This takes no memory.
     pub fn check(text: String) -> Option<RequestPath>
         ensures { result
             ≡ (if is_request_path (string_bytes text) then Some (string_bytes text) else None) }
@@ -165,7 +165,7 @@ impl RequestPath {
         }
     }
 
-    /// `/api/v1/write`, the path at which receivers of Prometheus take messages (Remote-Write 1.0,
+    /// Returns `/api/v1/write`, the path at which Prometheus receives messages (Remote-Write 1.0,
     /// "Protocol").
     pub fn api_v1_write(alloc: Global) -> Result<RequestPath, AllocError>
         ensures { IfOk result (λ p. p ≡ codes "/api/v1/write") }

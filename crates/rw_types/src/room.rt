@@ -8,7 +8,7 @@ use std::alloc::{AllocError, Global};
 use std::marker::Model;
 
 /// A writer that takes no memory after it was made. It fails at the first write that does not fit,
-/// and writes nothing of that.
+/// and writes nothing of it.
 #[derive(Debug, Drop)]
 pub struct Room {
     bytes: Vec<u8>,

@@ -29,7 +29,7 @@ fn scaled(n: u64, places: u32) -> u64
     n << places
 }
 
-/// Exponent and fraction of a whole number.
+/// Returns the exponent and the fraction of a whole number.
 fn magnitude(n: u64) -> u64
     requires positive { 0 < n }
     requires exact { n ≤ 2 ^ 53 }
@@ -42,7 +42,7 @@ fn magnitude(n: u64) -> u64
     scaled(1023 + top as u64, 52) + fraction
 }
 
-/// Returns the bits of a whole number.
+/// Returns the bits of a whole number, or `None` if it is outside -2^53 to 2^53.
 fn bits_of(m: i64) -> Option<u64>
     ensures { result ≡ word_of_int m }
 {
@@ -60,7 +60,7 @@ fn bits_of(m: i64) -> Option<u64>
     Some(word)
 }
 
-/// Returns the size of the whole number that has these bits, if there is one.
+/// Returns the absolute value of the whole number that has these bits, if there is one.
 fn size_in(bits: u64) -> u64
     ensures size { (m : ℤ) → word_of_int m ≡ Some bits → unsigned_abs m ≡ result }
     ensures bound { result < 2 ^ 63 }
@@ -76,7 +76,7 @@ fn size_in(bits: u64) -> u64
 }
 
 impl Word {
-    /// Returns the word of a whole number from -2^53 to 2^53; `None` for any other number.
+    /// Returns the word of a whole number from -2^53 to 2^53, or `None` for any other number.
     pub fn of_int(m: i64) -> Option<Word>
         ensures { result ≡ word_of_int m }
     {
@@ -86,8 +86,8 @@ impl Word {
         }
     }
 
-    /// Returns the whole number from -2^53 to 2^53 that has this word; `None` where none has, as
-    /// with -0.0.
+    /// Returns the whole number from -2^53 to 2^53 that has this word, or `None` if there is none,
+    /// as for -0.0.
     pub fn as_int(self) -> Option<i64>
         ensures some { IfSome result (λ m. word_of_int m ≡ Some self) }
         ensures none { IfNone result ((m : ℤ) → word_of_int m ≡ Some self → ⊥) }

@@ -22,7 +22,7 @@ bool_cases false = inr refl
 
 -- ---- an item that is whole, or a fault, stays
 
--- x stands at the front of len bytes with `left` bytes of the page, and y there when more has come
+-- x is at the front of len bytes with `left` bytes of the page, and y there when more has come
 unfoldable pub Stays : ℕ → ℕ → Item → Item → Type 0
 Stays left len nothing y = Unit {0}
 Stays left len begun y = Unit {0}
@@ -124,7 +124,7 @@ item_stays left (b ∷ bs) more =
 
 -- ---- the fragments stay
 
--- b has the fragments of a, and more; where a has a fault, b is a
+-- b has the fragments of a, and more; if a has a fault, b is a
 pub record Continues (a b : Layout) : Type 0 where
   pub more : List (Kind × List ℕ)
   pub fragments : b.fragments ≡ a.fragments ++ more

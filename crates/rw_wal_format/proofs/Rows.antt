@@ -1,4 +1,4 @@
--- Logs that were written and read by hand, by computation: records, segments, pages of 32 bytes.
+-- Logs that were written and read manually, by computation: records, segments, pages of 32 bytes.
 use Rattle.std.proofs.Common.{◌≡◌, ℕ, ◌-◌, ◌^◌, pos, List, [], ◌∷◌, ◌++◌, length, map, take, drop, set, replicate, Some, None, refl}
 use Rattle.byteorder.specs.Endian.{big_bytes}
 use Rattle.rw_codes.specs.Varint.{groups, number_in_groups}
@@ -49,7 +49,7 @@ segment-of_up = refl
 unfoldable read_text : List ℕ → Reading
 read_text text = reading 32768 (bytes text ∷ [])
 
--- where just the definition of `up` is read
+-- if just the definition of `up` is read
 unfoldable defined : Stop → Reading
 defined s = record { entries = Def 1 up ∷ []; skipped = 0; stop = s }
 
@@ -164,7 +164,7 @@ records_passed_over = refl
 unfoldable read_small : List ℕ → Reading
 read_small text = reading 32 (bytes text ∷ [])
 
--- where just one record was passed over
+-- if just one record was passed over
 abbrev one_passed : Stop → Reading
 one_passed s = record { entries = []; skipped = 1; stop = s }
 

@@ -11,7 +11,7 @@ use Rattle.rw_wal_format.specs.Writing.{log_bytes}
 use Rattle.rw_wal_format.specs.declared.tail_fault.TailFault.{TailFault}
 
 -- A later reading goes on from an earlier one: it begins with the same entries, and has passed over
--- no fewer records. Where the earlier one had met a fault, it is the same.
+-- no fewer records. If the earlier one had met a fault, it is the same.
 pub record Extends (earlier later : Reading) : Type 0 where
   pub more : List Entry
   pub entries : later.entries ≡ earlier.entries ++ more
@@ -33,7 +33,7 @@ abbrev pub reading_of_records : List (List ℕ) → Reading
 reading_of_records [] = stopped between
 reading_of_records (d ∷ ds) = with_record d (reading_of_records ds)
 
--- the entries of records, where each is of its type's form
+-- the entries of records, if each is of its type's form
 abbrev pub entries_of_records : List (List ℕ) → Option (List Entry)
 entries_of_records [] = Some []
 entries_of_records (d ∷ ds) = record_entries d then λ first. entries_of_records ds then λ more. Some (first ++ more)

@@ -1,4 +1,4 @@
--- A log that comes in pieces: bytes of the segment at hand, or the next segment.
+-- A log that comes in pieces: bytes of the current segment, or the next segment.
 use Rattle.std.specs.Prelude.{ℕ, ◌+◌, List, [], ◌∷◌, ◌++◌, Option, Some, None}
 use Rattle.rw_types.specs.declared.entry.Entry.{Entry}
 use Rattle.rw_wal_format.specs.Segments.{Reading, Stop, between, inside, at_fault, segment}
@@ -22,7 +22,7 @@ then_after (at_fault f) r next = r
 abbrev pub then_next : Reading → Reading → Reading
 then_next r next = then_after r.stop r next
 
--- the reading of the pieces, after some text of the segment at hand
+-- the reading of the pieces, after some text of the current segment
 abbrev pub reading_after : ℕ → List ℕ → List Piece → Reading
 reading_after page text [] = segment page text
 reading_after page text (bytes b ∷ pieces) = reading_after page (text ++ b) pieces

@@ -46,7 +46,7 @@ abbrev pub ◌then◌ : {A B : Type 0} → Option A → (A → Option B) → Opt
 None then f = None
 (Some x) then f = f x
 
--- a code, where it can be read
+-- a code, if it can be read
 abbrev pub found : {A F : Type 0} → Result A F → Option A
 found (Ok x) = Some x
 found (Err e) = None
@@ -79,7 +79,7 @@ abbrev pub sample_at : ℕ → ℤ → List ℕ → Option (Entry × List ℕ)
 sample_at base start bytes = found (read_varint bytes) then λ reference. found (read_varint reference.1) then λ time. eight_at time.1 then λ word.
     Some (Sample ((base + cast_unsigned w64 reference.0) % 2 ^ 64) (int_wrapping_add w64 start time.0) word.0, word.1)
 
--- the items that stand one after the other up to the end of the bytes, of which there are at most k
+-- the items that are one after the other up to the end of the bytes, of which there are at most k
 abbrev pub all_of : {A : Type 0} → (List ℕ → Option (A × List ℕ)) → ℕ → List ℕ → Option (List A)
 all_of item k [] = Some []
 all_of item zero (b ∷ bs) = None
@@ -100,7 +100,7 @@ sample_entries [] = Some []
 sample_entries (b ∷ bs) = eight_at (b ∷ bs) then λ base. eight_at base.1 then λ start.
     samples_at base.0 (cast_signed w64 start.0) start.1
 
--- the entries of a record, or none where it is not of its type's form; an empty record and one of
+-- the entries of a record, or none if it is not of its type's form; an empty record and one of
 -- another type hold no entry
 unfoldable pub record_entries : List ℕ → Option (List Entry)
 record_entries [] = Some []

@@ -15,7 +15,7 @@ use Rattle.rw_wal_format.specs.declared.tail_fault.TailFault.TheVariants.{BadTyp
 pub data Kind : Type 0 where
   full first middle last : Kind
 
--- what stands at a fragment's place
+-- what is at a fragment's place
 pub data Item : Type 0 where
   -- nothing, or zeros that go on
   nothing : Item
@@ -50,7 +50,7 @@ fragment_at kind left bytes =
     if nat_lt (length bytes) 6 then begun
     else data_at kind left (big_number 2 bytes) (big_number 4 (drop 2 bytes)) (drop 6 bytes)
 
--- What stands at a fragment's place, with `left` bytes of the page from there on. A type byte of 0
+-- What is at a fragment's place, with `left` bytes of the page from there on. A type byte of 0
 -- says that the rest of the page is empty. Those from 8 to 31 have the flags of compressed data,
 -- and all others are unknown.
 unfoldable pub item_at : ℕ → List ℕ → Item
@@ -83,7 +83,7 @@ with_fragment kind data_of l = record { fragments = (kind, data_of) ∷ l.fragme
 abbrev pub left_after : ℕ → ℕ → ℕ → ℕ
 left_after page left n = if nat_lt n left then left - n else page
 
--- the fragments from an item on, where `next` lays out the bytes after it, with so many left in
+-- the fragments from an item on, if `next` lays out the bytes after it, with so many left in
 -- their page
 abbrev pub from_item : ℕ → ℕ → List ℕ → (ℕ → List ℕ → Layout) → Item → Layout
 from_item page left bytes next nothing = record { fragments = []; stop = between }
@@ -108,7 +108,7 @@ pub record Reading : Type 0 where
 abbrev pub stopped : Stop → Reading
 stopped s = record { entries = []; skipped = 0; stop = s }
 
--- first what a whole record holds, where it is of its type's form, and then the rest
+-- first what a whole record holds, if it is of its type's form, and then the rest
 abbrev pub with_entries : List ℕ → Option (List Entry) → Reading → Reading
 with_entries bytes None r = stopped (at_fault BadRecord)
 with_entries bytes (Some es) r = record { entries = es ++ r.entries; skipped = (if is_skipped bytes then 1 else 0) + r.skipped; stop = r.stop }
@@ -117,7 +117,7 @@ with_entries bytes (Some es) r = record { entries = es ++ r.entries; skipped = (
 abbrev pub with_record : List ℕ → Reading → Reading
 with_record bytes r = with_entries bytes (record_entries bytes) r
 
--- the end of the fragments, where a record may be open
+-- the end of the fragments, if a record may be open
 abbrev pub end_of : Option (List ℕ) → Stop → Stop
 end_of (Some d) between = inside
 end_of _ s = s
@@ -134,7 +134,7 @@ reading_of (Some o) ((middle, d) ∷ fs) s = reading_of (Some (o ++ d)) fs s
 reading_of (Some o) ((last, d) ∷ fs) s = with_record (o ++ d) (reading_of None fs s)
 reading_of (Some o) ((_, d) ∷ fs) s = stopped (at_fault Sequence)
 
--- the reading of what is left of a segment, where a record may be open, with `left` bytes of the
+-- the reading of what is left of a segment, if a record may be open, with `left` bytes of the
 -- first page
 abbrev pub read_from : ℕ → ℕ → Option (List ℕ) → List ℕ → Reading
 read_from page left so_far rest = let l = layout_of page (length rest) left rest in reading_of so_far l.fragments l.stop

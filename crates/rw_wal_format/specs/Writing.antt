@@ -15,7 +15,7 @@ type_byte last = 4
 unfoldable pub frame : Kind → List ℕ → List ℕ
 frame kind d = type_byte kind ∷ big_bytes 2 (length d) ++ big_bytes 4 (crc32c_of d) ++ d
 
--- the zeros to a page's end, where fewer bytes are left than a header takes
+-- the zeros to a page's end, if fewer bytes are left than a header takes
 abbrev pub padding : ℕ → List ℕ
 padding left = if nat_lt left 7 then replicate left 0 else []
 

@@ -38,7 +38,8 @@ impl FragmentType {
         }
     }
 
-    /// Returns the type that a byte stands for, without the flags of compressed data.
+    /// Returns the type that a byte stands for, without the flags of compressed data, or `None` if
+    /// there is none.
     pub fn from_byte(byte: u8) -> Option<FragmentType>
         ensures byte { IfSome result (λ part. byte ≡ type_byte (kind_of part)) }
         ensures none { result ≡ None → (byte ≢ 1) × (byte ≢ 2) × (byte ≢ 3) × (byte ≢ 4) }

@@ -47,7 +47,7 @@ pub fn one_more_record()
         ++ log_bytes page (offset + length (log_all page offset records)) d }
 {}
 
-/// Law: as more of a log comes, what was read of it stays, and so does a fault.
+/// Law: as more of a log comes, what was read of it does not change, and a fault stays.
 pub fn reading_goes_on()
     ensures { (page : ℕ) (pieces more : List Piece) → 0 < page
         → Extends (reading page pieces) (reading page (pieces ++ more)) }

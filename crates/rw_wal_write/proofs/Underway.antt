@@ -103,7 +103,7 @@ module _ {W : Type 0} (contents : W → Option (List ℕ)) (has_failed : W → B
       subst (λ (m : ℕ). Underway a c start (at + (7 + m)) true later whole) size
       (subst (λ (x : List ℕ). Underway a c start (at + (7 + n)) true x whole) (sym q) (step a b c start at n goes_on rest whole u (sym e) l t'))
 
-  -- a device that fails at such a fragment has a beginning of the whole
+  -- a device that fails at such a fragment has a prefix of the whole
   pub underway_fails : (a b c : W) (start at n : ℕ) (goes_on : Bool) (kind : Kind) (rest part whole : List ℕ) → Underway a b start at goes_on rest whole
       → n ≡ left_at at - 7 → n < length rest → part ≡ take n rest → kind ≡ (if goes_on then middle else first)
       → TakesPart contents has_failed room b c (frame kind part) → TakesPart contents has_failed room a c whole

@@ -31,7 +31,7 @@ refusal s len =
     else if nat_lt (room page_size s.pages s.offset) len then Some SegmentFull
     else None
 
--- A record was written: its fragments stand behind what was written before, and nothing but the
+-- A record was written: its fragments are after what was written before, and nothing but the
 -- offset has changed.
 pub record IsLogged {W : Type 0} (contents : W → Option (List ℕ)) (has_failed : W → Bool) (room : W → ℕ) (old new : Segment W) (rec : List ℕ) : Type 0 where
   pub bytes : TakesAll contents has_failed room old.sink new.sink (log_bytes page_size old.offset rec)

@@ -11,13 +11,13 @@ use rw_types::{RawLabels, Word};
 use rw_wal_format::RecordType;
 use std::alloc::{AllocError, Global};
 
-/// Room for the labels of a usual series; a longer record grows.
+/// Room for the labels of a usual series; for a longer record the buffer grows.
 const SERIES_BYTES: usize = 256;
 
 /// The type, the first reference and the first timestamp.
 const BASE_BYTES: usize = 17;
 
-/// A sample with two deltas of one byte; a record with greater ones grows.
+/// The bytes of a sample with two deltas of one byte; for greater ones the buffer grows.
 const SAMPLE_BYTES: usize = 10;
 
 /// Appends a number of 64 bits, high byte first.

@@ -5,7 +5,7 @@ use clap::ArgMatches;
 use rw_text::{Address, read_address};
 use rw_types::Bounded;
 
-/// Returns the number that an option gives, or that stands where none is given.
+/// Returns the number that an option gives, or that is if none is given.
 pub(crate) fn number_of<const LOW: u64, const HIGH: u64>(
     options: &ArgMatches<'_>,
     name: &str,
@@ -13,7 +13,7 @@ pub(crate) fn number_of<const LOW: u64, const HIGH: u64>(
     Bounded::try_new(options.get_one::<u64>(name)?)
 }
 
-/// Returns the address that an option gives; none where the HOST:PORT is none.
+/// Returns the address that an option gives; none if the HOST:PORT is none.
 pub(crate) fn address_of<'a>(options: &ArgMatches<'a>, name: &str) -> Option<Address<'a>> {
     read_address(options.get_str(name)?)
 }
@@ -35,7 +35,7 @@ pub(crate) fn settings_of<'a>(options: &ArgMatches<'a>) -> SettingsFile<'a> {
     }
 }
 
-/// Returns what is to be told of the work; none where the HOST:PORT is none.
+/// Returns what is to be told of the work; none if the HOST:PORT is none.
 pub(crate) fn reporting_of<'a>(options: &ArgMatches<'a>) -> Option<Reporting<'a>> {
     let metrics = match options.get_str("metrics") {
         Some(value) => Some(read_address(value)?),

@@ -112,7 +112,7 @@ pub enum Task<'a> {
     /// One log segment in; its body out.
     Body {
         hex: bool,
-        /// Whether it is told where the segment is damaged.
+        /// Whether it is told if the segment is damaged.
         is_explained: bool,
     },
     /// Log text in; one segment out, or numbered segments into `dir`.
@@ -274,7 +274,7 @@ fn task_named<'a>(name: &str, options: &ArgMatches<'a>) -> Option<Task<'a>> {
     }
 }
 
-/// Returns what the words ask for; none where a HOST:PORT is none, which `bad_address` tells.
+/// Returns what the words ask for; none if a HOST:PORT is none, which `bad_address` tells.
 pub fn task_of<'a>(words: &ArgMatches<'a>) -> Option<Task<'a>> {
     let (name, options) = words.subcommand()?;
     task_named(name, options)

@@ -1,11 +1,11 @@
 -- How long a worker waits after each of its steps (Remote-Write 1.0, "Retries & backoff"): longer
--- with each try of a batch that was in vain, and the least pause where memory was refused.
+-- with each try of a batch that was in vain, and the least pause if memory ran out.
 use Rattle.std.specs.Prelude.{ℕ, ◌+◌, List, [], ◌∷◌, ◌++◌, if◌then◌else◌}
 use Rattle.rw_retry.specs.Backoff.{delay_of}
 use Rattle.rw_worker.specs.Transcript.{is_again}
 use Rattle.rw_worker.specs.Steps.{Step, Takes, Freezes, Sends, Waits}
 
--- the pause after a step, where the open batch was sent in vain so often before
+-- the pause after a step, if the open batch was sent in vain so often before
 abbrev pub pause_after : ℕ → ℕ → ℕ → Step → List ℕ
 pause_after least most retries (Takes x) = []
 pause_after least most retries Freezes = []

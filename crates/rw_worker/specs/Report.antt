@@ -56,7 +56,7 @@ abbrev pub intake_drain : Intake → Draining
 intake_drain (intake.Open d) = d
 intake_drain (intake.Ended kind d) = d
 
--- the end that is given back where nothing more is taken
+-- the end that is given back if nothing more is taken
 abbrev pub given_back : Intake → TakingEnd
 given_back (intake.Open d) = end.Killed d
 given_back (intake.Ended kind d) = end.Ended kind d
@@ -65,7 +65,7 @@ given_back (intake.Ended kind d) = end.Ended kind d
 abbrev pub report_of : {T : Type 0} → TakingEnd → Option StopRead → Option ℕ → Sending T → WorkerReport T
 report_of end stopped gone s = record { end = end; resolved = s.resolved; stopped = stopped; gone = gone; ledger = s.ledger; transport = s.transport }
 
--- behind an End that is not hard, what was taken is closed: a builder that is not due is empty
+-- after an End that is not hard, what was taken is closed: a builder that is not due is empty
 abbrev pub IsClosed : Intake → Core → Type 0
 IsClosed (intake.Open d) c = ⊤
 IsClosed (intake.Ended Hard d) c = ⊥
@@ -98,7 +98,7 @@ module _ {T : Type 0} (tells : T → Type 0) (seen : T → List Exchange) (setup
     pub still : IsStill r.stopped r.gone r.resolved
     pub reason : HasReason r.end r.stopped r.gone
 
--- a count of 64 bits, which stays where it is greatest
+-- a count of 64 bits, which stays if it is greatest
 abbrev pub counted_to : ℕ → ℕ
 counted_to n = min n (2 ^ 64 - 1)
 

@@ -29,9 +29,9 @@ pub data Step : Type 0 where
   Takes : Item → Step
   Freezes : Step
   Sends : Exchange → Step
-  Waits : Step  -- memory was refused
+  Waits : Step  -- memory ran out
 
--- When a step may be made: only a builder that is due is frozen, and memory is asked for where
+-- When a step may be made: only a builder that is due is frozen, and memory is asked for if
 -- something is to be frozen or sent. What is sent is the request of the open batch, whose body
 -- reads again as its message.
 abbrev pub MayStep : Step → Core → Type 0
@@ -51,7 +51,7 @@ after_step Freezes w = working (freeze w.core) (freeze_room w.core w.ledger)
 after_step (Sends e) w = answered e.answer (working (send w.core) w.ledger)
 after_step Waits w = w
 
--- steps one after the other, each where it may be made
+-- steps one after the other, each if it may be made
 abbrev pub AreSteps : Working → List Step → Type 0
 AreSteps w [] = ⊤
 AreSteps w (s ∷ ss) = MayStep s w.core × AreSteps (after_step s w) ss

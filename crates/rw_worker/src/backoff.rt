@@ -35,7 +35,7 @@ impl Backoff {
         }
     }
 
-    /// Returns the pause where memory was refused.
+    /// Returns the pause after memory ran out.
     pub(crate) fn least(&self) -> u64
         ensures { result ≡ self.now.0 }
     {

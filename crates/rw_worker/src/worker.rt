@@ -53,8 +53,8 @@ impl Model for Worker {
 }
 
 impl Worker {
-    /// Returns the worker of the shard `shard` of the epoch `epoch`. Where memory is refused its
-    /// end of the queue comes back.
+    /// Returns the worker of the shard `shard` of the epoch `epoch`. If memory runs out, its end of
+    /// the queue comes back.
     pub fn new(
         alloc: Global,
         config: &Config,
@@ -88,7 +88,7 @@ impl Worker {
         }
     }
 
-    /// Where it tells how many samples it has resolved.
+    /// Returns a share of the tally in which it counts resolved samples.
     pub fn tally(&self) -> Result<Tally, AllocError> {
         self.tally.share()
     }
@@ -98,7 +98,7 @@ impl Worker {
     /// more.
     ///
     /// It waits between two attempts of a batch, twice as long each time up to the longest pause,
-    /// and for the least one where memory was refused.
+    /// and for the shortest one if memory ran out.
     pub fn run<T: Transport + Drop, P: Pause, R: Wait>(
         self,
         rt: &R,

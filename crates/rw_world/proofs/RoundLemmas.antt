@@ -152,7 +152,7 @@ place_defined c w d e = sym (entry_defined c w (slice_get (log w) w.placed) e) �
 pub place_sampled : (c : Setup) (w : World) (r : ℕ) (t : ℤ) → is_some w.draining ≡ false → ahead_of (slice_get (log w) w.placed) ≡ ahead.Sample r t → can_place_known c w t (known c.choice (take w.placed (log w)) r) ≡ can_place c w
 place_sampled c w r t d e = sym (entry_sampled c w (slice_get (log w) w.placed) r t e) ∙ place_goes c w d
 
--- what is left where nothing may be placed, no batch is open, no builder is due and nothing may be
+-- what is left if nothing may be placed, no batch is open, no builder is due and nothing may be
 -- taken
 abbrev pub after_taking : Setup → World → List Event
 after_taking c w = first_of_these (cond (is_finished w || is_some w.draining) (at_first (may_flush c.capacity) (λ i. event.Flush i ∷ []) w) None) (event.Restart ∷ [])

@@ -10,7 +10,7 @@ use Rattle.rw_machine.specs.declared.event.Event.TheVariants as event
 use Rattle.rw_machine.specs.declared.event.How.TheVariants.{Plain}
 use Rattle.rw_world_parts.specs.Answering.{IsSentTo}
 
--- the receiver stands where requests are sent, and all of them are requests to it
+-- the receiver is where requests are sent, and all of them are requests to it
 pub record IsServed (target : Target) (host path : List ℕ) (requests : List Request) : Type 0 where
   pub host_is : target.host ≡ host
   pub path_is : target.path ≡ path

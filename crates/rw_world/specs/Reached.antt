@@ -23,7 +23,7 @@ pub record NamesItsRefusals (c : Setup) (w : World) : Type 0 where
 
 -- What every schedule keeps.
 pub record IsKept (c : Setup) (w : World) : Type 0 where
-  pub in_order : IsInOrder c w  -- of each label set a beginning of its logged samples has arrived, each once, less the named ones
+  pub in_order : IsInOrder c w  -- of each label set a prefix of its logged samples has arrived, each once, less the named ones
   pub of_placed : IsOfPlaced c w  -- none of them before it was placed
   pub owed_rises : OwedRises c w  -- what is owed of the placed ones rises strictly in time
   pub rises : EachRises w.head.store  -- and so does what has arrived

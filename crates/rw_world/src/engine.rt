@@ -24,7 +24,7 @@ pub(crate) struct Engine {
     pub(crate) shards: Bounded<1, 1_000>,
     /// The host of the receiver.
     pub(crate) host: HostName,
-    /// The limits of the receiver, which stands at the target's path.
+    /// The limits of the receiver, which is at the target's path.
     pub(crate) limits: Limits,
     pub(crate) log: Log,
     pub(crate) placed: u64,

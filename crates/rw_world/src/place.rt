@@ -30,7 +30,7 @@ impl Engine {
         Ok(())
     }
 
-    /// The next entry is this sample, which is put where there is room.
+    /// The next entry is this sample, which is put if there is room.
     fn put_next(&mut self, sample: RoutedSample) -> Result<(), AllocError>
         requires next { IsSampleNext self.old sample }
         requires small { self.old.world.placed < 2 ^ 60 }
@@ -54,7 +54,7 @@ impl Engine {
         Ok(())
     }
 
-    /// The next entry is placed, where there is one and it may be.
+    /// The next entry is placed, if there is one and it may be.
     pub(crate) fn place(&mut self) -> Result<(), AllocError>
         ensures ok { OnOk result
             (self.new ≡ record self.old { world = place self.old.setup self.old.world }) }

@@ -107,8 +107,8 @@ impl Engine {
         self.senders.first_flushing()
     }
 
-    /// Returns the open batch of this shard is sent, or where it waits its newest request arrives
-    /// and is replied to.
+    /// Returns the open batch of this shard is sent, or if it waits its newest request arrives and
+    /// is replied to.
     fn exchange(&self, i: usize) -> Next
         requires { IsOpen (slice_get self.now.world.shards i) }
         ensures { events_of result
@@ -130,7 +130,7 @@ impl Engine {
         self.draining.is_some()
     }
 
-    /// Returns a mark is put where one is to come and there is room for it, or else the next shards
+    /// Returns a mark is put if one is to come and there is room for it, or else the next shards
     /// take over.
     fn mark(&self) -> Next
         ensures { events_of result
@@ -189,7 +189,7 @@ impl Engine {
         self.close();
     }
 
-    /// The events of a round. Where memory is refused none of them has happened.
+    /// The events of a round. If memory runs out none of them has happened.
     fn play(&mut self, next: Next) -> Result<(), AllocError>
         ensures ok { OnOk result (self.new
             ≡ record self.old { world = run self.old.setup (events_of next) self.old.world }) }
@@ -210,8 +210,8 @@ impl Engine {
         }
     }
 
-    /// Rounds of an orderly shutdown until there is a report. Where memory is refused to one of
-    /// them those before it were played.
+    /// Rounds of an orderly shutdown until there is a report. If memory is refused to one of them
+    /// those before it were played.
     pub(crate) fn settle(&mut self) -> Result<(), AllocError>
         ensures over { OnOk result (is_over self.new.world ≡ true) }
         ensures rounds { HasSettled self.old self.new }

@@ -23,7 +23,7 @@ fn is_arrive(event: &Event) -> bool
 }
 
 impl Engine {
-    /// Returns the End that a shard is to be put, or none where that is a Flush.
+    /// Returns the End that a shard is to be put, or none if that is a Flush.
     fn mark_kind(&self) -> Option<Kind>
         ensures { result ≡ mark_kind self.now.world }
     {
@@ -133,7 +133,7 @@ impl Engine {
         self.draining = Some(n);
     }
 
-    /// Returns whether the shards at hand have nothing left, and not all that is to be sent was
+    /// Returns whether the current shards have nothing left, and not all that is to be sent was
     /// placed.
     fn may_restart(&self) -> bool
         ensures { result ≡ (not (is_finished self.now.world) && all_drained self.now.world) }

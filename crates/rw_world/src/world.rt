@@ -26,7 +26,7 @@ use std::marker::Model;
 
 /// A sender, the network and a receiving head on one thread, moved by events.
 ///
-/// Contracts see what it was set to and what it has come to. The receiver stands at the path of the
+/// Contracts see what it was set to and what it has come to. The receiver is at the path of the
 /// sender's target.
 #[derive(Drop)]
 pub struct World {
@@ -89,7 +89,7 @@ impl World {
         shards_keep_their_lists();
     }
 
-    /// One event. Where memory is refused the world is as it was.
+    /// One event. If memory runs out the world is as it was.
     pub fn step(&mut self, event: Event) -> Result<(), AllocError>
         ensures ok { OnOk result
             (self.new ≡ record self.old { world = happens self.old.setup self.old.world event }) }
@@ -155,8 +155,8 @@ impl World {
     }
 
     /// Returns an orderly shutdown: no more is read, all that was read is placed and sent, and this
-    /// is how the work has ended. Where memory is refused the world is that after some of its
-    /// rounds, and a call that comes later goes on from there.
+    /// is how the work has ended. If memory runs out the world is that after some of its rounds,
+    /// and a call that comes later goes on from there.
     pub fn settle(&mut self) -> Result<Outcome, AllocError>
         ensures rounds { HasShutDown self.old self.new }
         ensures report { IfOk result (λ o. report self.new.world ≡ Some (ending_of o)) }

@@ -108,7 +108,7 @@ drains_again t t' taken found more h g e = record {
   taken_is = h.taken_is ∙ sym (take_front (entries t.pieces) more) ∙ ap (λ es. take (length (entries t.pieces)) es) (sym e) ∙ ap (λ ys. take (length ys) (entries t'.pieces)) (sym h.taken_is);
 }
 
--- one more element behind a front
+-- one more element after a front
 pub front_more : {X : Type 0} (front xs : List X) (x : X) → take (length front) xs ≡ front → take (length front) (xs ++ x ∷ []) ≡ front
 front_more [] xs x e = refl
 front_more (y ∷ ys) [] x e = absurd (cc)

@@ -16,7 +16,7 @@ use Rattle.rw_machine.specs.Steps.{change, names_after}
 use Rattle.rw_machine.specs.Worlds.{Request}
 use Rattle.rw_world_parts.specs.Held.{Held, sent_by}
 
--- nothing at the position `next` or behind it was put or named
+-- nothing at the position `next` or after it was put or named
 pub record Sending : Type 0 where
   pub target : Target
   pub capacity : ℕ
@@ -32,7 +32,7 @@ new_held target capacity batch epoch i zero = []
 new_held target capacity batch epoch i (suc n) =
     record { capacity = capacity; shard = new_shard (new_core target epoch i batch) } ∷ new_held target capacity batch epoch (suc i) n
 
--- how often a number stands in a list
+-- how often a number is in a list
 abbrev pub times : ℕ → List ℕ → ℕ
 times p [] = 0
 times p (q ∷ qs) = (if nat_eq p q then 1 else 0) + times p qs
@@ -104,7 +104,7 @@ sample_at v i pos series t word l s = record {
   labels = l;
 }
 
--- a sample is put into this shard's queue, where it takes one more
+-- a sample is put into this shard's queue, if it takes one more
 abbrev pub put_to : Sending → ℕ → ℕ → ℕ → ℤ → ℕ → Labels → Option Shard → Sending
 put_to v i pos series t word l None = v
 put_to v i pos series t word l (Some s) =

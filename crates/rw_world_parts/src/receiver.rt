@@ -10,7 +10,7 @@ use rw_roundtrip::{exchange, requests_are_read};
 use rw_types::{HostName, RequestPath};
 use std::alloc::{AllocError, Global};
 
-/// No request is longer. Where one would be, memory is said to have run out.
+/// No request is longer. If one would be, memory is said to have run out.
 const MOST_BYTES: usize = 1 << 62;
 
 /// These limits, with another path.
@@ -62,7 +62,7 @@ fn ask(
     exchange(alloc, request, head, limits)
 }
 
-/// Returns the receiver's answer to a request. Where memory runs out there is none.
+/// Returns the receiver's answer to a request. If memory runs out there is none.
 pub fn answer_to(
     alloc: Global,
     sent: &Sent,

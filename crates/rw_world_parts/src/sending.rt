@@ -33,7 +33,7 @@ pub struct Shards {
     batch: usize,
     epoch: u64,
     shards: Vec<WorldShard>,
-    /// Nothing at this position or behind it was put or named.
+    /// Nothing at this position or after it was put or named.
     next: u64,
     ledger: Ledger,
 }
@@ -63,7 +63,7 @@ impl Model for Shards {
         s.ledger };
 }
 
-/// No shard is put more samples. Where one would be, memory is said to have run out.
+/// No shard is put more samples. If one would be, memory is said to have run out.
 const MOST_SAMPLES: u64 = 1 << 60;
 
 /// New shards of an epoch.
@@ -142,7 +142,7 @@ impl Shards {
         first_due(&self.shards)
     }
 
-    /// Returns the first shard that may take what stands in its queue.
+    /// Returns the first shard that may take what is in its queue.
     pub fn first_taking(&self) -> Option<usize>
         ensures { result ≡ position may_take self.now.shards }
     {
@@ -166,7 +166,7 @@ impl Shards {
         self.shards[i].waiting_id()
     }
 
-    /// A mark is put into this shard's queue, where one may be.
+    /// A mark is put into this shard's queue, if one may be.
     pub fn flush(&mut self, i: usize, kind: Option<Kind>)
         ensures { self.new
             ≡ record self.old {
@@ -250,7 +250,7 @@ impl Shards {
         self.shards[i].has_room()
     }
 
-    /// Puts a sample into this shard's queue, where it takes one more.
+    /// Puts a sample into this shard's queue, if it takes one more.
     pub fn put(
         &mut self,
         i: usize,

@@ -22,7 +22,7 @@ use std::alloc::{AllocError, Global};
 use std::marker::Model;
 use std::sync::Arc;
 
-/// A shard: its queue, and the core behind it.
+/// A shard: its queue, and the core after it.
 #[derive(Drop)]
 pub(crate) struct WorldShard {
     queue: PlainQueue,
@@ -210,7 +210,7 @@ impl WorldShard {
         }
     }
 
-    /// The core takes the front of the queue, where it may take something.
+    /// The core takes the front of the queue, if it may take something.
     pub(crate) fn take(&mut self)
         ensures { self.new ≡ record self.old { shard = shard_take self.old.shard } }
     {
@@ -224,7 +224,7 @@ impl WorldShard {
         self.core.take(item);
     }
 
-    /// The builder becomes the open batch, where none is open.
+    /// The builder becomes the open batch, if none is open.
     pub(crate) fn freeze(&mut self, ledger: &mut Ledger) -> Result<(), AllocError>
         ensures ok { OnOk result
             (self.new ≡ record self.old { shard = shard_freeze self.old.shard }) }
@@ -315,7 +315,7 @@ impl WorldShard {
         !self.core.is_empty()
     }
 
-    /// Returns whether the core may take what stands in the queue.
+    /// Returns whether the core may take what is in the queue.
     pub(crate) fn may_take(&self) -> bool
         ensures { result ≡ may_take self.now.shard }
     {

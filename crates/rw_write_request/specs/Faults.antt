@@ -1,4 +1,4 @@
--- The first fault of a message (Protocol Buffers encoding): what stands before it are whole and
+-- The first fault of a message (Protocol Buffers encoding): what is before it are whole and
 -- sound fields, and the fault is that of the field there.
 use Rattle.std.specs.Prelude.{◌≡◌, ◌≢◌, ◌⊎◌, ℕ, ◌+◌, ◌*◌, ◌<◌, List, [], ◌++◌, length, Option, Some, IfSome, Err, IsUtf8}
 use Rattle.std.specs.List.{AllByRecursion}
@@ -12,7 +12,7 @@ use Rattle.rw_write_request.specs.Fields.{Content, Bytes, Field, IsUvarint, IsFi
 use Rattle.rw_write_request.specs.Spells.{AreFieldsOf, IsText, SpellsLabel, SpellsSample, SpellsSeries}
 use Rattle.rw_write_request.specs.Read.{varint_fault}
 
--- no varint stands at the front
+-- no varint is at the front
 abbrev pub VarintFault : List ℕ → WireFault → Type 0
 VarintFault bytes e = (f : CodeFault) × (read_uvarint bytes ≡ Err f) × (e ≡ varint_fault f)
 
@@ -20,7 +20,7 @@ VarintFault bytes e = (f : CodeFault) × (read_uvarint bytes ≡ Err f) × (e �
 abbrev pub TooFew : ℕ → List ℕ → WireFault → Type 0
 TooFew n bytes e = (length bytes < n) × (e ≡ Truncated)
 
--- a length, and fewer bytes behind it
+-- a length, and fewer bytes after it
 pub record LengthFault (bytes : List ℕ) (e : WireFault) : Type 0 where
   pub len : List ℕ
   pub rest : List ℕ
@@ -57,7 +57,7 @@ TagFault kind number wire e =
 abbrev pub IsTag : Kind → ℕ → ℕ → Type 0
 IsTag kind number wire = (0 < number) × IfSome (known_wire kind number) (λ w. wire ≡ w)
 
--- behind a tag: it may not stand there, or what it announces is not all there
+-- after a tag: it may not be there, or what it announces is not all there
 pub record TaggedFault (kind : Kind) (bytes : List ℕ) (e : WireFault) : Type 0 where
   pub tag : List ℕ
   pub rest : List ℕ
@@ -68,11 +68,11 @@ pub record TaggedFault (kind : Kind) (bytes : List ℕ) (e : WireFault) : Type 0
   pub is_tag : IsUvarint tag (number * 8 + wire)
   pub fault : TagFault kind number wire e ⊎ (IsTag kind number wire × ContentFault wire rest e)
 
--- no field stands at the front
+-- no field is at the front
 abbrev pub FieldFault : Kind → List ℕ → WireFault → Type 0
 FieldFault kind bytes e = VarintFault bytes e ⊎ TaggedFault kind bytes e
 
--- a whole field stands at the front, which has a fault inside
+-- a whole field is at the front, which has a fault inside
 pub record InnerFault (Inner : Field → WireFault → Type 0) (kind : Kind) (bytes : List ℕ) (e : WireFault) : Type 0 where
   pub front : List ℕ
   pub rest : List ℕ

@@ -139,8 +139,8 @@ pub(crate) fn field_counts(kind: Kind, bytes: &[u8]) -> (usize, usize)
     (ones, twos)
 }
 
-/// Room for `count` items, each of which stands in some of the bytes, and for no more than there
-/// are bytes.
+/// Reserves room for `count` items, each of which is in some of the bytes, and for at most as many
+/// as there are bytes.
 fn room_for<T>(alloc: Global, count: usize, bytes: &[u8]) -> Result<Vec<T>, AllocError>
     ensures items { IfOk result (λ v. v.items ≡ []) }
     ensures room { IfOk result (λ v. vec_capacity v ≤ length bytes.now) }
@@ -299,8 +299,8 @@ fn add_to_series(
     Ok(())
 }
 
-/// Returns the series that the bytes spell, or the first fault in reading order. Where memory runs
-/// out nothing is kept.
+/// Returns the series that the bytes spell, or the first fault in reading order. If memory runs
+/// out, nothing is kept.
 pub fn read_series(alloc: Global, bytes: &[u8]) -> Result<Series, WireFault>
     ensures { GivesOrMemory (λ s. s) result (read_series bytes.now) }
 {
@@ -353,8 +353,8 @@ fn read_message(alloc: Global, bytes: &[u8]) -> Result<Message, WireFault>
 }
 
 /// Returns the message that the bytes spell. Fields may come in any order, and unknown ones are
-/// passed over; of a scalar or a string the last one counts, and one that is absent is zero or
-/// empty. Where memory runs out nothing is kept.
+/// skipped; of a scalar or a string the last one counts, and one that is absent is zero or empty.
+/// If memory runs out, nothing is kept.
 pub fn decode(alloc: Global, bytes: &[u8]) -> Result<Message, WireFault>
     // What is read is spelled so.
     ensures found { IfOk result (λ m. Spells bytes.now m) }
@@ -363,7 +363,7 @@ pub fn decode(alloc: Global, bytes: &[u8]) -> Result<Message, WireFault>
         → MatchResult result (λ n. n ≡ m) (λ e. e ≡ OutOfMemory) }
     // Any other fault is the first one in reading order.
     ensures fault { IfErr result (λ e. e ≢ OutOfMemory → read bytes.now ≡ Err e) }
-    // Memory runs out only where a message is spelled.
+    // Memory runs out only if a message is spelled.
     ensures memory { IfErr result
         (λ e. e ≡ OutOfMemory → (m : WriteRequest) × (read bytes.now ≡ Ok m)) }
 {

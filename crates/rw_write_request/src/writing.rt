@@ -1,4 +1,4 @@
-//! The canonical spelling of messages, written into room that was made before.
+//! Writes the canonical spelling of messages, into room that was made before.
 
 ghost use Rattle.std.specs.Prelude.{◌≡◌, ◌≤◌, ◌<◌, ◌+◌, ◌^◌, ◌++◌, length, IfOk};
 ghost use Rattle.std.specs.Vec.{vec_len, vec_capacity};
@@ -67,8 +67,8 @@ pub fn put_series_front(out: &mut Vec<u8>, len: usize)
     put_field_front(out, 1, len);
 }
 
-/// Appends what stands before the sample fields of a series with these labels, where these fields
-/// take `len` bytes, to a vector that has room for it. This takes no memory.
+/// Appends what comes before the sample fields of a series with these labels, if these fields take
+/// `len` bytes, to a vector that has room for it. This takes no memory.
 #[tactic(auto, unfolding(crate::specs::Canon::series_head))]
 pub fn put_series_head(out: &mut Vec<u8>, labels: &LabelSet, len: usize)
     requires fits { length (series_head labels.now len) + len < 2 ^ 64 }
@@ -131,9 +131,9 @@ fn put_all_series(out: &mut Vec<u8>, list: &[Series])
 }
 
 /// Returns the canonical spelling of a message: fields in the order of their numbers, the shortest
-/// varints, and neither scalars whose bits are all zero nor empty strings. It stands in one buffer
-/// of exactly its length; an `Err` is for that buffer alone, or for a length that does not fit 64
-/// bits.
+/// varints, and neither scalars whose bits are all zero nor empty strings. It is in one buffer of
+/// exactly its length. An `Err` means that this buffer could not be allocated, or that the length
+/// does not fit 64 bits.
 pub fn encode(alloc: Global, message: &Message) -> Result<Vec<u8>, AllocError>
     ensures canonical { IfOk result (λ v. v.items ≡ canon message.now) }
     // A reader finds the message again.

@@ -18,7 +18,7 @@ use std::process::ExitCode;
 /// The exit status for words and settings that the program does not take.
 const BAD_WORDS: u8 = 2;
 
-/// The exit status for dropped samples, where they are a fault.
+/// The exit status for dropped samples, if they are a fault.
 const DROPPED: u8 = 1;
 
 /// The exit status for a folder without a segment, if that is a fault.
@@ -61,7 +61,7 @@ pub fn followed(rt: &HostRuntime, fault: FollowFault) -> ExitCode
     }
 }
 
-/// Says how many samples were dropped, where that is a fault.
+/// Says how many samples were dropped, if that is a fault.
 pub fn dropped(rt: &HostRuntime, count: u64) -> ExitCode
     ensures { process.exit_status result ≡ 1 }
 {
@@ -105,8 +105,8 @@ fn tell(rt: &HostRuntime, notes: &[SettingsNote]) {
     }
 }
 
-/// Says that settings cannot be read, and what is wrong with them where that is asked for, and
-/// gives the exit status.
+/// Says that settings cannot be read, and what is wrong with them if that is asked for, and gives
+/// the exit status.
 pub fn unset(rt: &HostRuntime, fault: Unset) -> ExitCode
     ensures { process.exit_status result ≡ unset_status fault }
 {

@@ -16,7 +16,7 @@ const NO_DIGITS: &str =
 const MIXED: &str =
     "a script lets its log grow by 'log' lines or by 'feed' and 'segment' lines, and not by both";
 
-/// Prints where a segment is damaged.
+/// Prints if a segment is damaged.
 fn tell_segment(rt: &HostRuntime, segment: &[u8]) -> Result<(), ToolFault> {
     let report = inspect_segment(rt, Reader::Held(segment))?;
     Ok(tell_report(rt, &report)?)
@@ -39,7 +39,7 @@ fn note_of(rt: &HostRuntime, form: Form, line: &[u8]) -> Result<&'static str, Al
     }
 }
 
-/// Prints where an input has this fault, and what is wrong there.
+/// Prints if an input has this fault, and what is wrong there.
 fn tell_input(
     rt: &HostRuntime,
     form: Form,

@@ -45,7 +45,7 @@ fn serve_at<R: Threads>(
     }
 }
 
-/// Serves the metrics and shows progress, where that is asked for.
+/// Serves the metrics and shows progress, if that is asked for.
 pub fn begin_reporting<R: Threads>(
     rt: &HostRuntime,
     threads: &R,
@@ -62,7 +62,7 @@ pub fn begin_reporting<R: Threads>(
     Ok(())
 }
 
-/// Shows how far the work has come in the end, where that is asked for.
+/// Shows how far the work has come in the end, if that is asked for.
 pub fn end_reporting(rt: &HostRuntime, reporting: &Reporting<'_>, counters: &Counters) {
     if reporting.has_progress {
         write_end(&mut rt.stderr(), screen_of(rt), rt.alloc(), counters);

@@ -16,10 +16,10 @@ use std::{fs, io};
 pub enum Unset {
     /// Memory ran out.
     Tool(ToolFault),
-    /// The file cannot be read, and this says why where that was asked for.
+    /// The file cannot be read, and this says why if that was asked for.
     Unreadable(String),
-    /// The file has this fault, which is not want of memory, and these notes tell each of its
-    /// faults where that was asked for.
+    /// The file has this fault, which is not out of memory, and these notes tell each of its faults
+    /// if that was asked for.
     Settings(SettingsFault, Vec<SettingsNote>),
 }
 
@@ -37,7 +37,7 @@ fn unreadable(rt: &HostRuntime, path: &str, error: &io::Error, is_explained: boo
     }
 }
 
-/// Returns the text of a settings file, or the empty one where there is none.
+/// Returns the text of a settings file, or the empty one if there is none.
 fn text_of(rt: &HostRuntime, file: SettingsFile<'_>) -> Result<Vec<u8>, Unset>
     ensures { file.entry.path ≡ None → IfOk result (λ t. t.items ≡ []) }
 {
@@ -50,8 +50,8 @@ fn text_of(rt: &HostRuntime, file: SettingsFile<'_>) -> Result<Vec<u8>, Unset>
     }
 }
 
-/// Why a text was refused that has this fault, with notes on each of its faults where they are
-/// asked for.
+/// Why a text was refused that has this fault, with notes on each of its faults if they are asked
+/// for.
 fn refused(rt: &HostRuntime, text: &[u8], fault: SettingsFault, is_explained: bool) -> Unset {
     if fault == SettingsFault::OutOfMemory {
         return Unset::Tool(ToolFault::OutOfMemory);

@@ -15,9 +15,9 @@ fn pass_on(sign: &Sign, workers: &Option<StopFlag>) {
     }
 }
 
-/// Returns a sign that is set as the file says, or, where there is none, as standard input does.
-/// Where it asks for an end at once the flag of the workers is set behind it. What looks for it is
-/// left to itself.
+/// Returns a sign that is set as the file says, or, if there is none, as standard input does. Where
+/// it asks for an end at once the flag of the workers is set after it. What looks for it is left to
+/// itself.
 pub fn sign_of<R: Threads>(
     rt: &HostRuntime,
     threads: &R,

@@ -1,5 +1,5 @@
-//! A body with each byte changed to each other value, and cut at each length: read, and judged
-//! where it stands.
+//! A body with each byte changed to each other value, and cut at each length: read, and judged if
+//! it is.
 
 use crate::changed::{Reader, wrong_byte};
 use crate::plain_body::plain_spelling;
@@ -27,7 +27,7 @@ fn is_spelled(alloc: Global, body: &[u8], wanted: &[u8]) -> bool {
     }
 }
 
-/// Returns whether a body has this fault, where it is read and where it is judged.
+/// Returns whether a body has this fault, if it is read and if it is judged.
 fn is_refused(alloc: Global, body: &[u8], wanted: WireFault) -> bool {
     check_message(body) == Err(wanted) && spelling(alloc, body).err() == Some(wanted)
 }

@@ -1,5 +1,5 @@
 //! A worker whose request or reply is cut off by one failing call, at each of the calls, or that is
-//! refused memory: it sends the same bytes again, and the head has each sample once.
+//! failed allocation: it sends the same bytes again, and the head has each sample once.
 
 ghost use Rattle.std.specs.Prelude.{◌≡◌, []};
 ghost use Rattle.rw_plain_queue.specs.declared.item.Item.TheVariants as item;
@@ -78,7 +78,7 @@ fn shown_by(report: &WorkerReport<Line<'_>>) -> Shown {
     }
 }
 
-/// Returns a worker with such a queue; none where memory is refused.
+/// Returns a worker with such a queue; none if memory runs out.
 fn worker_of<R: Wait>(rt: &R, alloc: Global, config: &Config) -> Option<Worker> {
     let labels = up(alloc).ok()?;
     let (feed, drain) = open(alloc, 0, 0, 4).ok()?;
@@ -88,8 +88,8 @@ fn worker_of<R: Wait>(rt: &R, alloc: Global, config: &Config) -> Option<Worker> 
     Worker::new(alloc, config, 0, 0, drain).ok()
 }
 
-/// Returns what a worker shows over a line where this call fails, counted from 1, and whether it
-/// came to that call.
+/// Returns what a worker shows over a line if this call fails, counted from 1, and whether it came
+/// to that call.
 fn shown_over_line<R: Wait>(
     rt: &R,
     alloc: Global,
@@ -104,7 +104,7 @@ fn shown_over_line<R: Wait>(
     (shown, calls.get() == 0)
 }
 
-/// Returns the same of a new worker; none where memory is refused before it runs.
+/// Returns the same of a new worker; none if memory runs out before it runs.
 fn shown_at<R: Wait>(rt: &R, alloc: Global, failing: usize) -> Option<(Shown, bool)> {
     let stop = StopFlag::new(alloc).ok()?;
     let limits = Limits::standard(alloc).ok()?;
@@ -124,8 +124,8 @@ fn wanted(has_failed: bool) -> Shown {
     }
 }
 
-/// Returns the first call with whose failure a worker shows something else; MANY where all are
-/// well, and 0 where there are few.
+/// Returns the first call with whose failure a worker shows something else; MANY if all are well,
+/// and 0 if there are few.
 fn wrong_call<R: Wait>(rt: &R, alloc: Global) -> usize {
     for failing in 1..MANY {
         match shown_at(rt, alloc, failing) {
@@ -143,7 +143,7 @@ fn each_call_may_fail(rt: HostRuntime) {
     assert_eq!(rt; wrong_call(&rt, rt.alloc()), MANY);
 }
 
-/// Returns what a worker shows where no call fails; again where memory is refused before it begins.
+/// Returns what a worker shows where no call fails; again if memory runs out before it begins.
 fn shown_whole<R: Wait>(rt: &R, alloc: Global) -> Option<Shown> {
     match shown_at(rt, alloc, 0) {
         Some((shown, _)) => Some(shown),

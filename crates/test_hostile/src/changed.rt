@@ -53,8 +53,8 @@ fn wrong_byte_in(reader: Reader, alloc: Global, text: &mut [u8]) -> Option<usize
     None
 }
 
-/// Returns the first byte of a text that has such a value, or the number of its bytes where memory
-/// is refused.
+/// Returns the first byte of a text that has such a value, or the number of its bytes if memory
+/// runs out.
 pub(crate) fn wrong_byte(reader: Reader, alloc: Global, text: &[u8]) -> Option<usize> {
     match text.to_vec(alloc) {
         Ok(mut copy) => wrong_byte_in(reader, alloc, &mut copy),

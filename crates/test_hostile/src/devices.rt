@@ -1,5 +1,5 @@
 //! Readers and writers that give and take a few bytes at a time. One call of all of them fails, and
-//! its device then fails for good.
+//! its device then fails permanently.
 
 use rw_types::{Failed, Sink, Source};
 use std::alloc::Global;

@@ -20,7 +20,7 @@ pub(crate) struct Line<'a> {
     /// The request that was lost, if the last one was.
     lost: Option<Vec<u8>>,
     pub(crate) exchanges: usize,
-    /// Whether each request behind a lost one had the same bytes.
+    /// Whether each request after a lost one had the same bytes.
     pub(crate) is_same: bool,
 }
 
@@ -64,8 +64,7 @@ impl<'a> Line<'a> {
         }
     }
 
-    /// Compares a request with the one that was lost before it, and keeps it where it is lost
-    /// itself.
+    /// Compares a request with the one that was lost before it, and keeps it if it is lost itself.
     fn note(&mut self, request: &[u8], is_lost: bool) {
         self.exchanges = self.exchanges.saturating_add(1);
         if let Some(lost) = &self.lost {

@@ -6,10 +6,10 @@ use rw_codes::put_uvarint;
 use rw_write_request::WireFault;
 use std::alloc::{AllocError, Global};
 
-/// The wire types that a message asks of its fields 1 and 2, where it has them.
+/// The wire types that a message asks of its fields 1 and 2, if it has them.
 type Wires = [Option<u64>; 2];
 
-/// A field: its number, its number as content, its bytes as content, and what stands behind it.
+/// A field: its number, its number as content, its bytes as content, and what follows it.
 #[derive(Clone, Copy)]
 struct Field<'a> {
     number: u64,
@@ -18,7 +18,7 @@ struct Field<'a> {
     rest: &'a [u8],
 }
 
-/// Returns a number, and what stands behind it.
+/// Returns a number, and what follows it.
 fn uvarint(text: &[u8]) -> Result<(u64, &[u8]), WireFault> {
     let mut value: u64 = 0;
     let mut scale: u64 = 1;
@@ -91,7 +91,7 @@ fn put_bytes(out: &mut Vec<u8>, tag: u8, bytes: &[u8]) -> Result<(), AllocError>
     out.extend_from_slice(bytes)
 }
 
-/// Puts a text, where there is one.
+/// Puts a text, if there is one.
 fn put_text(out: &mut Vec<u8>, tag: u8, text: &[u8]) -> Result<(), AllocError> {
     if text.is_empty() {
         return Ok(());
@@ -149,7 +149,7 @@ fn spell_sample(text: &[u8], out: &mut Vec<u8>) -> Result<(), WireFault> {
     Ok(())
 }
 
-/// Spells a series: its labels, and behind them its samples.
+/// Spells a series: its labels, and after them its samples.
 fn spell_series(alloc: Global, text: &[u8], out: &mut Vec<u8>) -> Result<(), WireFault> {
     let mut samples = Vec::new(alloc);
     let mut part = Vec::new(alloc);

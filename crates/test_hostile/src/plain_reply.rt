@@ -3,25 +3,25 @@
 
 use rw_shard_core::ReplyRead;
 
-/// What stands before a reason: `v` for 0 or 1, and `d` for a digit.
+/// What is before a reason: `v` for 0 or 1, and `d` for a digit.
 static START: &[u8] = b"HTTP/1.v ddd";
 
 /// Where a head goes on.
 #[derive(Clone, Copy)]
 enum Place {
-    /// Behind so many bytes of its start. Empty lines may come before it.
+    /// After so many bytes of its start. Empty lines may come before it.
     Start(usize),
-    /// Behind the CR of such a line.
+    /// After the CR of such a line.
     Empty,
     /// In the reason, or in a value.
     Text,
-    /// Behind the CR that ends one of these.
+    /// After the CR that ends one of these.
     TextEnd,
-    /// Behind a line.
+    /// After a line.
     Line,
     /// In the name of a field.
     Name,
-    /// Behind the CR of the last line.
+    /// After the CR of the last line.
     Last,
     End,
 }
@@ -43,17 +43,17 @@ fn begins(at: usize, byte: u8) -> bool {
     }
 }
 
-/// Returns whether a byte may stand in the name of a field.
+/// Returns whether a byte may be in the name of a field.
 fn is_of_name(byte: u8) -> bool {
     byte.is_ascii_alphanumeric() || b"!#$%&'*+-.^_`|~".contains(&byte)
 }
 
-/// Returns whether a byte may stand in a reason or in a value.
+/// Returns whether a byte may be in a reason or in a value.
 fn is_of_text(byte: u8) -> bool {
     byte == b'\t' || (byte >= b' ' && byte != 127)
 }
 
-/// Returns the place behind a byte that is no part of a line's end.
+/// Returns the place after a byte that is no part of a line's end.
 fn behind(place: Place, byte: u8) -> Option<Place> {
     match place {
         Place::Start(12) if byte == b' ' => Some(Place::Text),
@@ -65,7 +65,7 @@ fn behind(place: Place, byte: u8) -> Option<Place> {
     }
 }
 
-/// Returns the place behind a line feed.
+/// Returns the place after a line feed.
 fn behind_feed(place: Place) -> Option<Place> {
     match place {
         Place::Start(0) | Place::Empty => Some(Place::Start(0)),
@@ -75,7 +75,7 @@ fn behind_feed(place: Place) -> Option<Place> {
     }
 }
 
-/// Returns the place behind a CR.
+/// Returns the place after a CR.
 fn behind_return(place: Place) -> Option<Place> {
     match place {
         Place::Start(0) => Some(Place::Empty),
@@ -85,7 +85,7 @@ fn behind_return(place: Place) -> Option<Place> {
     }
 }
 
-/// Returns the place behind a byte; none where no head has it.
+/// Returns the place after a byte; none if no head has it.
 fn next(place: Place, byte: u8) -> Option<Place> {
     match byte {
         b'\n' => behind_feed(place),

@@ -3,20 +3,20 @@
 
 use rw_wal_tail::TailFault;
 
-/// How many of the known records stand in a page, and its fault.
+/// How many of the known records are in a page, and its fault.
 #[derive(Clone, Copy, PartialEq, Eq)]
 pub(crate) struct Reading {
     pub(crate) records: usize,
     pub(crate) fault: Option<TailFault>,
 }
 
-/// What stands at a fragment's place.
+/// What is at a fragment's place.
 #[derive(Clone, Copy)]
 enum Found<'a> {
     /// Nothing more, or what is not whole yet.
     Nothing,
     Fault(TailFault),
-    /// A fragment of this type, its data, and what stands behind it.
+    /// A fragment of this type, its data, and what follows it.
     Fragment(u8, &'a [u8], &'a [u8]),
 }
 
@@ -67,7 +67,7 @@ pub(crate) fn are_zeros(bytes: &[u8]) -> bool {
     true
 }
 
-/// Returns what stands `at` bytes into a page.
+/// Returns what is `at` bytes into a page.
 fn found_at(text: &[u8], at: usize) -> Found<'_> {
     let Some((kind, behind)) = text.split_first() else {
         return Found::Nothing;

@@ -1,6 +1,5 @@
-//! The machine's program where memory is refused. What takes memory is done again where it is
-//! refused, so the test holds whichever growth is refused; `tools/refuse-each` refuses each of them
-//! in turn.
+//! The machine's program if memory runs out. What takes memory is done again if it is refused, so
+//! the test holds whichever growth is refused; `tools/refuse-each` refuses each of them in turn.
 
 use crate::rows::none_is_wrong;
 use rw_head::Limits;
@@ -13,7 +12,7 @@ use rw_world::World;
 use std::alloc::{AllocError, Global};
 
 /// How many shards there are and how many labels the receiver takes, a schedule of which the first
-/// line is its log, the state behind an orderly shutdown, and the bytes of the first requests.
+/// line is its log, the state after an orderly shutdown, and the bytes of the first requests.
 struct Row<'a> {
     shards: u64,
     labels: u64,
@@ -282,8 +281,8 @@ fn shows_the_same(alloc: Global, world: &World, row: &Row<'_>, events: &[Event])
         && found.as_slice() == wanted.as_slice()
 }
 
-/// Returns whether a world is moved by events. Where one is refused, it has to show what a world
-/// shows that is moved by the events before it, and to go on.
+/// Returns whether a world is moved by events. If one is refused, it has to show what a world shows
+/// that is moved by the events before it, and to go on.
 fn is_moved(alloc: Global, world: &mut World, row: &Row<'_>, events: &[Event]) -> bool {
     let Err(refused) = world.run(events) else {
         return true;

@@ -6,7 +6,7 @@ use crate::plain_reply::plain_reply;
 use crate::rows::none_is_wrong;
 use rw_shard_core::read_reply;
 
-/// One that comes behind another head.
+/// One that comes after another head.
 const CONTINUED: &[u8] =
     b"HTTP/1.1 100 Continue\r\n\r\nHTTP/1.1 204 No Content\r\nConnection: close\r\n\r\n";
 

@@ -57,8 +57,8 @@ static REPLIES: [(&[u8], Outcome); 8] = [
     ),
 ];
 
-/// The parts of the head, and what becomes of the request where one of their bytes is another one.
-/// A line feed ends a line, so a CR that is one ends the head.
+/// The parts of the head, and what becomes of the request if one of their bytes is another one. A
+/// line feed ends a line, so a CR that is one ends the head.
 static PARTS: [(&[u8], &[Outcome]); 11] = [
     (b"POST ", &[OTHER_METHOD, BAD]),
     (b"/api/v1/write", &[NOT_FOUND, BAD]),
@@ -90,7 +90,7 @@ fn parts() -> &'static [(&'static [u8], &'static [Outcome])] {
     &PARTS
 }
 
-/// Returns what became of a request, by the reply, the end and what the head then holds. None where
+/// Returns what became of a request, by the reply, the end and what the head then holds. None if
 /// these do not fit.
 fn outcome_of(written: &[u8], end: ServeEnd, total: u64) -> Option<Outcome> {
     for (reply, outcome) in replies() {

@@ -101,7 +101,7 @@ static ROWS: [Row; 45] = [
     Unsigned(&[255; 10], CodeFault::TooBig),
 ];
 
-/// Returns whether a number is written so, and then another byte behind it.
+/// Returns whether a number is written so, and then another byte after it.
 fn is_written(out: &mut Vec<u8>, n: u64, bytes: &[u8]) -> bool {
     out.clear();
     put_uvarint(out, n).is_ok() && out.as_slice() == bytes && out.push(7).is_ok()
@@ -123,7 +123,7 @@ fn is_short_where_cut(bytes: &[u8]) -> bool {
     true
 }
 
-/// Returns whether a row is so: a form is also read with another byte behind it, and too short in
+/// Returns whether a row is so: a form is also read with another byte after it, and too short in
 /// each of its fronts.
 fn is_so(out: &mut Vec<u8>, row: &Row) -> bool {
     match row {
@@ -155,7 +155,7 @@ fn texts_and_numbers(rt: HostRuntime) {
     none_is_wrong(&rt, wrong_row(&mut Vec::new(rt.alloc())));
 }
 
-/// Returns whether the number is written whole, or nothing where memory is refused.
+/// Returns whether the number is written whole, or nothing if memory runs out.
 fn is_whole_or_nothing(out: &mut Vec<u8>, n: u64, bytes: &[u8]) -> bool {
     let len = out.len();
     match put_uvarint(out, n) {
@@ -184,7 +184,7 @@ fn half_written(out: &mut Vec<u8>) -> Option<usize> {
     None
 }
 
-/// Where memory runs out, what was written stays as it was. It shows when each allocation fails in
+/// If memory runs out, what was written stays as it was. It shows when each allocation fails in
 /// turn.
 #[test]
 fn refused_memory_writes_nothing(rt: HostRuntime) {

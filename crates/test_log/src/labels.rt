@@ -84,7 +84,7 @@ fn fault(alloc: Global, labels: &RawLabels) -> Option<LabelFault> {
     LabelSet::check(alloc, labels).err()
 }
 
-/// Returns the fault of labels where these names are taken. Want of memory is one too.
+/// Returns the fault of labels if these names are taken. Out of memory is one too.
 fn fault_as(alloc: Global, names: Names, labels: Labels<'_>) -> Option<LabelFault> {
     let mut raw = RawLabels::new(alloc);
     match push_all(&mut raw, labels) {
@@ -102,7 +102,7 @@ fn wrong_fault(alloc: Global) -> Option<usize> {
     None
 }
 
-/// Returns the fault of labels once these are added to them. Want of memory is one too.
+/// Returns the fault of labels once these are added to them. Out of memory is one too.
 fn fault_with(alloc: Global, labels: &mut RawLabels, more: Labels<'_>) -> Option<LabelFault> {
     match push_all(labels, more) {
         Ok(()) => fault(alloc, labels),

@@ -27,8 +27,7 @@ fn is_one(series: &Series) -> bool {
         && *timestamp == 1000
 }
 
-/// Returns whether the series of a message are such, so many of them; no, where there is no
-/// message.
+/// Returns whether the series of a message are such, so many of them; no, if there is no message.
 fn has_ones(message: Result<Message, WireFault>, count: usize) -> bool {
     let Ok(message) = message else {
         return false;
@@ -99,7 +98,7 @@ fn wrong_spelling(alloc: Global) -> Option<usize> {
     None
 }
 
-/// Returns whether `ONE` is read of another front with the rest of `ONE` behind it.
+/// Returns whether `ONE` is read of another front with the rest of `ONE` after it.
 fn is_one_behind(alloc: Global, front: &[u8], rest: &[u8]) -> bool {
     let mut text = Vec::new(alloc);
     text.extend_from_slice(front).is_ok()

@@ -98,8 +98,8 @@ impl Seen {
     }
 }
 
-/// Feeds a piece, a second time where memory was refused: so where an allocation fails, each in
-/// turn, the same is read.
+/// Feeds a piece, a second time if memory ran out: so if an allocation fails, each in turn, the
+/// same is read.
 fn is_fed(tail: &mut Tail, piece: &[u8]) -> bool {
     tail.feed(piece).is_ok() || tail.feed(piece).is_ok()
 }
@@ -144,7 +144,7 @@ fn cut_anywhere(rt: HostRuntime) {
     none_is_wrong(&rt, wrong_cut(rt.alloc()));
 }
 
-/// Feeds pieces of so many bytes, and reads behind each of them.
+/// Feeds pieces of so many bytes, and reads after each of them.
 fn feed_by(tail: &mut Tail, text: &[u8], size: usize) -> Seen {
     let mut seen = NOTHING;
     for piece in text.chunks(size.max(1)) {
@@ -341,9 +341,9 @@ enum Piece {
 
 /// What is seen at last.
 enum End {
-    /// This, where it is read at last.
+    /// This, if it is read at last.
     All(Seen),
-    /// The segment and the offset of a fault, where it is also read behind each piece.
+    /// The segment and the offset of a fault, if it is also read after each piece.
     Place(Option<(u64, u64)>),
 }
 
@@ -389,7 +389,7 @@ static ENDS: [(&[Piece], End); 11] = [
     (&[Up(0, 63), OPENING, Next, Up(0, 63)], Place(Some((0, 70)))),
 ];
 
-/// Gives a piece. No, where memory is refused.
+/// Gives a piece. No, if memory runs out.
 fn is_given(tail: &mut Tail, piece: &Piece) -> bool {
     match piece {
         Up(from, to) => match UP.get(*from..*to) {
@@ -404,7 +404,7 @@ fn is_given(tail: &mut Tail, piece: &Piece) -> bool {
     }
 }
 
-/// Gives pieces, and reads behind each of them if it is to.
+/// Gives pieces, and reads after each of them if it is to.
 fn are_given(tail: &mut Tail, seen: &mut Seen, pieces: &[Piece], reads: bool) -> bool {
     for piece in pieces {
         if !is_given(tail, piece) {
@@ -454,7 +454,7 @@ fn ends_of_segments_and_places_of_faults(rt: HostRuntime) {
 }
 
 /// A filler of so many bytes, and the end of its page. With seven bytes left a fragment without
-/// data stands there, with six zeros.
+/// data is there, with six zeros.
 static PAGES: [(usize, &[u8]); 2] = [
     (
         32_754,

@@ -9,7 +9,7 @@ use rw_types::{Failed, Room, Sink, Word};
 use rw_wal_write::{LogFault, SegmentWriter, sample_record};
 use std::alloc::{AllocError, Global};
 
-/// What stands in a segment.
+/// What is in a segment.
 enum Expected {
     /// A fragment of this type, whose data are so many times this byte.
     Fragment(u8, u8, usize),
@@ -44,7 +44,7 @@ fn put_all_expected(
 /// The most bytes that a failing device takes at a write.
 const MOST: usize = 8_192;
 
-/// Takes a few bytes at each write, and fails at one of them and then for good.
+/// Takes a few bytes at each write, and fails at one of them and then permanently.
 #[derive(Drop)]
 struct FailingAt {
     taken: Vec<u8>,
@@ -92,7 +92,7 @@ fn logs<W: Sink>(
     }
 }
 
-/// A run that is logged, the answer, and where the writer then stands.
+/// A run that is logged, the answer, and if the writer then is.
 type Step = (u8, usize, Result<(), LogFault>, usize);
 
 /// Returns the first step that goes otherwise.
@@ -115,8 +115,7 @@ fn are_logged(alloc: Global, writer: &mut SegmentWriter<Room>, runs: &[(u8, usiz
     true
 }
 
-/// Returns the segment of such runs, which have room in three pages. Nothing, where one is not
-/// logged.
+/// Returns the segment of such runs, which have room in three pages. Nothing, if one is not logged.
 fn segment_of(alloc: Global, runs: &[(u8, usize)]) -> Vec<u8> {
     let Ok(room) = Room::new(alloc, 98_304) else {
         return Vec::new(alloc);
@@ -298,8 +297,8 @@ fn failing_writer(alloc: Global, writes_left: usize) -> SegmentWriter<FailingAt>
     SegmentWriter::new(sink, 2)
 }
 
-/// Returns whether a device that fails after so many writes closes the segment, and has a beginning
-/// of the whole one.
+/// Returns whether a device that fails after so many writes closes the segment, and has a prefix of
+/// the whole one.
 fn closes(alloc: Global, whole: &[u8], writes_left: usize) -> bool {
     let failed = Err(LogFault::Device);
     let mut writer = failing_writer(alloc, writes_left);

@@ -40,7 +40,7 @@ fn filled(alloc: Global, size: usize) -> Result<Head, AllocError> {
     }
 }
 
-/// How many full blocks `up` has, how many samples stand behind them, and how many samples the head
+/// How many full blocks `up` has, how many samples are after them, and how many samples the head
 /// holds.
 type Shape = (usize, usize, u64);
 
@@ -63,8 +63,8 @@ fn is_judged(
     asked(alloc, head, parts) == verdict && shape(head) == then
 }
 
-/// Returns whether the blocks begin with the first sample and end with the 240th, and the 241st
-/// stands behind them.
+/// Returns whether the blocks begin with the first sample and end with the 240th, and the 241st is
+/// after them.
 fn are_filled(head: &Head) -> bool {
     let Some(up) = head.label_sets().next() else {
         return false;
@@ -140,7 +140,7 @@ fn a_series_is_blocks_whatever_the_requests(rt: HostRuntime) {
     none_is_wrong(&rt, wrong_size(rt.alloc()));
 }
 
-/// The samples 1 to 300, with repeats among them and behind them.
+/// The samples 1 to 300, with repeats among them and after them.
 static WITH_REPEATS: [(u32, u32); 8] = [
     (1, 130),
     (1, 1),
@@ -244,7 +244,7 @@ fn a_refused_request_leaves_no_label_sets(rt: HostRuntime) {
     holds(&rt, has_places_for_stored(rt.alloc()));
 }
 
-/// Returns the verdict on a message, asked for again where memory was refused and that left the 241
+/// Returns the verdict on a message, asked for again if memory ran out and that left the 241
 /// samples as they are.
 fn verdict_at_last(alloc: Global, head: &mut Head, parts: Parts<'_>) -> Verdict {
     let verdict = asked(alloc, head, parts);
@@ -261,7 +261,7 @@ fn takes_more_at_last(alloc: Global, head: &mut Head, more: Samples<'_>) -> bool
         && shape(head) == (4, 20, 501)
 }
 
-/// Returns a head of the 241 samples, asked for again where memory was refused, that takes these.
+/// Returns a head of the 241 samples, asked for again if memory ran out, that takes these.
 fn filled_takes_more(alloc: Global, more: Samples<'_>) -> bool {
     let head = match filled(alloc, 241) {
         Err(_) => filled(alloc, 241),

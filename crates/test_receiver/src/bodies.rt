@@ -86,8 +86,7 @@ const UNKNOWN_FIELD: [u8; 34] = [
     0x75, 0x70, 0x18, 0x05, 0x12, 0x0c, 0x09, 1, 0, 0, 0, 0, 0, 0, 0, 0x10, 0xe9, 0x07,
 ];
 
-/// `OLDER` with the label a="1" behind the sample: another series, which begins with the same
-/// bytes.
+/// `OLDER` with the label a="1" after the sample: another series, which begins with the same bytes.
 const LABEL_BEHIND: [u8; 40] = [
     0x0a, 0x26, 0x0a, 0x0e, 0x0a, 0x08, 0x5f, 0x5f, 0x6e, 0x61, 0x6d, 0x65, 0x5f, 0x5f, 0x12, 0x02,
     0x75, 0x70, 0x12, 0x0c, 0x09, 1, 0, 0, 0, 0, 0, 0, 0, 0x10, 0xe7, 0x07, 0x0a, 0x06, 0x0a, 0x01,
@@ -160,7 +159,7 @@ fn later() -> &'static [Later] {
     &LATER
 }
 
-/// How a head answers the body of these samples of one series. 503 where memory is refused.
+/// How a head answers the body of these samples of one series. 503 if memory runs out.
 fn status_of(alloc: Global, head: &mut Head, samples: Samples<'_>) -> u16 {
     let Ok(message) = message(alloc, &[(UP, samples)]) else {
         return 503;
@@ -226,7 +225,7 @@ fn long_body(alloc: Global, count: i64) -> Result<Vec<u8>, AllocError> {
     encode(alloc, &message(alloc, &[(UP, &samples)])?)
 }
 
-/// Returns the body of 10,000 samples of one series whose times rise, and of one more behind them.
+/// Returns the body of 10,000 samples of one series whose times rise, and of one more after them.
 fn body_with_last(alloc: Global, last: i64) -> Result<Vec<u8>, AllocError> {
     let mut samples = Vec::new(alloc);
     for t in 0..10_000 {
@@ -275,7 +274,7 @@ fn a_long_body_is_taken(rt: HostRuntime) {
     holds(&rt, takes_a_long_body(rt.alloc()));
 }
 
-/// A series before the rest of its metric's name, and behind it: with the sample 1 at 1.
+/// A series before the rest of its metric's name, and after it: with the sample 1 at 1.
 const FRONT: [u8; 17] = *b"\x0a\x24\x0a\x15\x0a\x08__name__\x12\x09m";
 
 const BEHIND: [u8; 13] = *b"\x12\x0b\x09\0\0\0\0\0\0\xf0\x3f\x10\x01";

@@ -1,4 +1,4 @@
-//! Devices that fail in mid-stream: what was written is a beginning of the replies, and what was
+//! Devices that fail in mid-stream: what was written is a prefix of the replies, and what was
 //! stored is not stored again.
 
 ghost use Rattle.std.specs.Prelude.{⊤};
@@ -21,8 +21,8 @@ const FIRST_REPLY: &[u8] = b"HTTP/1.1 204 No Content\r\n\r\n";
 /// More reads and writes than these connections take.
 const MANY: usize = 1000;
 
-/// How the requests end with a reader and a writer that fail after so many calls. None, where what
-/// was written is no beginning of the replies, or the end does not tell whether a device failed.
+/// How the requests end with a reader and a writer that fail after so many calls. None, if what was
+/// written is not a prefix of the replies, or the end does not tell whether a device failed.
 fn end_of_broken(
     alloc: Global,
     store: &mut Store,
@@ -46,7 +46,7 @@ fn is_answered(alloc: Global, store: &mut Store) -> bool {
     is_served_by(alloc, &mut reader, store, REPLIES, ServeEnd::Closed) && store.bodies.len() == 2
 }
 
-/// Returns the same end, where the requests that come again are answered.
+/// Returns the same end, if the requests that come again are answered.
 fn end_before_answered(alloc: Global, reads: usize, writes: usize) -> Option<ServeEnd> {
     let mut store = Store::new(alloc);
     let end = end_of_broken(alloc, &mut store, reads, writes);
@@ -64,7 +64,7 @@ enum Side {
     Writer,
 }
 
-/// Returns whether the requests take more than ten calls of one side, and all is well where one of
+/// Returns whether the requests take more than ten calls of one side, and all is well if one of
 /// them fails.
 fn may_fail(alloc: Global, side: Side) -> bool {
     for n in 0..MANY {
@@ -120,8 +120,8 @@ impl Answer for Counter {
     }
 }
 
-/// What is written and how the connection ends after so many bodies, where all have their replies
-/// or memory was refused.
+/// What is written and how the connection ends after so many bodies, if all have their replies or
+/// memory ran out.
 static ENDS: [(&[u8], ServeEnd); 3] = [
     (b"", ServeEnd::OutOfMemory),
     (FIRST_REPLY, ServeEnd::OutOfMemory),
@@ -146,7 +146,7 @@ fn leaves_whole_replies(alloc: Global) -> bool {
     is_whole(counter.asked, room.as_slice(), end)
 }
 
-/// Where memory is refused, what was asked has its whole reply, and what was not asked has none.
+/// If memory runs out, what was asked has its whole reply, and what was not asked has none.
 #[test]
 fn refused_memory_leaves_whole_replies(rt: HostRuntime) {
     holds(&rt, leaves_whole_replies(rt.alloc()));

@@ -3,7 +3,7 @@
 use rw_types::{Failed, Sink, Source};
 use std::alloc::Global;
 
-/// Gives a few bytes at each read, and fails at one of them and then for good.
+/// Gives a few bytes at each read, and fails at one of them and then permanently.
 #[derive(Drop)]
 pub(crate) struct Giving<'a> {
     left: &'a [u8],
@@ -47,7 +47,7 @@ impl Source for Giving<'_> {
     }
 }
 
-/// Takes a few bytes at each write, and fails at one of them and then for good.
+/// Takes a few bytes at each write, and fails at one of them and then permanently.
 #[derive(Drop)]
 pub(crate) struct Taking {
     pub(crate) taken: Vec<u8>,

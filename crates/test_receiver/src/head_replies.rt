@@ -119,8 +119,7 @@ fn sent_again() -> &'static [Row] {
     &SENT_AGAIN
 }
 
-/// Returns whether a connection with this input has this reply of a head. No, where memory is
-/// refused.
+/// Returns whether a connection with this input has this reply of a head. No, if memory runs out.
 fn replies_so(alloc: Global, head: &mut Head, input: &[u8], reply: &[u8]) -> bool {
     let (Ok(limits), Ok(mut room)) = (Limits::standard(alloc), Room::new(alloc, 1024)) else {
         return false;

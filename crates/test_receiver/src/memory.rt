@@ -1,6 +1,6 @@
-//! What happens where memory is refused. The test can be run with each allocation refused in turn:
-//! the refused call answers 503 and leaves what the head holds, and the same body is then taken. A
-//! body that is no message is bad, whatever memory is refused.
+//! What happens if memory runs out. The test can be run with each allocation refused in turn: the
+//! refused call answers 503 and leaves what the head holds, and the same body is then taken. A body
+//! that is no message is bad, whatever allocation fails.
 
 use crate::bodies::{ONE, TWO};
 use crate::messages::narrow;
@@ -13,8 +13,8 @@ fn counts(head: &Head) -> (u64, usize) {
     (head.total(), head.label_sets().count())
 }
 
-/// Returns the status of a body, asked for again where memory was refused and the head holds as
-/// much as before.
+/// Returns the status of a body, asked for again if memory ran out and the head holds as much as
+/// before.
 pub(crate) fn status_at_last(head: &mut Head, body: &[u8], before: (u64, usize)) -> u16 {
     let status = head.answer(body);
     if status == 503 && counts(head) == before {
@@ -60,7 +60,7 @@ fn refused_memory_changes_nothing(rt: HostRuntime) {
 }
 
 /// Asks a head with one body several times. Whether each answer is that the body is stored, or that
-/// memory is refused and nothing has changed. A body that is not a message is bad each time.
+/// memory runs out and nothing has changed. A body that is not a message is bad each time.
 fn answers_are_whole(head: &mut Head) -> bool {
     let mut held = (0, 0);
     for _ in 0..3u32 {
@@ -87,7 +87,7 @@ fn are_whole(alloc: Global) -> bool {
     }
 }
 
-/// Holds also where memory stays refused, from whichever growth on.
+/// Holds also if memory stays refused, from whichever growth on.
 #[test]
 fn lasting_refusals_change_nothing(rt: HostRuntime) {
     holds(&rt, are_whole(rt.alloc()));

@@ -91,7 +91,7 @@ pub(crate) fn are_same(held: &[(i64, Word)], samples: Samples<'_>) -> bool {
         && held.iter().zip(samples).all(|(held, sample)| held.0 == sample.0 && held.1.0 == sample.1)
 }
 
-/// Returns whether the head holds just these samples of these labels. No, where memory is refused.
+/// Returns whether the head holds just these samples of these labels. No, if memory runs out.
 pub(crate) fn has_samples(
     alloc: Global,
     head: &Head,

@@ -109,7 +109,7 @@ fn has_label_sets(alloc: Global, head: &Head, list: &[Labels<'_>]) -> bool {
     sets.next().is_none()
 }
 
-/// Returns whether a series is that of these labels and samples. No, where memory is refused.
+/// Returns whether a series is that of these labels and samples. No, if memory runs out.
 fn is_series(
     alloc: Global,
     series: &HeldSeries<'_>,

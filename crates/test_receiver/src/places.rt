@@ -68,14 +68,13 @@ static ROWS: [Row; 9] = [
         Verdict::Stored(2),
         &[5, 4, 5, 0, 0],
     ),
-    // a new series takes the place that the refused one had for a while, and comes where that one
-    // came
+    // a new series takes the place that the refused one had for a while, and comes if that one came
     (
         &[(UP, &[(60, 1)]), (OTHER, &[(10, 9)]), (DOWN, &[(60, 2)])],
         Verdict::Stored(3),
         &[6, 5, 5, 1, 0],
     ),
-    // the refused one comes again where the other one is expected
+    // the refused one comes again if the other one is expected
     (
         &[(UP, &[(60, 1)]), (NEW, &[(10, 7)])],
         Verdict::Stored(1),
@@ -89,7 +88,7 @@ static ROWS: [Row; 9] = [
     ),
 ];
 
-/// Returns the first wrong row, or the number of them where the head has other than five places at
+/// Returns the first wrong row, or the number of them if the head has other than five places at
 /// last.
 fn wrong_row(alloc: Global) -> Option<usize> {
     let Ok(mut head) = narrow(alloc) else {

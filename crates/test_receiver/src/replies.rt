@@ -50,8 +50,8 @@ fn is_served_at_once(alloc: Global, input: &[u8], replies: &[u8]) -> bool {
     !reader.waited && writer.taken.as_slice() == replies
 }
 
-/// Returns whether an input has these replies and ends so: where it comes whole, where it comes
-/// byte by byte, and for one who waits.
+/// Returns whether an input has these replies and ends so: if it comes whole, if it comes byte by
+/// byte, and for one who waits.
 fn is_served_however_it_comes(alloc: Global, input: &[u8], replies: &[u8], how: ServeEnd) -> bool {
     let mut whole = input;
     let mut slow = Giving::new(input, 1, usize::MAX);
@@ -93,7 +93,7 @@ const NO_CONTENT: &[u8] = b"HTTP/1.1 204 No Content|Connection: close||";
 
 /// What a row says.
 enum Row {
-    /// What stands behind the first line of a request, and the reply.
+    /// What follows the first line of a request, and the reply.
     Fields(&'static [u8], &'static [u8]),
     /// An input, the replies, and the end.
     Input(&'static [u8], &'static [u8], ServeEnd),
@@ -231,7 +231,7 @@ static ROWS: [Row; 44] = [
         b"HTTP/1.1 204 No Content|Connection: close||",
         Closed,
     ),
-    // nothing is answered behind a reply that closes
+    // nothing is answered after a reply that closes
     Input(
         b"POST /api/v1/write HTTP/1.1|Content-Length: 3||abcPOST /api/v1/write HTTP/1.1|Connection: close|Content-Length: 3||defPOST /api/v1/write HTTP/1.1|Content-Length: 0||",
         b"HTTP/1.1 204 No Content||HTTP/1.1 204 No Content|Connection: close||",
@@ -264,7 +264,7 @@ static ROWS: [Row; 44] = [
         b"HTTP/1.1 400 Bad Request|Content-Length: 0|Connection: close||",
         Closed,
     ),
-    // behind a reply the input ends inside a request
+    // after a reply the input ends inside a request
     Input(
         b"POST /api/v1/write HTTP/1.1|Content-Length: 3||abcPOST /api/v1/write HTTP/1.1|",
         b"HTTP/1.1 204 No Content||",
@@ -303,8 +303,7 @@ fn connections_have_their_replies(rt: HostRuntime) {
     none_is_wrong(&rt, wrong_row(rt.alloc()));
 }
 
-/// Where the shipper's request may be cut so that it has a reply, or ends otherwise than a torn
-/// one.
+/// If the shipper's request may be cut so that it has a reply, or ends otherwise than a torn one.
 fn wrong_cut_of(alloc: Global, request: &[u8]) -> Option<usize> {
     for len in 0..request.len() {
         let mut part = &request[..len];
@@ -324,7 +323,7 @@ fn wrong_cut(alloc: Global) -> Option<usize> {
     }
 }
 
-/// The shipper's request has its reply, and none where it is cut before one of its bytes.
+/// The shipper's request has its reply, and none if it is cut before one of its bytes.
 #[test]
 fn cut_requests_have_no_reply(rt: HostRuntime) {
     holds(

@@ -17,7 +17,7 @@ use std::test::Fail;
 use std::thread;
 use std::thread::Threads;
 
-/// Returns a blank of so many parts, made again where memory was refused.
+/// Returns a blank of so many parts, made again if memory ran out.
 pub(crate) fn blank(alloc: Global, parts: u64) -> Result<Blank, AllocError>
     ensures { IfOk result (λ b. b.parts ≡ parts) }
 {
@@ -110,8 +110,8 @@ pub(crate) enum Talk<'a> {
     Connection(&'a [u8], &'a [u8], u64),
 }
 
-/// Returns the status of a body, asked for again where memory was refused and the seat has stored
-/// as much as before.
+/// Returns the status of a body, asked for again if memory ran out and the seat has stored as much
+/// as before.
 fn answered_at_last<L: Naming, R: Wait>(
     asking: &mut Asking<'_, R, L>,
     body: &[u8],
@@ -157,8 +157,8 @@ fn is_answered<L: Naming, R: Wait>(
     }
 }
 
-/// Asks from the one seat of a head. Gives whether it answers as it is to, and the head. Where no
-/// seat could be had there is no answer, and the head is as it was.
+/// Asks from the one seat of a head. Gives whether it answers as it is to, and the head. If no seat
+/// could be had there is no answer, and the head is as it was.
 pub(crate) fn answered<L: Naming, R: Wait>(
     rt: &R,
     alloc: Global,
@@ -199,7 +199,7 @@ fn begun(alloc: Global) -> Result<Head, AllocError> {
     }
 }
 
-/// Returns whether the head holds these samples, looked for again where memory was refused.
+/// Returns whether the head holds these samples, looked for again if memory ran out.
 fn has_at_last(alloc: Global, head: &Head, samples: Samples<'_>) -> bool {
     has_samples(alloc, head, UP, samples) || has_samples(alloc, head, UP, samples)
 }

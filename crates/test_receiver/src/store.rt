@@ -63,7 +63,7 @@ fn limits(alloc: Global) -> Result<Limits, AllocError> {
     Ok(limits)
 }
 
-/// Serves a connection within these limits. It ends for want of memory also where they have none.
+/// Serves a connection within these limits. It ends because memory ran out also if they have none.
 pub(crate) fn served<R: Source, W: Sink, A: Answer>(
     alloc: Global,
     reader: &mut R,
@@ -76,7 +76,7 @@ pub(crate) fn served<R: Source, W: Sink, A: Answer>(
     }
 }
 
-/// Returns whether a connection has these replies and ends so. No, where memory is refused.
+/// Returns whether a connection has these replies and ends so. No, if memory runs out.
 pub(crate) fn is_served_by<R: Source, A: Answer>(
     alloc: Global,
     reader: &mut R,

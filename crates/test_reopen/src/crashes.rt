@@ -70,8 +70,8 @@ static SYNCED: [usize; 4] = [0, 7, 29, 40];
 
 static JUNK: [&[u8]; 3] = [&[], &[0], &[9; 40]];
 
-/// Returns the first crash that is not opened with the entries of the bytes that it left: where it
-/// was synced, and how many bytes were left.
+/// Returns the first crash that is not opened with the entries of the bytes that it left: if it was
+/// synced, and how many bytes were left.
 fn first_wrong(alloc: Global) -> Result<Option<(usize, usize)>, ReopenError> {
     for synced in SYNCED {
         for left in synced..UP.len() {

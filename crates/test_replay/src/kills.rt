@@ -46,7 +46,7 @@ fn lines() -> &'static [&'static str] {
     &LINES
 }
 
-/// The lines, with a kill behind so many of them; the later ones follow or do not.
+/// The lines, with a kill after so many of them; the later ones follow or do not.
 fn put_killed(
     script: &mut Vec<u8>,
     lines: &[&str],
@@ -67,7 +67,7 @@ fn put_killed(
     Ok(())
 }
 
-/// Returns what is received before the report is a beginning of the two samples.
+/// Returns what is received before the report is a prefix of the two samples.
 fn received_a_beginning(text: &[u8]) -> bool {
     let rest = match text.strip_prefix(br#"received {__name__="up"} 10=1"#.as_slice()) {
         Some(rest) => rest.strip_prefix(b" 20=2".as_slice()).unwrap_or(rest),
@@ -85,13 +85,13 @@ fn is_survived(alloc: Global, script: &[u8]) -> bool {
     }
 }
 
-/// Returns whether a kill behind so many of these lines leads to a beginning.
+/// Returns whether a kill after so many of these lines leads to a beginning.
 fn is_count_survived(alloc: Global, lines: &[&str], count: usize, goes_on: bool) -> bool {
     let mut script = Vec::new(alloc);
     put_killed(&mut script, lines, count, goes_on).is_ok() && is_survived(alloc, &script)
 }
 
-/// Returns the first number of lines behind which a kill leads to something else.
+/// Returns the first number of lines after which a kill leads to something else.
 fn wrong_count(alloc: Global, lines: &[&str], goes_on: bool) -> Option<usize> {
     for count in 0..=lines.len() {
         if !is_count_survived(alloc, lines, count, goes_on) {
@@ -107,14 +107,14 @@ fn a_kill_anywhere(rt: HostRuntime) {
     none_is_wrong(&rt, wrong_count(rt.alloc(), lines(), true));
 }
 
-/// How many lines stand before the kill, and the state then.
+/// How many lines are before the kill, and the state then.
 static STATES: [(usize, &str); 3] = [(9, FROZEN), (11, ARRIVED), (15, RESOLVED)];
 
 fn states() -> &'static [(usize, &'static str)] {
     &STATES
 }
 
-/// Returns whether a kill behind so many of the lines, without the later ones, leads to this state.
+/// Returns whether a kill after so many of the lines, without the later ones, leads to this state.
 fn leads_to(alloc: Global, count: usize, state: &str) -> bool {
     let mut script = Vec::new(alloc);
     put_killed(&mut script, lines(), count, false).is_ok()

@@ -5,7 +5,7 @@ use crate::rows::none_is_wrong;
 use rw_fault::ToolFault;
 use std::alloc::{AllocError, Global};
 
-/// Lines that are bad wherever they stand.
+/// Lines that are bad wherever they are.
 static BAD: [&[u8]; 46] = [
     b" place",
     b"place ",
@@ -123,7 +123,7 @@ static ODD: [&str; 4] = [
     "reshard 0\nreshard 1001\nrestart\nsettle",
 ];
 
-/// The state where there is no entry.
+/// The state if there is no entry.
 const NOTHING: &[u8] = b"filtered 0\nreport complete 0\n";
 
 fn odd() -> &'static [&'static str] {
@@ -159,7 +159,7 @@ fn push_raw(
     script.extend_from_slice(b"\n")
 }
 
-/// Returns whether a record of 16 MiB is read, and a longer one behind it is not.
+/// Returns whether a record of 16 MiB is read, and a longer one after it is not.
 fn reads_most(alloc: Global, script: &mut Vec<u8>) -> Result<bool, AllocError> {
     let digits: Vec<u8> = vec![in alloc; b'3'; 64 * 1024]?;
     let is_longest = push_raw(script, &digits, 512, b"").is_ok()

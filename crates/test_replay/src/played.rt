@@ -6,8 +6,7 @@ use rw_settings::read_settings;
 use rw_types::{Room, Source};
 use std::alloc::Global;
 
-/// How a run ends, and what it writes with so much room; none where memory is refused before it
-/// begins.
+/// How a run ends, and what it writes with so much room; none if memory runs out before it begins.
 pub(crate) fn run<S: Source>(
     alloc: Global,
     settings: &[u8],

@@ -37,7 +37,7 @@ static HALF: [Row<'static>; 5] = [
     (b"SMTP ready\r\n", Err(NoReply::Device)),
 ];
 
-/// Returns whether a reply has this answer, and this is written where there is so much room.
+/// Returns whether a reply has this answer, and this is written if there is so much room.
 fn is_answered(
     alloc: Global,
     row: &Row<'_>,

@@ -18,9 +18,9 @@ pub(crate) enum Clients {
     Stays,
     /// One writes the last byte of its second request when the end is wished already.
     IsInside,
-    /// The same, where an end at once is wished.
+    /// The same, if an end at once is wished.
     IsCutOff,
-    /// One writes a byte and is silent. Another one comes behind it.
+    /// One writes a byte and is silent. Another one comes after it.
     WritesOneByte,
     /// A third one comes while two keep their connections, and then those two go.
     OneTooMany,
@@ -37,7 +37,7 @@ const PATIENCE_SECONDS: u64 = 10;
 /// The reply to a request that is taken.
 const TAKEN: &[u8] = b"HTTP/1.1 204 No Content\r\n\r\n";
 
-/// Where clients connect to, and how they ask for an end.
+/// If clients connect to, and how they ask for an end.
 #[derive(Clone, Copy)]
 pub(crate) struct Door<'a, N> {
     pub(crate) net: &'a N,
@@ -58,7 +58,7 @@ fn request(alloc: Global, later: u8) -> Result<Vec<u8>, AllocError> {
     Ok(bytes)
 }
 
-/// Returns a connection whose reads end, so that a test fails where a reply does not come.
+/// Returns a connection whose reads end, so that a test fails if a reply does not come.
 fn connected<N: Net<Stream = TcpStream>>(door: &Door<'_, N>) -> io::Result<TcpStream> {
     let stream = TcpStream::connect(door.net, door.address)?;
     stream.set_read_timeout(Some(Duration::from_secs(PATIENCE_SECONDS)))?;
@@ -200,7 +200,7 @@ fn writes_on<N: Net<Stream = TcpStream> + Clock>(
     Ok(())
 }
 
-/// Returns what the clients read, each behind the one before. They ask for an end at last.
+/// Returns what the clients read, each after the one before. They ask for an end at last.
 pub(crate) fn read_by<N: Net<Stream = TcpStream> + Clock>(
     door: &Door<'_, N>,
     clients: Clients,

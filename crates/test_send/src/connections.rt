@@ -43,7 +43,7 @@ enum Client {
     Stray,
     /// It asks so often by one transport.
     Asks(u64),
-    /// It asks once, and its first address is one where nobody listens.
+    /// It asks once, and its first address is one if nobody listens.
     AsksBehindDeserted,
     /// It writes a whole request before it reads.
     WritesFirst,
@@ -100,8 +100,8 @@ fn reply_after_all<N: Net<Stream = TcpStream>>(
     Ok(reply)
 }
 
-/// Connects again and again while a first connection stands open, and says whether it was refused
-/// in the end.
+/// Connects again and again while a first connection is open, and says whether it was refused in
+/// the end.
 fn comes_again<N: Net<Stream = TcpStream> + Clock>(
     net: &N,
     alloc: Global,
@@ -134,12 +134,12 @@ fn stray<N: Net<Stream = TcpStream>>(
     Ok(())
 }
 
-/// Returns an address where nobody listens any more.
+/// Returns an address if nobody listens any more.
 fn deserted<N: Net<Stream = TcpStream, Listener = TcpListener>>(net: &N) -> io::Result<SocketAddr> {
     TcpListener::bind(net, "127.0.0.1:0")?.local_addr()
 }
 
-/// Returns the statuses of so many requests with the same bytes, each behind a space.
+/// Returns the statuses of so many requests with the same bytes, each after a space.
 fn statuses<N: Net<Stream = TcpStream> + Clock + Copy>(
     alloc: Global,
     transport: &mut TcpTransport<N>,
@@ -457,7 +457,7 @@ fn fails_without_waiting<
     Ok(ended == Err(ToolFault::Device) && printed.as_slice().is_empty())
 }
 
-/// A listener that does not wait fails where no connection has come.
+/// A listener that does not wait fails if no connection has come.
 #[test]
 fn a_failed_accept_is_a_device_fault(rt: HostRuntime) -> Result<(), Fail> {
     let settings = read_settings(rt.alloc(), b"")?;
@@ -482,7 +482,7 @@ fn is_lost<N: Net<Stream = TcpStream> + Clock + Copy>(transport: &mut TcpTranspo
     matches!(transport.exchange(b"POST"), Err(Lost))
 }
 
-/// Returns whether a request is lost that nobody answers within the timeout, and one where nobody
+/// Returns whether a request is lost that nobody answers within the timeout, and one if nobody
 /// listens any more.
 fn are_lost<N: Net<Stream = TcpStream, Listener = TcpListener> + Clock + Copy>(
     net: &N,
@@ -519,7 +519,7 @@ fn is_lost_in_silence<
     Ok(is_lost && read.is_ok())
 }
 
-/// Not even a request that was written whole and read whole counts as taken where no reply came.
+/// Not even a request that was written whole and read whole counts as taken if no reply came.
 #[test]
 fn a_connection_that_is_closed_without_a_reply_is_lost(rt: HostRuntime) -> Result<(), Fail> {
     assert!(rt; is_lost_in_silence(&rt, rt.alloc())?);
@@ -539,7 +539,7 @@ fn drip<R: Clock>(clock: &R, listener: &TcpListener) -> io::Result<()> {
 }
 
 /// Returns how long a request takes whose reply comes byte by byte, with a timeout of 200 ms; none
-/// where it has a reply.
+/// if it has a reply.
 fn dripped<
     R: Net<Stream = TcpStream, Listener = TcpListener> + Threads + Clock + Copy + Send + Sync,
 >(rt: &R, alloc: Global) -> io::Result<Option<Duration>> {

@@ -15,7 +15,7 @@ pub(crate) struct Countdown {
     pub(crate) flushes: bool,
     pub(crate) reshards: bool,
     pub(crate) said: Wish,
-    /// The naps so far. The greatest number stands for more, too.
+    /// The sleeps so far. The greatest number stands for more, too.
     pub(crate) naps: u32,
 }
 
@@ -59,7 +59,7 @@ impl Watch for Countdown {
     }
 }
 
-/// Asks for an end behind so many looks: at once if the counters tell then that one sample was
+/// Asks for an end after so many looks: at once if the counters tell then that one sample was
 /// placed and none waits, and in order otherwise.
 #[derive(Drop)]
 pub(crate) struct Onlooker<'a> {

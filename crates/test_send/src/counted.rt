@@ -3,7 +3,7 @@
 use rw_metrics::{ReceiveCounters, ReceiveNumbers, SendCounters, SendNumbers};
 use std::alloc::Global;
 
-/// Returns how often a word stands in a text.
+/// Returns how often a word is in a text.
 fn times(text: &[u8], word: &[u8]) -> u64 {
     let mut count = 0u64;
     for i in 0..text.len() {
@@ -47,7 +47,7 @@ pub(crate) fn tells_as_printed(alloc: Global, counters: &SendCounters, report: &
     }
 }
 
-/// Returns whether so many samples stand in what a receiver printed, and no connection is open. No
+/// Returns whether so many samples are in what a receiver printed, and no connection is open. No
 /// label has a space.
 fn has_printed(printed: &[u8], numbers: &ReceiveNumbers) -> bool {
     let held = times(printed, b" ").saturating_sub(times(printed, b"\n"));

@@ -21,7 +21,7 @@ use std::thread::Threads;
 use std::time::{Clock, Duration};
 use std::{env, fs};
 
-/// Adds what the segments hold, one after the other. No, where one cannot be read.
+/// Adds what the segments hold, one after the other. No, if one cannot be read.
 fn are_read<R: Files<File = File> + Drop>(
     alloc: Global,
     segments: Vec<Opened<SegmentFile<R>>>,
@@ -216,7 +216,7 @@ static LISTED: [Row<'static>; 3] = [
     ),
 ];
 
-/// The second segment is gone, or a folder stands in its place.
+/// The second segment is gone, or a folder is in its place.
 #[test]
 fn what_is_gone_is_no_end(rt: HostRuntime) -> Result<(), Fail> {
     none_is_wrong(&rt, wrong_row(&rt, &rt, &LISTED)?);

@@ -59,7 +59,7 @@ fn put_events(
     Ok(())
 }
 
-/// Follows the log of a row, and gives the number of the missing segment where it broke so.
+/// Follows the log of a row, and gives the number of the missing segment if it broke so.
 fn followed<R: Wait>(
     rt: &R,
     log: &mut Listed,
@@ -165,7 +165,7 @@ static GROWING: [Row<'static>; 9] = [
         b"cd",
         2,
     ),
-    // the last bytes of a segment come with the next one, behind the look that found nothing left
+    // the last bytes of a segment come with the next one, after the look that found nothing left
     (
         &[More(b"ab"), Quiet, Turn(b"c", b"d")],
         9,
@@ -209,7 +209,7 @@ static GROWING: [Row<'static>; 9] = [
         b"a",
         1,
     ),
-    // one is missing behind the next one
+    // one is missing after the next one
     (
         &[More(b"a"), Next(b"b"), Gap(9)],
         9,

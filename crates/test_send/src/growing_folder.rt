@@ -25,7 +25,7 @@ use std::time::{Clock, Duration};
 #[derive(Clone, Copy)]
 pub(crate) enum Change {
     Nothing,
-    /// A file has these bytes more. It comes where it is not there.
+    /// A file has these bytes more. It comes if it is not there.
     Grows(&'static str, &'static [u8]),
     /// A file goes.
     Goes(&'static str),
@@ -65,7 +65,7 @@ pub(crate) fn has_changed<R: Files<File = File> + AllocGlobal>(
     }
 }
 
-/// Lets a change happen at each look, and says to end behind the last one, or where one cannot be.
+/// Lets a change happen at each look, and says to end after the last one, or if one cannot be.
 #[derive(Drop)]
 struct Writer<R> {
     rt: R,
@@ -89,8 +89,8 @@ impl<R: Files<File = File> + AllocGlobal> Sign for Writer<R> {
     }
 }
 
-/// Returns what was given, a bar behind each segment that is over, and at the end the number that
-/// is missing or a point.
+/// Returns what was given, a bar after each segment that is over, and at the end the number that is
+/// missing or a point.
 fn text_of(alloc: Global, kept: &Kept, end: Option<u64>) -> Result<String, AllocError> {
     let mut text = Vec::new(alloc);
     for segment in &kept.whole {
@@ -175,7 +175,7 @@ fn a_missing_file_is_told(rt: HostRuntime) -> Result<(), Fail> {
     Ok(())
 }
 
-/// Follows a folder by the command `send`, and says to end behind some looks.
+/// Follows a folder by the command `send`, and says to end after some looks.
 fn follow_sending<R: Threads + Wait + Clock + Copy + Send + 'static>(
     rt: &HostRuntime,
     threads: &R,

@@ -11,7 +11,7 @@ pub(crate) const UP: &[u8] = b"series 1 {__name__=\"up\"}\nsample 1 1000 1\n";
 pub(crate) const FALLS: &[u8] =
     b"series 1 {__name__=\"up\"}\nsample 1 10 1\nsample 1 10 1\nsample 1 5 2\nsample 1 20 3\n";
 
-/// Two references stand for one series, and the second is behind.
+/// Two references stand for one series, and the second is after.
 pub(crate) const BEHIND: &[u8] =
     b"series 1 {__name__=\"up\"}\nseries 2 {__name__=\"up\"}\nsample 1 20 1\nsample 2 10 2\n";
 

@@ -82,7 +82,7 @@ fn connect_to<N: Net<Stream = TcpStream> + Drop>(
     Ok(TcpConnect::new(alloc, net, addresses, Bounded::new(10_000), counters))
 }
 
-/// Returns whether a receiver takes the connections of a sender, or one where there are none, ends
+/// Returns whether a receiver takes the connections of a sender, or one if there are none, ends
 /// well and has counted what it holds.
 fn receives<R: Threads + Wait + Clock + Sync>(
     rt: &R,

@@ -26,9 +26,9 @@ enum Part<'a> {
     Many(u32),
     /// Its last byte is changed.
     Changed(&'a [u8]),
-    /// It ends behind 34 bytes, inside a record.
+    /// It ends after 34 bytes, inside a record.
     Cut(&'a [u8]),
-    /// Its reader fails behind it.
+    /// Its reader fails after it.
     Fails(&'a [u8]),
 }
 
@@ -324,7 +324,7 @@ static SEVERAL_SEGMENTS: [Row<'static>; 5] = [
 ];
 
 /// A sample in a later segment may be one of a series of an earlier one. A segment that ends inside
-/// a record is no fault where it is the last one; behind a fault nothing is read.
+/// a record is no fault if it is the last one; after a fault nothing is read.
 #[test]
 fn logs_of_several_segments(rt: HostRuntime) -> Result<(), Fail> {
     none_is_wrong(&rt, wrong_row(&rt, rt.alloc(), &SEVERAL_SEGMENTS)?);
@@ -394,7 +394,7 @@ fn a_reader_that_fails(rt: HostRuntime) -> Result<(), Fail> {
     Ok(())
 }
 
-/// A first segment of four samples, and a second one behind it with one.
+/// A first segment of four samples, and a second one after it with one.
 const FOUR: &[u8] =
     b"series 1 {__name__=\"up\"}\nsample 1 10 1\nsample 1 20 1\nsample 1 30 1\nsample 1 40 1\n";
 
@@ -461,9 +461,9 @@ static SHARDS: [Row<'static>; 5] = [
     ),
 ];
 
-/// A queue and a batch of one sample each: where the receiver is slow, two of four samples may
-/// wait, so one shard is to become three. Where that is refused the work ends. Nothing changes
-/// where the receiver keeps up, and behind the last segment.
+/// A queue and a batch of one sample each: if the receiver is slow, two of four samples may wait,
+/// so one shard is to become three. Where that is refused the work ends. Nothing changes if the
+/// receiver keeps up, and after the last segment.
 #[test]
 fn the_number_of_shards_follows_the_load(rt: HostRuntime) -> Result<(), Fail> {
     none_is_wrong(&rt, wrong_row(&rt, rt.alloc(), &SHARDS)?);

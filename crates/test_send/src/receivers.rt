@@ -7,7 +7,7 @@ use std::alloc::AllocError;
 use std::thread;
 use std::time::{Clock, Duration};
 
-/// Answers each request by one status, after some time. Behind so many requests it refuses each.
+/// Answers each request by one status, after some time. After so many requests it refuses each.
 #[derive(Drop)]
 pub(crate) struct Always<R> {
     clock: R,

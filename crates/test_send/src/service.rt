@@ -1,4 +1,4 @@
-//! A receiver, which is stopped by a sign or ends behind its connections, and its clients, in
+//! A receiver, which is stopped by a sign or ends after its connections, and its clients, in
 //! threads of one process.
 
 use crate::clients::{Clients, Door, read_by};
@@ -202,7 +202,7 @@ static ROWS: [Row<'static>; 11] = [
         replies: 7,
         printed: b"received {__name__=\"up\"} 1000=1 1001=1 1002=1 1003=1 1004=1 1005=1 1006=1\n",
     },
-    // nobody holds the end by silence, nor by writing on behind the last reply
+    // nobody holds the end by silence, nor by writing on after the last reply
     Row {
         has_sign: false,
         most: 2,

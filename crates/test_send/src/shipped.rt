@@ -317,7 +317,7 @@ impl Sign for Seen<'_> {
     }
 }
 
-/// Asks for an end in order, and later for one at once, which workers are told behind the sign.
+/// Asks for an end in order, and later for one at once, which workers are told after the sign.
 fn stop_twice<R: Clock>(rt: &R, sign: &rw_stop::Sign, workers: &StopFlag) {
     thread::sleep(rt, Duration::from_millis(200));
     sign.end();

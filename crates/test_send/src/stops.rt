@@ -7,7 +7,7 @@ use std::test::Fail;
 use std::time::{Clock, Duration};
 use std::{fs, io, thread};
 
-/// Returns what is wished behind an input.
+/// Returns what is wished after an input.
 fn wish_behind(alloc: Global, text: &[u8]) -> Wish {
     let sign = Sign::new();
     let mut input = text;
@@ -15,7 +15,7 @@ fn wish_behind(alloc: Global, text: &[u8]) -> Wish {
     sign.wish()
 }
 
-/// Returns the place of the first input behind which something else is wished.
+/// Returns the place of the first input after which something else is wished.
 fn wrong_input(alloc: Global) -> Option<usize> {
     INPUTS
         .iter()
@@ -59,8 +59,8 @@ fn wish_after<R: Clock + Files>(rt: &R, path: &str, text: &[u8], sign: &Sign) ->
     Some(sign.wish())
 }
 
-/// Makes a file, which a watch has looked for then, and writes to it. Gives what was wished behind
-/// an empty file, behind another line, and behind the line `hard`; and asks for an end at once, so
+/// Makes a file, which a watch has looked for then, and writes to it. Gives what was wished after
+/// an empty file, after another line, and after the line `hard`; and asks for an end at once, so
 /// that the watch ends.
 fn write_later<R: Clock + Files>(rt: &R, path: &str, sign: &Sign) -> [Option<Wish>; 3] {
     thread::sleep(rt, Duration::from_millis(300));
@@ -71,7 +71,7 @@ fn write_later<R: Clock + Files>(rt: &R, path: &str, sign: &Sign) -> [Option<Wis
     [empty, other, hard]
 }
 
-/// Returns the file comes behind the first look, and is looked at again.
+/// Returns the file comes after the first look, and is looked at again.
 #[test]
 fn a_file_sets_a_sign(rt: HostRuntime) -> io::Result<()> {
     let sign = Sign::new();

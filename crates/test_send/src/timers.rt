@@ -47,8 +47,8 @@ impl Sign for Unset {
     }
 }
 
-/// Returns a watch of five seconds between two looks, where something may wait for three, and the
-/// number of shards is asked for behind two.
+/// Returns a watch of five seconds between two looks, if something may wait for three, and the
+/// number of shards is asked for after two.
 fn watch_by(ticks: &Ticks) -> Timed<&Ticks, Unset> {
     let poll = Duration::from_secs(5);
     let patience = Duration::from_secs(3);
@@ -87,7 +87,7 @@ fn timers_begin_anew(rt: HostRuntime) {
     assert_eq!(rt; wrong_answer(&mut watch_by(&Ticks::new())), None);
 }
 
-/// A nap is as long as it is from one look to the next.
+/// A sleep is as long as it is from one look to the next.
 #[test]
 fn a_nap_lasts_until_the_next_look(rt: HostRuntime) {
     let ticks = Ticks::new();

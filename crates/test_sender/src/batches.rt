@@ -1,6 +1,5 @@
-//! Batches that are built and frozen. The calls that take memory are made again where it is
-//! refused, so each test can be run with each allocation refused in turn: the refused call changes
-//! nothing.
+//! Batches that are built and frozen. The calls that take memory are made again if it is refused,
+//! so each test can be run with each allocation refused in turn: the refused call changes nothing.
 
 ghost use Rattle.std.specs.Prelude.{◌<◌, ◌≤◌};
 
@@ -27,7 +26,7 @@ fn builder_of(alloc: Global, batch: usize) -> Result<Builder, AllocError>
     }
 }
 
-/// Takes a sample, where there is room and it is the next one.
+/// Takes a sample, if there is room and it is the next one.
 fn take(builder: &mut Builder, item: Item) -> bool {
     if builder.is_full() || !builder.can_take(&item) {
         return false;
@@ -80,7 +79,7 @@ static BODIES: [Body; 2] = [
     ),
 ];
 
-/// Returns the body of the builder's batch, asked for again where memory was refused.
+/// Returns the body of the builder's batch, asked for again if memory ran out.
 fn body_of(builder: &Builder) -> Result<Vec<u8>, AllocError> {
     if builder.is_empty() {
         return Err(AllocError);
@@ -114,7 +113,7 @@ fn freeze_again(builder: Builder, ledger: &mut Ledger) -> Result<Batch, AllocErr
     }
 }
 
-/// Freezes, and where memory is refused and nothing was changed freezes again.
+/// Freezes, and if memory runs out and nothing was changed freezes again.
 fn frozen(builder: Builder, ledger: &mut Ledger) -> Result<Batch, AllocError> {
     let (len, left) = (builder.len(), ledger.left());
     match freeze(builder, ledger) {

@@ -14,8 +14,7 @@ fn no_labels(alloc: Global) -> Result<Arc<LabelSet>, AllocError> {
     Ok(Arc::new(alloc, LabelSet::empty(alloc))?)
 }
 
-/// What was taken: the position of a sample, nothing of a Flush, and the end where an End was
-/// taken.
+/// What was taken: the position of a sample, nothing of a Flush, and the end if an End was taken.
 #[derive(Drop)]
 struct Haul {
     positions: Vec<Option<u64>>,
@@ -73,7 +72,7 @@ fn is_whole<R: Wait>(rt: &R, fed: Option<Feed<Ended>>, haul: Haul) -> bool
     kind == Kind::Orderly && positions.as_slice() == [Some(5), None, Some(9)].as_slice()
 }
 
-/// Returns whether a thread takes all behind what it has put.
+/// Returns whether a thread takes all after what it has put.
 fn takes_in_one_thread<R: Wait>(rt: &R, alloc: Global) -> Result<bool, AllocError> {
     let labels = no_labels(alloc)?;
     let positions = Vec::with_capacity(alloc, 3)?;

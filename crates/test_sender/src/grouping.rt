@@ -1,4 +1,4 @@
-//! Samples grouped by label set. The calls that take memory are made again where it is refused, so
+//! Samples grouped by label set. The calls that take memory are made again if it is refused, so
 //! each test can be run with each allocation refused in turn: the refused call changes nothing.
 
 ghost use Rattle.std.specs.Prelude.{◌≡◌, ◌∷◌, [], codes, OnOk};

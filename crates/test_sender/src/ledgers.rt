@@ -1,5 +1,5 @@
-//! Dropped samples. The calls that take memory are made again where it is refused, so each test can
-//! be run with each allocation refused in turn: the refused call changes nothing.
+//! Dropped samples. The calls that take memory are made again if it is refused, so each test can be
+//! run with each allocation refused in turn: the refused call changes nothing.
 
 use crate::rows::holds;
 use rw_ledger::{Ledger, Reason};
@@ -31,7 +31,7 @@ fn add_room(ledger: &mut Ledger, n: usize) -> bool {
         || (ledger.left() == left && ledger.total() == total && ledger.room(n).is_ok())
 }
 
-/// Names a position, where there is room for it and it has no name.
+/// Names a position, if there is room for it and it has no name.
 fn add_name(ledger: &mut Ledger, pos: u64, reason: Reason) -> bool {
     if ledger.left() == 0 || ledger.get(pos).is_some() {
         return false;
@@ -49,7 +49,7 @@ fn add_names(ledger: &mut Ledger) -> bool {
     true
 }
 
-/// Gives the room back that is left, where that is so much.
+/// Gives the room back that is left, if that is so much.
 fn give_back(ledger: &mut Ledger, n: usize) -> bool {
     if ledger.left() != n {
         return false;
@@ -58,7 +58,7 @@ fn give_back(ledger: &mut Ledger, n: usize) -> bool {
     ledger.left() == 0
 }
 
-/// Returns whether a position has this name, and the one behind it none.
+/// Returns whether a position has this name, and the one after it none.
 fn is_named(ledger: &Ledger, pos: u64, reason: Reason) -> bool {
     ledger.get(pos) == Some(reason) && ledger.get(pos.saturating_add(1)).is_none()
 }

@@ -14,8 +14,8 @@ pub struct Note {
     pub answer: Result<Reply, Lost>,
 }
 
-/// Answers as its list says, and loses what comes behind it. It notes each exchange, and sets a
-/// stop flag at one of them.
+/// Answers as its list says, and loses what comes after it. It notes each exchange, and sets a stop
+/// flag at one of them.
 #[derive(Drop)]
 pub struct Script {
     alloc: Global,

@@ -1,5 +1,5 @@
-//! The queue within one thread. The call that takes memory is made again where it is refused, so
-//! each test can be run with each allocation refused in turn.
+//! The queue within one thread. The call that takes memory is made again if it is refused, so each
+//! test can be run with each allocation refused in turn.
 
 use crate::rows::none_is_wrong;
 use rw_plain_queue::{Item, Kind, PlainQueue, PutFault};
@@ -8,7 +8,7 @@ use std::alloc::{AllocError, Global};
 /// What is done with a queue, and what is then seen.
 #[derive(Clone, Copy)]
 enum Step {
-    /// An End is put, with the number of the fault, or 0 where it is not refused.
+    /// An End is put, with the number of the fault, or 0 if it is not refused.
     Put(Kind, u8),
     /// A Flush is put.
     PutFlush,
@@ -35,8 +35,8 @@ fn is_end(item: &Item, kind: Kind) -> bool {
     matches!(item, Item::End(of) if *of == kind)
 }
 
-/// Returns whether putting an End has a fault of this number, and gives it back, or none, where
-/// that is 0.
+/// Returns whether putting an End has a fault of this number, and gives it back, or none, if that
+/// is 0.
 fn puts(queue: &mut PlainQueue, kind: Kind, fault: u8) -> bool {
     match queue.put(Item::End(kind)) {
         Ok(()) => fault == 0,

@@ -31,7 +31,7 @@ fn push_head(text: &mut Vec<u8>, head: Head) -> Result<(), AllocError> {
     text.extend_from_slice(b"\r\n\r\n")
 }
 
-/// The bytes of such a head beside its first value, where it has that field alone.
+/// The bytes of such a head beside its first value, if it has that field alone.
 const AROUND_VALUE: usize = 21;
 
 /// The most bytes of such a value.

@@ -54,8 +54,8 @@ fn are_wanted() -> bool {
         && want(1, 0, 1, u64::MAX, 1, 1000) == 1000
 }
 
-/// Returns the shards of the second epoch, where `next` came once before the old ones were drained
-/// and once ran out of memory.
+/// Returns the shards of the second epoch, if `next` came once before the old ones were drained and
+/// once ran out of memory.
 fn second_epoch(alloc: Global) -> Option<Fleet<Part, Running>> {
     let mut maker = Maker { left: 1 };
     let Ok(fleet) = Fleet::first(alloc, 2, &mut Maker { left: 2 }) else {

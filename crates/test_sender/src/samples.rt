@@ -1,4 +1,4 @@
-//! Label sets of one label, and samples. The calls that take memory are made again where it is
+//! Label sets of one label, and samples. The calls that take memory are made again if it is
 //! refused.
 
 ghost use Rattle.std.specs.Prelude.{◌≡◌, ◌∷◌, [], codes, IfOk};

@@ -1,5 +1,5 @@
-//! A shard behind its queue: what it takes, sends and resolves. The calls that take memory are made
-//! again where it is refused, so each test can be run with each allocation refused in turn: the
+//! A shard after its queue: what it takes, sends and resolves. The calls that take memory are made
+//! again if it is refused, so each test can be run with each allocation refused in turn: the
 //! refused call changes nothing.
 
 use crate::rows::{holds, none_is_wrong};
@@ -109,8 +109,8 @@ fn take_sample(alloc: Global, shard: &mut Shard) -> bool {
     }
 }
 
-/// Returns whether freezing answers this. Where memory is refused nothing is changed, and it
-/// freezes again.
+/// Returns whether freezing answers this. If memory runs out nothing is changed, and it freezes
+/// again.
 fn freezes(core: &mut ShardCore, ledger: &mut Ledger, done: bool) -> bool {
     let (due, left, pending) = (core.due(), ledger.left(), core.pending_places().len());
     if let Ok(answer) = core.freeze(ledger) {
@@ -146,7 +146,7 @@ fn note_attempt(last: &mut Option<Attempt>, attempt: Option<Attempt>, seq: Optio
     }
 }
 
-/// Attempts. Where memory is refused nothing is changed, and it attempts again.
+/// Attempts. If memory runs out nothing is changed, and it attempts again.
 fn sends(shard: &mut Shard, seq: Option<u64>) -> bool {
     let id = shard.core.batch_id();
     if let Ok(attempt) = shard.core.attempt() {

@@ -63,7 +63,7 @@ struct Row<'a> {
 
 /// What a worker is to do.
 struct Wanted<'a> {
-    /// The End that it takes; none where it gives its end of the queue up.
+    /// The End that it takes; none if it gives its end of the queue up.
     end: Option<Kind>,
     stopped: bool,
     resolved: u64,

@@ -56,7 +56,7 @@ fn opened<L: Endpoint>(
     Ok((Arc::new(alloc, receiver)?, seats))
 }
 
-/// Returns the head, where all seats are back and nobody else has a part in it.
+/// Returns the head, if all seats are back and nobody else has a part in it.
 fn gathered<L: Endpoint>(
     receiver: Arc<Receiver<L>>,
     seats: Vec<Seat<L>>,

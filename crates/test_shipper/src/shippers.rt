@@ -371,8 +371,8 @@ fn is_kept(work: &Work, stop: Stop) -> bool {
     work.accounts_for_all(4) && ends && (is_whole || work.keeps_its_fault())
 }
 
-/// Returns whether the fault of a task is kept; none where it does not start, or where there is no
-/// memory for what is compared.
+/// Returns whether the fault of a task is kept; none if it does not start, or if there is no memory
+/// for what is compared.
 fn keeps_its_fault<R: Threads + Wait + Copy + Send + 'static>(
     rt: &R,
     alloc: Global,
@@ -383,7 +383,7 @@ fn keeps_its_fault<R: Threads + Wait + Copy + Send + 'static>(
     Some(is_kept(&work, task.stop))
 }
 
-/// Returns the same, again where there was none.
+/// Returns the same, again if there was none.
 fn keeps_any_fault<R: Threads + Wait + Copy + Send + 'static>(
     rt: &R,
     alloc: Global,
@@ -444,7 +444,7 @@ static ONE_EACH: Task<'static> = Task {
     limit: None,
 };
 
-/// Returns whether each of two shards makes one request, where the receiver of this shard is held
+/// Returns whether each of two shards makes one request, if the receiver of this shard is held
 /// until the other one has answered.
 fn send_at_once<R: Threads + Wait + Copy + Send + 'static>(
     rt: &R,
@@ -486,7 +486,7 @@ fn comes_to(shipper: &Shipper<Peers>, load: Load) -> bool {
 /// to be told in time then.
 type Fed<'a> = (u64, u64, Samples<'a>, Load);
 
-/// Returns whether it is, with no call behind the one that fed.
+/// Returns whether it is, with no call after the one that fed.
 fn resolves_in_time<R: Threads + Wait + Copy + Send + 'static>(
     rt: &R,
     alloc: Global,
@@ -510,7 +510,7 @@ fn a_fed_sample_is_resolved_without_a_flush(rt: HostRuntime) {
     assert_eq!(rt; resolves_in_time(&rt, rt.alloc(), &fed), Ok(true));
 }
 
-/// The last sample waits for another one to be sent with, behind a batch that is answered for.
+/// The last sample waits for another one to be sent with, after a batch that is acknowledged.
 #[test]
 fn a_sample_that_waits_for_a_full_batch_is_no_backlog(rt: HostRuntime) {
     let fed = (
@@ -522,7 +522,7 @@ fn a_sample_that_waits_for_a_full_batch_is_no_backlog(rt: HostRuntime) {
     assert_eq!(rt; resolves_in_time(&rt, rt.alloc(), &fed), Ok(true));
 }
 
-/// Returns whether a sample that a flush cut off is told as waiting, where its receiver is busy.
+/// Returns whether a sample that a flush cut off is told as waiting, if its receiver is busy.
 fn waits_in_time<R: Threads + Wait + Copy + Send + 'static>(
     rt: &R,
     alloc: Global,
@@ -565,7 +565,7 @@ static LIMITED: [(&[Call<'static>], u64, Option<u64>, &[usize]); 9] = [
     (LARGE, 6, Some(1), &[232, 232, 232]),
 ];
 
-/// Returns how many bytes stand behind the empty line of a request.
+/// Returns how many bytes are after the empty line of a request.
 fn body_len(request: &[u8]) -> usize {
     for i in 0..request.len() {
         let rest = &request[i..];
@@ -586,7 +586,7 @@ fn has_lens(peer: &Peer, lens: &[usize]) -> bool {
     peer.requests().len() == lens.len()
 }
 
-/// Returns whether all is sent, in bodies that are so long, where batches have this limit.
+/// Returns whether all is sent, in bodies that are so long, if batches have this limit.
 fn sends_in<R: Threads + Wait + Copy + Send + 'static>(
     rt: &R,
     alloc: Global,

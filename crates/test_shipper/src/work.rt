@@ -144,8 +144,8 @@ impl Work {
         true
     }
 
-    /// Returns whether nothing is named, and of the samples behind so many series, which are all of
-    /// one series, just those are listed as abandoned that were placed behind the resolved ones.
+    /// Returns whether nothing is named, and of the samples after so many series, which are all of
+    /// one series, just those are listed as abandoned that were placed after the resolved ones.
     pub(crate) fn accounts_for_all(&self, series: u64) -> bool {
         let mut known = series;
         for resolved in &self.resolved {
@@ -335,7 +335,7 @@ fn ship<R: Threads + Wait + Copy + Send + 'static, C: Connect + Drop>(
     work_of(alloc, faults, loads, report_of(rt, shipper, task.stop))
 }
 
-/// Does a task. Gives what was done, and the transports; none where the start is refused, or memory
+/// Does a task. Gives what was done, and the transports; none if the start is refused, or memory
 /// is.
 pub(crate) fn done<R: Threads + Wait + Copy + Send + 'static, C: Connect + Drop>(
     rt: &R,

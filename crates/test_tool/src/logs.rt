@@ -259,7 +259,7 @@ fn lines_and_segments(rt: HostRuntime) {
     none_is_wrong(&rt, wrong_row(rt.alloc(), rows()));
 }
 
-/// Takes a byte at each write, and fails at one of them and then for good.
+/// Takes a byte at each write, and fails at one of them and then permanently.
 #[derive(Drop)]
 struct ByteByByte {
     taken: Vec<u8>,
@@ -289,8 +289,7 @@ impl Sink for ByteByByte {
     }
 }
 
-/// Returns whether a writer that takes so many bytes has them, and the run fails where there are
-/// more.
+/// Returns whether a writer that takes so many bytes has them, and the run fails if there are more.
 fn fails_after(alloc: Global, left: usize) -> bool {
     let whole = b"010001b34623a602010001b34623a602\n";
     let mut reader = b"raw 02\nraw 02".as_slice();

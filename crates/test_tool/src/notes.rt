@@ -5,7 +5,7 @@ use rw_line_notes::{log_line_note, numbered_line, script_line_note, shown_line};
 use std::alloc::{AllocError, Global};
 use std::test::Fail;
 
-/// A line, and what is said of it begins so; nothing where it is of its form.
+/// A line, and what is said of it begins so; nothing if it is of its form.
 type Row = (&'static [u8], Option<&'static str>);
 
 static LOG_LINES: [Row; 8] = [
@@ -26,7 +26,7 @@ static SCRIPT_LINES: [Row; 4] = [
     (b"wait", Some("no event begins")),
 ];
 
-/// Returns whether this is said where it is wanted.
+/// Returns whether this is said if it is wanted.
 fn is_said(note: Option<&str>, wanted: Option<&str>) -> bool {
     match (note, wanted) {
         (None, None) => true,

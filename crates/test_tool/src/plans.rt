@@ -9,7 +9,7 @@ use rw_types::Room;
 use rw_wal_format::TailFault;
 use std::alloc::Global;
 
-/// Returns the segment of log text. Nothing, where memory is refused or a line is bad.
+/// Returns the segment of log text. Nothing, if memory runs out or a line is bad.
 fn segment_of(alloc: Global, log: &str) -> Vec<u8> {
     let Ok(mut room) = Room::new(alloc, 4096) else {
         return Vec::new(alloc);
@@ -20,8 +20,7 @@ fn segment_of(alloc: Global, log: &str) -> Vec<u8> {
     }
 }
 
-/// How a run under these settings ends. Where there are none, memory was refused, or no test wants
-/// it.
+/// How a run under these settings ends. If there are none, memory ran out, or no test wants it.
 fn ended(
     alloc: Global,
     settings: &[u8],

@@ -143,8 +143,8 @@ fn plan_of(
     Ok((writer.into_bytes(), damage.map(|damage| damage.fault)))
 }
 
-/// Returns whether both segments have their plan, and whether nothing is written where the last
-/// byte of the second is another one.
+/// Returns whether both segments have their plan, and whether nothing is written if the last byte
+/// of the second is another one.
 fn are_planned(alloc: Global) -> Result<(bool, bool), ReadFault> {
     let first = segment_of(alloc, &FIRST)?;
     let mut second = segment_of(alloc, &SECOND)?;
@@ -167,7 +167,7 @@ fn plan_of_two_segments(rt: HostRuntime) -> Result<(), Fail> {
     Ok(())
 }
 
-/// Positions of both segments, and one behind their entries.
+/// Positions of both segments, and one after their entries.
 static ASKED: [u64; 6] = [4, 0, 8, 3, 9, 5];
 
 const FOUND: &str = "4 \"1 series 3 {\"9\"=\"a\"}

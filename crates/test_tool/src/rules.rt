@@ -15,8 +15,8 @@ enum Row {
     Refusal(Config<'static>, Option<RuleFault>),
     /// A rule, labels, and whether the rule matches them.
     Match(Config<'static>, Labels, bool),
-    /// Labels, whether they are kept where both rules match, and where the first matches and the
-    /// second does not.
+    /// Labels, whether they are kept if both rules match, and if the first matches and the second
+    /// does not.
     Several(Labels, bool, bool),
 }
 
@@ -65,7 +65,7 @@ static ROWS: [Row; 27] = [
     Several(&[], false, false),
 ];
 
-/// Returns the fault of a rule. Want of memory is one too, and none of those that are wanted.
+/// Returns the fault of a rule. Out of memory is one too, and none of those that are wanted.
 fn fault(alloc: Global, config: Config<'_>) -> Option<RuleFault> {
     rule(alloc, Action::Keep, config).err()
 }
@@ -107,7 +107,7 @@ static BOTH: &[(Action, Config<'static>)] = &[(Action::Keep, JOB), (Action::Keep
 static WITHOUT: &[(Action, Config<'static>)] = &[(Action::Keep, JOB), (Action::Drop, ENV)];
 
 /// Returns whether labels are kept so by both rules and by the first without the second, and are
-/// kept where there is no rule.
+/// kept if there is no rule.
 fn is_judged(alloc: Global, labels: &[(&str, &str)], by_both: bool, by_without: bool) -> bool {
     match label_set(alloc, labels) {
         Ok(labels) => {

@@ -1,5 +1,5 @@
-//! What a cache knows of references. The calls that take memory are made again where it is refused,
-//! so the test can be run with each allocation refused in turn: the refused call changes no answer.
+//! What a cache knows of references. The calls that take memory are made again if it is refused, so
+//! the test can be run with each allocation refused in turn: the refused call changes no answer.
 
 use crate::rows::{none_differs, none_is_wrong};
 use crate::rule_making::{Config, raw_labels, rules};
@@ -76,7 +76,7 @@ fn rules_again(alloc: Global, configs: &[(Action, Config<'_>)]) -> Result<Rules,
     }
 }
 
-/// Returns whether a reference is defined, where labels are there.
+/// Returns whether a reference is defined, if labels are there.
 fn is_defined(cache: &mut Cache, reference: u64, labels: Result<RawLabels, AllocError>) -> bool {
     match labels {
         Ok(labels) => cache.define(reference, labels).is_ok(),
@@ -139,7 +139,7 @@ fn is_as_defined(cache: &Cache) -> bool {
 }
 
 /// Returns the first definition after which something else is known than should be, or the number
-/// of them where that shows at the end.
+/// of them if that shows at the end.
 fn wrong_definition(alloc: Global, cache: &mut Cache) -> Option<usize> {
     for (i, (reference, labels, wanted)) in DEFINITIONS.iter().enumerate() {
         if !defines(alloc, cache, *reference, labels) || shape_of(cache, *reference) != *wanted {
@@ -153,7 +153,7 @@ fn wrong_definition(alloc: Global, cache: &mut Cache) -> Option<usize> {
     }
 }
 
-/// Returns whether this is known of a reference behind its definition.
+/// Returns whether this is known of a reference after its definition.
 fn is_known_as(cache: &mut Cache, labels: Result<RawLabels, AllocError>, wanted: Shape) -> bool {
     is_defined(cache, 1, labels) && shape_of(cache, 1) == wanted
 }
@@ -228,7 +228,7 @@ fn goes(alloc: Global, cache: &mut Cache, trial: Trial) -> bool {
     }
 }
 
-/// Returns the row of a trial that is wrong, or 0 where it has none.
+/// Returns the row of a trial that is wrong, or 0 if it has none.
 fn wrong_in(alloc: Global, cache: &mut Cache, trial: Trial) -> Option<usize> {
     match trial {
         Trial::Definitions => wrong_definition(alloc, cache),
@@ -288,7 +288,7 @@ fn many_series_are_numbered(rt: HostRuntime) {
     none_is_wrong(&rt, wrong_with_no_rules(rt.alloc(), Trial::Many));
 }
 
-/// Labels of which there are too many are no want of memory.
+/// Labels of which there are too many are not out of memory.
 #[test]
 fn sixty_five_labels_are_too_many(rt: HostRuntime) {
     let too_many = Shape::Bad(LabelFault::TooMany);

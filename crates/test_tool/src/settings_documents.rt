@@ -6,8 +6,8 @@ use rw_settings::{Settings, SettingsFault, read_settings};
 use rw_types::{LabelSet, Names};
 use std::alloc::Global;
 
-/// Returns the number of a text's fault, or 9 where it has none. That of want of memory is none
-/// that a row has.
+/// Returns the number of a text's fault, or 9 if it has none. That of out of memory is none that a
+/// row has.
 pub(crate) fn fault(alloc: Global, text: &[u8]) -> u8 {
     match read_settings(alloc, text) {
         Ok(_) => 9,

@@ -6,7 +6,7 @@ use rw_settings::{SettingsNote, explain_settings};
 use rw_settings_text::print_settings;
 use std::alloc::{AllocError, Global};
 
-/// What is printed where nothing is set.
+/// What is printed if nothing is set.
 const DEFAULTS: &str = "\
 [send]
 host = \"localhost:9090\"

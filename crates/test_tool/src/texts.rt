@@ -81,7 +81,7 @@ fn is_value(alloc: Global, bits: u64, text: &str) -> bool {
         && read_value(text.as_bytes()) == Some(Word(bits))
 }
 
-/// Returns whether the largest number and the least integer are printed one behind the other.
+/// Returns whether the largest number and the least integer are printed one after the other.
 fn prints_numbers(alloc: Global) -> bool {
     let mut out = Vec::new(alloc);
     push_number(&mut out, u64::MAX).is_ok()
@@ -156,7 +156,7 @@ fn there_and_back(rt: HostRuntime) {
 }
 
 /// Returns a name of the most bytes that a label set may have beside a value of one. It is shorter
-/// where memory is refused.
+/// if memory runs out.
 fn long_name(alloc: Global) -> String {
     let mut name = String::new(alloc);
     for i in 0..16_383u32 {
@@ -181,7 +181,7 @@ fn long_names(rt: HostRuntime) {
     holds(&rt, is_long_name_kept(rt.alloc()));
 }
 
-/// Returns whether labels are printed whole, or leave the text as it was where memory is refused.
+/// Returns whether labels are printed whole, or leave the text as it was if memory runs out.
 fn prints_all_or_nothing(out: &mut Vec<u8>, set: &LabelSet) -> bool {
     let len = out.len();
     match push_labels(out, set) {
@@ -201,7 +201,7 @@ fn prints_four(alloc: Global, set: &LabelSet) -> bool {
     true
 }
 
-/// Returns the same of a set of two labels; where memory is refused before, nothing is printed.
+/// Returns the same of a set of two labels; if memory runs out before, nothing is printed.
 fn prints_set(alloc: Global) -> bool {
     match label_set(alloc, &[("__name__", "up"), ("job", "a\nb")]) {
         Ok(set) => prints_four(alloc, &set),
