@@ -1,4 +1,4 @@
-//! How many bytes samples may take in the body of a batch, and if a queue gets marks so that no
+//! How many bytes samples may take in the body of a batch, and where a queue gets marks so that no
 //! batch takes more than a limit.
 #![tactic(auto)]
 

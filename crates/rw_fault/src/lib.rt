@@ -1,4 +1,4 @@
-//! Why a command of `rwship` ends: its faults, what is said of each, and the exit statuses.
+//! Why a command of `rwship` ends: its faults, the line of each, and the exit statuses.
 #![tactic(auto)]
 
 mod printed;

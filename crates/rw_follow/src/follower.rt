@@ -14,27 +14,27 @@ use crate::watch::{Watch, Wish};
 use rw_types::ReadFault;
 use std::marker::Model;
 
-/// How a following is ended by a sign.
+/// How following a log is ended by a stop signal.
 #[derive(Clone, Copy, Debug, PartialEq, Eq)]
 pub enum Stop {
-    /// All that is was given.
+    /// Everything that was there was read.
     Orderly,
     /// At once.
     Hard,
 }
 
-/// How a following goes on.
+/// What a follower did in a turn.
 #[derive(Clone, Copy, Debug, PartialEq, Eq)]
 pub enum Turn {
-    /// So many bytes of the current segment are in the front of the buffer.
+    /// This many bytes of the current segment are at the front of the buffer.
     Piece(usize),
     /// The current segment is over.
     Over,
-    /// What was given has waited long enough to be sent on.
+    /// What was read has waited long enough to be sent on.
     Flush,
     /// Nothing is to be done.
     Nothing,
-    /// It was told to stop.
+    /// It was asked to stop.
     Stopped(Stop),
 }
 
@@ -58,12 +58,12 @@ impl From<ReadFault> for Broken {
     }
 }
 
-/// Follows a log: gives its segments in order, a piece at a turn, until it is told to stop.
+/// Follows a log: returns its segments in order, a piece at a turn, until it is asked to stop.
 /// Contracts see whether a segment was seen to come after the current one.
 #[derive(Drop)]
 pub struct Follower {
     is_followed: bool,
-    /// Something was given since the last flush.
+    /// Something was returned since the last flush.
     is_waiting: bool,
 }
 
@@ -88,9 +88,9 @@ impl Follower {
     }
 
     /// Takes a turn. A segment is over once another one was seen to come after it and, read again
-    /// after that, it gives no more bytes. Told to end, it is at its end once nothing is left of
-    /// what is; until then it takes no sleep. It sleeps once if nothing is left and no segment
-    /// comes after the current one, and nowhere else.
+    /// after that, it has no more bytes. When asked to end, it ends once nothing is left of what is
+    /// there, and does not sleep until then. It sleeps once if nothing is left and no segment comes
+    /// after the current one, and nowhere else.
     pub fn turn<S: Segments, W: Watch>(
         &mut self,
         segments: &mut S,

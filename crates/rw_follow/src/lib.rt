@@ -1,4 +1,4 @@
-//! Follows a log that grows: its segments are given in order, while a writer goes on writing.
+//! Follows a log that grows: its segments are read in order, while a writer goes on writing.
 #![tactic(auto)]
 
 mod follower;

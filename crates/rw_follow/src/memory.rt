@@ -1,4 +1,4 @@
-//! A log in memory that grows by a list.
+//! A log in memory that grows by a list of events.
 
 ghost use Rattle.std.specs.Prelude.{◌≡◌, ◌<◌, ◌++◌, ◌∷◌, [], length, None, OnOk, OnErr};
 ghost use Rattle.std.specs.Io.{ReadsAtMost};
@@ -18,9 +18,9 @@ pub enum Event {
     Quiet,
     /// The current segment grows, if it is the last one.
     More(Vec<u8>),
-    /// A segment comes, with its bytes.
+    /// A new segment comes, with its bytes.
     Next(Vec<u8>),
-    /// The current segment grows, if it is the last one, and then a segment comes.
+    /// The current segment grows, if it is the last one, and then a new segment comes.
     Turn(Vec<u8>, Vec<u8>),
     /// The segment of this number is missing after the last one.
     Gap(u64),
@@ -69,7 +69,7 @@ impl Listed {
         }
     }
 
-    /// Lets the current segment grow, if it is the last one.
+    /// Appends to the current segment, if it is the last one.
     fn grow(&mut self, bytes: &[u8]) -> Result<(), ReadFault>
         ensures { Later self.old [] self.new }
     {
@@ -82,7 +82,7 @@ impl Listed {
         Ok(())
     }
 
-    /// Lets a segment come.
+    /// Adds a segment.
     fn begin(&mut self, bytes: Vec<u8>) -> Result<(), ReadFault>
         ensures { Later self.old [] self.new }
     {
@@ -92,7 +92,7 @@ impl Listed {
         Ok(())
     }
 
-    /// Lets one event happen. If memory runs out some of it does not.
+    /// Lets one event happen. If memory runs out, only part of it happens.
     fn play(&mut self) -> Result<(), ReadFault>
         ensures { Later self.old [] self.new }
     {
@@ -129,7 +129,7 @@ impl Listed {
         Ok(())
     }
 
-    /// Gives the front of what is left.
+    /// Copies the front of what is left into the buffer.
     fn give(&mut self, buf: &mut [u8]) -> Result<usize, ReadFault>
         ensures bound { ReadsAtMost result buf.new }
         ensures gives { Gives self.old self.new result buf.new }

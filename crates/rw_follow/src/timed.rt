@@ -4,27 +4,27 @@ use crate::watch::{Sign, Watch, Wish};
 use std::thread;
 use std::time::{Clock, Duration, Instant};
 
-/// Says what a sign says, and lets time pass by a clock.
+/// Polls a stop signal, and lets time pass by a clock.
 #[derive(Drop)]
 pub struct Timed<K, G> {
     clock: K,
     sign: G,
-    /// Between two looks.
+    /// The time between two looks at the log.
     poll: Duration,
     /// How long something may wait to be flushed.
     patience: Duration,
-    /// Since when something waits.
+    /// Since when something has been waiting.
     waits_since: Option<Instant>,
-    /// Between two times that the number of shards is asked for.
+    /// The time between two adjustments of the number of shards.
     reshard: Duration,
-    /// When it was asked for.
+    /// When it was adjusted last.
     asked_at: Option<Instant>,
     said: Wish,
     is_due: bool,
 }
 
-/// Returns whether so much time has passed since a moment, which is forgotten then. If there is no
-/// moment, it is now. None if the clock cannot be read.
+/// Returns whether `time` has passed since `since`, and clears `since` then. If `since` is `None`,
+/// it is set to now. Returns `None` if the clock cannot be read.
 fn has_passed<K: Clock>(clock: &K, since: &mut Option<Instant>, time: Duration) -> Option<bool> {
     let Ok(now) = Instant::now(clock) else {
         return None;
@@ -43,8 +43,8 @@ fn has_passed<K: Clock>(clock: &K, since: &mut Option<Instant>, time: Duration) 
 }
 
 impl<K: Clock, G: Sign> Timed<K, G> {
-    /// Looks as often as `poll` says, has what waits flushed after `patience`, and the number of
-    /// shards asked for as often as `reshard` says.
+    /// Returns a watch that looks every `poll`, flushes what has waited for `patience`, and has the
+    /// number of shards adjusted every `reshard`.
     pub fn new(
         clock: K,
         sign: G,
@@ -84,13 +84,13 @@ impl<K: Clock, G: Sign> Watch for Timed<K, G> {
         thread::sleep(&self.clock, self.poll);
     }
 
-    /// Returns what cannot be timed is flushed.
+    /// If the clock cannot be read, a flush is due.
     fn is_flush_due(&mut self) -> bool {
         self.is_due = has_passed(&self.clock, &mut self.waits_since, self.patience).unwrap_or(true);
         self.is_due
     }
 
-    /// Returns what cannot be timed is not asked for.
+    /// If the clock cannot be read, no adjustment is due.
     fn is_reshard_due(&mut self) -> bool {
         has_passed(&self.clock, &mut self.asked_at, self.reshard).unwrap_or(false)
     }

@@ -32,7 +32,7 @@ pub(crate) fn is_foreign(c: u8) -> bool
 }
 
 /// Returns the bytes of the pairs of digits, if no digit is left over. All other characters are
-/// passed over.
+/// skipped.
 pub(crate) fn pairs(alloc: Global, text: &[u8]) -> Result<Option<Vec<u8>>, AllocError>
     ensures { IfOk result (λ r. option_map (λ v. v.items) r ≡ bytes_of (values text.now)) }
 {

@@ -10,7 +10,7 @@ use crate::digits::{is_digit, is_foreign, pairs};
 use crate::fault::HexFault;
 use std::alloc::{AllocError, Global};
 
-/// Returns the line on which is what follows a text.
+/// Returns the number of the line in which the text after this one begins.
 fn line_after(front: &[u8]) -> u64
     requires { length front.now + 1 < 2 ^ 64 }
     ensures { result ≡ line_after front.now }
@@ -67,8 +67,8 @@ pub fn read(alloc: Global, text: &[u8]) -> Result<Vec<u8>, HexFault>
     }
 }
 
-/// Returns the bytes that a text of lower case digits alone stands for; `None` if another character
-/// is in it, or their number is odd. The empty text stands for no bytes.
+/// Returns the bytes that a text of lower case digits alone stands for, or `None` if another
+/// character is in it, or their number is odd. The empty text stands for no bytes.
 pub fn read_digits(alloc: Global, text: &[u8]) -> Result<Option<Vec<u8>>, AllocError>
     ensures { IfOk result (λ r. option_map (λ v. v.items) r ≡ read_digits text.now) }
 {

@@ -34,7 +34,7 @@ impl<R, L: Endpoint, P> Model for Lines<R, L, P> {
 }
 
 impl<R, L: Endpoint, P> Lines<R, L, P> {
-    /// Over seats that were not asked yet.
+    /// Returns transports over seats that were not asked yet.
     pub fn new(
         rt: R,
         alloc: Global,

@@ -25,7 +25,7 @@ impl Endpoint for Brand {
     ghost limit = { 0 };
 }
 
-/// A receiver: what its endpoint reads, and the head that it asks. Contracts see among how many
+/// A receiver: the limits of its endpoint, and the head that it asks. Contracts see among how many
 /// seats the head is shared.
 #[derive(Drop)]
 pub struct Receiver<L: Endpoint> {
@@ -45,8 +45,8 @@ impl<L: Endpoint> Model for Receiver<L> {
 }
 
 impl<L: Endpoint> Receiver<L> {
-    /// Shares a head among so many seats, which were not asked yet, over a blank of one part for
-    /// each of them and one for the lock.
+    /// Shares a head among `n` seats, which were not asked yet, over a blank of one part for each
+    /// of them and one for the lock.
     pub fn open(
         alloc: Global,
         limits: Limits,
@@ -70,7 +70,7 @@ impl<L: Endpoint> Receiver<L> {
         }
     }
 
-    /// Returns what its endpoint reads.
+    /// Returns the limits of its endpoint.
     pub fn limits(&self) -> &Limits
         ensures path { result.now.path ≡ L.path }
         ensures limit { result.now.max_body_bytes ≡ L.limit }

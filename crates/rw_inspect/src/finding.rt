@@ -32,7 +32,7 @@ pub struct Found {
     pub damage: Option<Damage>,
 }
 
-/// Returns all label sets, with names of any text.
+/// Returns the choice of all label sets, with any UTF-8 names.
 fn any_names(alloc: Global) -> Choice
     ensures { result ≡ any_names }
 {
@@ -131,7 +131,7 @@ fn push_entry(
     }
 }
 
-/// Returns the text that is noted of a position.
+/// Returns the text that is noted for a position.
 fn text_noted<'a>(notes: &'a [(u64, Vec<u8>)], position: u64) -> Option<&'a [u8]>
     ensures { MatchOption result (noted_at (map told notes.now) position
         ≡ None) (λ text. noted_at (map told notes.now) position ≡ Some text.now) }
@@ -158,7 +158,7 @@ fn name_at<'a>(segments: &'a [Segment], position: u64) -> &'a str
     ""
 }
 
-/// Adds the line of a position that is there.
+/// Adds the line of a position that exists.
 #[tactic(auto, unfolding(crate::specs::Finding::there_text))]
 fn push_there(out: &mut Vec<u8>, position: u64, name: &str, text: &[u8]) -> Result<(), AllocError>
     ensures { OnOk result (out.new.items ≡ out.old.items ++ there_text position name.now text.now) }
@@ -171,7 +171,7 @@ fn push_there(out: &mut Vec<u8>, position: u64, name: &str, text: &[u8]) -> Resu
     out.extend_from_slice(b"\n")
 }
 
-/// Adds the line of a position that is not there.
+/// Adds the line of a position that does not exist.
 #[tactic(auto, unfolding(crate::specs::Finding::not_there_text))]
 fn push_not_there(out: &mut Vec<u8>, position: u64) -> Result<(), AllocError>
     ensures { OnOk result (out.new.items ≡ out.old.items ++ not_there_text position) }
@@ -230,7 +230,7 @@ impl Model for Finder {
 }
 
 impl Finder {
-    /// Before the first entry.
+    /// Returns a finder before the first entry.
     fn new(alloc: Global, positions: Vec<u64>) -> Finder
         ensures { result ≡ record { positions = positions; entries = []; here = [] } }
     {
@@ -258,7 +258,7 @@ impl Finder {
         Ok(Some(text))
     }
 
-    /// Adds the line of a position, and answers whether it has an entry.
+    /// Adds the line of a position, and returns whether it has an entry.
     fn push_line(
         &self,
         out: &mut Vec<u8>,
@@ -332,11 +332,11 @@ impl Taker for Finder {
 }
 
 /// Reads the segments of a log in order, to the end of the last one or of the first one with a
-/// fault, and prints for each position, in their order, the entry there: `POS SEGMENT series REF
-/// LABELS`, or `POS SEGMENT sample REF T VALUE LABELS` with the label set that its reference stands
-/// for there, each line ended by LF. `bad FAULT` stands for labels that are no label set, whatever
-/// names are taken, `noseries` for those of a reference without a definition before it, and `POS is
-/// not there` if there is no entry.
+/// fault, and returns for each position, in the order given, a line for the entry there: `POS
+/// SEGMENT series REF LABELS`, or `POS SEGMENT sample REF T VALUE LABELS` with the label set that
+/// its reference stands for there, each line ended by LF. `bad FAULT` stands for labels that are
+/// not a label set, whatever names are accepted, `noseries` for those of a reference without a
+/// definition before it, and `POS is not there` if there is no entry.
 pub fn find_entries<S: Source + Drop>(
     alloc: Global,
     segments: Vec<Named<S>>,

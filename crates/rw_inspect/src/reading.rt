@@ -15,7 +15,7 @@ use std::alloc::AllocError;
 #[derive(Debug, Drop)]
 pub(crate) enum Next {
     Entry(Entry),
-    /// No entry more as far as the log has come, and this fault, if it has one.
+    /// No more entries as far as the log has come, and the fault, if it has one.
     End(Option<TailFault>),
 }
 
@@ -33,7 +33,7 @@ fn next_of(tail: &mut Tail) -> Result<Next, AllocError>
     }
 }
 
-/// Takes the entries that the reader of the log has left, and answers the fault after them, if
+/// Takes the entries that the reader of the log has left, and returns the fault after them, if
 /// there is one.
 fn take_all<T: Taker>(tail: &mut Tail, taker: &mut T) -> Result<Option<TailFault>, AllocError>
     requires { HasTaken tail.old (T.counted taker.old).entries }
@@ -50,7 +50,7 @@ fn take_all<T: Taker>(tail: &mut Tail, taker: &mut T) -> Result<Option<TailFault
     Err(AllocError)
 }
 
-/// Feeds what one read gives, and answers how many bytes it gave; none at the end of the input.
+/// Feeds what one read returns, and returns how many bytes that was; 0 means the end of the input.
 fn feed_some<S: Source>(
     source: &mut S,
     chunk: &mut [u8],
@@ -74,14 +74,14 @@ fn feed_some<S: Source>(
     Ok(Some(count as u64))
 }
 
-/// So many bytes and some more. A number that does not fit is out of memory.
+/// Returns the sum of two numbers of bytes. A sum that does not fit counts as out of memory.
 fn sum(bytes: u64, more: u64) -> Result<u64, AllocError>
     ensures { IfOk result (λ n. n ≡ bytes + more) }
 {
     bytes.checked_add(more).ok_or(AllocError)
 }
 
-/// Reads a segment to its end, also after a fault, counts its bytes, and lets its entries be taken.
+/// Reads a segment to its end, even after a fault, counts its bytes, and lets its entries be taken.
 pub(crate) fn read_text<S: Source, T: Taker>(
     source: &mut S,
     chunk: &mut [u8],

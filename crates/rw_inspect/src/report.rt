@@ -9,7 +9,7 @@ use rw_wal_tail::{FaultPlace, TailFault};
 pub struct Segment {
     pub name: String,
     pub bytes: u64,
-    /// Records that were passed over, since they are empty or of another type.
+    /// Records that were skipped, since they are empty or of another type.
     pub passed: u64,
     pub sums: Sums,
 }
@@ -27,7 +27,7 @@ pub struct Damage {
 pub struct Report {
     pub segments: Vec<Segment>,
     pub counts: Counts,
-    /// The positions of the first ten samples that do not rise.
+    /// The positions of the first ten samples that are not later than the last one of their series.
     pub first_not_rising: Vec<u64>,
     pub damage: Option<Damage>,
 }

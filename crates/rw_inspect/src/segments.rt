@@ -36,7 +36,7 @@ fn zeros(alloc: Global, len: usize) -> Result<Vec<u8>, AllocError>
     vec![in alloc; 0; len]
 }
 
-/// The next segment begins.
+/// Begins the next segment.
 fn begin_segment<T: Taker>(is_first: bool, tail: &mut Tail, taker: &mut T)
     ensures fed { tail.new ≡ record tail.old { pieces = begun is_first tail.old.pieces } }
     ensures here { T.counted taker.new ≡ record (T.counted taker.old) { here = [] } }
@@ -58,7 +58,7 @@ fn add_row(rows: &mut Vec<Segment>, row: Segment) -> Result<(), AllocError>
     }
 }
 
-/// Reads the next segment, and answers what was found in it, and its fault.
+/// Reads the next segment, and returns what was found in it, and its fault.
 fn read_segment<S: Source + Drop, T: Taker>(
     is_first: bool,
     segment: Named<S>,
@@ -87,7 +87,7 @@ fn read_segment<S: Source + Drop, T: Taker>(
     Ok((found, fault))
 }
 
-/// Reads segments up to the end of the first one with a fault, and answers the fault.
+/// Reads segments up to the end of the first one with a fault, and returns the fault.
 fn read_all<S: Source + Drop, T: Taker>(
     alloc: Global,
     segments: Vec<Named<S>>,
@@ -150,7 +150,7 @@ pub fn read_into<S: Source + Drop, T: Taker>(
     })
 }
 
-/// Returns the report of what was read, and counted.
+/// Returns the report of what was read and counted.
 fn report_of(alloc: Global, counts: &Counter, read: LogRead) -> Result<Report, AllocError>
     ensures { IfOk result (Reports counts.now.entries read.segments.items read.damage) }
 {

@@ -1,4 +1,4 @@
-//! A report as a table.
+//! Prints a report as a table.
 
 ghost use Rattle.std.specs.Prelude.{◌≡◌, ◌++◌, OnOk, IfOk, flat_map};
 ghost use Rattle.rw_inspect.specs.Texts.{any_damage, columns_text, count_columns, damage_text, file_text, found_text, line_text, offset_text, placed, positions_text, report_text, rising_text, row_text, series_text, size_columns, spot_text, time_columns};
@@ -89,7 +89,7 @@ fn push_positions(out: &mut Vec<u8>, first: &[u64]) -> Result<(), AllocError>
     out.extend_from_slice(b"\n")
 }
 
-/// Adds how many samples do not rise, and the first positions.
+/// Adds how many samples are not later than the last one of their series, and the first positions.
 #[tactic(auto, unfolding(crate::specs::Texts::rising_text))]
 fn push_rising(out: &mut Vec<u8>, count: u64, first: &[u64]) -> Result<(), AllocError>
     ensures { OnOk result (out.new.items ≡ out.old.items ++ rising_text count first.now) }
@@ -149,7 +149,7 @@ fn push_spot(out: &mut Vec<u8>, segment: &Segment, offset: u64) -> Result<(), Al
     push_offset(out, offset, segment.bytes.saturating_sub(offset))
 }
 
-/// Adds if a fault is.
+/// Adds the place of a fault.
 fn push_place(
     out: &mut Vec<u8>,
     segments: &[Segment],

@@ -1,4 +1,4 @@
-//! What is said of a fault.
+//! The texts about a fault.
 
 ghost use Rattle.std.specs.Prelude.{◌≡◌};
 ghost use Rattle.rw_inspect.specs.Texts.{fault_words, next_step};

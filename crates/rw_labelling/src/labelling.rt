@@ -18,7 +18,7 @@ use std::marker::Model;
 #[derive(Drop)]
 pub struct Labelling {
     taken: History<Entry>,
-    /// It has no rules, and so keeps every label set with legacy names.
+    /// It has no rules, so it keeps every label set with legacy names.
     cache: Cache,
     grouping: Grouping,
 }
@@ -36,7 +36,7 @@ impl Model for Labelling {
 }
 
 impl Labelling {
-    /// Before the first entry.
+    /// Returns a labelling before the first entry.
     pub fn new(alloc: Global) -> Labelling
         ensures { result ≡ [] }
     {

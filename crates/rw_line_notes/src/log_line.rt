@@ -58,7 +58,7 @@ fn note_on_sample(rest: &[u8]) -> &'static str {
     FORMS
 }
 
-/// Returns what is wrong with a line that stands for no record.
+/// Returns what is wrong with a line that does not stand for a record.
 fn note_on(alloc: Global, line: &[u8]) -> Result<&'static str, AllocError> {
     if str::from_utf8(line).is_err() {
         return Ok("the line is not UTF-8");
@@ -89,8 +89,8 @@ fn is_record(alloc: Global, line: &[u8]) -> Result<bool, AllocError>
     Ok(true)
 }
 
-/// Returns what is wrong with a line of log text, without its LF; nothing if it stands for a
-/// record. The words are advice.
+/// Returns what is wrong with a line of log text, without its LF, or the empty text if it stands
+/// for a record. No clause says anything about the wording.
 pub fn log_line_note(alloc: Global, line: &[u8]) -> Result<Option<&'static str>, AllocError>
     ensures { IfOk result (λ note. MatchOption note
         ((rec : List ℕ) × IsRecordOf line.now rec)

@@ -11,7 +11,7 @@ use rw_wal_format::PAGE_BYTES;
 use rw_wal_write::{LogFault, SegmentWriter};
 use std::alloc::{AllocError, Global};
 
-/// Writes the record of a line, if it has one, and answers whether there was room for it.
+/// Writes the record of a line, if it has one, and returns whether there was room for it.
 fn log_line(
     alloc: Global,
     writer: &mut SegmentWriter<Room>,
@@ -39,7 +39,7 @@ fn log_line(
     }
 }
 
-/// A segment, and what of a text follows the lines whose records it holds.
+/// A segment, and the rest of a text after the lines whose records it holds.
 #[derive(Drop)]
 pub(crate) struct Filled<'a> {
     pub(crate) segment: Vec<u8>,

@@ -22,7 +22,7 @@ fn record_len(alloc: Global, line: &[u8]) -> Result<usize, TextFault>
     Ok(rec.len())
 }
 
-/// Judges each line of a text, and answers the length of the longest record.
+/// Judges each line of a text, and returns the length of the longest record.
 pub(crate) fn judge(alloc: Global, text: &[u8]) -> Result<usize, ToolFault>
     ensures ok { IfOk result (λ longest. (recs : List (List ℕ)) × AreRecords (lines text.now) recs
         × (longest ≡ longest_of recs)) }

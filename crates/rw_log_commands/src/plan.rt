@@ -28,7 +28,7 @@ impl Taker for Planner {
     }
 }
 
-/// Reads a log segment (wal.md) to its end, and answers its plan.
+/// Reads a log segment (wal.md) to its end, and returns its plan.
 fn read_plan<R: Source>(alloc: Global, reader: &mut R, choice: Choice) -> Result<Vec<u8>, ToolFault>
     ensures ok { IfOk result (λ v. (segment : List ℕ)
         × ReadsSegment None (R.remaining reader.old) (R.remaining reader.new) segment
@@ -41,7 +41,7 @@ fn read_plan<R: Source>(alloc: Global, reader: &mut R, choice: Choice) -> Result
     Ok(planner.into_text()?)
 }
 
-/// Reads the hexadecimal text of a segment to its end, and answers its plan.
+/// Reads the hexadecimal text of a segment to its end, and returns its plan.
 fn read_hex_plan<R: Source>(
     alloc: Global,
     reader: &mut R,
@@ -86,8 +86,8 @@ pub fn run_plan<R: Source, W: Sink>(
     ensures writer_sound { OnOk result
         (W.has_failed writer.old ≡ false → W.has_failed writer.new ≡ false) }
 
-    // A fault of the data is the one that the input has, and nothing is written then, or if memory
-    // ran out.
+    // A fault of the data is the one that the input has. Then nothing is written, nor if memory ran
+    // out.
     ensures log { (f : TailFault) → result ≡ Err (Log f)
         → ReadsFault hex f (R.remaining reader.old) (R.remaining reader.new) }
     ensures line { (n : ℕ) → result ≡ Err (Line n)

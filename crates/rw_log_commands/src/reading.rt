@@ -16,7 +16,7 @@ use std::alloc::{AllocError, Global};
 /// How many bytes one read asks for.
 const CHUNK: usize = 64 * 1024;
 
-/// What takes the entries of a log.
+/// A visitor of the entries of a log.
 pub(crate) trait Taker {
     /// The entries so far.
     ghost taken: { Self → List Entry };
@@ -48,7 +48,7 @@ fn take_all<T: Taker>(tail: &mut Tail, taker: &mut T) -> Result<(), ToolFault>
     Ok(())
 }
 
-/// Feeds what one read gives. False is the end of the input.
+/// Feeds what one read returns. `false` means the end of the input.
 fn feed_some<R: Source>(
     reader: &mut R,
     chunk: &mut [u8],

@@ -1,5 +1,6 @@
-//! Which files of a log in a folder are read, and in which order: the newest checkpoint, and then
-//! the segments after it. No file is touched here: the caller lists the folder and opens the files.
+//! Decides which files of a log in a folder are read, and in which order: the newest checkpoint,
+//! and then the segments after it. No file is touched here: the caller lists the folder and opens
+//! the files.
 #![tactic(auto)]
 
 mod listing;

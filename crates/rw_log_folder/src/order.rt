@@ -150,13 +150,13 @@ fn log_from(
 }
 
 /// Returns the files of a log in the order in which they are read: the segments of the newest
-/// checkpoint by rising number, and then the segments of the folder with greater numbers than the
-/// checkpoint's, by rising number. Without a checkpoint these are all segments of the folder. Of
-/// two names of one number the shorter comes first.
+/// checkpoint by ascending number, and then the segments of the folder with greater numbers than
+/// the checkpoint's, by ascending number. Without a checkpoint these are all segments of the
+/// folder. Of two names of one number the shorter comes first.
 ///
-/// If a segment is missing after the checkpoint although a later one is there, the fault is the
-/// least number that is missing. No segment after the checkpoint is no fault: the log ends with the
-/// checkpoint. Without a checkpoint nothing is said to be missing. A missing segment is found
+/// If a segment is missing after the checkpoint although a later one exists, the fault is the least
+/// number that is missing. No segment after the checkpoint is not a fault: the log ends with the
+/// checkpoint. Without a checkpoint nothing is reported as missing. A missing segment is found
 /// before memory is taken.
 pub fn log_order(alloc: Global, listing: Listing) -> Result<Vec<Place>, OrderFault>
     ensures order { IfOk result (λ places. IsLogOrder listing places.items) }

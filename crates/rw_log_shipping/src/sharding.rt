@@ -21,7 +21,7 @@ pub struct Sharding {
     pub shards: u32,
     pub fewest: u32,
     pub most: u32,
-    /// How many samples had been placed as the clock asked last.
+    /// How many samples had been placed when the number was adjusted last by the clock.
     pub placed: u64,
     /// How many had been resolved then.
     pub resolved: u64,
@@ -33,7 +33,7 @@ pub struct Sharding {
 impl Sharding {
     ghost use Rattle.std.specs.Prelude.{◌≡◌};
 
-    /// As a sender is configured.
+    /// Returns the number and its bounds as a sender is configured.
     pub fn of(config: &Config) -> Sharding
         ensures shards { result.shards ≡ config.now.shards }
         ensures fewest { result.fewest ≡ config.now.min_shards }
@@ -42,7 +42,7 @@ impl Sharding {
         ensures batch { 1 ≤ config.now.batch }
     {
         let fields = config.fields();
-        // What their types say of these two is in the contract.
+        // The contract says that these two are in the ranges of their types.
         let _ = (fields.capacity.get(), fields.batch.get());
         Sharding {
             shards: fields.shards.get() as u32,
@@ -53,7 +53,7 @@ impl Sharding {
         }
     }
 
-    /// As many shards as are wanted under this load.
+    /// Returns as many shards as are wanted under this load.
     fn under(self, load: Load) -> Sharding
         ensures shards { result.shards
             ≡ wanted self.shards load.placed load.resolved load.backlog self.fewest self.most }
@@ -79,8 +79,8 @@ impl Sharding {
         }
     }
 
-    /// As many shards as are wanted under what was placed and resolved since the clock asked last,
-    /// and what waits under this load.
+    /// Returns as many shards as are wanted under what was placed and resolved since the last
+    /// adjustment by the clock, and what waits under this load.
     fn lately(self, load: Load) -> Sharding
         ensures shards { result.shards
             ≡ wanted self.shards (load.placed - self.placed)
@@ -108,13 +108,13 @@ impl Sharding {
     }
 }
 
-/// How often, and for how many milliseconds, the workers are waited for before the number of shards
-/// is asked for: 50 ms at most.
+/// How often the workers are waited for before the number of shards is adjusted, and for how many
+/// milliseconds each time: 50 ms at most.
 const MOMENTS: u32 = 10;
 
 const MOMENT_MS: u64 = 5;
 
-/// Waits a moment for the workers to resolve what was put, so that the load tells whether they keep
+/// Waits a moment for the workers to resolve what was put, so that the load shows whether they keep
 /// up.
 fn let_catch_up<R: Clock, C: Connect + Drop>(rt: &R, shipper: &Shipper<C>) {
     for _ in 0..MOMENTS {
@@ -125,8 +125,8 @@ fn let_catch_up<R: Clock, C: Connect + Drop>(rt: &R, shipper: &Shipper<C>) {
     }
 }
 
-/// Changes the number of shards to what is wanted under the load, if that is another one and more
-/// is to come.
+/// Changes the number of shards to what is wanted under the load, if that differs and more is to
+/// come.
 pub fn resharded<R: Threads + Wait + Clock + Copy + Send + 'static, C: Connect + Drop>(
     rt: &R,
     shipper: &mut Shipper<C>,
@@ -163,8 +163,8 @@ pub fn resharded<R: Threads + Wait + Clock + Copy + Send + 'static, C: Connect +
     Ok(next)
 }
 
-/// Changes the number of shards to what is wanted under what was placed and resolved since the
-/// clock asked last, if it asks and that is another one.
+/// Changes the number of shards to what is wanted under what was placed and resolved since the last
+/// adjustment by the clock, if one is due and the number differs.
 pub fn retuned<R: Threads + Wait + Clock + Copy + Send + 'static, C: Connect + Drop>(
     rt: &R,
     shipper: &mut Shipper<C>,
@@ -172,7 +172,7 @@ pub fn retuned<R: Threads + Wait + Clock + Copy + Send + 'static, C: Connect + D
     is_due: bool,
 ) -> Result<Sharding, Halt>
     requires { length shipper.old.fleet.current ≡ sharding.shards }
-    // The next question is of what comes after the load that decided.
+    // The next adjustment counts from the load that decided.
     ensures asked { is_due ≡ true → IfOk result (λ s. (load : Load)
         × IsLoad shipper.old.fleet load × (s.shards
         ≡ wanted_since sharding.fewest sharding.most sharding.shards sharding.placed

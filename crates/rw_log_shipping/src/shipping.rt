@@ -1,4 +1,4 @@
-//! The segments of a log are fed to a shipper.
+//! Feeds the segments of a log to a shipper.
 
 ghost use Rattle.std.specs.Prelude.{◌≡◌, ◌<◌, ◌≤◌, ◌⊎◌, [], length, map, true, false, None, Ok, Err, IfOk, IfErr, IsSome, OnOk, OnErr, vec_len};
 ghost use Rattle.std.specs.Io.KnownBytes.{Consumes, IsAtEnd};
@@ -23,7 +23,7 @@ use std::time::Clock;
 /// The most bytes of a piece.
 pub const PIECE_BYTES: usize = 65_536;
 
-/// Room for a piece.
+/// Returns a buffer for a piece.
 pub fn zeros(alloc: Global) -> Result<Vec<u8>, AllocError>
     ensures { IfOk result (λ v. vec_len v ≡ PIECE_BYTES) }
 {
@@ -31,7 +31,7 @@ pub fn zeros(alloc: Global) -> Result<Vec<u8>, AllocError>
 }
 
 /// Reads some bytes of a segment, through `buf`; none at its end. So memory is taken only for bytes
-/// that are there.
+/// that exist.
 fn read_piece<S: Source>(alloc: Global, segment: &mut S, buf: &mut [u8]) -> Result<Vec<u8>, Halt>
     requires buffer { 0 < length buf.old }
     requires small { length buf.old ≤ PIECE_BYTES }
@@ -57,7 +57,7 @@ fn read_piece<S: Source>(alloc: Global, segment: &mut S, buf: &mut [u8]) -> Resu
     Ok(piece)
 }
 
-/// Feeds the next bytes of a segment. False is its end.
+/// Feeds the next bytes of a segment. `false` means its end.
 fn ship_piece<R: Wait, S: Source, C: Connect + Drop>(
     rt: &R,
     means: Means<'_>,
@@ -134,7 +134,7 @@ fn ship_segment<R: Wait, S: Source + Drop, C: Connect + Drop>(
     unreachable!()
 }
 
-/// Tells that the next segment begins, if it is not the first one.
+/// Begins the next segment, if it is not the first one.
 pub fn begin_segment<R: Wait, C: Connect + Drop>(
     rt: &R,
     shipper: &mut Shipper<C>,
@@ -191,7 +191,7 @@ pub fn ship_all<
     ensures halted { IfErr result (IsHalted shipper.new) }
     ensures sure { AreSure (map S.is_sure segments.items) → result ≡ Err Unreadable → ⊥ }
 
-    // Memory for a piece is refused only if the log has more bytes.
+    // Memory for a piece runs out only if the log has more bytes.
     ensures refused { result ≡ Err Halt.Failed → IsSome shipper.new.fault
         ⊎ HasMoreBytes (map S.remaining segments.items) shipper.new.log.pieces }
     ensures number { shipper.new.fault ≡ None → IsShardCount (length shipper.new.fleet.current) }

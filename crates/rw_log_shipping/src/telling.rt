@@ -1,4 +1,4 @@
-//! Counters are told what a shipper does.
+//! Counts what a shipper does.
 
 ghost use Rattle.std.specs.Prelude.{◌≡◌, None};
 ghost use Rattle.rw_wal_format.specs.Pieces.{entries};
@@ -15,8 +15,8 @@ pub struct Means<'a> {
     pub counters: &'a SendCounters,
 }
 
-/// Tells how far a shipper has come, and what it has dropped and filtered of the log so far. By its
-/// contract the shards have what was placed.
+/// Counts how far a shipper has come, and what it has dropped and filtered of the log so far. By
+/// its contract the shards have what was placed.
 pub fn tell<C: Connect + Drop>(counters: &SendCounters, shipper: &Shipper<C>)
     ensures placed { PlacesAll shipper.now.log shipper.now.fleet }
     ensures read { shipper.now.fault ≡ None

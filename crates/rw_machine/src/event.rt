@@ -13,7 +13,7 @@ pub enum How {
     OutOfMemory,
 }
 
-/// One event. Shards, requests and replies are named by their numbers, from 0.
+/// One event. Shards, requests and replies are identified by their numbers, from 0.
 ///
 /// An event whose guard fails changes nothing. A request or a reply that the network loses is one
 /// that never arrives, and one that it repeats arrives again.

@@ -19,11 +19,11 @@ pub(crate) enum Asked {
     Html,
     /// Another path.
     Elsewhere,
-    /// A page, by another method than GET.
+    /// A page, by a method other than GET.
     Otherwise,
-    /// They begin no request.
+    /// They are not the start of a request.
     Bad,
-    /// The head has not come whole.
+    /// The head has not come completely.
     More,
 }
 

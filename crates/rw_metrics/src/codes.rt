@@ -13,7 +13,7 @@ pub(crate) struct Codes {
 }
 
 impl Codes {
-    /// Nothing came yet.
+    /// Returns counters that are all 0.
     pub(crate) fn new(alloc: Global) -> Result<Codes, AllocError> {
         let mut counts = Vec::with_capacity(alloc, STATUSES)?;
         for _ in 0..STATUSES {
@@ -22,14 +22,14 @@ impl Codes {
         Ok(Codes { counts })
     }
 
-    /// This status came once more.
+    /// Counts this status.
     pub(crate) fn count(&self, status: u16) {
         if let Some(count) = self.counts.get(status as usize) {
             count.fetch_add(1, Ordering::Relaxed);
         }
     }
 
-    /// Returns the statuses that came, in ascending order, each with how often.
+    /// Returns the statuses that came, in ascending order, each with how often it came.
     pub(crate) fn read(&self, alloc: Global) -> Result<Vec<(u16, u64)>, AllocError> {
         let mut came = Vec::new(alloc);
         let mut status = 0u16;

@@ -18,7 +18,7 @@ pub enum Counters {
 }
 
 impl Counters {
-    /// Another share of these counters.
+    /// Returns another share of these counters.
     pub fn share(&self) -> Result<Counters, AllocError> {
         Ok(match self {
             Counters::Send(counters) => Counters::Send(Arc::try_clone(counters)?),
@@ -26,7 +26,7 @@ impl Counters {
         })
     }
 
-    /// Their page.
+    /// Returns their page.
     pub(crate) fn page(&self, alloc: Global) -> Result<Vec<u8>, AllocError> {
         match self {
             Counters::Send(counters) => send_page(alloc, &counters.numbers(alloc)?),
@@ -42,7 +42,7 @@ impl Counters {
         }
     }
 
-    /// Their line of progress.
+    /// Returns their line of progress.
     pub(crate) fn line(&self, alloc: Global) -> Result<Vec<u8>, AllocError> {
         match self {
             Counters::Send(counters) => send_line(alloc, &counters.numbers(alloc)?),
@@ -50,7 +50,7 @@ impl Counters {
         }
     }
 
-    /// Of a sender the line of its dropped samples.
+    /// Returns a sender's line of dropped samples, or `None` for a receiver.
     pub(crate) fn drops(&self, alloc: Global) -> Result<Option<Vec<u8>>, AllocError> {
         match self {
             Counters::Send(counters) => {

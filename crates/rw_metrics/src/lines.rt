@@ -74,7 +74,7 @@ pub(crate) fn push_last_told(out: &mut Vec<u8>, last: Option<Cause>) -> Result<(
     }
 }
 
-/// Returns how many hundredths of so many bytes were read, at most 100.
+/// Returns the percentage of `all` bytes that were read, at most 100.
 pub(crate) fn percent(bytes: u64, all: u64) -> u64
     requires { 0 < all }
     ensures { result ≡ percent bytes all }
@@ -82,7 +82,7 @@ pub(crate) fn percent(bytes: u64, all: u64) -> u64
     (bytes as u128 * 100 / all as u128).min(100) as u64
 }
 
-/// Adds ` percent N` of a folder, if its bytes are known.
+/// Adds ` percent N` for a folder, if its bytes are known.
 #[tactic(auto, unfolding(crate::specs::Lines::percent_told))]
 fn push_percent_told(out: &mut Vec<u8>, bytes: u64, all: u64) -> Result<(), AllocError>
     ensures { OnOk result (out.new.items ≡ out.old.items ++ percent_told bytes all) }
@@ -120,8 +120,8 @@ fn push_work_line(out: &mut Vec<u8>, n: &SendNumbers) -> Result<(), AllocError>
 }
 
 /// Returns the progress of a sender with these numbers, in one line: `entries N placed N resolved N
-/// dropped N filtered N waiting N shards N attempts N failed N`, if an attempt has failed ` last
-/// CAUSE`, ` segment N bytes N`, and if the bytes of the folder are known ` percent N`.
+/// dropped N filtered N waiting N shards N attempts N failed N`, then ` last CAUSE` if an attempt
+/// has failed, ` segment N bytes N`, and ` percent N` if the bytes of the folder are known.
 pub fn send_line(alloc: Global, numbers: &SendNumbers) -> Result<Vec<u8>, AllocError>
     ensures { IfOk result (λ line. line.items ≡ send_line numbers.now) }
 {

@@ -1,4 +1,4 @@
-//! Progress, told once a second.
+//! Prints progress once a second.
 
 use crate::counters::Counters;
 use std::alloc::{AllocError, Global};
@@ -7,10 +7,10 @@ use std::thread;
 use std::thread::Threads;
 use std::time::{Clock, Duration};
 
-/// How many seconds are waited between two lines.
+/// How many seconds pass between two lines.
 const PAUSE_SECONDS: u64 = 1;
 
-/// What reads the lines of progress.
+/// What shows the lines of progress.
 #[derive(Clone, Copy, Debug, PartialEq, Eq)]
 pub enum Screen {
     /// A terminal, on which each line is written over the one before.
@@ -19,7 +19,7 @@ pub enum Screen {
     Lines,
 }
 
-/// Returns what follows a line: on a terminal the rest of the one before is cleared, and the next
+/// Returns what follows a line: on a terminal the rest of the line before is cleared, and the next
 /// one is written over it, unless it is the last one.
 fn line_end(screen: Screen, is_last: bool) -> &'static [u8] {
     match screen {
@@ -29,7 +29,7 @@ fn line_end(screen: Screen, is_last: bool) -> &'static [u8] {
     }
 }
 
-/// Writes a line in one go.
+/// Writes a line with one call.
 fn write_line<W: Write>(writer: &mut W, line: Vec<u8>, ending: &[u8]) -> Result<(), AllocError> {
     let mut line = line;
     line.extend_from_slice(ending)?;
@@ -37,7 +37,7 @@ fn write_line<W: Write>(writer: &mut W, line: Vec<u8>, ending: &[u8]) -> Result<
     Ok(())
 }
 
-/// Writes if the counters are.
+/// Writes the values of the counters.
 fn show<W: Write>(
     writer: &mut W,
     screen: Screen,
@@ -48,7 +48,7 @@ fn show<W: Write>(
     write_line(writer, line, line_end(screen, false))
 }
 
-/// Writes if the counters are, once a second.
+/// Writes the values of the counters, once a second.
 fn show_on<C: Clock, W: Write>(
     clock: &C,
     writer: &mut W,
@@ -62,7 +62,7 @@ fn show_on<C: Clock, W: Write>(
     }
 }
 
-/// Writes a line of progress once a second, in a thread that nobody joins: it ends with the
+/// Writes a line of progress once a second, in a thread that is never joined: it ends with the
 /// process.
 pub fn show_progress<
     R: Threads,
@@ -103,8 +103,8 @@ fn write_last<W: Write>(
     }
 }
 
-/// Writes if the counters are in the end, and of a sender how many samples were dropped, by reason:
-/// each in a line of its own. What follows is not written if memory runs out.
+/// Writes the final values of the counters, and for a sender how many samples were dropped, by
+/// reason: each in its own line. If memory runs out, the rest is not written.
 pub fn write_end<W: Write>(writer: &mut W, screen: Screen, alloc: Global, counters: &Counters) {
     let _ = write_last(writer, screen, alloc, counters);
 }

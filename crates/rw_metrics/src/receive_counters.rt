@@ -5,8 +5,8 @@ use crate::receive_numbers::ReceiveNumbers;
 use std::alloc::{AllocError, Global};
 use std::sync::atomic::{AtomicU64, Ordering};
 
-/// What a receiver does, counted by its threads and read by others. This is advice: nothing is
-/// claimed of it, and nothing that is promised is on it.
+/// What a receiver does, counted by its threads and read by others. The counters are best effort:
+/// no clause says anything about them, and no promise depends on them.
 #[derive(Drop)]
 pub struct ReceiveCounters {
     accepted: AtomicU64,
@@ -26,7 +26,7 @@ fn add(counter: &AtomicU64, n: u64) {
 }
 
 impl ReceiveCounters {
-    /// Nothing was done yet.
+    /// Returns counters that are all 0.
     pub fn new(alloc: Global) -> Result<ReceiveCounters, AllocError> {
         let statuses = Codes::new(alloc)?;
         Ok(ReceiveCounters {
@@ -39,33 +39,33 @@ impl ReceiveCounters {
         })
     }
 
-    /// A connection was accepted, and is served.
+    /// Counts a connection that was accepted, and is served.
     pub fn begin_connection(&self) {
         add(&self.accepted, 1);
     }
 
-    /// A connection has ended.
+    /// Counts a connection that has ended.
     pub fn end_connection(&self) {
         add(&self.ended, 1);
     }
 
-    /// An accept has failed.
+    /// Counts an accept that has failed.
     pub fn refuse_connection(&self) {
         add(&self.refused, 1);
     }
 
-    /// The head has answered a request with this status, and stored so many samples of it.
+    /// Counts an answer of the head: its status, and how many samples it stored.
     pub fn answer(&self, status: u16, stored: u64) {
         self.statuses.count(status);
         add(&self.samples, stored);
     }
 
-    /// The head holds samples of so many label sets. They never become fewer.
+    /// Sets of how many label sets the head holds samples. The number never becomes smaller.
     pub fn hold_label_sets(&self, count: usize) {
         self.label_sets.fetch_max(count as u64, Ordering::Relaxed);
     }
 
-    /// Returns what was counted.
+    /// Returns the values of the counters.
     pub fn numbers(&self, alloc: Global) -> Result<ReceiveNumbers, AllocError> {
         let statuses = self.statuses.read(alloc)?;
         let ended = read(&self.ended);

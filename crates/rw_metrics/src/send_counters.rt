@@ -93,8 +93,8 @@ impl FailureCounters {
     }
 }
 
-/// What a sender does, counted by its threads and read by others. This is advice: nothing is
-/// claimed of it, and nothing that is promised is on it.
+/// What a sender does, counted by its threads and read by others. The counters are best effort: no
+/// clause says anything about them, and no promise depends on them.
 #[derive(Drop)]
 pub struct SendCounters {
     entries: AtomicU64,
@@ -125,7 +125,7 @@ fn add(counter: &AtomicU64, n: u64) {
 }
 
 impl SendCounters {
-    /// Nothing was done yet.
+    /// Returns counters that are all 0.
     pub fn new(alloc: Global) -> Result<SendCounters, AllocError> {
         let drops = DropCounters::new(alloc)?;
         let failures = FailureCounters::new(alloc)?;
@@ -146,53 +146,54 @@ impl SendCounters {
         })
     }
 
-    /// The segment of this number is read from its first byte on.
+    /// Sets the number of the segment that is read, from its first byte on.
     pub fn begin_segment(&self, number: u64) {
         set(&self.segment, number);
         set(&self.segment_bytes, 0);
     }
 
-    /// The segments of the folder have so many bytes.
+    /// Sets how many bytes the segments of the folder have.
     pub fn set_folder_bytes(&self, bytes: u64) {
         set(&self.folder_bytes, bytes);
     }
 
-    /// So many bytes more were read.
+    /// Counts `count` bytes more that were read.
     pub fn read_bytes(&self, count: usize) {
         add(&self.bytes, count as u64);
         add(&self.segment_bytes, count as u64);
     }
 
-    /// So many entries were read.
+    /// Sets how many entries were read.
     pub fn set_entries(&self, entries: u64) {
         set(&self.entries, entries);
     }
 
-    /// So many shards are at work.
+    /// Sets how many shards are at work.
     pub fn set_shards(&self, shards: u32) {
         set(&self.shards, shards as u64);
     }
 
-    /// So many samples were placed, of which so many are resolved, and so many wait. Those that are
-    /// resolved never become fewer.
+    /// Sets how many samples were placed, how many of them are resolved, and how many wait. The
+    /// number of resolved ones never becomes smaller.
     pub fn set_load(&self, placed: u64, resolved: u64, waiting: u64) {
         set(&self.placed, placed);
         self.resolved.fetch_max(resolved, Ordering::Relaxed);
         set(&self.waiting, waiting);
     }
 
-    /// The work has ended, with so many samples resolved of those that were placed.
+    /// Sets how many of the placed samples are resolved at the end of the work. No sample waits any
+    /// more.
     pub fn set_resolved(&self, resolved: u64) {
         set(&self.resolved, resolved);
         set(&self.waiting, read(&self.placed).saturating_sub(resolved));
     }
 
-    /// The rules have filtered so many samples.
+    /// Sets how many samples the rules have filtered.
     pub fn set_filtered(&self, filtered: u64) {
         set(&self.filtered, filtered);
     }
 
-    /// One sample more was dropped.
+    /// Counts one dropped sample.
     pub fn drop_sample(&self, reason: Reason) {
         add(&self.drops.all, 1);
         match reason {
@@ -203,8 +204,8 @@ impl SendCounters {
         }
     }
 
-    /// These are the samples that were dropped so far as the log was read, in order: those after
-    /// the ones that were told before are told.
+    /// Counts the samples that were dropped so far as the log was read, in order: only those after
+    /// the ones that were counted before.
     pub fn drop_unsent(&self, names: &[(u64, Reason)]) {
         let told = self.drops.unsent() as usize;
         if let Some(more) = names.get(told..) {
@@ -219,7 +220,7 @@ impl SendCounters {
         read(&self.drops.all)
     }
 
-    /// An attempt begins.
+    /// Counts an attempt that begins.
     pub fn attempt(&self) {
         add(&self.attempts, 1);
     }
@@ -229,7 +230,7 @@ impl SendCounters {
         set(&self.failures.in_a_row, 0);
     }
 
-    /// An attempt has failed.
+    /// Counts an attempt that has failed.
     pub fn fail(&self, cause: Cause) {
         let failures = &self.failures;
         add(&failures.all, 1);
@@ -246,7 +247,7 @@ impl SendCounters {
         }
     }
 
-    /// Returns what was counted.
+    /// Returns the values of the counters.
     pub fn numbers(&self, alloc: Global) -> Result<SendNumbers, AllocError> {
         let drops = self.drops.numbers(alloc)?;
         let failures = self.failures.numbers(alloc)?;

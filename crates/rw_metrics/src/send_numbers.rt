@@ -8,11 +8,12 @@ pub struct Drops {
     pub all: u64,
     /// No series was defined under their reference.
     pub no_series: u64,
-    /// The labels of their series are no label set.
+    /// The labels of their series are not a label set.
     pub bad_labels: u64,
-    /// Their timestamps do not rise.
+    /// Their timestamps are not later than the last one of their series.
     pub not_rising: u64,
-    /// The receiver has refused their batch: the statuses in ascending order, each with how many.
+    /// The receiver has refused their batch: the statuses in ascending order, each with how many
+    /// samples.
     pub refused: Vec<(u16, u64)>,
 }
 
@@ -28,20 +29,20 @@ pub struct Failures {
     pub memory: u64,
     /// The statuses in ascending order, each with how often it came.
     pub statuses: Vec<(u16, u64)>,
-    /// Those since an attempt succeeded.
+    /// Failed attempts since the last one that succeeded.
     pub in_a_row: u64,
-    /// Of the last one.
+    /// The cause of the last one.
     pub last: Option<Cause>,
 }
 
-/// What the counters of a sender were when they were read, one after the other.
+/// The values of a sender's counters when they were read, one after the other.
 #[derive(Drop)]
 pub struct SendNumbers {
     /// Entries of the log that were read.
     pub entries: u64,
     /// Bytes of the log that were read.
     pub bytes: u64,
-    /// Bytes of the folder's segments as it was looked at; 0 if they are not known.
+    /// Bytes of the folder's segments when it was listed; 0 if they are not known.
     pub folder_bytes: u64,
     /// The number of the segment that is read.
     pub segment: u64,

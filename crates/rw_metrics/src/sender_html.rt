@@ -108,7 +108,7 @@ fn push_attempts(out: &mut Vec<u8>, n: &SendNumbers) -> Result<(), AllocError>
     Ok(())
 }
 
-/// Adds how many hundredths of a folder were read, if its bytes are known.
+/// Adds the percentage of a folder that was read, if its bytes are known.
 #[tactic(auto, unfolding(crate::specs::SendHtml::percent_row))]
 fn push_percent_row(out: &mut Vec<u8>, bytes: u64, all: u64) -> Result<(), AllocError>
     ensures { OnOk result (out.new.items ≡ out.old.items ++ percent_row bytes all) }

@@ -9,8 +9,8 @@ use std::sync::{Arc, Wait};
 use std::thread::{JoinHandle, Scope, Threads};
 use std::time::Clock;
 
-/// A connection that is served in a thread. Only as one value can the sign of its end be read and
-/// the thread be joined.
+/// A connection that is served in a thread. It is one value, so that the thread is joined only
+/// after its end was seen.
 #[derive(Drop)]
 pub(crate) struct Busy<L: Naming> {
     thread: JoinHandle<Seat<L>>,
@@ -27,8 +27,8 @@ pub(crate) enum Connection<L: Naming> {
     Ended(Seat<L>),
 }
 
-/// Serves a connection in a thread of the scope, or here, if no thread can be made. One for which
-/// memory runs out is closed.
+/// Serves a connection in a thread of the scope, or in this thread if none can be made. A
+/// connection for which memory runs out is closed.
 pub(crate) fn begin<'s, E, L: Naming + Send + Sync + 's, R: Wait + Clock + Sync>(
     scope: &Scope<'s, E>,
     rt: &'s R,
@@ -55,7 +55,7 @@ pub(crate) fn begin<'s, E, L: Naming + Send + Sync + 's, R: Wait + Clock + Sync>
 }
 
 impl<L: Naming> Busy<L> {
-    /// Returns what became of it by now. Nobody is waited for.
+    /// Returns what has become of it by now. It never waits.
     pub(crate) fn try_end<R: Threads>(self, rt: &R) -> Connection<L> {
         if self.has_ended.load(Ordering::SeqCst) {
             Connection::Ended(self.wait(rt))
@@ -64,7 +64,7 @@ impl<L: Naming> Busy<L> {
         }
     }
 
-    /// Waits for its end. It gives its seat back.
+    /// Waits for its end, and returns its seat.
     pub(crate) fn wait<R: Threads>(self, rt: &R) -> Seat<L> {
         self.thread.join(rt)
     }

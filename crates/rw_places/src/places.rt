@@ -15,17 +15,17 @@ use std::thread;
 use std::thread::{Scope, Threads};
 use std::time::{Clock, Duration};
 
-/// For how many milliseconds it sleeps between two looks for a free seat, while a client waits.
+/// How many milliseconds it sleeps between two looks for a free seat, while a client waits.
 const NAP_MS: u64 = 2;
 
-/// How many connections are looked at for their end before each accept.
+/// How many connections are checked for their end before each accept.
 const SOME: usize = 16;
 
 /// Seats, each free or with a connection. Contracts see how many there are.
 #[derive(Drop)]
 pub struct Places<L: Naming> {
     free: Vec<Seat<L>>,
-    /// Whoever was not looked at for longest is in front.
+    /// The connection that was not checked for longest is in front.
     busy: VecDeque<Busy<L>>,
 }
 
@@ -42,7 +42,7 @@ impl<L: Naming> Model for Places<L> {
 }
 
 impl<L: Naming> Places<L> {
-    /// Seats that are all free.
+    /// Returns seats that are all free.
     pub fn new(alloc: Global, seats: Vec<Seat<L>>) -> Result<Places<L>, AllocError>
         ensures { IfOk result (λ places. places ≡ vec_len seats) }
     {
@@ -50,8 +50,8 @@ impl<L: Naming> Places<L> {
         Ok(Places { free: seats, busy })
     }
 
-    /// Looks at some connections, those that were not looked at for longest, and frees the seats of
-    /// those that have ended. Each keeps what it stored.
+    /// Checks some connections, those that were not checked for longest, and frees the seats of
+    /// those that have ended. Each seat keeps what it stored.
     fn free_ended<R: Threads>(&mut self, rt: &R, most: usize)
         ensures { self.new ≡ self.old }
     {
@@ -66,7 +66,7 @@ impl<L: Naming> Places<L> {
         }
     }
 
-    /// Returns whether a seat is free. If none is known to be, it looks at all connections.
+    /// Returns whether a seat is free. If none is known to be, it checks all connections.
     fn has_free<R: Threads>(&mut self, rt: &R) -> bool
         ensures { self.new ≡ self.old }
     {
@@ -76,8 +76,8 @@ impl<L: Naming> Places<L> {
         !self.free.is_empty()
     }
 
-    /// Waits until a seat is free, or a stop is wished. While all are taken it asks connections
-    /// that are silent or after their rates to end.
+    /// Waits until a seat is free, or a stop is requested. While all are taken, it asks connections
+    /// that are silent or too slow to end.
     fn wait_for_seat<R: Threads + Wait + Clock>(&mut self, rt: &R, post: &Post<'_>)
         ensures { self.new ≡ self.old }
     {
@@ -91,7 +91,7 @@ impl<L: Naming> Places<L> {
         post.place_request.withdraw();
     }
 
-    /// Waits for the connections, and gives all seats back.
+    /// Waits for the connections, and returns all seats.
     pub fn into_seats<R: Threads>(self, rt: &R) -> Vec<Seat<L>>
         ensures { vec_len result ≡ self }
     {
@@ -104,8 +104,8 @@ impl<L: Naming> Places<L> {
     }
 }
 
-/// Serves the next connection, in a thread of the scope, if one comes within a tick. If no seat is
-/// free, it waits for one; if a stop is wished before, the connection is closed.
+/// Serves the next connection in a thread of the scope, if one comes within a tick. If no seat is
+/// free, it waits for one; if a stop is requested before, the connection is closed.
 fn serve_next<'s, E, L: Naming + Send + Sync + 's, R: Threads + Wait + Clock + Sync>(
     places: &mut Places<L>,
     scope: &Scope<'s, E>,
@@ -130,7 +130,7 @@ fn serve_next<'s, E, L: Naming + Send + Sync + 's, R: Threads + Wait + Clock + S
     }
 }
 
-/// Serves connection after connection until the sign is set.
+/// Serves connection after connection until the stop signal is set.
 pub fn serve_on<'s, E, L: Naming + Send + Sync + 's, R: Threads + Wait + Clock + Sync>(
     places: &mut Places<L>,
     scope: &Scope<'s, E>,

@@ -1,4 +1,4 @@
-//! Connections, each served in a thread of its own.
+//! Connections, each served in its own thread.
 
 ghost use Rattle.std.specs.Prelude.{◌≡◌, ◌+◌, ◌<◌, ◌⊎◌, IfOk, IfErr, vec_len};
 ghost use Rattle.rw_receive.specs.Receiving.{HasReceived};
@@ -63,7 +63,7 @@ fn start_each<'s, E, L: Naming + Send + Sync + 's, R: Wait + Clock + Sync>(
     Ok(handles)
 }
 
-/// Waits for the threads, and gives their seats back.
+/// Waits for the threads, and returns their seats.
 fn join_each<L: Naming, R: Threads>(
     rt: &R,
     alloc: Global,
@@ -78,9 +78,9 @@ fn join_each<L: Naming, R: Threads>(
     Ok(seats)
 }
 
-/// Serves one connection from each seat, each in a thread of its own, and gives the seats back.
-/// Nobody is listened to once the last one has come, or none can be served any more: whoever comes
-/// then is refused at once, and does not wait for those in work.
+/// Serves one connection from each seat, each in its own thread, and returns the seats. The
+/// listener is closed once the last connection has come, or none can be served any more: whoever
+/// comes then is refused at once, and does not wait for those being served.
 fn serve_each<L: Naming + Send + Sync, R: Threads + Wait + Clock + Sync>(
     rt: &R,
     listener: TcpListener,
@@ -105,7 +105,7 @@ fn serve_each<L: Naming + Send + Sync, R: Threads + Wait + Clock + Sync>(
     )
 }
 
-/// Serves so many connections over one head. Gives the head that they leave.
+/// Serves this many connections over one head, and returns the head that they leave.
 pub(crate) fn receive_all<L: Naming + Send + Sync, R: Threads + Wait + Clock + Sync>(
     rt: &R,
     post: &Post<'_>,

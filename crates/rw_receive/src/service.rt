@@ -1,4 +1,4 @@
-//! Connections that are served until a sign is set.
+//! Serves connections until a stop signal is set.
 
 ghost use Rattle.std.specs.Prelude.{◌≡◌, ◌+◌, ◌<◌, ◌⊎◌, IfOk, IfErr, vec_len};
 ghost use Rattle.rw_receive.specs.Receiving.{HasReceived};
@@ -17,8 +17,8 @@ use std::thread;
 use std::thread::Threads;
 use std::time::Clock;
 
-/// Serves from all seats until the sign is set, waits for those in work, and gives the seats back.
-/// Nobody is listened to from then on.
+/// Serves from all seats until the stop signal is set, waits for the connections being served, and
+/// returns the seats. The listener is closed by then.
 fn serve_until<L: Naming + Send + Sync, R: Threads + Wait + Clock + Sync>(
     rt: &R,
     listener: TcpListener,
@@ -42,8 +42,8 @@ fn serve_until<L: Naming + Send + Sync, R: Threads + Wait + Clock + Sync>(
     )
 }
 
-/// Serves at most so many connections at once over one head, until the sign is set. Gives the head
-/// that they leave.
+/// Serves at most this many connections at once over one head, until the stop signal is set.
+/// Returns the head that they leave.
 pub(crate) fn receive_until<L: Naming + Send + Sync, R: Threads + Wait + Clock + Sync>(
     rt: &R,
     post: &Post<'_>,

@@ -1,4 +1,4 @@
-//! Where the last segment is cut.
+//! Finds the place at which the last segment is cut.
 
 ghost use Rattle.std.specs.Prelude.{◌≡◌, ◌≤◌, length, true, IfOk, IfErr};
 ghost use Rattle.rw_journal.specs.Torn.{page_end};
@@ -57,8 +57,8 @@ fn is_clean(alloc: Global, text: &[u8], entries: u64, at: usize) -> Result<bool,
     Ok(read.fault.is_none() && entries <= read.entries)
 }
 
-/// Returns if the last segment is cut: at its end, or after its last whole record if a crash tore
-/// it. `Damaged` is returned if it does not end within the page in which reading stops.
+/// Returns where the last segment is cut: at its end, or after its last whole record if a crash
+/// tore it. `Damaged` is returned if it does not end within the page in which reading stops.
 pub(crate) fn find_cut(
     alloc: Global,
     text: &[u8],

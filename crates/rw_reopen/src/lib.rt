@@ -1,4 +1,4 @@
-//! Opens a log after a crash: reads its segments again, finds if the last one is torn, refuses
+//! Opens a log after a crash: reads its segments again, finds where the last one is torn, refuses
 //! damage, and closes the torn end.
 #![tactic(auto)]
 

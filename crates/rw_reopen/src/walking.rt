@@ -1,4 +1,4 @@
-//! Where the last whole record of a segment ends.
+//! Finds where the last whole record of a segment ends.
 
 ghost use Rattle.std.specs.Prelude.{◌<◌, ◌≤◌, ◌^◌, length};
 
@@ -26,8 +26,8 @@ fn ends_record(byte: u8) -> bool {
     }
 }
 
-/// Returns if the last whole record before an offset ends, by the headers of the fragments alone:
-/// no checksum is looked at. The result is a proposal, which the caller has to check.
+/// Returns where the last whole record before an offset ends, by the headers of the fragments
+/// alone: no checksum is looked at. The result is a proposal, which the caller has to check.
 pub fn whole_len(text: &[u8], stop: usize) -> usize
     ensures within { result ≤ length text.now }
 {

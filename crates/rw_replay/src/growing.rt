@@ -3,7 +3,7 @@
 use rw_types::{Failed, Sink};
 use std::alloc::Global;
 
-/// A writer into memory, which grows as it takes bytes, and fails if no more memory is given.
+/// A writer into memory, which grows as it takes bytes, and fails if memory runs out.
 #[derive(Debug, Drop)]
 pub(crate) struct Growing {
     pub(crate) bytes: Vec<u8>,

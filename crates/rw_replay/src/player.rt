@@ -27,7 +27,7 @@ use std::marker::Model;
 pub(crate) struct Player {
     alloc: Global,
     world: World,
-    /// The bytes that are written of the segment that the log has come to.
+    /// How many bytes of the current segment are written.
     offset: usize,
 }
 
@@ -47,7 +47,7 @@ impl Model for Player {
 }
 
 impl Player {
-    /// Before the first line.
+    /// Returns a player before the first line.
     pub(crate) fn new(alloc: Global, settings: Settings) -> Result<Player, AllocError>
         ensures { IfOk result (λ p. p ≡ beginning (setup_of settings.config settings.limits)) }
     {
@@ -59,7 +59,7 @@ impl Player {
         })
     }
 
-    /// What was written reaches the log.
+    /// Feeds what was written to the log.
     fn feed(&mut self, written: Written) -> Result<(), AllocError>
         requires { IsPlace segment_pages written.offset }
         ensures { OnOk result
@@ -71,7 +71,7 @@ impl Player {
         Ok(())
     }
 
-    /// A record begins the next segment.
+    /// Begins the next segment with a record.
     fn log_in_next(&mut self, rec: &[u8]) -> Result<(), AllocError>
         requires some { 0 < length rec.now }
         requires short { length rec.now ≤ 16 * 1024 * 1024 }
@@ -86,7 +86,7 @@ impl Player {
         }
     }
 
-    /// A record is written after the others.
+    /// Writes a record after the others.
     fn log(&mut self, rec: &[u8]) -> Result<(), AllocError>
         requires some { 0 < length rec.now }
         requires short { length rec.now ≤ 16 * 1024 * 1024 }
@@ -98,14 +98,14 @@ impl Player {
         }
     }
 
-    /// One event happens.
+    /// Lets one event happen.
     fn happen(&mut self, event: Event) -> Result<(), AllocError>
         ensures { OnOk result (Plays self.old (order_of_event event) self.new) }
     {
         self.world.step(event)
     }
 
-    /// An orderly shutdown.
+    /// Shuts the sender down in order.
     fn settle(&mut self) -> Result<(), AllocError>
         ensures { OnOk result (Plays self.old (order_of command.Settle) self.new) }
     {

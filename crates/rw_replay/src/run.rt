@@ -29,7 +29,7 @@ fn commands_of(alloc: Global, text: &[u8]) -> Result<Vec<Command>, ToolFault>
     }
 }
 
-/// Reads a script to its end, and answers its commands.
+/// Reads a script to its end, and returns its commands.
 fn read_commands<R: Source>(alloc: Global, reader: &mut R) -> Result<Vec<Command>, ToolFault>
     ensures ok { IfOk result
         (λ commands. ReadsScript (R.remaining reader.old) (R.remaining reader.new)
@@ -62,8 +62,8 @@ fn state_after(
 /// Reads an event script and writes the state at its end: for each label set of which the receiver
 /// holds samples, by byte order of its list of (name, value), `received LABELS T=VALUE ..`;
 /// `dropped POS REASON` by position; `filtered COUNT`; `abandoned POS` by position; and `report
-/// ..`, each line ended by LF. A damaged log is told by the report, and is no fault of the run. All
-/// lines are read before the first one is carried out, and nothing is written before all are
+/// ..`, each line ended by LF. A damaged log shows in the report, and is not a fault of the run.
+/// All lines are read before the first one is carried out, and nothing is written before all are
 /// carried out.
 pub fn run_replay<R: Source, W: Sink>(
     alloc: Global,
@@ -78,8 +78,8 @@ pub fn run_replay<R: Source, W: Sink>(
     ensures writer_sound { OnOk result
         (W.has_failed writer.old ≡ false → W.has_failed writer.new ≡ false) }
 
-    // The only fault of the data is the first line that makes the text no script. Nothing is
-    // written then, or if memory ran out.
+    // The only fault of the data is the first line that is not a line of a script. Then nothing is
+    // written, nor if memory ran out.
     ensures line { (n : ℕ) → result ≡ Err (Line n)
         → ReadsBadLine (R.remaining reader.old) (R.remaining reader.new) n }
     ensures no_log { (f : TailFault) → result ≡ Err (Log f) → ⊥ }

@@ -1,4 +1,4 @@
-//! The text of `rwship replay`: event scripts are read.
+//! Reads the event scripts of `rwship replay`.
 #![tactic(auto)]
 
 mod command;

@@ -15,7 +15,7 @@ impl Ways {
     ghost use Rattle.rw_script.specs.ScriptText.{order_of};
     ghost use Rattle.rw_script.specs.Ways.{are_both, with_order};
 
-    /// Returns the ways once this command has come, too.
+    /// Returns the ways with that of this command.
     pub(crate) fn with(self, command: &Command) -> Ways
         ensures { result ≡ with_order self (order_of command.now) }
     {

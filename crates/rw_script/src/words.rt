@@ -22,7 +22,7 @@ pub(crate) enum BareWord {
 }
 
 impl BareWord {
-    /// Returns the word that is this text.
+    /// Returns the word that this text is.
     pub(crate) fn read(text: &[u8]) -> Option<BareWord>
         ensures { MatchOption result ((word : BareWord) → text.now ≡ bare_text word
             → ⊥) (λ word. text.now ≡ bare_text word) }
@@ -69,7 +69,7 @@ pub(crate) enum NumberedWord {
 }
 
 impl NumberedWord {
-    /// Returns the word that is this text.
+    /// Returns the word that this text is.
     pub(crate) fn read(text: &[u8]) -> Option<NumberedWord>
         ensures { MatchOption result ((word : NumberedWord) → text.now ≡ numbered_text word
             → ⊥) (λ word. text.now ≡ numbered_text word) }
@@ -105,7 +105,7 @@ impl NumberedWord {
     }
 }
 
-/// Returns the way of answering that is this text.
+/// Returns the way of answering that this text names.
 pub(crate) fn read_how(text: &[u8]) -> Option<How>
     ensures { MatchOption result ((how : How) → text.now ≡ how_text how → ⊥)
         (λ how. text.now ≡ how_text how) }

@@ -36,8 +36,8 @@ impl<N> Model for TcpConnect<N> {
 }
 
 impl<N> TcpConnect<N> {
-    /// To these addresses of one receiver, tried in turn. The timeout is in milliseconds, for a
-    /// whole attempt. The counters are told of each attempt.
+    /// Returns a source of transports to these addresses of one receiver, which are tried in turn.
+    /// The timeout is in milliseconds, for a whole attempt. The counters count each attempt.
     pub fn new(
         alloc: Global,
         net: N,

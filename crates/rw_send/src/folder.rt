@@ -1,4 +1,4 @@
-//! The segments of a folder in which a writer goes on writing.
+//! The segments of a folder to which a writer may still be writing.
 
 use crate::checkpoint::{FilesFault, first_files};
 use crate::files::{SegmentName, names_in};
@@ -21,13 +21,13 @@ pub(crate) struct Current {
 }
 
 /// The segments of a log in a folder, as they come: the files whose names are one to eight decimal
-/// digits, by number, and of two names of one number the shorter first. What is in them nobody can
-/// know.
+/// digits, by number, and of two names of one number the shorter first. No contract says what they
+/// contain.
 #[derive(Drop)]
 pub struct Folder<R> {
     rt: R,
     dir: String,
-    /// None before the first one is there.
+    /// `None` before the first one is there.
     current: Option<Current>,
     /// The one after it, once it was seen.
     ahead: Option<SegmentName>,
@@ -63,8 +63,8 @@ fn name_after(names: Vec<SegmentName>, current: &Option<Current>) -> Option<Segm
 }
 
 impl<R: Files<File = File> + AllocGlobal + Copy> Folder<R> {
-    /// Of the folder of this name, from its first segment on. The counters are told of each segment
-    /// that is opened.
+    /// Returns the segments of the folder of this name, from the first one on. The counters count
+    /// each segment that is opened.
     pub fn new(rt: R, dir: String, counters: Arc<SendCounters, Global>) -> Folder<R> {
         let opened = Vec::new(rt.alloc());
         Folder {
@@ -79,10 +79,10 @@ impl<R: Files<File = File> + AllocGlobal + Copy> Folder<R> {
         }
     }
 
-    /// Of the folder of this name, from its newest checkpoint on, if it has one when it is first
-    /// read: the segments of that checkpoint, and then those of the folder that come after it. The
-    /// files of the checkpoint and the first one after it are opened before the first byte is
-    /// given.
+    /// Returns the segments of the folder of this name, from its newest checkpoint on, if it has
+    /// one when it is first read: the segments of that checkpoint, and then those of the folder
+    /// that come after it. The files of the checkpoint and the first one after it are opened before
+    /// the first byte is read.
     pub fn from_checkpoint(rt: R, dir: String, counters: Arc<SendCounters, Global>) -> Folder<R> {
         let opened = Vec::new(rt.alloc());
         Folder {
@@ -105,7 +105,7 @@ impl<R: Files<File = File> + AllocGlobal + Copy> Folder<R> {
         }
     }
 
-    /// Opens what is read first, if it is there.
+    /// Opens the file that is read first, if it is there.
     fn begin(&mut self) -> Result<(), ReadFault> {
         if !self.from_checkpoint {
             return match self.next_name()? {
@@ -199,7 +199,7 @@ impl<R: Files<File = File> + AllocGlobal + Copy> Segments for Folder<R> {
             return Ok(Ahead::Nothing);
         }
         self.ahead = self.next_name()?;
-        // a listing may have passed by the place of a segment that came in the meantime
+        // The listing may have missed a segment that was created while it was read.
         if self.missing().is_some() {
             self.ahead = self.next_name()?;
         }

@@ -25,14 +25,14 @@ use std::sync::Wait;
 use std::thread::Threads;
 use std::time::Clock;
 
-/// What came of following.
+/// The result of following a log.
 #[derive(Drop)]
 struct Followed<T> {
     report: Report<T>,
     answer: Result<(), FollowFault>,
 }
 
-/// How the reading of a log ended that was followed.
+/// Returns how the reading of a followed log ended, in the form of a log that is read once.
 fn shipped_by(ended: Result<Stop, Cut>) -> Result<(), Halt>
     ensures { result ≡ shipped_by ended }
 {
@@ -46,7 +46,7 @@ fn shipped_by(ended: Result<Stop, Cut>) -> Result<(), Halt>
     }
 }
 
-/// An answer of `send`, as that of a log that is followed.
+/// Returns an answer of `send` as one of `send --follow`.
 fn told(answer: Result<(), ToolFault>) -> Result<(), FollowFault>
     ensures { result ≡ told answer }
 {
@@ -56,7 +56,7 @@ fn told(answer: Result<(), ToolFault>) -> Result<(), FollowFault>
     }
 }
 
-/// How a following answers that ended so, if its shipper's stop is answered so.
+/// Returns the answer of a following that ended so, if the shipper's stop is answered so.
 fn answer_by(ended: Result<Stop, Cut>, answer: Result<(), ToolFault>) -> Result<(), FollowFault>
     ensures { result ≡ answer_by ended answer }
 {
@@ -69,8 +69,8 @@ fn answer_by(ended: Result<Stop, Cut>, answer: Result<(), ToolFault>) -> Result<
     }
 }
 
-/// The answer of a following that has ended. Where its work was cut short it may be a sign to end
-/// at once that has cut it: the sign is looked at once more.
+/// Returns the answer of a following that has ended. If its work was cut short, the cause may be a
+/// request to stop at once: the stop signal is looked at once more.
 fn answer_signed<W: Watch>(
     watch: &mut W,
     answer: Result<(), FollowFault>,
@@ -125,17 +125,17 @@ fn ship_on<
     Ok(Followed { report, answer })
 }
 
-/// Ships a log while it grows, until the watch says that it is to end, then stops and prints the
-/// report as the command `send` does. Of what was read the labels and last timestamps of series,
-/// the samples that wait to be acknowledged and the dropped ones are kept, and nothing else.
+/// Ships a log while it grows, until the watch asks it to end, then stops and prints the report as
+/// the command `send` does. Of what was read it keeps the labels and last timestamps of series, the
+/// samples that wait to be acknowledged and the dropped ones, and nothing else.
 ///
-/// A segment is over once the next one is there and, read again after that was seen, it gives no
-/// more bytes. Between two of them the number of shards is changed to what is wanted under the
-/// load. Told to end, it reads what is, and waits until the receiver has acknowledged all of it;
-/// told to end at once, it leaves what is not done. While it waits for room in a queue, or for the
-/// receiver, it sees that only if the stop flag of `line` is set too, after the sign. The counters
-/// are told after each turn, and once the work has stopped. If a segment is missing between two, or
-/// cannot be read, the work is stopped at once too.
+/// A segment is over once the next one exists and, read again after that was seen, it has no more
+/// bytes. Between two segments the number of shards is changed to what is wanted under the load.
+/// When asked to end, it reads what is there, and waits until the receiver has acknowledged all of
+/// it; when asked to end at once, it abandons what is not done. While it waits for room in a queue,
+/// or for the receiver, it notices that only if the stop flag of `line` is set too, after the stop
+/// signal. The counters are updated after each turn, and once the work has stopped. If a segment is
+/// missing between two, or cannot be read, the work is stopped at once too.
 pub fn run_follow<
     R: Threads + Wait + Clock + Copy + Send + 'static,
     S: Segments,

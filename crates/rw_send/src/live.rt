@@ -1,4 +1,4 @@
-//! A log is fed to a shipper as it grows.
+//! Feeds a log to a shipper as it grows.
 
 ghost use Rattle.std.specs.Prelude.{◌≡◌, ◌<◌, ◌≤◌, ◌⊎◌, [], length, map, true, false, None, Ok, IfErr, IfOk, IsSome, OnOk, OnErr};
 ghost use Rattle.rw_follow.specs.Growth as growth;
@@ -24,12 +24,12 @@ use std::sync::Wait;
 use std::thread::Threads;
 use std::time::Clock;
 
-/// Why a log is followed no further, but for a sign.
+/// Why following a log ends without a stop signal.
 #[derive(Clone, Copy, Debug, PartialEq, Eq)]
 pub(crate) enum Cut {
     /// The log cannot be followed.
     Broken(Broken),
-    /// The shipper takes no more.
+    /// The shipper has failed.
     Halted(Halt),
 }
 
@@ -84,7 +84,7 @@ fn feed_bytes<R: Wait, C: Connect + Drop>(
     Ok(())
 }
 
-/// Tells that the next segment begins, with as many shards as are wanted under the load.
+/// Begins the next segment, with as many shards as are wanted under the load.
 fn feed_next<R: Threads + Wait + Clock + Copy + Send + 'static, C: Connect + Drop>(
     rt: &R,
     shipper: &mut Shipper<C>,
@@ -116,7 +116,7 @@ fn feed_next<R: Threads + Wait + Clock + Copy + Send + 'static, C: Connect + Dro
     Ok(next)
 }
 
-/// Asks each shard to send what waits for a full batch.
+/// Makes each shard send what waits for a full batch.
 fn flush<R: Wait, C: Connect + Drop>(rt: &R, shipper: &mut Shipper<C>) -> Result<(), Halt>
     requires live { shipper.old.fault ≡ None }
     ensures kept { IsKept shipper.old shipper.new }
@@ -225,7 +225,7 @@ fn step<R: Threads + Wait + Clock + Copy + Send + 'static, C: Connect + Drop>(
     obey(rt, alloc, shipper, next, turn, buf)
 }
 
-/// Tells of a turn that was done.
+/// Counts a turn that was done.
 fn tell_turn<C: Connect + Drop>(means: Means<'_>, shipper: &Shipper<C>, shards: u32, turn: Turn) {
     if let Turn::Piece(count) = turn {
         means.counters.read_bytes(count);
@@ -234,7 +234,7 @@ fn tell_turn<C: Connect + Drop>(means: Means<'_>, shipper: &Shipper<C>, shards: 
     tell(means.counters, shipper);
 }
 
-/// Feeds a log as it grows, until the watch says that it is to end.
+/// Feeds a log as it grows, until the watch asks it to end.
 pub(crate) fn ship_live<
     R: Threads + Wait + Clock + Copy + Send + 'static,
     S: Segments,

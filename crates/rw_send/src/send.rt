@@ -23,14 +23,14 @@ use std::sync::Wait;
 use std::thread::Threads;
 use std::time::Clock;
 
-/// What came of shipping.
+/// The result of shipping.
 #[derive(Drop)]
 pub(crate) struct Sent<T> {
     pub(crate) report: Report<T>,
     pub(crate) answer: Result<(), ToolFault>,
 }
 
-/// How a run answers whose shipper was stopped orderly.
+/// Returns the answer of a run whose shipper was stopped in order.
 fn answer_to(outcome: &Outcome) -> Result<(), ToolFault>
     ensures { result ≡ answer_to outcome.now }
 {
@@ -52,7 +52,7 @@ fn hard_fault(shipped: Result<(), Halt>) -> Option<ToolFault>
     }
 }
 
-/// Stops a shipper whose log was fed whole or to a halt.
+/// Stops a shipper whose log was fed whole or until it halted.
 pub(crate) fn stopped<R: Threads + Wait, C: Connect + Drop>(
     rt: &R,
     shipper: Shipper<C>,
@@ -117,16 +117,16 @@ fn ship<R: Threads + Wait + Clock + Copy + Send + 'static, S: Source + Drop, C: 
 
 /// Ships the segments of a log in their order, stops, and prints the report: `dropped POS REASON`
 /// by position, `filtered COUNT`, `abandoned POS` by position, and `report ..`, each line ended by
-/// LF. Of what was read the labels of series, the samples that wait to be acknowledged and the
-/// dropped ones are kept, and nothing else.
+/// LF. Of what was read it keeps the labels of series, the samples that wait to be acknowledged and
+/// the dropped ones, and nothing else.
 ///
-/// A segment is fed as it is read, in pieces of at most 64 KiB. Between two of them the number of
-/// shards is changed to what is wanted under the load, for which the workers are given a moment to
-/// catch up. A log fault ends the reading, and what is before it is still shipped. If memory or a
-/// thread is refused, a worker has gone or a segment cannot be read, the work is stopped at once.
-/// If it could not start, or the report could not be printed because memory ran out, nothing is
-/// printed. The counters are told after each piece, and once the work has stopped. Waits until the
-/// receiver has acknowledged all that was read, or the work is stopped.
+/// A segment is fed as it is read, in pieces of at most 64 KiB. Between two segments the number of
+/// shards is changed to what is wanted under the load, for which the workers get a moment to catch
+/// up. A log fault ends the reading, and what comes before it is still shipped. If memory runs out,
+/// no thread can be made, a worker has gone or a segment cannot be read, the work is stopped at
+/// once. If it could not start, or memory ran out for the report, nothing is printed. The counters
+/// are updated after each piece, and once the work has stopped. It waits until the receiver has
+/// acknowledged all that was read, or the work is stopped.
 pub fn run_send<
     R: Threads + Wait + Clock + Copy + Send + 'static,
     S: Source + Drop,

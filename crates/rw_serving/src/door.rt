@@ -1,4 +1,4 @@
-//! How connections are accepted one at a time, with a look at the sign in between.
+//! Accepts connections one at a time, with a look at the stop signal in between.
 
 use crate::patient::TICK_MS;
 use rw_metrics::ReceiveCounters;
@@ -7,14 +7,14 @@ use std::net::{TcpListener, TcpStream};
 use std::time::{Clock, Duration};
 use std::{io, thread};
 
-/// Has each `accept` of the listener give up after a tick.
+/// Makes each `accept` of the listener give up after a tick.
 pub fn accept_in_ticks(listener: &TcpListener) -> io::Result<()> {
     limit_accepts(listener, Duration::from_millis(TICK_MS))
 }
 
-/// Returns the next connection, if one comes within a tick. An accept that fails, as for want of
-/// descriptors, is counted, and sleeps for a tick; not so one that was interrupted, or whose client
-/// has gone.
+/// Returns the next connection, if one comes within a tick. An accept that fails, for example
+/// because no descriptor is left, is counted, and sleeps for a tick; one that was interrupted, or
+/// whose client has gone, is not.
 pub fn next_connection<C: Clock>(
     clock: &C,
     listener: &TcpListener,

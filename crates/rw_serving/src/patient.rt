@@ -1,5 +1,5 @@
-//! A connection that may be silent for so long, whose requests have a deadline, and that ends once
-//! a stop is wished.
+//! A connection that may be silent for a limited time, whose requests have a deadline, and that
+//! ends once a stop is requested.
 
 ghost use Rattle.std.specs.Prelude.{◌+◌, ◌*◌, ◌<◌, ◌≤◌};
 
@@ -12,10 +12,10 @@ use std::io::{self, ErrorKind, Read, Write};
 use std::net::TcpStream;
 use std::time::{Clock, Duration};
 
-/// For how many milliseconds a read or a write waits before the sign is looked at.
+/// How many milliseconds a read or a write waits before the stop signal is looked at.
 pub(crate) const TICK_MS: u64 = 200;
 
-/// A wait that is made in so many ticks.
+/// A wait that is divided into ticks.
 #[derive(Clone, Copy, Debug, Drop)]
 pub(crate) struct Patience {
     pub(crate) tick_ms: u64,
@@ -23,7 +23,7 @@ pub(crate) struct Patience {
 }
 
 impl Patience {
-    /// So many milliseconds, and less than a tick more.
+    /// Returns a wait of `idle_ms` milliseconds, rounded up to whole ticks.
     pub(crate) fn of(idle_ms: Bounded<10, 3_600_000>) -> Patience
         ensures some { 0 < result.tick_ms }
         ensures short { result.tick_ms ≤ 200 }
@@ -51,7 +51,7 @@ pub(crate) struct Stage<C> {
     is_inside: bool,
     /// Whether the connection was closed because it took too long, or for another one.
     is_cut: bool,
-    /// The pace of the request inside of one, else of the last replies.
+    /// The pace of the current request, or else of the last replies.
     pace: Pace<C>,
 }
 
@@ -67,11 +67,11 @@ impl<C: Clock + Copy> Stage<C> {
 }
 
 /// A connection as its reader and its writer. A read or a write from which no byte comes for the
-/// time of the patience fails with `TimedOut`, and so does each of them once the request or the
-/// reply has had its time (`Pace`). Once an end is wished, so does a read outside a request, and
-/// once an end at once is wished each of them. While another client waits for a place, so does a
-/// read or a write of a few connections that are silent or after their rates. A request begins with
-/// a byte that is read, and ends with the bytes that are written. Nothing is claimed of the bytes.
+/// idle time fails with `TimedOut`, and so does each of them once the request or the reply has had
+/// its time (`Pace`). After a request to stop in order, so does a read outside a request, and after
+/// a request to stop at once each read and write. While another client waits for a seat, so does a
+/// read or a write of a few connections that are silent or late. A request begins with a byte that
+/// is read, and ends with the bytes that are written. No clause says anything about the bytes.
 #[derive(Clone, Copy, Drop)]
 pub(crate) struct Patient<'s, C> {
     stream: &'s TcpStream,
@@ -115,7 +115,7 @@ impl<'s, C: Clock + Copy> Patient<'s, C> {
         self.stage.get().is_cut
     }
 
-    /// Returns whether nothing more is waited for.
+    /// Returns whether the connection is not to wait any more.
     fn is_over(&self) -> bool {
         match self.post.sign.wish() {
             Wish::Work => false,
@@ -124,8 +124,8 @@ impl<'s, C: Clock + Copy> Patient<'s, C> {
         }
     }
 
-    /// Returns whether the request or the reply has had its time, or is after its rate while
-    /// another client waits for a place.
+    /// Returns whether the request or the reply has had its time, or is late while another client
+    /// waits for a seat.
     fn is_late(&self) -> bool {
         let pace = self.stage.get().pace;
         if !pace.is_within(self.post.request_ms.get()) {
@@ -134,7 +134,7 @@ impl<'s, C: Clock + Copy> Patient<'s, C> {
         !pace.is_within(GRACE_MS) && self.post.place_request.meet()
     }
 
-    /// Returns whether a read is to be given up that has waited for these ticks.
+    /// Returns whether a read that has waited for these ticks is to be given up.
     fn is_cut_after(&self, ticks: u64) -> bool {
         if self.stage.get().is_inside {
             return self.is_late();
@@ -142,7 +142,7 @@ impl<'s, C: Clock + Copy> Patient<'s, C> {
         ticks.saturating_mul(self.patience.tick_ms) >= GRACE_MS && self.post.place_request.meet()
     }
 
-    /// Gives up: nothing more is read and written.
+    /// Gives up: nothing more is read or written.
     fn cut(&self) -> io::Error {
         let mut stage = self.stage.get();
         stage.is_cut = true;

@@ -1,13 +1,12 @@
-//! A request for places, which the connections of a service share.
+//! A request for seats, which the connections of a service share.
 
 use std::sync::atomic::{AtomicU64, Ordering};
 
-/// How many connections a request asks to end: some more than one, since a client seldom waits
-/// alone.
+/// How many connections a request asks to end: more than one, since a client seldom waits alone.
 const MOST_ENDS: u64 = 8;
 
-/// A request for places, which is made while a client waits for one. A few connections meet it, by
-/// ending: those that see first that they are silent or after their rate.
+/// A request for seats, which is made while a client waits for one. A few connections meet it by
+/// ending: those that notice first that they are silent or late.
 #[derive(Drop)]
 pub struct PlaceRequest {
     /// How many more connections it asks to end.
@@ -27,7 +26,7 @@ impl PlaceRequest {
         self.ends.store(MOST_ENDS, Ordering::SeqCst);
     }
 
-    /// Takes the request back, as far as no connection has met it.
+    /// Withdraws the request, as far as no connection has met it.
     pub fn withdraw(&self) {
         self.ends.store(0, Ordering::SeqCst);
     }

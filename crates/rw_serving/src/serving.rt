@@ -19,9 +19,9 @@ use std::time::Clock;
 /// What all connections have in common.
 #[derive(Clone, Copy, Drop)]
 pub struct Post<'a> {
-    /// If memory is taken for a connection.
+    /// Where memory for a connection is taken.
     pub alloc: Global,
-    /// Those of the head.
+    /// The limits of the head.
     pub limits: &'a Limits,
     /// Once it is set, connections end.
     pub sign: &'a Sign,
@@ -29,14 +29,14 @@ pub struct Post<'a> {
     pub idle_ms: Bounded<10, 3_600_000>,
     /// How many milliseconds a request may take, and a reply; one more for each byte of a request.
     pub request_ms: Bounded<10, 3_600_000>,
-    /// Made while a client waits for a place. Nothing is claimed of it.
+    /// Made while a client waits for a seat. No clause says anything about it.
     pub place_request: &'a PlaceRequest,
-    /// They are told of each connection and each answer of the head. Nothing is claimed of them.
+    /// They count each connection and each answer of the head. No clause says anything about them.
     pub counters: &'a ReceiveCounters,
 }
 
-/// Serves a connection to its end, however it ends, parts from the client, and gives the seat back.
-/// It is counted as long.
+/// Serves a connection until it closes, shuts it down gracefully and returns its seat. The
+/// connection is counted as open meanwhile.
 pub fn served<L: Naming, R: Wait + Clock>(
     rt: &R,
     post: &Post<'_>,
@@ -50,8 +50,8 @@ pub fn served<L: Naming, R: Wait + Clock>(
     seat
 }
 
-/// Serves a connection to its end, and gives its seat back. It is not counted here. A connection
-/// that took too long is closed at once: its client is not waited for.
+/// Serves a connection until it closes, and returns its seat. It is not counted here. A connection
+/// that took too long is closed at once, without waiting for its client.
 fn served_to_end<L: Naming, R: Wait + Clock>(
     rt: &R,
     post: &Post<'_>,

@@ -392,7 +392,7 @@ fn note_document(
     Ok(())
 }
 
-/// Why the crate of regular expressions refuses a pattern.
+/// Returns why the regex crate refuses a pattern.
 fn refusal(alloc: Global, pattern: &str) -> Result<Option<&'static str>, AllocError> {
     match Regex::new(alloc, pattern) {
         Ok(_) => Ok(None),
@@ -402,7 +402,7 @@ fn refusal(alloc: Global, pattern: &str) -> Result<Option<&'static str>, AllocEr
     }
 }
 
-/// Why a pattern is refused, alone or in the form in which it is used.
+/// Returns why a pattern is refused, alone or in the form in which it is used.
 fn refusal_as_used(alloc: Global, pattern: &str) -> Result<Option<&'static str>, AllocError> {
     match refusal(alloc, pattern)? {
         Some(why) => Ok(Some(why)),
@@ -413,7 +413,7 @@ fn refusal_as_used(alloc: Global, pattern: &str) -> Result<Option<&'static str>,
     }
 }
 
-/// Returns the pattern that a rule sets; `None` if it sets none.
+/// Returns the pattern that a rule sets, or `None` if it sets none.
 fn pattern_of(rule: &Value) -> Option<&str> {
     match rule.as_table() {
         None => None,
@@ -458,7 +458,7 @@ fn note_patterns(
     Ok(())
 }
 
-/// Notes on a document.
+/// Returns the notes on a document.
 #[tactic(auto, unfolding(crate::specs::Notes::noted))]
 fn notes_of(alloc: Global, document: &Table) -> Result<Vec<SettingsNote>, AllocError>
     ensures { IfOk result
@@ -487,7 +487,7 @@ fn position_after(bytes: &[u8]) -> (usize, usize) {
     (line, column)
 }
 
-/// Returns the note on a text that is no TOML from here on.
+/// Returns the note on a text that is not TOML from here on.
 #[tactic(auto, unfolding(crate::specs::Notes::noted))]
 fn syntax_note(alloc: Global, before: &[u8], message: &str) -> Result<Vec<SettingsNote>, AllocError>
     ensures { IfOk result (λ v. noted v.items ≡ Some NotToml) }
@@ -500,7 +500,7 @@ fn syntax_note(alloc: Global, before: &[u8], message: &str) -> Result<Vec<Settin
     Ok(notes)
 }
 
-/// Notes on a text.
+/// Returns the notes on a text.
 fn notes_of_text(alloc: Global, text: &str) -> Result<Vec<SettingsNote>, AllocError>
     ensures { IfOk result
         (λ v. IsNoted (result_err (settings_if (parse_document text.now))) (noted v.items)) }
@@ -519,9 +519,9 @@ fn notes_of_text(alloc: Global, text: &str) -> Result<Vec<SettingsNote>, AllocEr
 }
 
 /// Returns a note for each fault of a text of settings: those of `send` and `receive` first, key by
-/// key, then those of the rules in their order, and at last the patterns that are refused. By
-/// contract the least fault noted is the one that `read_settings` judges, but that a bad pattern
-/// may be noted besides.
+/// key, then those of the rules in their order, and last the patterns that are refused. By its
+/// contract the least fault noted is the one that `read_settings` returns, except that a bad
+/// pattern may be noted besides.
 #[tactic(auto, unfolding(crate::specs::Settings::settings_in))]
 pub fn explain_settings(alloc: Global, text: &[u8]) -> Result<Vec<SettingsNote>, AllocError>
     ensures { IfOk result (λ v. IsNoted (result_err (settings_in text.now)) (noted v.items)) }

@@ -11,12 +11,12 @@ use std::fmt;
 /// `OutOfMemory` is 0 and the faults of the text are 1 to 5.
 #[derive(Clone, Copy, Debug, PartialEq, Eq)]
 pub enum SettingsFault {
-    /// Memory ran out, which is no fault of the text.
+    /// Memory ran out, which is not a fault of the text.
     OutOfMemory,
     /// The text is not TOML: it is not UTF-8, or a whole number does not fit 64 signed bits, or the
     /// like.
     NotToml,
-    /// A table has a key that is none of its own.
+    /// A table has an unknown key.
     UnknownKey,
     /// A value has another type than its key takes.
     WrongType,

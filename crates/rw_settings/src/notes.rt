@@ -18,8 +18,8 @@ use toml::{Table, Value};
 pub struct SettingsNote {
     /// Which fault it is.
     pub fault: SettingsFault,
-    /// If it is: a key as `send.shards`, a part of a rule as `rule 2, regex`, or a line and a
-    /// column.
+    /// Where it is: a key such as `send.shards`, a part of a rule such as `rule 2, regex`, or a
+    /// line and a column.
     pub place: String,
     /// What is wrong there, and what the key takes.
     pub text: String,
@@ -91,7 +91,7 @@ fn nearest<'a>(alloc: Global, known: &[&'a str], key: &str) -> Result<Option<&'a
     Ok(found)
 }
 
-/// Adds a note on a key that is none of these.
+/// Adds a note on a key that is not one of these.
 fn note_key(
     alloc: Global,
     notes: &mut Vec<SettingsNote>,
@@ -110,7 +110,7 @@ fn note_key(
     push_note(notes, SettingsFault::UnknownKey, place, text)
 }
 
-/// Adds a note on each key of the table that is none of these.
+/// Adds a note on each key of the table that is not one of these.
 pub(crate) fn note_keys(
     alloc: Global,
     notes: &mut Vec<SettingsNote>,

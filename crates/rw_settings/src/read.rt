@@ -119,8 +119,8 @@ pub(crate) fn text_in(bytes: &[u8]) -> Option<&str>
 }
 
 /// Reads the settings of a TOML text. A key that is missing has its default. The error is the least
-/// fault that holds anywhere in the text: a text that is not TOML has no other fault, and the
-/// regular expressions of rules are compiled only if nothing else is wrong.
+/// fault that the text has anywhere: a text that is not TOML has no other fault, and the regular
+/// expressions of rules are compiled only if nothing else is wrong.
 #[tactic(auto, unfolding(crate::specs::Settings::settings_in))]
 pub fn read_settings(alloc: Global, text: &[u8]) -> Result<Settings, SettingsFault>
     ensures ok { IfOk result (λ s. settings_in text.now ≡ Ok s) }
@@ -135,7 +135,7 @@ pub fn read_settings(alloc: Global, text: &[u8]) -> Result<Settings, SettingsFau
 }
 
 /// Returns the rules of a text as it writes them, with their defaults, and without compiling their
-/// patterns. What a text with a fault other than `NotToml` gives is not said.
+/// patterns. For a text with a fault other than `NotToml` no clause says what they are.
 #[tactic(auto, unfolding(crate::specs::Settings::settings_in))]
 pub fn read_rules(alloc: Global, text: &[u8]) -> Result<Vec<RuleFields>, SettingsFault>
     ensures ok { IfOk result

@@ -127,7 +127,7 @@ fn texts_of(alloc: Global, values: &[Value]) -> Result<Vec<String>, AllocError>
 pub struct RuleFields {
     /// What the rule does with a series.
     pub action: Action,
-    /// The names of the labels whose values the pattern is held against.
+    /// The names of the labels whose values the pattern is matched against.
     pub source_labels: Vec<String>,
     /// What is between these values.
     pub separator: String,

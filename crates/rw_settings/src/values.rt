@@ -101,7 +101,7 @@ pub(crate) fn number_fault<const LOW: u64, const HIGH: u64>(
     }
 }
 
-/// Returns the whole number at a key, or the default if none is there that can be taken.
+/// Returns the whole number at a key, or the default if there is no valid one.
 pub(crate) fn number_or<const LOW: u64, const HIGH: u64>(
     table: &Table,
     key: &str,
@@ -129,7 +129,7 @@ pub(crate) fn text_fault(table: &Table, key: &str) -> Option<SettingsFault>
     }
 }
 
-/// Returns the text at a key, or the default if none is there.
+/// Returns the text at a key, or the default if there is none.
 pub(crate) fn text_or<'a>(table: &'a Table, key: &str, default: &'a str) -> &'a str
     ensures { result.now
         ≡ found_or default.now (text_at any_text (get_member key.now (table_view table.now))) }
@@ -163,7 +163,7 @@ pub(crate) fn host_fault(table: &Table, key: &str) -> Option<SettingsFault>
     }
 }
 
-/// Returns the host at a key, or the default if none is there that can be taken.
+/// Returns the host at a key, or the default if there is no valid one.
 pub(crate) fn host_or_default(
     alloc: Global,
     table: &Table,
@@ -198,7 +198,7 @@ pub(crate) fn path_fault(table: &Table, key: &str) -> Option<SettingsFault>
     }
 }
 
-/// Returns the path at a key, or the default if none is there that can be taken.
+/// Returns the path at a key, or the default if there is no valid one.
 pub(crate) fn path_or_default(
     alloc: Global,
     table: &Table,
@@ -213,7 +213,7 @@ pub(crate) fn path_or_default(
     }
 }
 
-/// Returns the names that a text says.
+/// Returns the naming scheme that a text says.
 fn names_in(text: &str) -> Result<Option<Names>, SettingsFault>
     ensures { result ≡ names_in text.now }
 {
@@ -226,7 +226,7 @@ fn names_in(text: &str) -> Result<Option<Names>, SettingsFault>
     }
 }
 
-/// Returns the names that the text at a key says, if there is one.
+/// Returns the naming scheme that the text at a key says, if there is one.
 fn names_at(table: &Table, key: &str) -> Result<Option<Names>, SettingsFault>
     ensures { result ≡ names_at (get_member key.now (table_view table.now)) }
 {
@@ -239,7 +239,7 @@ fn names_at(table: &Table, key: &str) -> Result<Option<Names>, SettingsFault>
     }
 }
 
-/// Returns what is wrong with the names at a key.
+/// Returns what is wrong with the naming scheme at a key.
 pub(crate) fn names_fault(table: &Table, key: &str) -> Option<SettingsFault>
     ensures { result ≡ result_err (names_at (get_member key.now (table_view table.now))) }
 {
@@ -249,7 +249,7 @@ pub(crate) fn names_fault(table: &Table, key: &str) -> Option<SettingsFault>
     }
 }
 
-/// Returns the names at a key, or legacy ones if none are there that can be taken.
+/// Returns the naming scheme at a key, or the legacy one if there is no valid one.
 pub(crate) fn names_or_legacy(table: &Table, key: &str) -> Names
     ensures { result ≡ found_or Legacy (names_at (get_member key.now (table_view table.now))) }
 {
@@ -259,8 +259,8 @@ pub(crate) fn names_or_legacy(table: &Table, key: &str) -> Names
     }
 }
 
-/// Returns the table at a key, or the empty one if no value is there; `None` if a value of another
-/// type does.
+/// Returns the table at a key, or the empty one if there is no value, or `None` if there is a value
+/// of another type.
 pub(crate) fn section<'a>(document: &'a Table, key: &str, empty: &'a Table) -> Option<&'a Table>
     requires { table_view empty.now ≡ no_members }
     ensures { option_map (λ t. table_view t.now) result
@@ -272,8 +272,8 @@ pub(crate) fn section<'a>(document: &'a Table, key: &str, empty: &'a Table) -> O
     }
 }
 
-/// Returns the items of the list at a key, no items if no value is there; `None` if a value of
-/// another type does.
+/// Returns the items of the list at a key, or no items if there is no value, or `None` if there is
+/// a value of another type.
 pub(crate) fn list_at<'a>(table: &'a Table, key: &str) -> Option<&'a [Value]>
     ensures { option_map (λ v. items_view v.now) result
         ≡ list_at (get_member key.now (table_view table.now)) }
@@ -287,7 +287,7 @@ pub(crate) fn list_at<'a>(table: &'a Table, key: &str) -> Option<&'a [Value]>
     }
 }
 
-/// Returns the table at a key, or the empty one if none is there.
+/// Returns the table at a key, or the empty one if there is none.
 pub(crate) fn section_or<'a>(document: &'a Table, key: &str, empty: &'a Table) -> &'a Table
     requires { table_view empty.now ≡ no_members }
     ensures { table_view result.now
@@ -299,7 +299,7 @@ pub(crate) fn section_or<'a>(document: &'a Table, key: &str, empty: &'a Table) -
     }
 }
 
-/// Returns the items of the list at a key, none if no list is there.
+/// Returns the items of the list at a key, or none if there is no list.
 pub(crate) fn list_or_none<'a>(table: &'a Table, key: &str) -> &'a [Value]
     ensures { items_view result.now
         ≡ part_or no_items (list_at (get_member key.now (table_view table.now))) }
@@ -310,7 +310,7 @@ pub(crate) fn list_or_none<'a>(table: &'a Table, key: &str) -> &'a [Value]
     }
 }
 
-/// Returns the table that a value is, or the empty one if it is none.
+/// Returns the table that a value is, or the empty one if it is not a table.
 pub(crate) fn table_or<'a>(value: &'a Value, empty: &'a Table) -> &'a Table
     requires { table_view empty.now ≡ no_members }
     ensures { table_view result.now ≡ part_or no_members (as_table (view value.now)) }

@@ -12,7 +12,7 @@ use rw_shard_core::ConfigFields;
 use rw_types::Names;
 use std::alloc::{AllocError, Global};
 
-/// Returns the word of the names that are taken.
+/// Returns the word of a naming scheme.
 fn names_text(names: Names) -> &'static str
     ensures { result.now ≡ names_text names }
 {

@@ -1,4 +1,4 @@
-//! What a shared head is made of, beside the head.
+//! What a shared head is made of, beside the head itself.
 
 ghost use Rattle.std.specs.Prelude.{◌≡◌, IfOk};
 ghost use Rattle.rw_shared_head.specs.Questions.{nothing_known};
@@ -9,8 +9,8 @@ use std::alloc::{AllocError, Global};
 use std::marker::Model;
 use std::sync::ledger;
 
-/// A ledger of so many parts, and the table by which seats know what their head was asked, both
-/// unused. Contracts see which they are.
+/// An unused ledger of `parts` parts, and the unused table by which seats know what their head was
+/// asked. Contracts see which they are.
 #[derive(Drop)]
 pub struct Blank {
     ledger: ledger::Blank,
@@ -26,7 +26,7 @@ impl Model for Blank {
 }
 
 impl Blank {
-    /// Returns a new one. It takes memory for one word.
+    /// Returns a new blank. It takes memory for one word.
     pub fn new(alloc: Global, parts: u64) -> Result<Blank, AllocError>
         ensures { IfOk result (λ b. b.parts ≡ parts) }
     {
@@ -36,7 +36,7 @@ impl Blank {
         })
     }
 
-    /// Returns the ledger, and no questions under a name.
+    /// Returns the ledger and an empty list of questions, both under a name.
     pub(crate) fn named<L: Naming>(self) -> (ledger::Blank, Questions<L>)
         requires { self.table ≡ L.table }
         ensures name { result.0.name ≡ self.name }

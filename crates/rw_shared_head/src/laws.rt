@@ -11,7 +11,7 @@ ghost use Rattle.rw_head.specs.Store.{list_of, HasNoEmptyList};
 ghost use Rattle.rw_head.specs.Growth.{EachRises};
 ghost use Rattle.rw_shared_head.specs.Seats.{store_after, head_after};
 
-/// Law: what a head has taken it keeps. The samples that it holds of a label set after some bodies
+/// Law: a head keeps what it has taken. The samples that it holds of a label set after some bodies
 /// are a prefix of those that it holds after these and more.
 pub fn what_is_stored_stays()
     ensures { (head : State) (seen bodies : List (List ℕ)) (l : Labels) → EachRises head.store
@@ -20,8 +20,8 @@ pub fn what_is_stored_stays()
 {}
 
 /// Law: 204 means that the samples are held. Each sample of a message that a head answers so is in
-/// the list of its label set, also after more bodies. So what a seat was told is stored is in the
-/// head that is gathered.
+/// the list of its label set, also after more bodies. So what is reported to a seat as stored is in
+/// the head that is gathered.
 pub fn what_is_answered_204_is_held()
     ensures { (head : State) (before bodies : List (List ℕ)) (busy : ℕ) (body : List ℕ)
         (m : WriteRequest) (i j : ℕ) (s : TimeSeries) (x : Sample) → EachRises head.store

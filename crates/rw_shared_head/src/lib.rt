@@ -1,5 +1,5 @@
 //! A receiving head that threads ask under one lock, each from a seat that counts what its requests
-//! stored. What a seat is told is stored, the head holds.
+//! stored. The head holds what is reported to a seat as stored.
 #![tactic(auto)]
 
 mod asking;

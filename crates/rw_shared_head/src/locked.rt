@@ -1,4 +1,4 @@
-//! What the lock keeps.
+//! The value under the lock.
 
 ghost use Rattle.std.specs.Prelude.{◌≡◌, ◌≢◌, ℕ, ◌+◌, ◌<◌, ◌≤◌, [], Some, length, slice_get};
 ghost use Rattle.rw_head.specs.Head.{answer, IsStatus};
@@ -39,7 +39,8 @@ impl<L: Naming> Model for Locked<L> {
 }
 
 impl<L: Naming> Locked<L> {
-    /// Returns a head that was asked nothing yet, with what could still be stored.
+    /// Returns a head that was not asked anything yet, with the number of samples that could still
+    /// be stored.
     pub(crate) fn new(head: Head, questions: Questions<L>, rest: Share<L>) -> Locked<L>
         requires opening { head ≡ L.opening }
         requires nothing { questions.asked ≡ [] }
@@ -57,7 +58,7 @@ impl<L: Naming> Locked<L> {
         }
     }
 
-    /// Returns the head, what it was asked, and what could still be stored.
+    /// Returns the head, what it was asked, and the number of samples that could still be stored.
     pub(crate) fn into_parts(self) -> (Head, Questions<L>, Share<L>)
         ensures head { result.0 ≡ self.head }
         ensures questions { result.1 ≡ self.questions }
@@ -93,7 +94,7 @@ impl<L: Naming> Locked<L> {
         status
     }
 
-    /// Of how many label sets the head has samples.
+    /// Returns of how many label sets the head has samples.
     pub(crate) fn label_sets(&self) -> usize
         ensures { result ≡ length (label_sets (store_after L.opening
             (bodies_of self.now.questions.asked))) }

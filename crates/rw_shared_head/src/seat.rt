@@ -1,4 +1,4 @@
-//! The right of one thread to ask.
+//! A handle by which one thread asks the shared head.
 
 ghost use Rattle.std.specs.Prelude.{◌≡◌, ◌+◌, ◌≤◌, ◌<◌, [], ◌∷◌, ◌++◌, length};
 ghost use Rattle.rw_head.specs.Head.{IsStatus};
@@ -22,7 +22,7 @@ pub struct Asked {
     pub label_sets: usize,
 }
 
-/// The right of one thread to ask a shared head. Contracts see its number, how many samples its
+/// A handle by which one thread asks a shared head. Contracts see its number, how many samples its
 /// requests stored, and what the head had been asked from all seats when this one asked last.
 #[derive(Drop)]
 pub struct Seat<L: Naming> {
@@ -43,7 +43,7 @@ impl<L: Naming> Model for Seat<L> {
 }
 
 impl<L: Naming> Seat<L> {
-    /// Returns a seat of nothing stored.
+    /// Returns a seat that has stored nothing.
     pub(crate) fn new(share: Share<L>, seen: Seen<L>) -> Seat<L>
         requires one_part { share.parts ≡ 1 }
         requires nothing { share.amount ≡ 0 }
@@ -99,7 +99,7 @@ impl<L: Naming> Seat<L> {
     }
 
     /// Returns the head's answer to a request's body, under the lock: 204, 400, 429 or 503, as
-    /// `Head::answer` gives it. May wait for the lock.
+    /// `Head::answer` returns it. It may wait for the lock.
     pub fn answer<R: Wait>(&mut self, rt: &R, shared: &SharedHead<L>, body: &[u8]) -> u16
         ensures statuses { IsStatus result }
         ensures asked { HasAsked L.opening self.old body.now result self.new }
@@ -107,8 +107,8 @@ impl<L: Naming> Seat<L> {
         self.ask(rt, shared, body).status
     }
 
-    /// Answers a request as `answer` does, and tells of how many label sets the head has samples
-    /// then.
+    /// Answers a request as `answer` does, and also returns of how many label sets the head then
+    /// has samples.
     pub fn ask<R: Wait>(&mut self, rt: &R, shared: &SharedHead<L>, body: &[u8]) -> Asked
         ensures statuses { IsStatus result.status }
         ensures asked { HasAsked L.opening self.old body.now result.status self.new }

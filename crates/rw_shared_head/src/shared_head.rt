@@ -39,8 +39,8 @@ impl<L: Naming> Model for SharedHead<L> {
 }
 
 impl<L: Naming> SharedHead<L> {
-    /// Shares a head among so many seats, which are numbered, over a blank of one part for each of
-    /// them and one for the lock. If memory runs out, the head comes back as it was.
+    /// Shares a head among as many seats as the blank has parts beside the one for the lock. If
+    /// memory runs out, the head comes back as it was.
     pub fn seats(
         alloc: Global,
         blank: Blank,
@@ -89,9 +89,9 @@ impl<L: Naming> SharedHead<L> {
         }
     }
 
-    /// Gives the head back, once all seats are back. It holds what each of them was told is stored,
-    /// has taken nothing that none of them was asked, and takes label sets by the limits that it
-    /// had. This takes no memory and waits for nobody.
+    /// Returns the head, once all seats were returned. It holds what was reported to each of them
+    /// as stored, has taken nothing that none of them was asked, and takes label sets by the limits
+    /// that it had. This takes no memory and never waits.
     pub fn gather(self, seats: Vec<Seat<L>>) -> Head
         requires { vec_len seats ≡ self.seats }
         ensures gathered { HasGathered L.opening seats.items result.store }

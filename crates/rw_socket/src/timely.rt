@@ -6,8 +6,8 @@ use std::net::TcpStream;
 use std::time::{Clock, Duration};
 
 /// A connection whose reads and writes fail once a deadline has passed, however many of them there
-/// are: a peer that moves a byte now and then cannot draw them out. Nothing is claimed of the
-/// bytes.
+/// are: a peer that sends a byte now and then cannot prolong them. No clause says anything about
+/// the bytes.
 #[derive(Clone, Copy, Drop)]
 pub struct Timely<'s, C> {
     stream: &'s TcpStream,

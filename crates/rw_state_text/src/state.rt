@@ -36,7 +36,7 @@ fn push_points(out: &mut Vec<u8>, points: &[(i64, Word)]) -> Result<(), AllocErr
     Ok(())
 }
 
-/// Appends the line of a label set with these samples: `received LABELS T=VALUE ..`; no line if
+/// Appends the line of a label set with these samples: `received LABELS T=VALUE ..`, or no line if
 /// there is no sample. After an `Err` a part of it may be in `out`.
 pub fn push_received(
     out: &mut Vec<u8>,
@@ -114,8 +114,8 @@ fn push_all_dropped(out: &mut Vec<u8>, names: &[(u64, Reason)]) -> Result<(), Al
     Ok(())
 }
 
-/// Appends the line that tells how many samples the rules have filtered: `filtered COUNT`. After an
-/// `Err` a part of it may be in `out`.
+/// Appends the line with the number of samples that the rules have filtered: `filtered COUNT`.
+/// After an `Err` a part of it may be in `out`.
 pub fn push_filtered(out: &mut Vec<u8>, count: u64) -> Result<(), AllocError>
     ensures ok { OnOk result (out.new.items ≡ out.old.items ++ filtered_text count) }
     ensures err { OnErr result (Begins out.old.items out.new.items) }
@@ -179,7 +179,7 @@ pub fn push_ending(out: &mut Vec<u8>, outcome: Option<&Outcome>) -> Result<(), A
     }
 }
 
-/// Appends what a sender tells of its work: the dropped samples by position, how many the rules
+/// Appends what a sender reports of its work: the dropped samples by position, how many the rules
 /// have filtered, and its end. After an `Err` a part of it may be in `out`.
 pub fn push_work(
     out: &mut Vec<u8>,

@@ -1,5 +1,5 @@
-//! A sign to stop, which one thread sets and others look at; and what sets it: an input that ends,
-//! or a file that is there.
+//! A stop signal, which one thread sets and others look at; and what sets it: an input that ends,
+//! or a file that exists.
 #![tactic(auto)]
 
 mod sign;

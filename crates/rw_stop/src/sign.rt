@@ -1,4 +1,4 @@
-//! A sign that one thread sets and others look at.
+//! A stop signal that one thread sets and others look at.
 
 ghost use Rattle.std.specs.Prelude.{◌≡◌, ◌≤◌};
 
@@ -11,11 +11,11 @@ pub enum Wish {
     Work,
     /// To end in order.
     End,
-    /// To end at once, and to leave what is not done.
+    /// To end at once, and to abandon what is not done.
     Hard,
 }
 
-/// The word of a sign is 0, 1 or 2, for the wishes in their order.
+/// The word of a stop signal is 0, 1 or 2, for the requests in their order.
 pub struct Level;
 
 impl Rule for Level {
@@ -24,13 +24,13 @@ impl Rule for Level {
     ghost invariant = { λ n. n ≤ 2 };
 }
 
-/// A sign to stop, which threads share. It only ever goes up: from `Work` to `End`, and to `Hard`.
+/// A stop signal, which threads share. It only goes up: from `Work` to `End`, and to `Hard`.
 #[derive(Drop)]
 pub struct Sign {
     level: AtomicIn<Level>,
 }
 
-/// Returns the wish at a level.
+/// Returns the request at a level.
 fn wish_at(level: u64) -> Wish
     requires { level ≤ 2 }
     ensures work { level ≡ 0 → result ≡ Wish.Work }
@@ -45,7 +45,7 @@ fn wish_at(level: u64) -> Wish
 }
 
 impl Sign {
-    /// Returns a sign that nobody has set: it says `Work`.
+    /// Returns a stop signal that is not set: it says `Work`.
     pub fn new() -> Sign {
         Sign {
             level: AtomicIn::new(0),

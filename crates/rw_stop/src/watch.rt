@@ -1,4 +1,4 @@
-//! What sets a sign to stop: an input, or a file.
+//! Sets a stop signal by an input, or by a file.
 
 ghost use Rattle.std.specs.Prelude.{◌≡◌, ◌↔◌, ◌∷◌, [], IsTrue};
 
@@ -15,9 +15,9 @@ const LONGEST: usize = 64;
 /// How many milliseconds pass between two looks.
 const LOOK_MS: u64 = 200;
 
-/// Reads `input` to its end, and then asks for an end in order, or to the first line `hard`, and
-/// asks for an end at once. An input that cannot be read counts as ended, and so it does if there
-/// is no memory for a line. At most 64 bytes of the input are kept.
+/// Reads `input`, and asks for an orderly end at its end, or for an end at once at the first line
+/// `hard`. An input that cannot be read counts as ended, and so it does if memory runs out for a
+/// line. At most 64 bytes of the input are kept.
 pub fn watch_input<B: BufRead>(alloc: Global, input: &mut B, sign: &Sign) {
     let mut line = Vec::new(alloc);
     if line.reserve(LONGEST).is_err() {
@@ -43,9 +43,9 @@ pub fn watch_input<B: BufRead>(alloc: Global, input: &mut B, sign: &Sign) {
     sign.end();
 }
 
-/// Looks five times a second for the file at `path`. It asks for an end in order once the file is
-/// there, and for an end at once when its first line is `hard`. Returns then, or if another has
-/// asked for an end at once.
+/// Looks five times a second for the file at `path`. It asks for an orderly end once the file
+/// exists, and for an end at once if its first line is `hard`. It returns then, or when something
+/// else has asked for an end at once.
 pub fn watch_file<R: Clock + Files>(rt: &R, path: &str, sign: &Sign) {
     for _ in 0..u64::MAX {
         if matches!(fs::exists(rt, path), Ok(true)) {
@@ -61,7 +61,8 @@ pub fn watch_file<R: Clock + Files>(rt: &R, path: &str, sign: &Sign) {
     }
 }
 
-/// Returns whether the first line of a file is `hard`. One that cannot be read has no such line.
+/// Returns whether the first line of a file is `hard`. The answer is `false` if the file cannot be
+/// read.
 fn begins_hard<R: Files>(rt: &R, path: &str) -> bool {
     let Ok(mut file) = fs::open(rt, path) else {
         return false;
@@ -70,7 +71,7 @@ fn begins_hard<R: Files>(rt: &R, path: &str) -> bool {
     file.read_exact(&mut line).is_ok() && line == *b"hard\n"
 }
 
-/// Returns the next byte; `None` at the end of the input, and if it cannot be read.
+/// Returns the next byte, or `None` at the end of the input, and if it cannot be read.
 fn next_byte<B: BufRead>(input: &mut B) -> Option<u8> {
     let mut byte = [0u8; 1];
     for _ in 0..u64::MAX {

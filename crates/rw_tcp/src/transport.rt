@@ -25,7 +25,7 @@ use std::time::{Clock, Duration};
 const MOST_ADDRESSES: usize = 1_000;
 
 /// Looks up the addresses of a host; there is at least one. An error of the kind `OutOfMemory`
-/// means that memory ran out, one of another kind that the look-up failed.
+/// means that memory ran out, any other that the look-up failed.
 pub fn look_up<N: Net>(net: &N, alloc: Global, host: &str, port: u16) -> io::Result<Vec<SocketAddr>>
     ensures { IfOk result (λ v. 0 < vec_len v) }
 {
@@ -39,7 +39,7 @@ pub fn look_up<N: Net>(net: &N, alloc: Global, host: &str, port: u16) -> io::Res
     Ok(addresses)
 }
 
-/// Sends each request over a connection of its own, to the first of the addresses that answers.
+/// Sends each request over its own connection, to the first of the addresses that answers.
 ///
 /// Whatever fails is `Lost`: a connect, a write or a read, whatever is not done when the timeout
 /// has passed since the attempt began, and bytes that are not a reply. Contracts see the addresses,
@@ -70,7 +70,7 @@ impl<N> Model for TcpTransport<N> {
 impl<N: Net<Stream = TcpStream> + Clock + Copy> TcpTransport<N> {
     /// Returns a transport to these addresses of one receiver, which are tried in turn. The timeout
     /// is in milliseconds, for a whole attempt: the connects, all writes and all reads together.
-    /// `counters` are told of each attempt, and why it failed.
+    /// `counters` count each attempt, and why it failed.
     pub fn new(
         alloc: Global,
         net: N,
@@ -106,7 +106,7 @@ impl<N: Net<Stream = TcpStream> + Clock + Copy> TcpTransport<N> {
         None
     }
 
-    /// Sends a request over a connection of its own, and counts the attempt and its outcome.
+    /// Sends a request over its own connection, and counts the attempt and its outcome.
     fn attempt(&self, request: &[u8]) -> Result<Reply, Lost> {
         self.counters.attempt();
         let deadline = Deadline::new(self.net, self.timeout);
@@ -116,7 +116,7 @@ impl<N: Net<Stream = TcpStream> + Clock + Copy> TcpTransport<N> {
     }
 }
 
-/// Why an attempt without a reply failed.
+/// Returns why an attempt without a reply failed.
 fn cause_of(fault: NoReply) -> Cause {
     match fault {
         NoReply::OutOfMemory => Cause::Memory,
@@ -126,7 +126,7 @@ fn cause_of(fault: NoReply) -> Cause {
     }
 }
 
-/// This cause; or `Timeout`, if the deadline has passed.
+/// Returns this cause, or `Timeout` if the deadline has passed.
 fn cause_at<C: Clock>(cause: Cause, deadline: &Deadline<C>) -> Cause {
     match deadline.left() {
         Some(_) => cause,
@@ -172,8 +172,8 @@ fn exchange_through<C: Clock + Copy>(
     )
 }
 
-/// Returns the reply that was heard. Counts an attempt that succeeded, and one that failed: it has
-/// no answer, or a status that does not take the batch.
+/// Returns the reply that was heard. Counts the attempt: one that has no answer, or a status that
+/// does not take the batch, has failed.
 fn counted<C: Clock>(
     counters: &SendCounters,
     deadline: &Deadline<C>,

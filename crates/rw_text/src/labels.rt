@@ -105,7 +105,7 @@ impl LabelReader {
 }
 
 /// Reads labels in braces: `{name="value",..}`. In quotes `\\`, `\"` and `\n` stand for backslash,
-/// quote and LF; a name that can be without quotes must.
+/// quote and LF. A name that can be written without quotes must be.
 pub fn read_labels(alloc: Global, text: &[u8]) -> Result<RawLabels, TextFault>
     ensures ok { IfOk result (λ ls. text.now ≡ labels_text ls) }
     ensures err { result ≡ Err TextFault.NotOfForm → (ls : Labels) → text.now ≡ labels_text ls → ⊥ }

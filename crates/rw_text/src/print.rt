@@ -104,8 +104,8 @@ fn put_labels(out: &mut Vec<u8>, labels: &[(String, String)]) -> Result<(), Allo
     }
 }
 
-/// Appends the labels of a label set: `{name="value",..}`. A name that needs them is in quotes. An
-/// `Err` leaves `out` as it was.
+/// Appends the labels of a label set: `{name="value",..}`. A name is in quotes only if it needs
+/// them. An `Err` leaves `out` as it was.
 pub fn push_labels(out: &mut Vec<u8>, labels: &LabelSet) -> Result<(), AllocError>
     ensures ok { OnOk result (out.new.items ≡ out.old.items ++ labels_text labels.now) }
     ensures err { OnErr result (out.new.items ≡ out.old.items) }

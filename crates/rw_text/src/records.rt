@@ -11,7 +11,7 @@ use crate::lines::read_line;
 use rw_wal_write::{sample_record, series_record};
 use std::alloc::{AllocError, Global};
 
-/// No record may have more bytes.
+/// The most bytes of a record.
 const MAX_RECORD_BYTES: usize = 16 * 1024 * 1024;
 
 /// Returns the first line of a text, and what follows its LF. Only LF ends a line, and the last one

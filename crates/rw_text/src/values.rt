@@ -24,7 +24,7 @@ fn digits_of(word: u64) -> [u8; 16]
     digits
 }
 
-/// Returns the word that eight hexadecimal pairs name, in digits of either case.
+/// Returns the word that eight hexadecimal pairs spell, in digits of either case.
 fn word_of_digits(digits: &[u8]) -> Option<u64>
     ensures { (word : ℕ) → word < 2 ^ 64 → digits.now ≡ hex_text (big_bytes 8 word)
         → result ≡ Some word }
@@ -36,7 +36,7 @@ fn word_of_digits(digits: &[u8]) -> Option<u64>
     Some(BigEndian::read_u64(&bytes))
 }
 
-/// Returns the word that sixteen lower case hexadecimal digits name.
+/// Returns the word that sixteen lower case hexadecimal digits spell.
 fn read_word(digits: &[u8]) -> Option<u64>
     ensures { MatchOption result
         ((word : ℕ) → word < 2 ^ 64 → digits.now ≡ hex_text (big_bytes 8 word) → ⊥)
@@ -62,7 +62,7 @@ fn read_whole(text: &[u8]) -> Option<Word>
 }
 
 /// Reads the value of a sample: a decimal whole number from -2^53 to 2^53, or `0x` and the sixteen
-/// lower case hexadecimal digits of its 64 bits; `None` for any other text.
+/// lower case hexadecimal digits of its 64 bits. Returns `None` for any other text.
 pub fn read_value(text: &[u8]) -> Option<Word>
     ensures { MatchOption result ((word : ℕ) → word < 2 ^ 64 → IsValue text.now word → ⊥)
         (IsValue text.now) }

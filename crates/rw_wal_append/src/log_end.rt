@@ -57,7 +57,7 @@ impl LogEnd {
         self.offset
     }
 
-    /// Returns the bytes to append to the last segment, and if the log ends after them. The log
+    /// Returns the bytes to append to the last segment, and where the log ends after them. The log
     /// then has the entries that it had, after them the definitions of references, and after these
     /// the samples, each as (reference, timestamp in milliseconds, value).
     pub fn append(

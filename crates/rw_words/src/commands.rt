@@ -26,7 +26,7 @@ fn numbers<'a>(arg: Arg<'a>, value: &'a str) -> Arg<'a> {
         .value_parser(ValueParser::unsigned(0, u64::MAX))
 }
 
-/// Returns an argument of this name that takes this.
+/// Returns an argument of this name that takes a value of this kind.
 fn taking<'a>(alloc: Global, name: &'a str, takes: Takes) -> Arg<'a> {
     let plain = Arg::new(alloc, name);
     match takes {
@@ -42,7 +42,7 @@ fn taking<'a>(alloc: Global, name: &'a str, takes: Takes) -> Arg<'a> {
     }
 }
 
-/// Returns an argument that has this to do with others.
+/// Returns an argument with this dependency on others.
 fn bound<'a>(arg: Arg<'a>, bond: Bond) -> Result<Arg<'a>, AllocError> {
     match bond {
         Bond::Required => Ok(arg.required(true)),

@@ -1,4 +1,4 @@
-//! What the words of the command `receive` ask for.
+//! The arguments of the command `receive`.
 
 use crate::answers::{address_of, number_of, reporting_of};
 use crate::{Receiving, SettingsFile, Task, Until};

@@ -1,4 +1,4 @@
-//! What the words of the command `send` ask for.
+//! The arguments of the command `send`.
 
 use crate::answers::{address_of, dir_of, number_of, reporting_of};
 use crate::{Following, Reading, Sending, SettingsFile, Task};

@@ -9,7 +9,7 @@ pub(crate) enum Takes {
     Nothing,
     /// Any text, shown by this name.
     Text(&'static str),
-    /// A path, which is no empty word.
+    /// A path, which is not empty.
     Path(&'static str),
     /// A path without the name of an option before it.
     Place(&'static str),

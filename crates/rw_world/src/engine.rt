@@ -20,7 +20,7 @@ use std::marker::Model;
 #[derive(Drop)]
 pub(crate) struct Engine {
     pub(crate) alloc: Global,
-    /// The shards at the beginning.
+    /// The number of shards at the start.
     pub(crate) shards: Bounded<1, 1_000>,
     /// The host of the receiver.
     pub(crate) host: HostName,
@@ -82,7 +82,7 @@ impl Model for Engine {
 }
 
 impl Engine {
-    /// Before the first event.
+    /// Returns the engine before the first event.
     pub(crate) fn new(alloc: Global, config: Config, limits: Limits) -> Result<Engine, AllocError>
         ensures start { IfOk result (λ w. w
             ≡ record { setup = setup_of config limits; world = start (setup_of config limits) }) }

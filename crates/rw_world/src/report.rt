@@ -35,7 +35,7 @@ impl Engine {
         Ok(samples)
     }
 
-    /// How the work has ended, once it has.
+    /// Returns how the work has ended, once it has.
     pub(crate) fn report(&self) -> Result<Option<Outcome>, AllocError>
         ensures { IfOk result (λ r. option_map ending_of r ≡ report self.now.world) }
     {

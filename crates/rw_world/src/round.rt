@@ -53,7 +53,7 @@ fn newest(requests: &[Sent], id: BatchId) -> u64
 }
 
 impl Engine {
-    /// Returns whether a sample of this reference and timestamp may be placed: only one that is
+    /// Returns whether a sample of this reference and timestamp may be placed. Only one that is
     /// sent needs room.
     fn can_place_known(&self, reference: u64, t: i64) -> bool
         ensures { result
@@ -107,8 +107,8 @@ impl Engine {
         self.senders.first_flushing()
     }
 
-    /// Returns the open batch of this shard is sent, or if it waits its newest request arrives and
-    /// is replied to.
+    /// Returns the next event for this shard's open batch: it is sent, or, if it waits, its newest
+    /// request arrives and is replied to.
     fn exchange(&self, i: usize) -> Next
         requires { IsOpen (slice_get self.now.world.shards i) }
         ensures { events_of result
@@ -130,8 +130,8 @@ impl Engine {
         self.draining.is_some()
     }
 
-    /// Returns a mark is put if one is to come and there is room for it, or else the next shards
-    /// take over.
+    /// Returns the next mark, if one is to come and there is room for it, or else the change to the
+    /// next shards.
     fn mark(&self) -> Next
         ensures { events_of result
             ≡ first_of_these (if is_finished self.now.world || is_some self.now.world.draining
@@ -167,7 +167,7 @@ impl Engine {
         self.mark()
     }
 
-    /// This reply arrives.
+    /// Lets this reply arrive.
     fn hear(&mut self, k: u64)
         ensures { self.new
             ≡ record self.old { world = happens self.old.setup self.old.world (event.Reply k) } }
@@ -178,7 +178,7 @@ impl Engine {
         self.reply(k);
     }
 
-    /// No more is read.
+    /// Stops the reading of the log.
     fn shut(&mut self)
         ensures { self.new
             ≡ record self.old { world = happens self.old.setup self.old.world event.Close } }
@@ -189,7 +189,7 @@ impl Engine {
         self.close();
     }
 
-    /// The events of a round. If memory runs out none of them has happened.
+    /// Plays the events of a round. If memory runs out, none of them has happened.
     fn play(&mut self, next: Next) -> Result<(), AllocError>
         ensures ok { OnOk result (self.new
             ≡ record self.old { world = run self.old.setup (events_of next) self.old.world }) }
@@ -210,8 +210,8 @@ impl Engine {
         }
     }
 
-    /// Rounds of an orderly shutdown until there is a report. If memory is refused to one of them
-    /// those before it were played.
+    /// Plays rounds of an orderly shutdown until there is a report. If memory runs out in one of
+    /// them, those before it were played.
     pub(crate) fn settle(&mut self) -> Result<(), AllocError>
         ensures over { OnOk result (is_over self.new.world ≡ true) }
         ensures rounds { HasSettled self.old self.new }

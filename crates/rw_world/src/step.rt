@@ -1,4 +1,4 @@
-//! One event.
+//! A single event.
 
 ghost use Rattle.std.specs.Prelude.{◌≡◌, true, false, not, ◌&&◌, Some, None, slice_get, IsOk, OnOk, OnErr};
 ghost use Rattle.rw_machine.specs.Shards.{shard_take, shard_freeze, shard_lost};
@@ -23,7 +23,7 @@ fn is_arrive(event: &Event) -> bool
 }
 
 impl Engine {
-    /// Returns the End that a shard is to be put, or none if that is a Flush.
+    /// Returns the kind of the End that a shard is to be put, or `None` if the mark is a Flush.
     fn mark_kind(&self) -> Option<Kind>
         ensures { result ≡ mark_kind self.now.world }
     {
@@ -160,7 +160,7 @@ impl Engine {
         Ok(())
     }
 
-    /// What one event does while there is no report.
+    /// Does what one event does while there is no report.
     fn act(&mut self, event: &Event) -> Result<(), AllocError>
         ensures ok { OnOk result
             (self.new ≡ record self.old { world = act self.old.setup self.old.world event.now }) }
@@ -205,7 +205,7 @@ impl Engine {
         }
     }
 
-    /// One event.
+    /// Lets one event happen.
     pub(crate) fn happen(&mut self, event: &Event) -> Result<(), AllocError>
         ensures ok { OnOk result (self.new
             ≡ record self.old { world = happens self.old.setup self.old.world event.now }) }

@@ -1,4 +1,4 @@
-//! The log, as it was read so far.
+//! The log, as far as it was read.
 
 ghost use Rattle.std.specs.Prelude.{◌≡◌, ◌<◌, ◌+◌, ◌^◌, ◌++◌, ◌∷◌, [], Some, length, take, slice_get, IfOk, OnOk, OnErr};
 ghost use Rattle.rw_wal_format.specs.Laws.{Extends};
@@ -34,7 +34,7 @@ impl Model for Log {
     ghost invariant = { λ l. HasRead l.tail l.entries.items l.fault };
 }
 
-/// What is at a position of a log.
+/// What comes at a position of a log.
 #[derive(Clone, Copy)]
 pub enum Ahead {
     /// No entry: the log is not read that far, or ends there.
@@ -55,7 +55,7 @@ fn ahead_of(entry: &Entry) -> Ahead
     }
 }
 
-/// Takes all entries that there are, after those that were taken, and answers the fault after them.
+/// Takes all entries that there are, after those that were taken, and returns the fault after them.
 fn drain(tail: &mut Tail, entries: &mut Vec<Entry>) -> Result<Option<TailFault>, AllocError>
     requires { Drains tail.old entries.old.items }
     ensures ok { IfOk result (λ f. HasRead tail.new entries.new.items f) }
@@ -132,7 +132,7 @@ impl Log {
         }
     }
 
-    /// Returns what is at a position.
+    /// Returns what comes at a position.
     pub fn ahead(&self, pos: u64) -> Ahead
         ensures { result ≡ ahead_of (slice_get (entries self.now) pos) }
     {

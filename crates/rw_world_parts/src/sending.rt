@@ -63,10 +63,11 @@ impl Model for Shards {
         s.ledger };
 }
 
-/// No shard is put more samples. If one would be, memory is said to have run out.
+/// The most samples that a shard is put. If there would be more, the call reports that memory ran
+/// out.
 const MOST_SAMPLES: u64 = 1 << 60;
 
-/// New shards of an epoch.
+/// Returns new shards of an epoch.
 fn new_shards(
     alloc: Global,
     target: &Target,
@@ -166,7 +167,7 @@ impl Shards {
         self.shards[i].waiting_id()
     }
 
-    /// A mark is put into this shard's queue, if one may be.
+    /// Puts a mark into this shard's queue, if one may be put.
     pub fn flush(&mut self, i: usize, kind: Option<Kind>)
         ensures { self.new
             ≡ record self.old {
@@ -180,7 +181,7 @@ impl Shards {
         self.shards[i].flush(kind);
     }
 
-    /// This shard takes the front of its queue.
+    /// Lets this shard take the front of its queue.
     pub fn take(&mut self, i: usize)
         ensures { self.new ≡ record self.old { shards = change i shard_take self.old.shards } }
     {
@@ -190,7 +191,7 @@ impl Shards {
         self.shards[i].take();
     }
 
-    /// This shard's builder becomes its open batch.
+    /// Makes this shard's builder its open batch.
     pub fn freeze(&mut self, i: usize) -> Result<(), AllocError>
         ensures ok { OnOk result
             (self.new ≡ record self.old { shards = change i shard_freeze self.old.shards }) }
@@ -203,7 +204,7 @@ impl Shards {
         Ok(())
     }
 
-    /// This shard gives up its attempt.
+    /// Lets this shard give up its attempt.
     pub fn lose(&mut self, i: usize)
         ensures { self.new ≡ record self.old { shards = change i shard_lost self.old.shards } }
     {
@@ -213,7 +214,7 @@ impl Shards {
         self.shards[i].lose();
     }
 
-    /// This shard sends its open batch, if it may.
+    /// Lets this shard send its open batch, if it may.
     pub fn send(&mut self, i: usize) -> Result<Option<Sent>, AllocError>
         ensures sent { IfOk result (λ r. r ≡ sent_at (slice_get self.old.shards i)) }
         ensures read { IfOk result
@@ -365,7 +366,7 @@ impl Shards {
         })
     }
 
-    /// The shards of the next epoch take over.
+    /// Lets the shards of the next epoch take over.
     pub fn restart(&mut self, shards: usize) -> Result<(), AllocError>
         requires some { 1 ≤ shards }
         requires most { shards ≤ 1000 }

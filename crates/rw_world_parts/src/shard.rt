@@ -22,7 +22,7 @@ use std::alloc::{AllocError, Global};
 use std::marker::Model;
 use std::sync::Arc;
 
-/// A shard: its queue, and the core after it.
+/// A shard: its queue, and the core behind it.
 #[derive(Drop)]
 pub(crate) struct WorldShard {
     queue: PlainQueue,
@@ -210,7 +210,7 @@ impl WorldShard {
         }
     }
 
-    /// The core takes the front of the queue, if it may take something.
+    /// Takes the front of the queue into the core, if it may take something.
     pub(crate) fn take(&mut self)
         ensures { self.new ≡ record self.old { shard = shard_take self.old.shard } }
     {
@@ -224,7 +224,7 @@ impl WorldShard {
         self.core.take(item);
     }
 
-    /// The builder becomes the open batch, if none is open.
+    /// Makes the builder the open batch, if none is open.
     pub(crate) fn freeze(&mut self, ledger: &mut Ledger) -> Result<(), AllocError>
         ensures ok { OnOk result
             (self.new ≡ record self.old { shard = shard_freeze self.old.shard }) }

@@ -1,4 +1,4 @@
-//! How the program ends: what it says of a fault, and its exit status.
+//! How the program ends: the line of a fault, and the exit status.
 
 ghost use Rattle.std.specs.Prelude.{◌≡◌, MatchResult};
 ghost use Rattle.std.specs.Process as process;
@@ -15,7 +15,7 @@ use rw_words::bad_address;
 use std::io::{Error, IsTerminal};
 use std::process::ExitCode;
 
-/// The exit status for words and settings that the program does not take.
+/// The exit status for arguments and settings that are not valid.
 const BAD_WORDS: u8 = 2;
 
 /// The exit status for dropped samples, if they are a fault.
@@ -27,10 +27,10 @@ const EMPTY: u8 = 1;
 /// The exit status for positions that have no entry.
 const NOT_THERE: u8 = 1;
 
-/// The exit status for work that something outside has ended.
+/// The exit status for work that was ended from outside.
 const CUT_OFF: u8 = 4;
 
-/// Writes the one line of a fault to standard error, and gives its exit status.
+/// Writes the one line of a fault to standard error, and returns its exit status.
 pub fn ended(rt: &HostRuntime, outcome: Result<(), ToolFault>) -> ExitCode
     ensures { MatchResult outcome (λ _. process.exit_status result
         ≡ 0) (λ fault. process.exit_status result ≡ exit_status fault) }
@@ -44,7 +44,7 @@ pub fn ended(rt: &HostRuntime, outcome: Result<(), ToolFault>) -> ExitCode
     }
 }
 
-/// Says why a log was followed no further, and gives the exit status.
+/// Writes why following a log ended, and returns the exit status.
 pub fn followed(rt: &HostRuntime, fault: FollowFault) -> ExitCode
     ensures { process.exit_status result ≡ follow_status fault }
 {
@@ -61,7 +61,7 @@ pub fn followed(rt: &HostRuntime, fault: FollowFault) -> ExitCode
     }
 }
 
-/// Says how many samples were dropped, if that is a fault.
+/// Writes how many samples were dropped, if that is a fault.
 pub fn dropped(rt: &HostRuntime, count: u64) -> ExitCode
     ensures { process.exit_status result ≡ 1 }
 {
@@ -76,7 +76,7 @@ pub fn empty() -> ExitCode
     ExitCode::from(EMPTY)
 }
 
-/// Says how many positions have no entry.
+/// Writes how many positions have no entry.
 pub fn missing(rt: &HostRuntime, count: u64) -> ExitCode
     ensures { process.exit_status result ≡ 1 }
 {
@@ -84,14 +84,14 @@ pub fn missing(rt: &HostRuntime, count: u64) -> ExitCode
     ExitCode::from(NOT_THERE)
 }
 
-/// On a terminal, says that `--explain` tells more.
+/// On a terminal, writes that `--explain` says more.
 pub fn point_to_explain(rt: &HostRuntime) {
     if rt.stderr().is_terminal() {
         let _ = eprintln!(rt; "  run again with --explain for details");
     }
 }
 
-/// Tells what could not be done with what, and what the system said.
+/// Writes what could not be done with what, and the error of the system.
 pub fn tell_device(rt: &HostRuntime, action: &str, name: &str, error: &Error) {
     let _ = eprintln!(rt; "  cannot {action} {name}: {error}");
 }
@@ -105,7 +105,7 @@ fn tell(rt: &HostRuntime, notes: &[SettingsNote]) {
     }
 }
 
-/// Says that settings cannot be read, and what is wrong with them if that is asked for, and gives
+/// Writes that settings cannot be read, and what is wrong with them if that is asked for. Returns
 /// the exit status.
 pub fn unset(rt: &HostRuntime, fault: Unset) -> ExitCode
     ensures { process.exit_status result ≡ unset_status fault }
@@ -133,8 +133,8 @@ pub fn unset(rt: &HostRuntime, fault: Unset) -> ExitCode
     }
 }
 
-/// Returns the text of the command-line parser: help and version on standard output with status 0,
-/// and else what is wrong with the words.
+/// Writes the text of the command-line parser: help and version on standard output with status 0,
+/// any error on standard error.
 pub fn unparsed(rt: &HostRuntime, error: clap::Error) -> ExitCode {
     if error.kind() == ErrorKind::OutOfMemory {
         return ended(rt, Err(ToolFault::OutOfMemory));
@@ -146,7 +146,7 @@ pub fn unparsed(rt: &HostRuntime, error: clap::Error) -> ExitCode {
     }
 }
 
-/// Says what is wrong with the words.
+/// Writes what is wrong with the arguments.
 pub fn bad_words(rt: &HostRuntime, text: &str) -> ExitCode
     ensures { process.exit_status result ≡ 2 }
 {
@@ -154,7 +154,7 @@ pub fn bad_words(rt: &HostRuntime, text: &str) -> ExitCode
     ExitCode::from(BAD_WORDS)
 }
 
-/// Says which HOST:PORT is none, in the form of the command-line parser.
+/// Writes which value is not a valid HOST:PORT, in the form of the command-line parser.
 pub fn no_address(rt: &HostRuntime, words: &ArgMatches<'_>) -> ExitCode {
     if let Some((option, value)) = bad_address(words) {
         let _ = eprintln!(rt;

@@ -43,8 +43,8 @@ fn log_from(
     }
 }
 
-/// Writes the log that standard input describes. If that is asked for, prints what is wrong with a
-/// bad line.
+/// Writes the log that standard input describes. If `--explain` was given, prints what is wrong
+/// with a bad line.
 pub fn log(
     rt: &HostRuntime,
     hex: bool,

@@ -1,4 +1,4 @@
-//! What `--explain` prints of an input that has a fault, after the one line.
+//! What `--explain` prints about an input that has a fault, after the one line.
 
 use crate::ending::{ended, point_to_explain};
 use crate::input::{Form, Input, Reader};
@@ -8,15 +8,15 @@ use rw_line_notes::{log_line_note, numbered_line, script_line_note, shown_line};
 use std::alloc::AllocError;
 use std::process::ExitCode;
 
-/// What is said of a line of digits.
+/// The note on a line that is not made of digits.
 const NO_DIGITS: &str =
     "a character is no hexadecimal digit and no white space, or a digit lacks its other half";
 
-/// What is said of a line of a script that is an event.
+/// The note on a line of a script that is an event.
 const MIXED: &str =
     "a script lets its log grow by 'log' lines or by 'feed' and 'segment' lines, and not by both";
 
-/// Prints if a segment is damaged.
+/// Prints where a segment is damaged.
 fn tell_segment(rt: &HostRuntime, segment: &[u8]) -> Result<(), ToolFault> {
     let report = inspect_segment(rt, Reader::Held(segment))?;
     Ok(tell_report(rt, &report)?)
@@ -39,7 +39,7 @@ fn note_of(rt: &HostRuntime, form: Form, line: &[u8]) -> Result<&'static str, Al
     }
 }
 
-/// Prints if an input has this fault, and what is wrong there.
+/// Prints where an input has this fault, and what is wrong there.
 fn tell_input(
     rt: &HostRuntime,
     form: Form,

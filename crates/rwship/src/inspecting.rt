@@ -1,4 +1,4 @@
-//! The command `inspect`, and what other commands print of a log that they could not read.
+//! The command `inspect`, and what other commands print about a log that they could not read.
 
 use crate::ending::{followed, point_to_explain, tell_device};
 use crate::input::Reader;
@@ -17,7 +17,7 @@ use std::path::Path;
 use std::process::ExitCode;
 use std::sync::Arc;
 
-/// Returns the files of the log in a folder, of which the counters are told.
+/// Returns the files of the log in a folder, which the counters count.
 pub fn files_of(
     rt: &HostRuntime,
     dir: LogDir<'_>,
@@ -32,12 +32,12 @@ pub fn files_of(
     })
 }
 
-/// Returns whether a folder has a checkpoint that is passed over.
+/// Returns whether a folder has a checkpoint that is skipped.
 pub fn passes_checkpoint_over(rt: &HostRuntime, dir: LogDir<'_>) -> bool {
     !dir.from_checkpoint && has_checkpoint(rt, dir.path)
 }
 
-/// Reports that a checkpoint is passed over, if one is.
+/// Reports that a checkpoint is skipped, if one is.
 pub fn note_checkpoint(rt: &HostRuntime, dir: LogDir<'_>) {
     if passes_checkpoint_over(rt, dir) {
         let _ = eprintln!(rt;
@@ -75,7 +75,7 @@ fn inspect_folder(rt: &HostRuntime, dir: LogDir<'_>) -> Result<Report, FollowFau
     }
 }
 
-/// Reads a segment that is no file.
+/// Reads a segment that is not a file.
 pub fn inspect_segment(rt: &HostRuntime, source: Reader<'_>) -> Result<Report, ToolFault> {
     let name = String::from_str(rt.alloc(), "-")?;
     let mut one = Vec::with_capacity(rt.alloc(), 1)?;
@@ -153,7 +153,7 @@ pub fn print_found(
     Ok(found.missing)
 }
 
-/// Prints what a table says of a fault, at its end.
+/// Prints the end of a table that describes a fault.
 fn tell_table_end(rt: &HostRuntime, table: &str) {
     let mut has_begun = false;
     for line in table.lines() {
@@ -180,7 +180,7 @@ fn tell_damage(rt: &HostRuntime, dir: LogDir<'_>) {
     }
 }
 
-/// Prints which segment cannot be opened, the first one.
+/// Prints the first segment that cannot be opened.
 fn tell_first_closed(rt: &HostRuntime, dir: LogDir<'_>) -> Result<(), AllocError> {
     for segment in files_of(rt, dir, None)?.files {
         let path = Path::new(dir.path).join(rt.alloc(), segment.place().name())?;
@@ -192,7 +192,7 @@ fn tell_first_closed(rt: &HostRuntime, dir: LogDir<'_>) -> Result<(), AllocError
     Ok(())
 }
 
-/// Prints what cannot be read of a folder, which is tried once more for that.
+/// Prints what in a folder cannot be read; this is found by a second try.
 fn tell_unreadable(rt: &HostRuntime, dir: LogDir<'_>) {
     match fs::read_dir(rt, dir.path) {
         Ok(_) => {
@@ -202,7 +202,7 @@ fn tell_unreadable(rt: &HostRuntime, dir: LogDir<'_>) {
     }
 }
 
-/// Prints what is wrong with the log in a folder that could not be shipped for this fault.
+/// Prints what is wrong with the log in a folder that could not be shipped because of this fault.
 fn tell_log(rt: &HostRuntime, dir: LogDir<'_>, fault: ToolFault) {
     match fault {
         ToolFault::Log(_) => tell_damage(rt, dir),

@@ -70,7 +70,7 @@ fn find(rt: &HostRuntime, dir: LogDir<'_>, words: &ArgMatches<'_>, is_explained:
     }
 }
 
-/// Does what the words ask for.
+/// Does what the arguments ask for.
 fn perform<R: Threads + Wait + Clock + Copy + Send + Sync + 'static>(
     rt: &HostRuntime,
     threads: &R,

@@ -17,7 +17,7 @@ use std::sync::{Arc, Wait};
 use std::thread::Threads;
 use std::time::Clock;
 
-/// Serves connections until the sign is set, and prints what they left.
+/// Serves connections until the stop signal is set, and prints what the head holds.
 fn serve_until<R: Threads + Wait + Clock + Sync>(
     rt: &HostRuntime,
     threads: &R,
@@ -46,7 +46,7 @@ fn serve_until<R: Threads + Wait + Clock + Sync>(
     )
 }
 
-/// Serves so many connections, and prints what they left.
+/// Serves a number of connections, and prints what the head holds.
 fn serve_some<R: Threads + Wait + Clock + Sync>(
     rt: &HostRuntime,
     threads: &R,
@@ -73,7 +73,7 @@ fn serve_some<R: Threads + Wait + Clock + Sync>(
     )
 }
 
-/// Serves connections for as long as is asked for, and prints what they left.
+/// Serves connections for as long as asked for, and prints what the head holds.
 fn serve<R: Threads + Wait + Clock + Sync>(
     rt: &HostRuntime,
     threads: &R,

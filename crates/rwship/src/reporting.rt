@@ -1,4 +1,4 @@
-//! What is told of the work while it goes on.
+//! Reports the progress of the work.
 
 use crate::ending::tell_device;
 use rw_fault::ToolFault;
@@ -9,13 +9,13 @@ use std::io::{Error, IsTerminal};
 use std::net::TcpListener;
 use std::thread::Threads;
 
-/// Says that an address cannot be listened at, and why.
+/// Writes that the program cannot listen at an address, and why.
 pub fn tell_unheard(rt: &HostRuntime, listen: Address<'_>, error: &Error) {
     let Address { host, port } = listen;
     let _ = eprintln!(rt; "  cannot listen on {host}:{port}: {error}");
 }
 
-/// Returns what reads the lines of progress.
+/// Returns what shows the lines of progress.
 fn screen_of(rt: &HostRuntime) -> Screen {
     if rt.stderr().is_terminal() {
         Screen::Terminal
@@ -45,7 +45,7 @@ fn serve_at<R: Threads>(
     }
 }
 
-/// Serves the metrics and shows progress, if that is asked for.
+/// Serves the metrics and shows progress, as far as asked for.
 pub fn begin_reporting<R: Threads>(
     rt: &HostRuntime,
     threads: &R,
@@ -62,7 +62,7 @@ pub fn begin_reporting<R: Threads>(
     Ok(())
 }
 
-/// Shows how far the work has come in the end, if that is asked for.
+/// Shows the final values of the counters, if that is asked for.
 pub fn end_reporting(rt: &HostRuntime, reporting: &Reporting<'_>, counters: &Counters) {
     if reporting.has_progress {
         write_end(&mut rt.stderr(), screen_of(rt), rt.alloc(), counters);

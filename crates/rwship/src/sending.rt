@@ -24,14 +24,14 @@ use std::time::{Clock, Duration};
 
 /// The log that is shipped.
 enum Log {
-    /// The files that the folder has.
+    /// The files of the folder.
     Whole(LogFiles<HostRuntime>),
-    /// The folder while it grows, and what says when that ends.
+    /// The folder while it grows, and the watch that ends it.
     Growing(Folder<HostRuntime>, Timed<HostRuntime, Told>),
 }
 
-/// All that shipping needs besides settings. It is made before they are given away, since each way
-/// out of a function that owns settings is dear to prove.
+/// All that shipping needs besides settings. It is made before the settings are given away, since
+/// each way out of a function that owns settings is expensive to prove.
 struct Shipment {
     log: Log,
     connect: TcpConnect<HostRuntime>,
@@ -39,7 +39,8 @@ struct Shipment {
     counters: Arc<SendCounters, Global>,
 }
 
-/// Returns what tells a follower to stop, and its workers if that is at once, and lets time pass.
+/// Returns a watch that stops a follower, stops its workers too if that is at once, and lets time
+/// pass.
 fn watch_of<R: Threads>(
     rt: &HostRuntime,
     threads: &R,
@@ -196,7 +197,7 @@ fn ship_log<R: Threads + Wait + Clock + Copy + Send + 'static>(
     }
 }
 
-/// Reports that samples had no series, if a checkpoint was passed over that may have them.
+/// Reports that samples had no series, if a skipped checkpoint may have them.
 fn note_lost_series(rt: &HostRuntime, sending: &Sending<'_>, counters: &SendCounters) {
     if let Ok(numbers) = counters.numbers(rt.alloc()) {
         let count = numbers.drops.no_series;

@@ -16,14 +16,14 @@ use std::{fs, io};
 pub enum Unset {
     /// Memory ran out.
     Tool(ToolFault),
-    /// The file cannot be read, and this says why if that was asked for.
+    /// The file cannot be read; the text says why, if that was asked for.
     Unreadable(String),
-    /// The file has this fault, which is not out of memory, and these notes tell each of its faults
+    /// The file has this fault, which is not out of memory. The notes explain each of its faults,
     /// if that was asked for.
     Settings(SettingsFault, Vec<SettingsNote>),
 }
 
-/// Why the file at a path cannot be read.
+/// Returns the error of a file that cannot be read.
 fn unreadable(rt: &HostRuntime, path: &str, error: &io::Error, is_explained: bool) -> Unset {
     if error.kind() == ErrorKind::OutOfMemory {
         return Unset::Tool(ToolFault::OutOfMemory);
@@ -50,8 +50,8 @@ fn text_of(rt: &HostRuntime, file: SettingsFile<'_>) -> Result<Vec<u8>, Unset>
     }
 }
 
-/// Why a text was refused that has this fault, with notes on each of its faults if they are asked
-/// for.
+/// Returns the error of a text that has this fault, with notes on each of its faults if they are
+/// asked for.
 fn refused(rt: &HostRuntime, text: &[u8], fault: SettingsFault, is_explained: bool) -> Unset {
     if fault == SettingsFault::OutOfMemory {
         return Unset::Tool(ToolFault::OutOfMemory);

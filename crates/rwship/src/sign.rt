@@ -1,4 +1,4 @@
-//! What tells the program to stop.
+//! The stop signal of the program.
 
 use rw_send::StopFlag;
 use rw_stop::{Sign, Wish, watch_file, watch_input};
@@ -6,7 +6,7 @@ use std::alloc::{AllocError, Global};
 use std::sync::Arc;
 use std::thread::{self, Threads};
 
-/// Tells workers of an end at once, which they do not see in the sign.
+/// Stops the workers when an end at once was asked for, which they do not see in the stop signal.
 fn pass_on(sign: &Sign, workers: &Option<StopFlag>) {
     if let Some(flag) = workers {
         if sign.wish() == Wish::Hard {
@@ -15,9 +15,9 @@ fn pass_on(sign: &Sign, workers: &Option<StopFlag>) {
     }
 }
 
-/// Returns a sign that is set as the file says, or, if there is none, as standard input does. Where
-/// it asks for an end at once the flag of the workers is set after it. What looks for it is left to
-/// itself.
+/// Returns a stop signal that is set as the file says, or, without a file, as standard input says.
+/// When it asks for an end at once, the flag of the workers is set after it. The watcher thread is
+/// detached.
 pub fn sign_of<R: Threads>(
     rt: &HostRuntime,
     threads: &R,
@@ -45,7 +45,7 @@ pub fn sign_of<R: Threads>(
     Ok(sign)
 }
 
-/// The sign, for what follows a log.
+/// The stop signal, for what follows a log.
 #[derive(Drop)]
 pub struct Told {
     sign: Arc<Sign, Global>,
