@@ -39,8 +39,8 @@ impl<L: Naming> Model for SharedHead<L> {
 }
 
 impl<L: Naming> SharedHead<L> {
-    /// Shares a head among as many seats as the blank has parts beside the one for the lock. If
-    /// memory runs out, the head comes back as it was.
+    /// Shares a head among `n` seats, which are numbered from 0, over a blank of `n` + 1 parts: one
+    /// for each seat and one for the lock. If memory runs out, the head comes back as it was.
     pub fn seats(
         alloc: Global,
         blank: Blank,
