@@ -8,6 +8,6 @@ mod reading;
 mod writing;
 
 pub use fault::HexFault;
-pub use laws::text_is_read;
-pub use reading::{read, read_digits};
-pub use writing::to_text;
+pub use laws::hex_text_is_read;
+pub use reading::{read_digits, read_hex};
+pub use writing::hex_text;

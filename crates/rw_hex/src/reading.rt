@@ -53,7 +53,7 @@ fn are_digits(text: &[u8]) -> bool
 }
 
 /// The bytes that a whole text of lower case digits stands for. Spaces, tabs, CR and LF may stand anywhere in it.
-pub fn read(alloc: Global, text: &[u8]) -> Result<Vec<u8>, HexFault>
+pub fn read_hex(alloc: Global, text: &[u8]) -> Result<Vec<u8>, HexFault>
     ensures bytes { IfOk result (λ v. read_text text.now ≡ Ok v.items) }
     ensures fault { IfErr result (IsFaultOf text.now) }
 {

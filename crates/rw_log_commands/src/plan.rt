@@ -56,7 +56,7 @@ fn read_hex_plan<R: Source>(
         (R.has_failed reader.new)) }
 {
     let text = read_input(alloc, reader)?;
-    let segment = rw_hex::read(alloc, &text)?;
+    let segment = rw_hex::read_hex(alloc, &text)?;
     drop(text);
     read_plan(alloc, &mut segment.as_slice(), choice)
 }

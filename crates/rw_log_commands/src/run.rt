@@ -65,7 +65,7 @@ fn read_hex_body<R: Source>(alloc: Global, reader: &mut R) -> Result<Vec<u8>, To
         (R.has_failed reader.new)) }
 {
     let text = read_input(alloc, reader)?;
-    let segment = rw_hex::read(alloc, &text)?;
+    let segment = rw_hex::read_hex(alloc, &text)?;
     drop(text);
     read_body(alloc, &mut segment.as_slice())
 }
@@ -77,7 +77,7 @@ pub(crate) fn output_of(alloc: Global, text: Vec<u8>, hex: bool) -> Result<Vec<u
     if !hex {
         return Ok(text);
     }
-    let mut digits = rw_hex::to_text(alloc, &text)?;
+    let mut digits = rw_hex::hex_text(alloc, &text)?;
     digits.push('\n')?;
     Ok(digits.into_bytes())
 }

@@ -48,7 +48,7 @@ fn tell_input(
 ) -> Result<(), ToolFault> {
     match fault {
         ToolFault::Log(_) => match form {
-            Form::Digits => tell_segment(rt, &rw_hex::read(rt.alloc(), text)?),
+            Form::Digits => tell_segment(rt, &rw_hex::read_hex(rt.alloc(), text)?),
             _ => tell_segment(rt, text),
         },
         ToolFault::Line(number) => {

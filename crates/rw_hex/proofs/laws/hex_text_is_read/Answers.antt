@@ -1,7 +1,7 @@
 use Rattle.std.proofs.Common.{refl}
 use Rattle.rw_hex.specs.HexText.{read_text, read_digits}
 use Rattle.rw_hex.proofs.LawLemmas.{all_digits, none_foreign, bytes_back}
-use Rattle.rw_hex.proofs.laws.text_is_read.Goals as goal
+use Rattle.rw_hex.proofs.laws.hex_text_is_read.Goals as goal
 
 pub returns-clause-whole : goal.returns-clause-whole
 unfolding read_text

@@ -2,7 +2,7 @@ use Rattle.std.proofs.Common.{ap, ◌∙◌, sym, Err}
 use Rattle.std.specs.List.{before_last}
 use Rattle.rw_hex.specs.HexText.{bytes_or_line, line_after, is_digit}
 use Rattle.rw_hex.proofs.LineLemmas.{foreign_at, no_foreign}
-use Rattle.rw_hex.proofs.reading.read.Goals as goal
+use Rattle.rw_hex.proofs.reading.read_hex.Goals as goal
 
 pub returns-in-Some-clause-fault : goal.returns-in-Some-clause-fault
 returns-in-Some-clause-fault c =
