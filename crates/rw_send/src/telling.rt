@@ -2,7 +2,7 @@
 
 use rw_ledger::{Ledger, Reason};
 use rw_metrics::SendCounters;
-use rw_shipper::Report;
+use rw_sender::Report;
 use rw_worker::StopFlag;
 
 /// What connects to a receiver, what counts the work, how many bytes the body of a batch may take, and what tells the workers to end at once. Nothing

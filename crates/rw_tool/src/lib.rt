@@ -1,7 +1,7 @@
 //! The engines of the program `rwship`, one for each of its commands. This crate passes on what the crates of the engines have.
 #![tactic(auto)]
 
-pub use rw_fault::ToolFault;
+pub use rw_text::ToolFault;
 pub use rw_follow::{Segments, Watch};
 pub use rw_log_commands::{run_body, run_log, run_log_dir, run_plan};
 pub use rw_metrics::{ReceiveCounters, SendCounters};

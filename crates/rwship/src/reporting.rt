@@ -1,7 +1,7 @@
 //! What is told of the work while it goes on.
 
 use crate::ending::tell_device;
-use rw_fault::ToolFault;
+use rw_text::ToolFault;
 use rw_metrics::{Counters, Screen, serve_metrics, show_progress, write_end};
 use rw_text::Address;
 use rw_words::Reporting;
