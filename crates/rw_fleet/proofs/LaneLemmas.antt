@@ -6,7 +6,7 @@ use Rattle.std.proofs.lemmas.List.{set-get_or}
 use Rattle.rw_shard_core.specs.declared.config.ConfigFields.{ConfigFields}
 use Rattle.rw_plain_queue.specs.Items.{samples_in}
 use Rattle.rw_plain_queue.specs.declared.item.Item.TheVariants as item
-use Rattle.rw_router.specs.declared.sample.RoutedSample.{RoutedSample}
+use Rattle.rw_series_cache.specs.declared.sample.RoutedSample.{RoutedSample}
 use Rattle.rw_fleet.specs.ShardHistories.{ShardHistory, IsSetUp, AreSetUp, AreSame, AreFresh, IsMarked, IsPut, put_as, item_as, marks_in, marked, marks}
 use Rattle.rw_fleet.proofs.PutLemmas.{samples_mark}
 use Rattle.rw_fleet.proofs.ListLemmas.{get_snoc, get_at}

@@ -4,7 +4,7 @@ use Rattle.rw_plain_queue.specs.declared.item.Item.{Item}
 use Rattle.rw_plain_queue.specs.declared.item.Item.TheVariants as item
 use Rattle.rw_plain_queue.specs.Items.{samples_in, places_in}
 use Rattle.rw_types.specs.Beginnings.{Begins}
-use Rattle.rw_shard_channel.specs.Ends.{Feeding, Draining}
+use Rattle.rw_shard_queue.specs.Ends.{Feeding, Draining}
 use Rattle.rw_fleet.specs.Work.{positions_in}
 use Rattle.rw_fleet.proofs.PutLemmas.{positions_length}
 use Rattle.rw_plain_queue.proofs.Histories.{places_in-append}

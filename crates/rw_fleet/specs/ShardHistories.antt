@@ -6,7 +6,7 @@ use Rattle.rw_plain_queue.specs.Items.{Placed, samples_in, places_in}
 use Rattle.rw_plain_queue.specs.declared.item.Item.{Item}
 use Rattle.rw_plain_queue.specs.declared.item.Item.TheVariants as item
 use Rattle.rw_worker.specs.Setups.{Setup}
-use Rattle.rw_router.specs.declared.sample.RoutedSample.{RoutedSample}
+use Rattle.rw_series_cache.specs.declared.sample.RoutedSample.{RoutedSample}
 
 -- what a shard's worker is set up with, its queue among it, and what was put into the queue
 pub record ShardHistory : Type 0 where

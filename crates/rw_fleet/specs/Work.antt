@@ -8,7 +8,7 @@ use Rattle.rw_plain_queue.specs.declared.item.Item.TheVariants as item
 use Rattle.rw_plain_queue.specs.declared.item.Kind.{Kind}
 use Rattle.rw_plain_queue.specs.declared.item.Kind.TheVariants.{Hard}
 use Rattle.rw_types.specs.Beginnings.{Begins}
-use Rattle.rw_shard_channel.specs.Ends.{Feeding, QueueId}
+use Rattle.rw_shard_queue.specs.Ends.{Feeding, QueueId}
 use Rattle.rw_worker.specs.Report.{IsReport, drain_of}
 use Rattle.rw_worker.specs.Transcript.{Exchange}
 use Rattle.rw_worker.specs.declared.report.TakingEnd.{TakingEnd}

@@ -6,7 +6,7 @@ ghost use Rattle.rw_plain_queue.specs.History.{IsHistory, IsEnded};
 ghost use Rattle.rw_worker.specs.Report.{drain_of};
 ghost use Rattle.rw_fleet.specs.Work.{feeding, queue_of, put_of, taken_of, is_compared, IsApart, IsTakenOf, IsUnended, IsEndedBy, IsEndTaken};
 
-use rw_shard_channel::{Ended, Feed, Kind, Open, Whole, begins, compare};
+use rw_shard_queue::{Ended, Feed, Kind, Open, Whole, begins, compare};
 use rw_worker::TakingEnd;
 use std::sync::Wait;
 

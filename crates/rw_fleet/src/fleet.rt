@@ -17,8 +17,8 @@ use crate::lists::{
 };
 use crate::load::Load;
 use crate::running::{Fault, RunningShard, StoppingShard};
-use rw_router::RoutedSample;
-use rw_shard_channel::Kind;
+use rw_series_cache::RoutedSample;
+use rw_shard_queue::Kind;
 use rw_shard_core::Config;
 use rw_worker::StopFlag;
 use std::alloc::{AllocError, Global};

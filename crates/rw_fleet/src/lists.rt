@@ -10,7 +10,7 @@ use crate::connect::Connect;
 use crate::joined::{Resolution, StoppedShard};
 use crate::load::Load;
 use crate::running::{Fault, RunningShard, StoppingShard};
-use rw_shard_channel::Kind;
+use rw_shard_queue::Kind;
 use rw_shard_core::Config;
 use rw_worker::{StopFlag, Transport};
 use std::alloc::{AllocError, Global};

@@ -6,7 +6,7 @@ use Rattle.rw_roundtrip.proofs.RequestLemmas.{one_request, one_refusal}
 use Rattle.rw_endpoint.specs.Alone.{IsOneRequest, IsOneRefusal, IsServedAlone, IsTurnedAway}
 use Rattle.rw_endpoint.specs.declared.serve_end.ServeEnd.{ServeEnd}
 use Rattle.rw_head.specs.Head.{State}
-use Rattle.rw_shared_head.specs.Seats.{Seated, HasAsked}
+use Rattle.rw_recv_head.specs.Seats.{Seated, HasAsked}
 use Rattle.rw_in_memory.specs.Lines.{IsAskedOnce}
 
 -- what fits, or does not

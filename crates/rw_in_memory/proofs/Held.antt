@@ -11,7 +11,7 @@ use Rattle.rw_plain_queue.specs.Items.{Placed}
 use Rattle.rw_plain_queue.specs.declared.item.Kind.TheVariants.{Orderly}
 use Rattle.rw_head.specs.Head.{State}
 use Rattle.rw_head.specs.Store.{Store}
-use Rattle.rw_shared_head.specs.Seats.{Seated}
+use Rattle.rw_recv_head.specs.Seats.{Seated}
 use Rattle.rw_worker.specs.Transcript.{Exchange, Settled, Settles, AreTries, AreTriesOf, IsTranscript, batch_request}
 use Rattle.rw_worker.specs.Setups.{Setup as WorkerSetup, start_of}
 use Rattle.rw_worker.specs.Steps.{exchanges_of, after}
@@ -21,9 +21,9 @@ use Rattle.rw_fleet.specs.Fleets.{EndBy}
 use Rattle.rw_fleet.specs.declared.joined.Finished.{Finished}
 use Rattle.rw_fleet.specs.declared.joined.StoppedShard.{StoppedShard}
 use Rattle.rw_shard_core.specs.declared.config.ConfigFields.{ConfigFields}
-use Rattle.rw_shipper.specs.Reports.{IsAbandoned}
-use Rattle.rw_shipper.specs.Shipping.{Shipping, PlacesAll, HasStopped}
-use Rattle.rw_shipper.specs.declared.report.Report.{Report}
+use Rattle.rw_sender.specs.Reports.{IsAbandoned}
+use Rattle.rw_sender.specs.Shipping.{Shipping, PlacesAll, HasStopped}
+use Rattle.rw_sender.specs.declared.report.Report.{Report}
 use Rattle.rw_shard_core.specs.declared.outcome.Outcome.{Outcome}
 use Rattle.rw_shard_core.specs.declared.outcome.Outcome.TheVariants as outcome
 use Rattle.rw_machine.specs.Worlds.{Setup}

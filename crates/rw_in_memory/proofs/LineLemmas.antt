@@ -10,8 +10,8 @@ use Rattle.rw_worker.specs.Transcript.{Exchange, exchange_of}
 use Rattle.rw_worker.specs.declared.transport.Reply.{Reply}
 use Rattle.rw_worker.specs.declared.transport.Lost.{Lost}
 use Rattle.rw_head.specs.Head.{State}
-use Rattle.rw_shared_head.specs.declared.question.Question.{Question}
-use Rattle.rw_shared_head.specs.Seats.{Seated, HasAsked, own}
+use Rattle.rw_recv_head.specs.declared.question.Question.{Question}
+use Rattle.rw_recv_head.specs.Seats.{Seated, HasAsked, own}
 use Rattle.rw_simulation.specs.SharedReceivers.{IsAnsweredAt}
 use Rattle.rw_simulation.specs.Seatings.{Asks, AreAskedFor, IsSeatOf}
 use Rattle.rw_simulation.proofs.Pasts.{get-either}

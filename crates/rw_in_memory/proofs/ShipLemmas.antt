@@ -4,9 +4,9 @@ use Rattle.std.proofs.lemmas.List.{map-append, take_at}
 use Rattle.rw_wal_tail.specs.Fed.{piece_of}
 use Rattle.rw_wal_tail.specs.declared.piece.Piece.{Piece}
 use Rattle.rw_fleet.specs.Fleets.{Shards}
-use Rattle.rw_shipper.specs.Shipping.{Shipping, Feeds, Joins}
-use Rattle.rw_shipper.specs.declared.shipper.FeedFault.{FeedFault}
-use Rattle.rw_shipper.specs.declared.shipper.FeedFault.TheVariants.{OutOfMemory, Damaged, Gone}
+use Rattle.rw_sender.specs.Shipping.{Shipping, Feeds, Joins}
+use Rattle.rw_sender.specs.declared.shipper.FeedFault.{FeedFault}
+use Rattle.rw_sender.specs.declared.shipper.FeedFault.TheVariants.{OutOfMemory, Damaged, Gone}
 use Rattle.rw_in_memory.specs.Shipped.{HasFed}
 
 module _ {T : Type 0} (old was now : Shipping T) (log yielded rest : List Piece) (piece : Piece) (left : log ≡ yielded ++ (piece ∷ rest))

@@ -16,18 +16,18 @@ use Rattle.rw_shard_core.specs.declared.outcome.Outcome.{Outcome}
 use Rattle.rw_shard_core.specs.declared.outcome.Outcome.TheVariants.{Complete, Damaged}
 use Rattle.rw_head.specs.Head.{State}
 use Rattle.rw_head.specs.declared.limits.Limits.{Limits}
-use Rattle.rw_feeder.specs.Feeders.{Sorting, HasRead}
+use Rattle.rw_sender.specs.Feeders.{Sorting, HasRead}
 use Rattle.rw_fleet.specs.ShardHistories.{ShardHistory, AreFresh, AreSame}
 use Rattle.rw_fleet.specs.Work.{lane_of, finished_of}
 use Rattle.rw_fleet.specs.Fleets.{Shards, EndBy}
 use Rattle.rw_fleet.specs.declared.joined.StoppedShard.{StoppedShard}
 use Rattle.rw_fleet.specs.declared.running.Fault.{Fault}
 use Rattle.rw_fleet.specs.declared.running.Fault.TheVariants as queue_fault
-use Rattle.rw_shipper.specs.Reports.{IsAbandoned, kind_of}
-use Rattle.rw_shipper.specs.Shipping.{Shipping, HasStopped, Ends, Feeds}
-use Rattle.rw_shipper.specs.declared.report.Report.{Report}
-use Rattle.rw_shipper.specs.declared.shipper.FeedFault.{FeedFault}
-use Rattle.rw_shipper.specs.declared.shipper.FeedFault.TheVariants as feed_fault
+use Rattle.rw_sender.specs.Reports.{IsAbandoned, kind_of}
+use Rattle.rw_sender.specs.Shipping.{Shipping, HasStopped, Ends, Feeds}
+use Rattle.rw_sender.specs.declared.report.Report.{Report}
+use Rattle.rw_sender.specs.declared.shipper.FeedFault.{FeedFault}
+use Rattle.rw_sender.specs.declared.shipper.FeedFault.TheVariants as feed_fault
 use Rattle.rw_machine.specs.Worlds.{Setup}
 use Rattle.rw_machine.specs.Promises.{CanWork}
 use Rattle.rw_simulation.specs.StoppedRuns.{IsMachineOf}

@@ -8,14 +8,14 @@ use Rattle.rw_wal_tail.specs.declared.piece.Piece.{Piece}
 use Rattle.rw_plain_queue.specs.declared.item.Kind.TheVariants.{Orderly}
 use Rattle.rw_head.specs.Head.{State}
 use Rattle.rw_head.specs.Store.{Store}
-use Rattle.rw_shared_head.specs.Seats.{Seated, HasGathered}
+use Rattle.rw_recv_head.specs.Seats.{Seated, HasGathered}
 use Rattle.rw_worker.specs.Transcript.{Exchange}
 use Rattle.rw_fleet.specs.Fleets.{EndBy}
 use Rattle.rw_fleet.specs.declared.joined.Finished.{Finished}
-use Rattle.rw_shipper.specs.Placement.{IsShardCount}
-use Rattle.rw_shipper.specs.Reports.{IsAbandoned}
-use Rattle.rw_shipper.specs.Shipping.{Shipping, PlacesAll, HasStopped}
-use Rattle.rw_shipper.specs.declared.report.Report.{Report}
+use Rattle.rw_sender.specs.Placement.{IsShardCount}
+use Rattle.rw_sender.specs.Reports.{IsAbandoned}
+use Rattle.rw_sender.specs.Shipping.{Shipping, PlacesAll, HasStopped}
+use Rattle.rw_sender.specs.declared.report.Report.{Report}
 use Rattle.rw_machine.specs.Worlds.{Setup}
 use Rattle.rw_machine.specs.Promises.{CanWork}
 use Rattle.rw_simulation.specs.StoppedRuns.{IsMachineOf}

@@ -5,7 +5,7 @@ use Rattle.rw_types.specs.Requests.{is_host_name}
 use Rattle.rw_shard_core.specs.SentRequest.{request_of}
 use Rattle.rw_worker.specs.Transcript.{Exchange}
 use Rattle.rw_head.specs.Head.{State}
-use Rattle.rw_shared_head.specs.Seats.{Seated, HasAsked}
+use Rattle.rw_recv_head.specs.Seats.{Seated, HasAsked}
 use Rattle.rw_simulation.specs.Seatings.{IsSeatOf}
 
 -- the seat that it asks, and the exchanges so far

@@ -4,7 +4,7 @@ use Rattle.std.specs.FinMap.{empty}
 use Rattle.rw_types.specs.Beginnings.{Begins}
 use Rattle.rw_types.specs.Requests.{is_host_name}
 use Rattle.rw_shard_core.specs.declared.config.ConfigFields.{ConfigFields}
-use Rattle.rw_shipper.specs.Placement.{IsShardCount}
+use Rattle.rw_sender.specs.Placement.{IsShardCount}
 use Rattle.rw_wal_format.specs.Pieces.{entries}
 use Rattle.rw_wal_format.specs.declared.tail_fault.TailFault.{TailFault}
 use Rattle.rw_wal_tail.specs.Fed.{piece_of}
@@ -13,14 +13,14 @@ use Rattle.rw_shard_core.specs.Configs.{choice_of}
 use Rattle.rw_shard_core.specs.declared.outcome.Outcome.TheVariants.{Complete, Damaged}
 use Rattle.rw_head.specs.Head.{State}
 use Rattle.rw_head.specs.declared.limits.Limits.{Limits}
-use Rattle.rw_shared_head.specs.Seats.{HasGathered}
-use Rattle.rw_feeder.specs.Feeders.{HasRead}
-use Rattle.rw_feeder.specs.Logs.{filtered}
+use Rattle.rw_recv_head.specs.Seats.{HasGathered}
+use Rattle.rw_sender.specs.Feeders.{HasRead}
+use Rattle.rw_sender.specs.Logs.{filtered}
 use Rattle.rw_fleet.specs.declared.joined.Finished.{Finished}
-use Rattle.rw_shipper.specs.Reports.{IsAbandoned, ListsCut}
-use Rattle.rw_shipper.specs.Shipping.{Shipping, PlacesAll, HasStopped, Feeds}
-use Rattle.rw_shipper.specs.declared.report.Report.{Report}
-use Rattle.rw_shipper.specs.declared.shipper.FeedFault.{FeedFault}
+use Rattle.rw_sender.specs.Reports.{IsAbandoned, ListsCut}
+use Rattle.rw_sender.specs.Shipping.{Shipping, PlacesAll, HasStopped, Feeds}
+use Rattle.rw_sender.specs.declared.report.Report.{Report}
+use Rattle.rw_sender.specs.declared.shipper.FeedFault.{FeedFault}
 use Rattle.rw_simulation.specs.Received.{IsHeld}
 use Rattle.rw_in_memory.specs.Lines.{Line, IsLine}
 use Rattle.rw_in_memory.specs.Held.{seen_by, IsAnyones, seat_of, HasEnded}

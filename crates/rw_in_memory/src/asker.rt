@@ -4,7 +4,7 @@ ghost use Rattle.std.specs.Prelude.{◌≡◌};
 
 use crate::receiver::{Endpoint, Receiver};
 use rw_endpoint::Answer;
-use rw_shared_head::Seat;
+use rw_recv_head::Seat;
 use std::sync::{Arc, Wait};
 
 /// Asks a seat for the bodies of a connection's requests, and notes what it answered last.
@@ -28,7 +28,7 @@ impl<R: Drop, L: Endpoint> Asker<R, L> {
 
 impl<R: Wait, L: Endpoint> Answer for Asker<R, L> {
     ghost use Rattle.std.specs.Prelude.{◌≡◌, Some};
-    ghost use Rattle.rw_shared_head.specs.Seats.{HasAsked};
+    ghost use Rattle.rw_recv_head.specs.Seats.{HasAsked};
 
     ghost answers = { λ old body status new. HasAsked L.opening old.seat body status new.seat
         × (new.status ≡ Some status) };

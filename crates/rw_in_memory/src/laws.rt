@@ -3,8 +3,8 @@
 ghost use Rattle.std.specs.Prelude.{ℕ, List};
 ghost use Rattle.rw_head.specs.Head.{State};
 ghost use Rattle.rw_head.specs.Store.{Store};
-ghost use Rattle.rw_shipper.specs.Shipping.{Shipping};
-ghost use Rattle.rw_shipper.specs.declared.report.Report.{Report};
+ghost use Rattle.rw_sender.specs.Shipping.{Shipping};
+ghost use Rattle.rw_sender.specs.declared.report.Report.{Report};
 ghost use Rattle.rw_in_memory.specs.Lines.{Line};
 ghost use Rattle.rw_in_memory.specs.Held.{HoldsInMemory};
 

@@ -11,7 +11,7 @@ use crate::receiver::{Endpoint, Receiver};
 use http::StatusCode;
 use rw_endpoint::serve;
 use rw_history::History;
-use rw_shared_head::Seat;
+use rw_recv_head::Seat;
 use rw_types::Room;
 use rw_worker::{Exchanged, Lost, Reply, Transport};
 use std::alloc::Global;

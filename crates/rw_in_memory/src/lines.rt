@@ -5,7 +5,7 @@ ghost use Rattle.std.specs.Prelude.{◌≡◌, [], All};
 use crate::line::Line;
 use crate::receiver::{Endpoint, Receiver};
 use rw_fleet::Connect;
-use rw_shared_head::Seat;
+use rw_recv_head::Seat;
 use rw_worker::Pause;
 use std::alloc::{AllocError, Global};
 use std::marker::Model;
@@ -24,7 +24,7 @@ pub struct Lines<R, L: Endpoint, P> {
 
 impl<R, L: Endpoint, P> Model for Lines<R, L, P> {
     ghost use Rattle.std.specs.Prelude.{◌≡◌, List, [], All};
-    ghost use Rattle.rw_shared_head.specs.Seats.{Seated};
+    ghost use Rattle.rw_recv_head.specs.Seats.{Seated};
 
     ghost Value = { List Seated };
 

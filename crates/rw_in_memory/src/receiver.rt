@@ -3,7 +3,7 @@
 ghost use Rattle.std.specs.Prelude.{◌≡◌, ◌+◌, ◌<◌, [], All, IfOk};
 
 use rw_head::{Head, Limits};
-use rw_shared_head::{Blank, Naming, Seat, SharedHead};
+use rw_recv_head::{Blank, Naming, Seat, SharedHead};
 use std::alloc::{AllocError, Global};
 use std::marker::{Brand, Model};
 
@@ -35,7 +35,7 @@ pub struct Receiver<L: Endpoint> {
 
 impl<L: Endpoint> Model for Receiver<L> {
     ghost use Rattle.std.specs.Prelude.{◌≡◌};
-    ghost use Rattle.rw_shared_head.specs.Seats.{Opening};
+    ghost use Rattle.rw_recv_head.specs.Seats.{Opening};
 
     ghost Value = { Opening };
 

@@ -10,8 +10,8 @@ use Rattle.rw_wal_format.specs.Segments.{Reading, segment}
 use Rattle.rw_wal_format.proofs.Growing.{reading-append}
 use Rattle.rw_wal_format.specs.declared.tail_fault.TailFault.{TailFault}
 use Rattle.rw_wal_tail.specs.Fed.{Fed}
-use Rattle.rw_feeder.specs.Feeders.{HasTaken}
-use Rattle.rw_feeder.proofs.TailLemmas.{took_again}
+use Rattle.rw_sender.specs.Feeders.{HasTaken}
+use Rattle.rw_sender.proofs.TailLemmas.{took_again}
 use Rattle.rw_inspect.specs.Counting.{Counted, counts_of}
 use Rattle.rw_inspect.specs.Inspecting.{AreRead, AreRows, IsInspected, IsRead, IsReportOfFirst, IsRow, ReadsFirst, ReadsInto, ReadsSegment, Reports, begun, behind, fault_in, log_of}
 use Rattle.rw_inspect.specs.Reading.{HasTakenAll, ReadsText}

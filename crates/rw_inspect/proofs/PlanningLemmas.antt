@@ -5,7 +5,7 @@ use Rattle.std.specs.Io.KnownBytes.{Appends}
 use Rattle.rw_types.specs.declared.entry.Entry.{Entry}
 use Rattle.rw_wal_format.specs.declared.tail_fault.TailFault.{TailFault}
 use Rattle.rw_relabel.specs.declared.choice.Choice.{Choice}
-use Rattle.rw_plan.specs.Plan.{plan_text}
+use Rattle.rw_log_commands.specs.Plan.{plan_text}
 use Rattle.rw_inspect.specs.Inspecting.{ReadsFirst, ReadsInto, ReadsToFault, fault_in}
 use Rattle.rw_inspect.specs.Planning.{IsPlanOf, WritesPlan, WritesPlanPart}
 use Rattle.rw_inspect.specs.declared.report.Damage.{Damage}

@@ -10,8 +10,8 @@ use Rattle.rw_wal_format.specs.Segments.{segment}
 use Rattle.rw_wal_format.specs.declared.tail_fault.TailFault.{TailFault}
 use Rattle.rw_wal_format.specs.declared.tail_fault.TailFault.TheVariants.{OutOfMemory}
 use Rattle.rw_wal_tail.specs.Fed.{Fed, answered, next_of, is_out_of_memory}
-use Rattle.rw_feeder.specs.Feeders.{HasTaken, HasRead}
-use Rattle.rw_feeder.proofs.TailLemmas.{Said, took_again, took_entry, took_fault, took_none, read_fault}
+use Rattle.rw_sender.specs.Feeders.{HasTaken, HasRead}
+use Rattle.rw_sender.proofs.TailLemmas.{Said, took_again, took_entry, took_fault, took_none, read_fault}
 use Rattle.rw_inspect.specs.Counting.{Counted}
 use Rattle.rw_inspect.specs.Reading.{AreFed, ComesNext, Ends, FeedsMore, Gives, Grows, HasFed, ReadsText, TakesAll}
 use Rattle.rw_inspect.specs.declared.reading.Next.{Next}

@@ -4,7 +4,7 @@ use Rattle.std.specs.Io.KnownBytes.{Appends}
 use Rattle.rw_wal_format.specs.Pieces.{entries, fault}
 use Rattle.rw_wal_format.specs.declared.tail_fault.TailFault.{TailFault}
 use Rattle.rw_relabel.specs.declared.choice.Choice.{Choice}
-use Rattle.rw_plan.specs.Plan.{plan_text}
+use Rattle.rw_log_commands.specs.Plan.{plan_text}
 use Rattle.rw_inspect.specs.Inspecting.{ReadsFirst, log_of}
 
 -- the first segments of these sources were read, up to the end of one with a fault, or all, and

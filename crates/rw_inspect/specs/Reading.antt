@@ -5,7 +5,7 @@ use Rattle.rw_types.specs.declared.entry.Entry.{Entry}
 use Rattle.rw_wal_format.specs.Pieces.{Piece, bytes, entries, page_size, reading, skipped}
 use Rattle.rw_wal_format.specs.declared.tail_fault.TailFault.{TailFault}
 use Rattle.rw_wal_tail.specs.Fed.{Fed}
-use Rattle.rw_feeder.specs.Feeders.{HasRead, HasTaken}
+use Rattle.rw_sender.specs.Feeders.{HasRead, HasTaken}
 use Rattle.rw_inspect.specs.Counting.{Counted}
 use Rattle.rw_inspect.specs.declared.reading.Next.{Next}
 use Rattle.rw_inspect.specs.declared.reading.Next.TheVariants as next

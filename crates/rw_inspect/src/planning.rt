@@ -11,7 +11,7 @@ use crate::report::Damage;
 use crate::segments::{LogRead, Named, read_into};
 use crate::sums::Sums;
 use crate::taker::Taker;
-use rw_plan::Planner;
+use rw_log_commands::Planner;
 use rw_relabel::Choice;
 use rw_types::{Entry, ReadFault, Sink, Source, write_all};
 use std::alloc::{AllocError, Global};

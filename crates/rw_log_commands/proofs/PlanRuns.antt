@@ -2,7 +2,7 @@
 use Rattle.std.proofs.Common.{◌≡◌, ℕ, List, Bool, false, Option, None, refl, ◌∙◌, ap, subst}
 use Rattle.std.specs.Io.KnownBytes.{Appends}
 use Rattle.rw_relabel.specs.declared.choice.Choice.{Choice}
-use Rattle.rw_plan.specs.Plan.{plan_of}
+use Rattle.rw_log_commands.specs.Plan.{plan_of}
 use Rattle.rw_log_commands.specs.Running.{ReadsInput}
 use Rattle.rw_log_commands.specs.Taking.{ReadsSegment}
 

@@ -15,9 +15,9 @@ use Rattle.rw_wal_format.proofs.Growing.{reading-append}
 use Rattle.rw_wal_format.specs.declared.tail_fault.TailFault.{TailFault}
 use Rattle.rw_wal_format.specs.declared.tail_fault.TailFault.TheVariants as tail
 use Rattle.rw_wal_tail.specs.Fed.{Fed, next_of, end_of, answered}
-use Rattle.rw_fault.specs.declared.tool_fault.ToolFault.{ToolFault}
-use Rattle.rw_fault.specs.declared.tool_fault.ToolFault.TheVariants.{OutOfMemory, Log, Line, SegmentFull, Device}
-use Rattle.rw_fault.specs.Faults.{fault_of_log}
+use Rattle.rw_text.specs.declared.tool_fault.ToolFault.{ToolFault}
+use Rattle.rw_text.specs.declared.tool_fault.ToolFault.TheVariants.{OutOfMemory, Log, Line, SegmentFull, Device}
+use Rattle.rw_text.specs.ToolFaults.{fault_of_log}
 use Rattle.rw_log_commands.specs.Taking.{HasTaken, HasTakenAll, IsFaultOf, FeedsMore, ReadsSegment, StopsReading}
 
 -- the pieces, whatever comes after them, are read as this text is

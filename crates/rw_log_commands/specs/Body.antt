@@ -4,7 +4,7 @@ use Rattle.std.specs.Prelude.{ℕ, List, [], ◌∷◌}
 use Rattle.rw_wal_format.specs.Pieces.{bytes, entries}
 use Rattle.rw_write_request.specs.Canon.{canon}
 use Rattle.rw_batch.specs.Grouping.{message}
-use Rattle.rw_labelling.specs.Labelled.{labelled}
+use Rattle.rw_log_commands.specs.Labelled.{labelled}
 
 -- the body of a segment
 abbrev pub body_of : List ℕ → List ℕ

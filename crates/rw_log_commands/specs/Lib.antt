@@ -5,3 +5,7 @@ pub mod LogText
 pub mod Planning
 pub mod Running
 pub mod Taking
+pub mod Plan
+pub mod Planned
+pub mod Labelled
+pub mod Labelling

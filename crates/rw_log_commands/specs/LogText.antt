@@ -4,8 +4,8 @@ use Rattle.rw_wal_format.specs.Laws.{log_all}
 use Rattle.rw_wal_format.specs.Pieces.{page_size}
 use Rattle.rw_wal_format.specs.Writing.{log_bytes, room}
 use Rattle.rw_text.specs.RecordLines.{lines, IsRecordOf}
-use Rattle.rw_fault.specs.declared.tool_fault.ToolFault.{ToolFault}
-use Rattle.rw_fault.specs.declared.tool_fault.ToolFault.TheVariants as fault
+use Rattle.rw_text.specs.declared.tool_fault.ToolFault.{ToolFault}
+use Rattle.rw_text.specs.declared.tool_fault.ToolFault.TheVariants as fault
 
 -- the records of lines, one after the other; an empty line has none
 abbrev pub AreRecords : List (List ℕ) → List (List ℕ) → Type 0

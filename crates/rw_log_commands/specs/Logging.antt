@@ -5,8 +5,8 @@ use Rattle.rw_wal_format.specs.Pieces.{page_size}
 use Rattle.rw_text.specs.RecordLines.{lines}
 use Rattle.rw_log_commands.specs.LogText.{longest_of, have_room, segment_of, AreRecords, IsBadLine}
 use Rattle.rw_log_commands.specs.Running.{output_of}
-use Rattle.rw_fault.specs.declared.tool_fault.ToolFault.{ToolFault}
-use Rattle.rw_fault.specs.declared.tool_fault.ToolFault.TheVariants.{OutOfMemory, Log, Line, SegmentFull, Device}
+use Rattle.rw_text.specs.declared.tool_fault.ToolFault.{ToolFault}
+use Rattle.rw_text.specs.declared.tool_fault.ToolFault.TheVariants.{OutOfMemory, Log, Line, SegmentFull, Device}
 
 -- a fault of log text for one segment: its first bad line, or else records that have no room
 abbrev pub IsFaultOfLog : ℕ → List ℕ → ToolFault → Type 0

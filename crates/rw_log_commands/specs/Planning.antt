@@ -2,7 +2,7 @@
 use Rattle.std.specs.Prelude.{ℕ, ◌≤◌, List, length, take, Bool, Option, None}
 use Rattle.std.specs.Io.KnownBytes.{Appends}
 use Rattle.rw_relabel.specs.declared.choice.Choice.{Choice}
-use Rattle.rw_plan.specs.Plan.{plan_of}
+use Rattle.rw_log_commands.specs.Plan.{plan_of}
 use Rattle.rw_log_commands.specs.Running.{ReadsInput}
 
 -- an input was read whose segment has no fault, and the segment's plan was written

@@ -4,11 +4,11 @@ use Rattle.std.specs.Io.KnownBytes.{Appends, Consumes, IsAtEnd}
 use Rattle.rw_wal_format.specs.Pieces.{bytes, fault}
 use Rattle.rw_wal_format.specs.declared.tail_fault.TailFault.{TailFault}
 use Rattle.rw_wal_format.specs.declared.tail_fault.TailFault.TheVariants as tail
-use Rattle.rw_hex.specs.HexText.{hex_text, read_text}
+use Rattle.rw_text.specs.HexText.{hex_text, read_text}
 use Rattle.rw_log_commands.specs.Body.{body_of}
 use Rattle.rw_log_commands.specs.Taking.{ReadsToFault}
-use Rattle.rw_fault.specs.declared.tool_fault.ToolFault.{ToolFault}
-use Rattle.rw_fault.specs.declared.tool_fault.ToolFault.TheVariants.{OutOfMemory, Log, Line, SegmentFull, Device}
+use Rattle.rw_text.specs.declared.tool_fault.ToolFault.{ToolFault}
+use Rattle.rw_text.specs.declared.tool_fault.ToolFault.TheVariants.{OutOfMemory, Log, Line, SegmentFull, Device}
 
 -- the bytes that an input stands for, which may be hexadecimal text
 abbrev pub StandsFor : Bool → List ℕ → List ℕ → Type 0

@@ -1,14 +1,20 @@
-//! The engines of the commands `body`, `log` and `plan`, over any reader and writer.
+//! The commands `body`, `log` and `plan`, over any reader and writer.
 #![tactic(auto)]
 
+mod counts;
 mod filling;
+mod labelling;
+mod lines;
 mod log;
 mod log_text;
 mod plan;
+mod planner;
 mod reading;
 mod run;
 
+pub use labelling::Labelling;
 pub use log::{run_log, run_log_dir};
 pub use plan::run_plan;
+pub use planner::Planner;
 pub use run::run_body;
-pub use rw_fault::ToolFault;
+pub use rw_text::ToolFault;

@@ -5,12 +5,12 @@ ghost use Rattle.rw_text.specs.RecordLines.{lines};
 ghost use Rattle.rw_log_commands.specs.LogText.{have_room, segment_of, AreRecords};
 ghost use Rattle.rw_log_commands.specs.Logging.{IsFaultOfAny, IsFaultOfLog, IsForSegments, ReadsAnyFault, ReadsRecords, ReadsFaulty, StopsLog, WritesLog, WritesLogPart};
 ghost use Rattle.rw_wal_format.specs.declared.tail_fault.TailFault.{TailFault};
-ghost use Rattle.rw_fault.specs.declared.tool_fault.ToolFault.TheVariants.{OutOfMemory, Log, Line, SegmentFull, Device};
+ghost use Rattle.rw_text.specs.declared.tool_fault.ToolFault.TheVariants.{OutOfMemory, Log, Line, SegmentFull, Device};
 
 use crate::filling::fill;
 use crate::log_text::judge;
 use crate::run::{output_of, read_input};
-use rw_fault::ToolFault;
+use rw_text::ToolFault;
 use rw_types::{Sink, Source, write_all};
 use std::alloc::Global;
 use std::fs;

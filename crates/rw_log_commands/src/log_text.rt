@@ -4,8 +4,7 @@ ghost use Rattle.std.specs.Prelude.{◌≡◌, ◌<◌, ℕ, List, [], ◌∷◌
 ghost use Rattle.rw_text.specs.RecordLines.{lines, IsRecordOf};
 ghost use Rattle.rw_log_commands.specs.LogText.{longest_of, AreRecords, IsFaultOfText};
 
-use rw_fault::ToolFault;
-use rw_text::{TextFault, first_line, read_record};
+use rw_text::{TextFault, ToolFault, first_line, read_record};
 use std::alloc::Global;
 
 /// Returns the length of the record of a line; 0 for an empty line, which has none.

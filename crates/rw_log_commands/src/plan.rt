@@ -2,19 +2,19 @@
 
 ghost use Rattle.std.specs.Prelude.{◌≡◌, ◌≢◌, ◌⊎◌, ℕ, List, true, false, Err, None, IfOk, OnOk, IfErr};
 ghost use Rattle.rw_wal_format.specs.declared.tail_fault.TailFault.{TailFault};
-ghost use Rattle.rw_plan.specs.Plan.{plan_of};
+ghost use Rattle.rw_log_commands.specs.Plan.{plan_of};
 ghost use Rattle.rw_shard_core.specs.Configs.{choice_of};
 ghost use Rattle.rw_log_commands.specs.Planning.{WritesPlan, WritesPlanPart};
 ghost use Rattle.rw_log_commands.specs.Running.{ReadsInput, ReadsFault, ReadsLine, StopsInput};
 ghost use Rattle.rw_log_commands.specs.Taking.{ReadsSegment, StopsReading};
-ghost use Rattle.rw_fault.specs.declared.tool_fault.ToolFault.TheVariants.{Log, Line, SegmentFull, Device};
+ghost use Rattle.rw_text.specs.declared.tool_fault.ToolFault.TheVariants.{Log, Line, SegmentFull, Device};
 
+use crate::planner::Planner;
 use crate::reading::{Taker, read_segment};
 use crate::run::read_input;
-use rw_fault::ToolFault;
-use rw_plan::Planner;
 use rw_relabel::Choice;
 use rw_settings::Settings;
+use rw_text::ToolFault;
 use rw_types::{Entry, Sink, Source, write_all};
 use std::alloc::{AllocError, Global};
 
@@ -56,7 +56,7 @@ fn read_hex_plan<R: Source>(
         (R.has_failed reader.new)) }
 {
     let text = read_input(alloc, reader)?;
-    let segment = rw_hex::read(alloc, &text)?;
+    let segment = rw_text::read_hex(alloc, &text)?;
     drop(text);
     read_plan(alloc, &mut segment.as_slice(), choice)
 }

@@ -3,14 +3,14 @@
 ghost use Rattle.std.specs.Prelude.{◌≡◌, ◌≢◌, ◌⊎◌, ℕ, List, true, false, Err, None, IfOk, OnOk, IfErr};
 ghost use Rattle.std.specs.Io.KnownBytes.{Consumes, IsAtEnd};
 ghost use Rattle.rw_wal_format.specs.declared.tail_fault.TailFault.{TailFault};
-ghost use Rattle.rw_fault.specs.declared.tool_fault.ToolFault.TheVariants.{OutOfMemory, Log, Line, SegmentFull, Device};
+ghost use Rattle.rw_text.specs.declared.tool_fault.ToolFault.TheVariants.{OutOfMemory, Log, Line, SegmentFull, Device};
 ghost use Rattle.rw_log_commands.specs.Body.{body_of};
 ghost use Rattle.rw_log_commands.specs.Taking.{ReadsSegment, StopsReading};
 ghost use Rattle.rw_log_commands.specs.Running.{output_of, ReadsInput, WritesBody, WritesPart, ReadsFault, ReadsLine, StopsInput};
 
+use crate::labelling::Labelling;
 use crate::reading::{Taker, read_segment};
-use rw_fault::ToolFault;
-use rw_labelling::Labelling;
+use rw_text::ToolFault;
 use rw_types::{Entry, Sink, Source, read_to_end, write_all};
 use rw_write_request::encode;
 use std::alloc::{AllocError, Global};
@@ -66,7 +66,7 @@ fn read_hex_body<R: Source>(alloc: Global, reader: &mut R) -> Result<Vec<u8>, To
         (R.has_failed reader.new)) }
 {
     let text = read_input(alloc, reader)?;
-    let segment = rw_hex::read(alloc, &text)?;
+    let segment = rw_text::read_hex(alloc, &text)?;
     drop(text);
     read_body(alloc, &mut segment.as_slice())
 }
@@ -78,7 +78,7 @@ pub(crate) fn output_of(alloc: Global, text: Vec<u8>, hex: bool) -> Result<Vec<u
     if !hex {
         return Ok(text);
     }
-    let mut digits = rw_hex::to_text(alloc, &text)?;
+    let mut digits = rw_text::hex_text(alloc, &text)?;
     digits.push('\n')?;
     Ok(digits.into_bytes())
 }

@@ -26,7 +26,7 @@ use Rattle.rw_machine.proofs.Heads.{RefusedForGood, refused_for_good}
 use Rattle.rw_head.specs.declared.verdict.Verdict.{Verdict}
 use Rattle.rw_batch.specs.Grouping.{message}
 use Rattle.rw_write_request.specs.Message.{TimeSeries, WriteRequest}
-use Rattle.rw_router.specs.Fates.{kept_fate}
+use Rattle.rw_series_cache.specs.Fates.{kept_fate}
 use Rattle.rw_machine.specs.Settling.{can_place, can_place_as, can_place_entry, can_place_known, newest_from, room_at}
 use Rattle.rw_machine.specs.Shards.{EndMark, FlushMark, One, Queued, Shard, has_room, samples_in, shard_end, shard_flush, shard_freeze, shard_put, shard_send, shard_take, take_front, with_core}
 use Rattle.rw_machine.specs.Steps.{act, answered, arrive, change, changed, endpoint_answer, flush_shard, happens, mark, next_sample, place, place_entry, place_kept, place_sample, put_if_room, reply_to, request_by, run, send_batch, settled, shard_of, take_reply, unless_over}

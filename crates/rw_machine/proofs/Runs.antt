@@ -33,7 +33,8 @@ use Rattle.rw_machine.proofs.Views.{IsKept, logged_from, logged_points, of, owed
 use Rattle.rw_machine.specs.Promises.{HasOneClassEach, HoldsAll, HoldsBeginningBelow, HoldsNothingElse, IsInOrder, IsOfPlaced, IsWhole, IsWholeBeforeDamage, OwedRises, Point, owed, owed_below, pair_of}
 use Rattle.rw_machine.specs.Shards.{Shard, pending, samples_in, shard_freeze, shard_lost, shard_take}
 use Rattle.rw_machine.specs.Steps.{act, flush_shard, happens, run}
-use Rattle.rw_machine.specs.Worlds.{Abandoned, Complete, Damaged, Setup, World, all_drained, ended_as, is_finished, is_over, is_pending, log, new_shards, report, start, up_to}
+use Rattle.rw_machine.specs.Worlds.{Setup, World, all_drained, ended_as, is_finished, is_over, is_pending, log, new_shards, report, start, up_to}
+use Rattle.rw_shard_core.specs.Endings.{Abandoned, Complete, Damaged}
 use Rattle.rw_machine.specs.declared.event.Event.{Event}
 use Rattle.rw_series_cache.specs.Known.{Kept, Unknown}
 use Rattle.rw_plain_queue.specs.Items.{Placed}

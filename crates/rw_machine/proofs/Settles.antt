@@ -17,11 +17,12 @@ use Rattle.rw_machine.proofs.Rounds.{Round, acts, single, place_round, send_roun
 use Rattle.rw_machine.specs.declared.event.Event.TheVariants as event
 use Rattle.rw_wal_format.specs.Pieces.{entries, fault}
 use Rattle.rw_machine.specs.Promises.{CanWork, HasOneClassEach, HoldsAll, HoldsNothingElse, IsSettled, SettleEnds}
-use Rattle.rw_router.specs.Fates.{kept_fate}
+use Rattle.rw_series_cache.specs.Fates.{kept_fate}
 use Rattle.rw_machine.specs.Settling.{at_first, can_place, can_place_as, can_place_entry, can_place_known, exchange_at, first_of_these, made_at, next_events, room_at, settle, settle_events, settle_from, settle_if}
 use Rattle.rw_machine.specs.Shards.{Shard, has_room, is_drained, pending, samples_in, shard_freeze, shard_take}
 use Rattle.rw_machine.specs.Steps.{close, flush_shard, happens, restart_as, run, shard_of, unless_over}
-use Rattle.rw_machine.specs.Worlds.{Abandoned, Ending, Setup, World, all_drained, ended_as, is_at, is_finished, is_over, is_pending, log, new_shards, report, start, up_to}
+use Rattle.rw_machine.specs.Worlds.{Setup, World, all_drained, ended_as, is_at, is_finished, is_over, is_pending, log, new_shards, report, start, up_to}
+use Rattle.rw_shard_core.specs.Endings.{Abandoned, Ending}
 use Rattle.rw_machine.specs.declared.event.Event.{Event}
 use Rattle.rw_shard_core.specs.Shard.{can_take, is_due, is_empty}
 use Rattle.rw_series_cache.specs.Known.{Bad, Filtered, Kept, Standing, Unknown, known}

@@ -3,4 +3,3 @@ pub mod Worlds
 pub mod Steps
 pub mod Settling
 pub mod Promises
-pub mod Endings

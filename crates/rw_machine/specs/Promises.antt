@@ -23,7 +23,8 @@ use Rattle.rw_head.specs.Lists.{IsEarlier}
 use Rattle.rw_head.specs.Order.{holds}
 use Rattle.rw_head.specs.Store.{list_of}
 use Rattle.rw_machine.specs.Shards.{Shard, samples_in}
-use Rattle.rw_machine.specs.Worlds.{Setup, Request, Reply, World, log, start, up_to, is_pending, is_over, report, Ending, Complete, Damaged, ended_as}
+use Rattle.rw_machine.specs.Worlds.{Setup, Request, Reply, World, log, start, up_to, is_pending, is_over, report, ended_as}
+use Rattle.rw_shard_core.specs.Endings.{Ending, Complete, Damaged}
 use Rattle.rw_machine.specs.Steps.{happens, run}
 use Rattle.rw_machine.specs.Settling.{settle, settle_events}
 use Rattle.rw_machine.specs.declared.event.Event.{Event}

@@ -4,7 +4,7 @@ use Rattle.std.specs.List.{position}
 use Rattle.rw_types.specs.declared.entry.Entry.{Entry}
 use Rattle.rw_types.specs.declared.entry.Entry.TheVariants.{Def, Sample}
 use Rattle.rw_series_cache.specs.Known.{Standing, known}
-use Rattle.rw_router.specs.Fates.{Fate, Drops, Filters, Sends, fate_by}
+use Rattle.rw_series_cache.specs.Fates.{Fate, Drops, Filters, Sends, fate_by}
 use Rattle.rw_batch.specs.declared.batch.BatchId.{BatchId}
 use Rattle.rw_shard_core.specs.Shard.{is_empty, batch_id, same_id, is_due, can_take}
 use Rattle.rw_machine.specs.Shards.{Shard, has_room}

@@ -7,7 +7,7 @@ use Rattle.rw_types.specs.declared.entry.Entry.{Entry}
 use Rattle.rw_types.specs.declared.entry.Entry.TheVariants.{Def, Sample}
 use Rattle.rw_series_cache.specs.Known.{Standing, standing_of, known}
 use Rattle.rw_series_cache.specs.Numbers.{with_series, number_of}
-use Rattle.rw_router.specs.Fates.{Fate, Drops, Filters, Sends, kept_fate, fate_by}
+use Rattle.rw_series_cache.specs.Fates.{Fate, Drops, Filters, Sends, kept_fate, fate_by}
 use Rattle.rw_wal_tail.specs.declared.piece.Piece.{Piece}
 use Rattle.rw_wal_tail.specs.Fed.{piece_of}
 use Rattle.rw_ledger.specs.declared.ledger.Reason.{Reason}

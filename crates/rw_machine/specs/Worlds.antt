@@ -17,6 +17,7 @@ use Rattle.rw_shard_core.specs.Shard.{new_core}
 use Rattle.rw_head.specs.Verdicts.{LabelLimits}
 use Rattle.rw_head.specs.Head.{State}
 use Rattle.rw_machine.specs.Shards.{Shard, new_shard, is_drained, pending}
+use Rattle.rw_shard_core.specs.Endings.{Ending, Complete, Abandoned, Damaged}
 
 -- what the sender and the receiver are set to
 pub record Setup : Type 0 where
@@ -99,13 +100,6 @@ is_pending w p = list_any (λ s. list_any (λ (x : Placed). x.place.pos == p) (p
 abbrev pub up_to : ℕ → List ℕ
 up_to zero = []
 up_to (suc n) = up_to n ++ n ∷ []
-
--- how the work has ended: all below a position is through; it was stopped, with these samples put
--- and not resolved; or the log is damaged
-pub data Ending : Type 0 where
-  Complete : (end : ℕ) → Ending
-  Abandoned : (placed : ℕ) → (samples : List ℕ) → Ending
-  Damaged : (fault : TailFault) → Ending
 
 abbrev pub ended_as : Option TailFault → ℕ → Ending
 ended_as None end = Complete end

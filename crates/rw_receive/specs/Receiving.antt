@@ -6,7 +6,7 @@ use Rattle.rw_head.specs.declared.limits.Limits.{Limits}
 use Rattle.rw_head.specs.Head.{State}
 use Rattle.rw_head.specs.Store.{Store}
 use Rattle.rw_head.specs.Growth.{EachRises}
-use Rattle.rw_shared_head.specs.Seats.{Seated, HasGathered}
+use Rattle.rw_recv_head.specs.Seats.{Seated, HasGathered}
 use Rattle.rw_state_text.specs.StateText.{store_text}
 
 -- a prefix of the text was written

@@ -2,13 +2,13 @@
 
 ghost use Rattle.std.specs.Prelude.{◌≡◌, ◌+◌, ◌<◌, ◌⊎◌, IfOk, IfErr, vec_len};
 ghost use Rattle.rw_receive.specs.Receiving.{HasReceived};
-ghost use Rattle.rw_fault.specs.declared.tool_fault.ToolFault.TheVariants.{OutOfMemory, Device};
+ghost use Rattle.rw_text.specs.declared.tool_fault.ToolFault.TheVariants.{OutOfMemory, Device};
 
 use crate::final_head::FinalHead;
-use rw_fault::ToolFault;
+use crate::serving::{Post, served};
 use rw_head::Head;
-use rw_serving::{Post, served};
-use rw_shared_head::{Blank, Naming, Seat, SharedHead};
+use rw_recv_head::{Blank, Naming, Seat, SharedHead};
+use rw_text::ToolFault;
 use std::alloc::{AllocError, Global};
 use std::net::{TcpListener, TcpStream};
 use std::sync::Wait;

@@ -2,17 +2,17 @@
 
 ghost use Rattle.std.specs.Prelude.{◌≡◌, ◌+◌, ◌⊎◌, false, true, Err, IfErr, OnOk, sum_by, vec_len};
 ghost use Rattle.std.specs.Io.KnownBytes.{Appends};
-ghost use Rattle.rw_fault.specs.declared.tool_fault.ToolFault.TheVariants.{OutOfMemory, Device};
+ghost use Rattle.rw_text.specs.declared.tool_fault.ToolFault.TheVariants.{OutOfMemory, Device};
 ghost use Rattle.rw_head.specs.Growth.{EachRises};
 ghost use Rattle.rw_head.specs.Store.{total};
 ghost use Rattle.rw_receive.specs.Receiving.{AppendsPart};
-ghost use Rattle.rw_shared_head.specs.Seats.{HasGathered};
+ghost use Rattle.rw_recv_head.specs.Seats.{HasGathered};
 ghost use Rattle.rw_state_text.specs.StateText.{store_text};
 
-use rw_fault::ToolFault;
 use rw_head::Head;
-use rw_shared_head::{Naming, Seat, SharedHead};
+use rw_recv_head::{Naming, Seat, SharedHead};
 use rw_state_text::push_store;
+use rw_text::ToolFault;
 use rw_types::{Sink, write_all};
 use std::alloc::Global;
 use std::marker::Model;

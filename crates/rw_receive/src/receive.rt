@@ -2,17 +2,18 @@
 
 ghost use Rattle.std.specs.Prelude.{◌≡◌, ◌⊎◌, true, false, Err, IfErr, OnOk};
 ghost use Rattle.rw_receive.specs.Receiving.{WritesHeld, WritesHeldPart};
-ghost use Rattle.rw_fault.specs.declared.tool_fault.ToolFault.TheVariants.{OutOfMemory, Device};
+ghost use Rattle.rw_text.specs.declared.tool_fault.ToolFault.TheVariants.{OutOfMemory, Device};
 
 use crate::connections::receive_all;
+use crate::place_request::PlaceRequest;
 use crate::service::receive_until;
-use rw_fault::ToolFault;
+use crate::serving::Post;
 use rw_head::Head;
 use rw_metrics::ReceiveCounters;
-use rw_serving::{PlaceRequest, Post};
+use rw_recv_head::Blank;
 use rw_settings::Settings;
-use rw_shared_head::Blank;
 use rw_stop::Sign;
+use rw_text::ToolFault;
 use rw_types::{Bounded, Sink};
 use std::alloc::Global;
 use std::marker::Brand;

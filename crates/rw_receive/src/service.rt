@@ -2,14 +2,15 @@
 
 ghost use Rattle.std.specs.Prelude.{◌≡◌, ◌+◌, ◌<◌, ◌⊎◌, IfOk, IfErr, vec_len};
 ghost use Rattle.rw_receive.specs.Receiving.{HasReceived};
-ghost use Rattle.rw_fault.specs.declared.tool_fault.ToolFault.TheVariants.{OutOfMemory, Device};
+ghost use Rattle.rw_text.specs.declared.tool_fault.ToolFault.TheVariants.{OutOfMemory, Device};
 
+use crate::door::accept_in_ticks;
 use crate::final_head::FinalHead;
-use rw_fault::ToolFault;
+use crate::places::{Places, serve_on};
+use crate::serving::Post;
 use rw_head::Head;
-use rw_places::{Places, serve_on};
-use rw_serving::{Post, accept_in_ticks};
-use rw_shared_head::{Blank, Naming, Seat, SharedHead};
+use rw_recv_head::{Blank, Naming, Seat, SharedHead};
+use rw_text::ToolFault;
 use std::alloc::AllocError;
 use std::net::TcpListener;
 use std::sync::Wait;

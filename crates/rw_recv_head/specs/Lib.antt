@@ -7,5 +7,5 @@ pub use Rattle.rw_head.specs.Names
 pub use Rattle.rw_head.specs.Order
 pub use Rattle.rw_head.specs.Store
 pub use Rattle.rw_head.specs.Verdicts
-pub use Rattle.rw_shared_head.specs.Seats
-pub use Rattle.rw_shared_head.specs.Questions
+pub mod Seats
+pub mod Questions

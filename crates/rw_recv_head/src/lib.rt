@@ -1,11 +1,25 @@
-//! The receiving head: what a receiver of samples holds, and the same for many threads under one
-//! lock. This crate re-exports what those two crates have.
+//! The receiving head: what a receiver of samples holds, for one thread or for many.
+//!
+//! Threads share a head under one lock. Each asks it from a seat, which is a handle to the shared
+//! head that counts the samples that its requests stored.
 #![tactic(auto)]
 
+mod blank;
+mod laws;
+mod locked;
+mod naming;
+mod question;
+mod questions;
+mod seat;
+mod shared_head;
+
+pub use blank::Blank;
+pub use laws::{what_is_answered_204_is_held, what_is_stored_stays};
+pub use naming::Naming;
+pub use question::Question;
 pub use rw_head::{
     AllSeries, Block, Head, HeldSeries, LabelSets, Limits, Verdict, stores_are_lists,
     stores_hold_no_empty_list,
 };
-pub use rw_shared_head::{
-    Asked, Blank, Naming, Seat, SharedHead, what_is_answered_204_is_held, what_is_stored_stays,
-};
+pub use seat::{Asked, Seat};
+pub use shared_head::SharedHead;

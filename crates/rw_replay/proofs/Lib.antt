@@ -1,3 +1,5 @@
 pub mod PlayedLemmas
 pub mod PrintLemmas
 pub mod ScriptLemmas
+pub mod OrderLemmas
+pub mod ScriptTextLemmas

@@ -1,14 +1,15 @@
 -- Lines of a script are carried out.
 use Rattle.std.proofs.Common.{◌≡◌, inr, ℕ, List, [], ◌∷◌, map, Some, refl, sym, ap, ◌∙◌, subst}
 use Rattle.std.specs.List.{AllByRecursion}
-use Rattle.rw_machine.specs.Worlds.{Ending, report}
+use Rattle.rw_machine.specs.Worlds.{report}
+use Rattle.rw_shard_core.specs.Endings.{Ending}
 use Rattle.rw_machine.specs.Steps.{happens}
 use Rattle.rw_machine.specs.declared.event.Event.{Event}
 use Rattle.rw_machine.specs.declared.event.Event.TheVariants as event
 use Rattle.rw_wal_tail.specs.declared.piece.Piece.TheVariants as piece
-use Rattle.rw_script.specs.declared.command.Command.{Command}
-use Rattle.rw_script.specs.declared.command.Command.TheVariants as command
-use Rattle.rw_script.specs.ScriptText.{Order, fed, order_of, order_of_event}
+use Rattle.rw_replay.specs.declared.command.Command.{Command}
+use Rattle.rw_replay.specs.declared.command.Command.TheVariants as command
+use Rattle.rw_replay.specs.ScriptText.{Order, fed, order_of, order_of_event}
 use Rattle.rw_world.specs.Machine.{Machine}
 use Rattle.rw_replay.specs.Played.{Played, next_segment, settled_after, Feeds, Plays, Follows, IsWritable}
 

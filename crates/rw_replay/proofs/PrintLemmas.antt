@@ -1,8 +1,8 @@
 -- What a script prints.
 use Rattle.std.proofs.Common.{◌≡◌, ℕ, List, Result, Ok, Err, IfOk, subst}
 use Rattle.rw_machine.specs.Worlds.{Setup}
-use Rattle.rw_script.specs.ScriptText.{Order}
-use Rattle.rw_state_text.specs.StateText.{state_text}
+use Rattle.rw_replay.specs.ScriptText.{Order}
+use Rattle.rw_replay.specs.WorldText.{state_text}
 use Rattle.rw_replay.specs.Played.{Played, Follows, beginning, IsPrinted}
 
 pub printed : (c : Setup) (orders : List Order) (first last : Played) (text : List ℕ) → first ≡ beginning c → Follows first orders last → text ≡ state_text last.machine.world → IsPrinted c orders text

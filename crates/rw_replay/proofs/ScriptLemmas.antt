@@ -2,8 +2,8 @@
 use Rattle.std.proofs.Common.{ℕ, List, [], ◌∷◌, sym, subst, inl, inr}
 use Rattle.std.specs.List.{AllByRecursion}
 use Rattle.rw_text.specs.RecordLines.{lines}
-use Rattle.rw_script.specs.ScriptText.{Order, logged, fed, arrives, bare, numbered, IsOrder}
-use Rattle.rw_script.specs.Scripts.{AreOrders, IsScript}
+use Rattle.rw_replay.specs.ScriptText.{Order, logged, fed, arrives, bare, numbered, IsOrder}
+use Rattle.rw_replay.specs.Scripts.{AreOrders, IsScript}
 use Rattle.rw_replay.specs.Played.{IsWritable}
 use Rattle.rw_log_commands.proofs.FillingLemmas.{record_some}
 

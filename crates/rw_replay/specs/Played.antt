@@ -2,15 +2,16 @@
 use Rattle.std.specs.Prelude.{◌≡◌, ◌⊎◌, ℕ, ◌+◌, ◌*◌, ◌<◌, ◌≤◌, List, [], ◌∷◌, length, map, Bool, Some, nat_lt, if◌then◌else◌}
 use Rattle.rw_wal_format.specs.Pieces.{page_size}
 use Rattle.rw_wal_format.specs.Writing.{log_bytes, room}
-use Rattle.rw_machine.specs.Worlds.{Setup, World, Ending, start, report}
+use Rattle.rw_machine.specs.Worlds.{Setup, World, start, report}
+use Rattle.rw_shard_core.specs.Endings.{Ending}
 use Rattle.rw_machine.specs.Steps.{happens, run}
 use Rattle.rw_machine.specs.Settling.{settle}
 use Rattle.rw_machine.specs.declared.event.Event.{Event}
 use Rattle.rw_machine.specs.declared.event.Event.TheVariants as event
 use Rattle.rw_wal_tail.specs.declared.piece.Piece.TheVariants as piece
-use Rattle.rw_script.specs.declared.command.Command.TheVariants as command
-use Rattle.rw_script.specs.ScriptText.{Order, logged, fed, order_of, order_of_event}
-use Rattle.rw_state_text.specs.StateText.{state_text}
+use Rattle.rw_replay.specs.declared.command.Command.TheVariants as command
+use Rattle.rw_replay.specs.ScriptText.{Order, logged, fed, order_of, order_of_event}
+use Rattle.rw_replay.specs.WorldText.{state_text}
 use Rattle.rw_world.specs.Machine.{Machine}
 
 -- a machine of events, and how many bytes are written of the segment that its log has come to

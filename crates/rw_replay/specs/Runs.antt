@@ -2,10 +2,10 @@
 use Rattle.std.specs.Prelude.{◌≡◌, ℕ, ◌≤◌, List, length, take, Bool, true, Option}
 use Rattle.std.specs.Io.KnownBytes.{Appends, Consumes, IsAtEnd}
 use Rattle.rw_machine.specs.Worlds.{Setup}
-use Rattle.rw_script.specs.ScriptText.{Order}
-use Rattle.rw_script.specs.Scripts.{IsScript, IsBadLine}
-use Rattle.rw_fault.specs.declared.tool_fault.ToolFault.{ToolFault}
-use Rattle.rw_fault.specs.declared.tool_fault.ToolFault.TheVariants.{OutOfMemory, Log, Line, SegmentFull, Device}
+use Rattle.rw_replay.specs.ScriptText.{Order}
+use Rattle.rw_replay.specs.Scripts.{IsScript, IsBadLine}
+use Rattle.rw_text.specs.declared.tool_fault.ToolFault.{ToolFault}
+use Rattle.rw_text.specs.declared.tool_fault.ToolFault.TheVariants.{OutOfMemory, Log, Line, SegmentFull, Device}
 use Rattle.rw_replay.specs.Played.{IsPrinted}
 
 -- a script was read to its end

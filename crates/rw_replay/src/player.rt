@@ -4,17 +4,17 @@ ghost use Rattle.std.specs.Prelude.{◌≡◌, ◌*◌, ◌<◌, ◌≤◌, [], 
 ghost use Rattle.std.specs.List.{AllByRecursion};
 ghost use Rattle.rw_wal_format.specs.Pieces.{page_size};
 ghost use Rattle.rw_wal_format.specs.Writing.{log_bytes};
-ghost use Rattle.rw_script.specs.declared.command.Command.TheVariants as command;
-ghost use Rattle.rw_script.specs.ScriptText.{logged, fed, order_of, order_of_event};
-ghost use Rattle.rw_state_text.specs.StateText.{state_text};
+ghost use Rattle.rw_replay.specs.declared.command.Command.TheVariants as command;
+ghost use Rattle.rw_replay.specs.ScriptText.{logged, fed, order_of, order_of_event};
+ghost use Rattle.rw_replay.specs.WorldText.{state_text};
 ghost use Rattle.rw_wal_write.specs.Segment.{IsPlace};
 ghost use Rattle.rw_world.specs.Machine.{setup_of};
 ghost use Rattle.rw_replay.specs.Played.{segment_pages, next_segment, beginning, Feeds, Plays, Follows, IsWritable};
 
+use crate::command::Command;
 use crate::log::{Written, write_behind};
 use crate::state::text_of;
 use rw_machine::Event;
-use rw_script::Command;
 use rw_settings::Settings;
 use rw_wal_tail::Piece;
 use rw_world::World;

@@ -3,17 +3,19 @@
 ghost use Rattle.std.specs.Prelude.{◌≡◌, ◌≢◌, ◌⊎◌, ℕ, map, true, false, Err, IfOk, OnOk, IfErr};
 ghost use Rattle.std.specs.List.{AllByRecursion};
 ghost use Rattle.rw_wal_format.specs.declared.tail_fault.TailFault.{TailFault};
-ghost use Rattle.rw_script.specs.ScriptText.{order_of};
-ghost use Rattle.rw_script.specs.Scripts.{IsScript};
-ghost use Rattle.rw_fault.specs.declared.tool_fault.ToolFault.TheVariants.{OutOfMemory, Log, Line, SegmentFull, Device};
+ghost use Rattle.rw_replay.specs.ScriptText.{order_of};
+ghost use Rattle.rw_replay.specs.Scripts.{IsScript};
+ghost use Rattle.rw_text.specs.declared.tool_fault.ToolFault.TheVariants.{OutOfMemory, Log, Line, SegmentFull, Device};
 ghost use Rattle.rw_world.specs.Machine.{setup_of};
 ghost use Rattle.rw_replay.specs.Played.{IsPrinted, IsWritable};
 ghost use Rattle.rw_replay.specs.Runs.{IsFaultOfText, ReadsScript, ReadsBadLine, StopsReading, WritesState, WritesStatePart};
 
+use crate::command::Command;
+use crate::fault::ScriptFault;
 use crate::player::Player;
-use rw_fault::ToolFault;
-use rw_script::{Command, ScriptFault, read_script};
+use crate::script::read_script;
 use rw_settings::Settings;
+use rw_text::ToolFault;
 use rw_types::{Sink, Source, read_to_end, write_all};
 use std::alloc::{AllocError, Global};
 

@@ -8,15 +8,15 @@ use Rattle.rw_fleet.specs.declared.running.Fault.{Fault}
 use Rattle.rw_fleet.specs.declared.joined.StoppedShard.{StoppedShard}
 use Rattle.rw_shard_core.specs.declared.outcome.Outcome.{Outcome}
 use Rattle.rw_shard_core.specs.declared.outcome.Outcome.TheVariants as outcome
-use Rattle.rw_shipper.specs.Reports.{IsAbandoned, ListsCut, kind_of}
-use Rattle.rw_shipper.specs.declared.report.Report.{Report}
-use Rattle.rw_shipper.specs.Shipping.{Shipping, Ends}
-use Rattle.rw_fault.specs.declared.tool_fault.ToolFault.{ToolFault}
-use Rattle.rw_fault.specs.declared.tool_fault.ToolFault.TheVariants as fault
-use Rattle.rw_log_shipping.specs.declared.halt.Halt.{Halt}
-use Rattle.rw_log_shipping.specs.declared.halt.Halt.TheVariants as halt
-use Rattle.rw_log_shipping.specs.Halting.{IsHalted}
-use Rattle.rw_log_shipping.specs.Segments.{AreSure, HasMoreBytes}
+use Rattle.rw_sender.specs.Reports.{IsAbandoned, ListsCut, kind_of}
+use Rattle.rw_sender.specs.declared.report.Report.{Report}
+use Rattle.rw_sender.specs.Shipping.{Shipping, Ends}
+use Rattle.rw_text.specs.declared.tool_fault.ToolFault.{ToolFault}
+use Rattle.rw_text.specs.declared.tool_fault.ToolFault.TheVariants as fault
+use Rattle.rw_send.specs.declared.halt.Halt.{Halt}
+use Rattle.rw_send.specs.declared.halt.Halt.TheVariants as halt
+use Rattle.rw_send.specs.Halting.{IsHalted}
+use Rattle.rw_send.specs.Segments.{AreSure, HasMoreBytes}
 use Rattle.rw_send.specs.Sending.{answer_to, hard_fault, Answers, EndsFor, IsCutFor, StopsAtOnce}
 
 some_is_not_none : {A B : Type 0} (found : Option A) (x : A) → found ≡ Some x → found ≡ None → B

@@ -20,28 +20,28 @@ use Rattle.rw_follow.specs.declared.watch.Wish.TheVariants as wish
 use Rattle.rw_shard_core.specs.declared.config.ConfigFields.{ConfigFields}
 use Rattle.rw_shard_core.specs.declared.outcome.Outcome.{Outcome}
 use Rattle.rw_worker.specs.Transcript.{Exchange}
-use Rattle.rw_shipper.specs.Reports.{IsAbandoned}
-use Rattle.rw_shipper.specs.Shipping.{FailsBy, Feeds, Shipping}
-use Rattle.rw_shipper.specs.declared.report.Report.{Report}
-use Rattle.rw_shipper.specs.declared.shipper.FeedFault.{FeedFault}
-use Rattle.rw_shipper.specs.declared.shipper.FeedFault.TheVariants as feed
-use Rattle.rw_fault.specs.declared.tool_fault.ToolFault.{ToolFault}
-use Rattle.rw_fault.specs.declared.tool_fault.ToolFault.TheVariants as tool
+use Rattle.rw_sender.specs.Reports.{IsAbandoned}
+use Rattle.rw_sender.specs.Shipping.{FailsBy, Feeds, Shipping}
+use Rattle.rw_sender.specs.declared.report.Report.{Report}
+use Rattle.rw_sender.specs.declared.shipper.FeedFault.{FeedFault}
+use Rattle.rw_sender.specs.declared.shipper.FeedFault.TheVariants as feed
+use Rattle.rw_text.specs.declared.tool_fault.ToolFault.{ToolFault}
+use Rattle.rw_text.specs.declared.tool_fault.ToolFault.TheVariants as tool
 use Rattle.rw_types.specs.declared.transfer.ReadFault.{ReadFault}
 use Rattle.rw_types.specs.declared.transfer.ReadFault.TheVariants as read
 use Rattle.rw_send.specs.declared.follow_fault.FollowFault.{FollowFault}
 use Rattle.rw_send.specs.declared.follow_fault.FollowFault.TheVariants as fault
-use Rattle.rw_log_shipping.specs.declared.halt.Halt.{Halt}
-use Rattle.rw_log_shipping.specs.declared.halt.Halt.TheVariants as halt
+use Rattle.rw_send.specs.declared.halt.Halt.{Halt}
+use Rattle.rw_send.specs.declared.halt.Halt.TheVariants as halt
 use Rattle.rw_send.specs.declared.live.Cut.{Cut}
 use Rattle.rw_send.specs.declared.live.Cut.TheVariants as cut
 use Rattle.rw_send.specs.Following.{FailsWith, FollowAnswers, FollowStopsAtOnce, HaltsAt, HaltsFor, HasGivenMore, HasRead, IsCut, IsFollowPrinted, IsFollowPrintedPart, IsFollowed, IsUnread, answer_by, left_undone, meal_after, meal_of, no_meal, shipped_by, told}
 use Rattle.rw_send.specs.ReportText.{IsTextOf, WritesPart}
-use Rattle.rw_log_shipping.specs.Halting.{IsHalted, halt_of}
+use Rattle.rw_send.specs.Halting.{IsHalted, halt_of}
 use Rattle.rw_send.specs.Sending.{Answers, StopsAtOnce, hard_fault}
 use Rattle.rw_send.proofs.AnswerLemmas.{HasCause, answers_too}
-use Rattle.rw_feeder.specs.Feeders.{Sorting}
-use Rattle.rw_log_shipping.proofs.HaltLemmas.{failed_of, fails_so, halts}
+use Rattle.rw_sender.specs.Feeders.{Sorting}
+use Rattle.rw_send.proofs.HaltLemmas.{failed_of, fails_so, halts}
 use Rattle.rw_send.proofs.PrintLemmas.{failed}
 
 -- ---- what pieces tell

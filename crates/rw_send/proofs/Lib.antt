@@ -1,3 +1,10 @@
 pub mod AnswerLemmas
 pub mod FollowLemmas
 pub mod PrintLemmas
+pub mod EpochLemmas
+pub mod HaltLemmas
+pub mod PartLemmas
+pub mod SegmentLemmas
+pub mod ShortLemmas
+pub mod StepLemmas
+pub mod SureLemmas

@@ -4,8 +4,8 @@ use Rattle.std.specs.Result.{IsErrAnd}
 use Rattle.std.specs.Io.KnownBytes.{Appends}
 use Rattle.rw_shard_core.specs.declared.config.ConfigFields.{ConfigFields}
 use Rattle.rw_worker.specs.Transcript.{Exchange}
-use Rattle.rw_shipper.specs.declared.report.Report.{Report}
-use Rattle.rw_fault.specs.declared.tool_fault.ToolFault.{ToolFault}
+use Rattle.rw_sender.specs.declared.report.Report.{Report}
+use Rattle.rw_text.specs.declared.tool_fault.ToolFault.{ToolFault}
 use Rattle.rw_send.specs.ReportText.{IsTextOf, WritesPart}
 use Rattle.rw_send.specs.Sending.{IsSent, IsPrinted, IsPrintedPart}
 

@@ -15,21 +15,21 @@ use Rattle.rw_shard_core.specs.declared.config.ConfigFields.{ConfigFields}
 use Rattle.rw_shard_core.specs.declared.outcome.Outcome.{Outcome}
 use Rattle.rw_fleet.specs.ShardHistories.{marked, marks_of}
 use Rattle.rw_worker.specs.Transcript.{Exchange}
-use Rattle.rw_shipper.specs.Reports.{IsAbandoned}
-use Rattle.rw_shipper.specs.Shipping.{Shipping}
-use Rattle.rw_shipper.specs.declared.report.Report.{Report}
-use Rattle.rw_fault.specs.declared.tool_fault.ToolFault.{ToolFault}
-use Rattle.rw_fault.specs.declared.tool_fault.ToolFault.TheVariants as tool
+use Rattle.rw_sender.specs.Reports.{IsAbandoned}
+use Rattle.rw_sender.specs.Shipping.{Shipping}
+use Rattle.rw_sender.specs.declared.report.Report.{Report}
+use Rattle.rw_text.specs.declared.tool_fault.ToolFault.{ToolFault}
+use Rattle.rw_text.specs.declared.tool_fault.ToolFault.TheVariants as tool
 use Rattle.rw_types.specs.declared.transfer.ReadFault.TheVariants as read
 use Rattle.rw_send.specs.declared.follow_fault.FollowFault.{FollowFault}
 use Rattle.rw_send.specs.declared.follow_fault.FollowFault.TheVariants as fault
-use Rattle.rw_log_shipping.specs.declared.halt.Halt.{Halt}
-use Rattle.rw_log_shipping.specs.declared.halt.Halt.TheVariants as halt
+use Rattle.rw_send.specs.declared.halt.Halt.{Halt}
+use Rattle.rw_send.specs.declared.halt.Halt.TheVariants as halt
 use Rattle.rw_send.specs.declared.live.Cut.{Cut}
 use Rattle.rw_send.specs.declared.live.Cut.TheVariants as cut
 use Rattle.rw_send.specs.ReportText.{IsTextOf, WritesPart}
-use Rattle.rw_log_shipping.specs.Segments.{AreShort}
-use Rattle.rw_log_shipping.specs.Halting.{IsHalted}
+use Rattle.rw_send.specs.Segments.{AreShort}
+use Rattle.rw_send.specs.Halting.{IsHalted}
 use Rattle.rw_send.specs.Sending.{Answers, IsReportOf, StopsAtOnce}
 
 -- nothing was given of the log, of which no segment is over

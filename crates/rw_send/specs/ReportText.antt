@@ -7,9 +7,9 @@ use Rattle.rw_ledger.specs.Names.{Named}
 use Rattle.rw_ledger.specs.declared.ledger.Reason.{Reason}
 use Rattle.rw_shard_core.specs.declared.outcome.Outcome.{Outcome}
 use Rattle.rw_shard_core.specs.declared.outcome.Outcome.TheVariants as outcome
-use Rattle.rw_machine.specs.Worlds.{Ending, Complete, Abandoned, Damaged}
+use Rattle.rw_shard_core.specs.Endings.{Ending, Complete, Abandoned, Damaged}
 use Rattle.rw_state_text.specs.StateText.{work_text}
-use Rattle.rw_shipper.specs.declared.report.Report.{Report}
+use Rattle.rw_sender.specs.declared.report.Report.{Report}
 
 -- the dropped samples of all parts
 abbrev pub names_in : List Named → List (ℕ × Reason)

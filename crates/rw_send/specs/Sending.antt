@@ -9,17 +9,17 @@ use Rattle.rw_shard_core.specs.declared.outcome.Outcome.{Outcome}
 use Rattle.rw_shard_core.specs.declared.outcome.Outcome.TheVariants as outcome
 use Rattle.rw_worker.specs.Transcript.{Exchange}
 use Rattle.rw_fleet.specs.Fleets.{EndBy}
-use Rattle.rw_shipper.specs.Placement.{IsShardCount}
-use Rattle.rw_shipper.specs.Reports.{IsAbandoned, ListsCut}
-use Rattle.rw_shipper.specs.Shipping.{Shipping, PlacesAll, HasStopped}
-use Rattle.rw_shipper.specs.declared.report.Report.{Report}
-use Rattle.rw_fault.specs.declared.tool_fault.ToolFault.{ToolFault}
-use Rattle.rw_fault.specs.declared.tool_fault.ToolFault.TheVariants as fault
-use Rattle.rw_log_shipping.specs.declared.halt.Halt.{Halt}
-use Rattle.rw_log_shipping.specs.declared.halt.Halt.TheVariants as halt
+use Rattle.rw_sender.specs.Placement.{IsShardCount}
+use Rattle.rw_sender.specs.Reports.{IsAbandoned, ListsCut}
+use Rattle.rw_sender.specs.Shipping.{Shipping, PlacesAll, HasStopped}
+use Rattle.rw_sender.specs.declared.report.Report.{Report}
+use Rattle.rw_text.specs.declared.tool_fault.ToolFault.{ToolFault}
+use Rattle.rw_text.specs.declared.tool_fault.ToolFault.TheVariants as fault
+use Rattle.rw_send.specs.declared.halt.Halt.{Halt}
+use Rattle.rw_send.specs.declared.halt.Halt.TheVariants as halt
 use Rattle.rw_send.specs.ReportText.{IsTextOf, WritesPart}
-use Rattle.rw_log_shipping.specs.Segments.{AreShort, AreSure, HasMoreBytes, IsBeginningOf, IsLogOf}
-use Rattle.rw_log_shipping.specs.Steps.{AreShipped, AreShippedPart, HasLastEpoch, HasStarted}
+use Rattle.rw_send.specs.Segments.{AreShort, AreSure, HasMoreBytes, IsBeginningOf, IsLogOf}
+use Rattle.rw_send.specs.Steps.{AreShipped, AreShippedPart, HasLastEpoch, HasStarted}
 
 -- the shards were ended in order; or at once, since the shipper failed or for this cause, and then
 -- work is abandoned

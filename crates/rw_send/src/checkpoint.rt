@@ -8,9 +8,9 @@ use crate::files::{
 };
 use crate::folder::Current;
 use crate::opened::Opened;
-use rw_fault::ToolFault;
 use rw_log_folder::{Checkpoint, Listing, Name, OrderFault, Place, log_order};
 use rw_metrics::SendCounters;
+use rw_text::ToolFault;
 use rw_types::Std;
 use std::alloc::{AllocError, Global};
 use std::fs;

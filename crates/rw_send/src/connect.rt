@@ -3,7 +3,7 @@
 ghost use Rattle.std.specs.Prelude.{◌≡◌, ◌*◌, [], IfOk};
 
 use rw_metrics::SendCounters;
-use rw_shipper::Connect;
+use rw_sender::Connect;
 use rw_tcp::{Sleep, TcpTransport};
 use rw_types::Bounded;
 use std::alloc::{AllocError, Global};

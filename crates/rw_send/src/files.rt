@@ -5,9 +5,8 @@ ghost use Rattle.std.specs.List.Sorted.{IsPermutation, IsSortedBy};
 ghost use Rattle.rw_send.specs.Folders.{IsNameOf, comes_before};
 
 use crate::opened::{Open, Opened};
-use rw_fault::ToolFault;
 use rw_metrics::SendCounters;
-use rw_text::read_number;
+use rw_text::{ToolFault, read_number};
 use rw_types::{Failed, Std};
 use std::alloc::{AllocError, Global};
 use std::fs::File;

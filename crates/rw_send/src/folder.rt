@@ -2,9 +2,9 @@
 
 use crate::checkpoint::{FilesFault, first_files};
 use crate::files::{SegmentName, names_in};
-use rw_fault::ToolFault;
 use rw_follow::{Ahead, Segments};
 use rw_metrics::SendCounters;
+use rw_text::ToolFault;
 use rw_types::{ReadFault, Source, Std};
 use std::alloc::{AllocError, Global};
 use std::fs;

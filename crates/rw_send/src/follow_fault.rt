@@ -1,6 +1,6 @@
 //! Why following a log ends early.
 
-use rw_fault::ToolFault;
+use rw_text::ToolFault;
 use std::alloc::AllocError;
 use std::error::Error;
 use std::fmt;
@@ -41,7 +41,7 @@ impl From<ToolFault> for FollowFault {
 
 impl From<AllocError> for FollowFault {
     ghost use Rattle.std.specs.Prelude.{◌≡◌};
-    ghost use Rattle.rw_fault.specs.declared.tool_fault.ToolFault.TheVariants.{OutOfMemory};
+    ghost use Rattle.rw_text.specs.declared.tool_fault.ToolFault.TheVariants.{OutOfMemory};
     ghost use Rattle.rw_send.specs.declared.follow_fault.FollowFault.TheVariants.{Tool};
 
     ghost from_gives = { λ _ e. e ≡ Tool OutOfMemory };

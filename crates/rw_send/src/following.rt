@@ -4,21 +4,24 @@ ghost use Rattle.std.specs.Prelude.{◌≡◌, ◌⊎◌, ℕ, Ok, Err, true, fa
 ghost use Rattle.rw_wal_format.specs.declared.tail_fault.TailFault.{TailFault};
 ghost use Rattle.rw_follow.specs.Growth.{Known};
 ghost use Rattle.rw_follow.specs.declared.watch.Wish.TheVariants as Wish;
-ghost use Rattle.rw_fault.specs.declared.tool_fault.ToolFault.TheVariants.{OutOfMemory, Log, Line, SegmentFull, Device};
+ghost use Rattle.rw_text.specs.declared.tool_fault.ToolFault.TheVariants.{OutOfMemory, Log, Line, SegmentFull, Device};
 ghost use Rattle.rw_send.specs.Following.{IsFollowPrinted, IsFollowPrintedPart, IsFollowed, IsUnread, answer_by, left_undone, shipped_by, told};
 ghost use Rattle.rw_send.specs.declared.follow_fault.FollowFault.TheVariants.{Tool, Missing, Stopped};
 
+use crate::feed_counters::{Means, tell};
 use crate::follow_fault::FollowFault;
+use crate::halt::Halt;
 use crate::live::{Cut, ship_live};
 use crate::printing::print_report;
 use crate::send::{Sent, stopped};
+use crate::sharding::Sharding;
+use crate::shipping::zeros;
 use crate::telling::{Counted, tell_report};
-use rw_fault::ToolFault;
 use rw_follow::{Broken, Segments, Stop, Watch, Wish};
-use rw_log_shipping::{Halt, Means, Sharding, tell, zeros};
+use rw_sender::{Connect, Report, Shipper};
 use rw_settings::Settings;
 use rw_shard_core::Config;
-use rw_shipper::{Connect, Report, Shipper};
+use rw_text::ToolFault;
 use rw_types::{ReadFault, Sink};
 use std::alloc::{AllocError, Global};
 use std::sync::Wait;

@@ -1,25 +1,34 @@
-//! The sender: segments of a log shipped over many shards, and the report of it printed.
+//! The command `send`: the segments of a log are shipped over many shards, once or as the log
+//! grows, and the report is printed.
 #![tactic(auto)]
 
 mod checkpoint;
 mod connect;
+mod feed_counters;
 mod files;
 mod folder;
 mod follow_fault;
 mod following;
+mod halt;
 mod live;
 mod opened;
 mod printing;
 mod send;
+mod sharding;
+mod shipping;
 mod telling;
 
 pub use checkpoint::{LogFiles, has_checkpoint, log_files};
 pub use connect::TcpConnect;
+pub use feed_counters::Means;
 pub use files::{SegmentFile, segment_files};
 pub use folder::Folder;
 pub use follow_fault::FollowFault;
 pub use following::run_follow;
+pub use halt::Halt;
 pub use opened::{Open, Opened};
 pub use rw_worker::StopFlag;
 pub use send::run_send;
+pub use sharding::{Sharding, resharded, retuned};
+pub use shipping::ship_all;
 pub use telling::Counted;

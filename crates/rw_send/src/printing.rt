@@ -2,15 +2,15 @@
 
 ghost use Rattle.std.specs.Prelude.{◌≡◌, ◌++◌, ◌⊎◌, ℕ, List, flat_map, true, false, Err, IfOk, IfErr, OnOk};
 ghost use Rattle.std.specs.Io.KnownBytes.{Appends};
-ghost use Rattle.rw_machine.specs.Endings.{ending_of};
+ghost use Rattle.rw_shard_core.specs.Endings.{ending_of};
 ghost use Rattle.rw_state_text.specs.StateText.{dropped_text};
 ghost use Rattle.rw_send.specs.ReportText.{AreByPosition, IsEnding, IsTextOf, WritesPart, names_in};
-ghost use Rattle.rw_fault.specs.declared.tool_fault.ToolFault.TheVariants.{OutOfMemory, Device};
+ghost use Rattle.rw_text.specs.declared.tool_fault.ToolFault.TheVariants.{OutOfMemory, Device};
 
-use rw_fault::ToolFault;
 use rw_ledger::{Ledger, Reason};
-use rw_shipper::{Outcome, Report};
+use rw_sender::{Outcome, Report};
 use rw_state_text::{push_dropped, push_ending, push_filtered};
+use rw_text::ToolFault;
 use rw_types::{Sink, write_all};
 use std::alloc::{AllocError, Global};
 

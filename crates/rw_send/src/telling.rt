@@ -2,7 +2,7 @@
 
 use rw_ledger::{Ledger, Reason};
 use rw_metrics::SendCounters;
-use rw_shipper::Report;
+use rw_sender::Report;
 use rw_worker::StopFlag;
 
 /// The connections to a receiver, the counters, the greatest number of bytes in the body of a

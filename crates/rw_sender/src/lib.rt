@@ -1,16 +1,31 @@
-//! The sender of Remote-Write 1.0: its configuration, the state of a shard, its worker, and the
-//! shipper of a log over many shards. This crate re-exports what the crates of the sender have.
+//! The sender of Remote-Write 1.0 in threads: a log is read piece by piece, its samples are routed to
+//! the queues of many shards, and a worker of each shard sends them in batches of bounded size.
+//!
+//! The configuration, the state of a shard and the workers come from the crates below and are
+//! re-exported here.
 #![tactic(auto)]
 
+mod bytes_laws;
+mod cuts;
+mod feeder;
+mod laws;
+mod lists;
+mod place;
+mod report;
+mod shipper;
+
+pub use bytes_laws::{body_within_its_count, cuts_keep_within, marks_keep_within};
+pub use cuts::Cuts;
+pub use feeder::{Feeder, Next};
+pub use laws::{batches_are_short, queues_stay_within, samples_are_spread};
+pub use report::Report;
 pub use rw_fleet::{Connect, Ends, Fault, Fed, Finished, Load, Resolution, ShardSet, StoppedShard};
 pub use rw_shard_core::{
     Attempt, Config, ConfigFields, MAX_FIELDS, MAX_HEAD_BYTES, Outcome, ReplyRead, ShardCore,
     Target, read_reply, request_bytes,
 };
-pub use rw_shipper::{
-    FeedFault, Report, Shipper, batches_are_short, queues_stay_within, samples_are_spread,
-};
 pub use rw_worker::{
     Begun, FeederGone, Lost, Pause, Reply, StopFlag, Stopped, TakingEnd, Tally, Transport, Worker,
     WorkerReport, spawn,
 };
+pub use shipper::{FeedFault, Shipper};

@@ -32,14 +32,14 @@ use Rattle.rw_fleet.specs.ShardHistories.{ShardHistory, AreSame}
 use Rattle.rw_fleet.specs.Work.{lane_of}
 use Rattle.rw_fleet.specs.declared.joined.StoppedShard.{StoppedShard}
 use Rattle.rw_fleet.specs.declared.running.Fault.{Fault}
-use Rattle.rw_shipper.specs.Placement.{AreTurned, IsShardCount}
-use Rattle.rw_shipper.specs.Reports.{IsAbandoned}
-use Rattle.rw_shipper.specs.Shipping.{Shipping, Ends, PlacesAll}
-use Rattle.rw_shipper.specs.declared.report.Report.{Report}
+use Rattle.rw_sender.specs.Placement.{AreTurned, IsShardCount}
+use Rattle.rw_sender.specs.Reports.{IsAbandoned}
+use Rattle.rw_sender.specs.Shipping.{Shipping, Ends, PlacesAll}
+use Rattle.rw_sender.specs.declared.report.Report.{Report}
 use Rattle.rw_simulation.specs.Arrivals.{Arrival, IsOneReceiver, Receives}
 use Rattle.rw_simulation.specs.Received.{IsHeld, ReceivesAbandoned, ReceivesInOrder}
 use Rattle.rw_simulation.specs.StoppedRuns.{IsMachineOf, first_number}
-use Rattle.rw_log_shipping.specs.Segments.{AreShort, IsShort}
+use Rattle.rw_send.specs.Segments.{AreShort, IsShort}
 use Rattle.rw_send.specs.Sending.{EndsFor, IsReportOf}
 use Rattle.rw_sent_held.specs.Held.{ComesToOne, Holds, HoldsAllOf, machine_of}
 

@@ -15,17 +15,17 @@ use Rattle.rw_head.specs.Verdicts.{LabelLimits}
 use Rattle.rw_machine.specs.Worlds.{Setup}
 use Rattle.rw_machine.specs.Promises.{owed, pair_of}
 use Rattle.rw_worker.specs.Transcript.{Exchange}
-use Rattle.rw_shipper.specs.Reports.{IsAbandoned}
-use Rattle.rw_shipper.specs.Shipping.{Shipping, HasStopped}
-use Rattle.rw_shipper.specs.declared.report.Report.{Report}
+use Rattle.rw_sender.specs.Reports.{IsAbandoned}
+use Rattle.rw_sender.specs.Shipping.{Shipping, HasStopped}
+use Rattle.rw_sender.specs.declared.report.Report.{Report}
 use Rattle.rw_simulation.specs.Arrivals.{Arrival, IsOneReceiver}
 use Rattle.rw_simulation.specs.Received.{AreExchangesOf, IsHeld}
 use Rattle.rw_simulation.specs.StoppedRuns.{NamesAll}
 use Rattle.rw_follow.specs.Growth.{Moment}
 use Rattle.rw_follow.specs.declared.watch.Wish.{Wish}
-use Rattle.rw_fault.specs.declared.tool_fault.ToolFault.{ToolFault}
+use Rattle.rw_text.specs.declared.tool_fault.ToolFault.{ToolFault}
 use Rattle.rw_send.specs.declared.follow_fault.FollowFault.{FollowFault}
-use Rattle.rw_log_shipping.specs.Segments.{AreSure, HasMoreBytes}
+use Rattle.rw_send.specs.Segments.{AreSure, HasMoreBytes}
 use Rattle.rw_send.specs.Sending.{IsReportOf, IsSent, StopsAtOnce}
 use Rattle.rw_send.specs.Following.{FollowStopsAtOnce, IsFollowed, meal_of}
 

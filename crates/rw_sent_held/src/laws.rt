@@ -5,8 +5,8 @@ ghost use Rattle.std.specs.Prelude.{ℕ, Bool, List, Option, Result};
 ghost use Rattle.rw_follow.specs.Growth.{Moment};
 ghost use Rattle.rw_follow.specs.declared.watch.Wish.{Wish};
 ghost use Rattle.rw_shard_core.specs.declared.config.ConfigFields.{ConfigFields};
-ghost use Rattle.rw_shipper.specs.declared.report.Report.{Report};
-ghost use Rattle.rw_fault.specs.declared.tool_fault.ToolFault.{ToolFault};
+ghost use Rattle.rw_sender.specs.declared.report.Report.{Report};
+ghost use Rattle.rw_text.specs.declared.tool_fault.ToolFault.{ToolFault};
 ghost use Rattle.rw_send.specs.declared.follow_fault.FollowFault.{FollowFault};
 ghost use Rattle.rw_sent_held.specs.Held.{FollowedIsHeld, SentIsHeld};
 

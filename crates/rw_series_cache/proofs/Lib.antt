@@ -7,3 +7,5 @@ pub mod RisingLemmas
 pub mod SeriesLemmas
 pub mod TimestampLemmas
 pub mod VerdictLemmas
+pub mod KnowsLemmas
+pub mod RouteLemmas

@@ -6,3 +6,5 @@ pub mod Numbers
 pub mod Points
 pub mod Rising
 pub mod Verdicts
+pub mod Fates
+pub mod Routing

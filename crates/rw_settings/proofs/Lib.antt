@@ -2,3 +2,8 @@ pub mod DocumentLemmas
 pub mod KeyLemmas
 pub mod NoteLemmas
 pub mod RuleLemmas
+pub mod Written
+pub mod Defined
+pub mod Judged
+pub mod Printed
+pub mod ReadBack

@@ -5,3 +5,4 @@ pub mod RuleTables
 pub mod Sending
 pub mod Settings
 pub mod Values
+pub mod SettingsText

@@ -1,19 +1,23 @@
-//! The settings of the program, read from TOML.
+//! The settings of the program, read from TOML and printed as TOML that reads back the same.
 #![tactic(auto)]
 
 mod explain;
 mod fault;
 mod notes;
+mod print;
+mod printed_values;
 mod read;
 mod receiving;
 mod rule_tables;
 mod sending;
 mod settings;
+mod tables;
 mod values;
 
 pub use explain::explain_settings;
 pub use fault::SettingsFault;
 pub use notes::SettingsNote;
+pub use print::print_settings;
 pub use read::{read_rules, read_settings};
 pub use rule_tables::RuleFields;
 pub use settings::Settings;

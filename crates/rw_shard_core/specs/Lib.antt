@@ -3,3 +3,4 @@ pub mod Replies
 pub mod SentRequest
 pub mod Shard
 pub mod Inside
+pub mod Endings

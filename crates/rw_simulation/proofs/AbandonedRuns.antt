@@ -29,14 +29,15 @@ use Rattle.rw_fleet.specs.Fleets.{Shards, AreAll}
 use Rattle.rw_fleet.specs.declared.joined.StoppedShard.{StoppedShard}
 use Rattle.rw_fleet.specs.declared.joined.Finished.{Finished}
 use Rattle.rw_fleet.proofs.LaneLemmas.{same_length}
-use Rattle.rw_feeder.specs.Logs.{Sent, sent_of, sent, filtered}
-use Rattle.rw_shipper.specs.Placement.{as_sent, put_in, of_shard, IsDealt, IsShardCount, Places}
-use Rattle.rw_shipper.specs.Reports.{IsAbandoned, abandoned_in}
-use Rattle.rw_shipper.specs.Shipping.{Shipping, PlacesAll, HasStopped, Ends}
-use Rattle.rw_shipper.specs.declared.report.Report.{Report}
-use Rattle.rw_shipper.proofs.PlacementLemmas.{whole_placed}
+use Rattle.rw_sender.specs.Logs.{Sent, sent_of, sent, filtered}
+use Rattle.rw_sender.specs.Placement.{as_sent, put_in, of_shard, IsDealt, IsShardCount, Places}
+use Rattle.rw_sender.specs.Reports.{IsAbandoned, abandoned_in}
+use Rattle.rw_sender.specs.Shipping.{Shipping, PlacesAll, HasStopped, Ends}
+use Rattle.rw_sender.specs.declared.report.Report.{Report}
+use Rattle.rw_sender.proofs.PlacementLemmas.{whole_placed}
 use Rattle.rw_machine.specs.Shards.{Shard, Queued, pending, samples_in as waiting_in}
-use Rattle.rw_machine.specs.Worlds.{Setup, Request, World, Abandoned, start, new_shards, is_pending, up_to, report}
+use Rattle.rw_machine.specs.Worlds.{Setup, Request, World, start, new_shards, is_pending, up_to, report}
+use Rattle.rw_shard_core.specs.Endings.{Abandoned}
 use Rattle.rw_machine.specs.Steps.{happens, unless_over}
 use Rattle.rw_machine.specs.declared.event.Event.TheVariants as event
 use Rattle.rw_machine.specs.Promises.{CanWork}

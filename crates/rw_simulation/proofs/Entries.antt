@@ -3,8 +3,8 @@ use Rattle.std.specs.Prelude.{◌≡◌, suc, ◌+◌, true, false, List, [], �
 use Rattle.rw_types.specs.declared.entry.Entry.{Entry}
 use Rattle.rw_series_cache.specs.Numbers.{series_of}
 use Rattle.rw_plain_queue.specs.Items.{Placed}
-use Rattle.rw_feeder.specs.Logs.{Sent, sent_of, dropped_of, with_name, filtered_of}
-use Rattle.rw_shipper.specs.Placement.{shard_of}
+use Rattle.rw_sender.specs.Logs.{Sent, sent_of, dropped_of, with_name, filtered_of}
+use Rattle.rw_sender.specs.Placement.{shard_of}
 use Rattle.rw_machine.specs.Shards.{Shard, has_room, shard_put}
 use Rattle.rw_machine.specs.Worlds.{Setup, World, log}
 use Rattle.rw_machine.specs.Steps.{change}

@@ -7,9 +7,9 @@ use Rattle.rw_types.specs.declared.entry.Entry.TheVariants.{Def, Sample}
 use Rattle.rw_series_cache.specs.Known.{standing_of, known}
 use Rattle.rw_series_cache.specs.Numbers.{series_of, number_of, with_series}
 use Rattle.rw_series_cache.proofs.KnownLemmas.{series_of-push}
-use Rattle.rw_router.specs.Fates.{Fate, Drops, Filters, Sends, fate, fate_by}
-use Rattle.rw_feeder.specs.Logs.{Sent, kept_sample, sent_by_fate, dropped_by_fate, with_name, filtered_by_fate}
-use Rattle.rw_shipper.specs.Placement.{shard_of}
+use Rattle.rw_series_cache.specs.Fates.{Fate, Drops, Filters, Sends, fate, fate_by}
+use Rattle.rw_sender.specs.Logs.{Sent, kept_sample, sent_by_fate, dropped_by_fate, with_name, filtered_by_fate}
+use Rattle.rw_sender.specs.Placement.{shard_of}
 use Rattle.rw_machine.specs.Shards.{Shard, has_room, shard_put}
 use Rattle.rw_machine.specs.Worlds.{Setup, World, is_over}
 use Rattle.rw_machine.specs.Steps.{next_sample, place_as, place_entry, put_if_room, unless_over}

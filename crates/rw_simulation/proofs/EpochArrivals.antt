@@ -18,8 +18,8 @@ use Rattle.rw_worker.specs.Transcript.{Exchange}
 use Rattle.rw_worker.specs.Steps.{Step, working, AreSteps, after, items_of, exchanges_of}
 use Rattle.rw_head.specs.Head.{State}
 use Rattle.rw_fleet.specs.ShardHistories.{ShardHistory}
-use Rattle.rw_feeder.specs.Logs.{sent_of}
-use Rattle.rw_shipper.specs.Placement.{IsDealt}
+use Rattle.rw_sender.specs.Logs.{sent_of}
+use Rattle.rw_sender.specs.Placement.{IsDealt}
 use Rattle.rw_machine.specs.Shards.{Shard, samples_in as waiting_in}
 use Rattle.rw_machine.specs.Worlds.{Setup, Request, World}
 use Rattle.rw_machine.proofs.Lists.{Lists}

@@ -17,11 +17,11 @@ use Rattle.rw_plain_queue.specs.declared.item.Item.TheVariants as item
 use Rattle.rw_shard_core.specs.Shard.{placed}
 use Rattle.rw_worker.specs.Transcript.{Exchange}
 use Rattle.rw_worker.specs.Steps.{working, after, exchanges_of}
-use Rattle.rw_router.specs.Fates.{Fate, Drops, Filters, Sends, fate}
-use Rattle.rw_feeder.specs.Logs.{Sent, kept_sample, sent_by_fate, sent_of, filtered, filtered_of}
+use Rattle.rw_series_cache.specs.Fates.{Fate, Drops, Filters, Sends, fate}
+use Rattle.rw_sender.specs.Logs.{Sent, kept_sample, sent_by_fate, sent_of, filtered, filtered_of}
 use Rattle.rw_types.proofs.GatherLemmas.{gather-push}
 use Rattle.rw_types.specs.Gathering.{gather_from}
-use Rattle.rw_shipper.specs.Placement.{as_sent, shard_of, of_shard}
+use Rattle.rw_sender.specs.Placement.{as_sent, shard_of, of_shard}
 use Rattle.rw_machine.specs.Shards.{Shard, has_room, shard_put}
 use Rattle.rw_machine.specs.Worlds.{Setup, Request, World, log}
 use Rattle.rw_machine.specs.Steps.{change, flush_shard, happens, unless_over}

@@ -15,8 +15,8 @@ use Rattle.rw_shard_core.specs.Shard.{new_core}
 use Rattle.rw_worker.specs.Setups.{start_of}
 use Rattle.rw_worker.specs.Steps.{Working, Step, Takes, Freezes, Sends, Waits, AreSteps, after, items_of, exchanges_of, new_working}
 use Rattle.rw_fleet.specs.ShardHistories.{ShardHistory}
-use Rattle.rw_feeder.specs.Logs.{Sent, sent_of}
-use Rattle.rw_shipper.specs.Placement.{put_in, of_shard}
+use Rattle.rw_sender.specs.Logs.{Sent, sent_of}
+use Rattle.rw_sender.specs.Placement.{put_in, of_shard}
 use Rattle.rw_machine.specs.Shards.{Shard, new_shard}
 use Rattle.rw_machine.specs.Worlds.{Setup, Request, World, new_shards}
 use Rattle.rw_machine.proofs.Places.{get_some}

@@ -8,8 +8,8 @@ use Rattle.rw_wal_format.specs.Pieces.{Piece}
 use Rattle.rw_plain_queue.specs.Items.{samples_in}
 use Rattle.rw_plain_queue.specs.declared.item.Item.{Item}
 use Rattle.rw_plain_queue.specs.declared.item.Item.TheVariants as item
-use Rattle.rw_feeder.specs.Logs.{Sent}
-use Rattle.rw_shipper.specs.Placement.{as_sent}
+use Rattle.rw_sender.specs.Logs.{Sent}
+use Rattle.rw_sender.specs.Placement.{as_sent}
 use Rattle.rw_machine.specs.Shards.{Shard}
 use Rattle.rw_machine.specs.Worlds.{Setup, Request, World}
 use Rattle.rw_machine.specs.Steps.{change}

@@ -12,10 +12,10 @@ use Rattle.rw_worker.specs.Steps.{exchanges_of}
 use Rattle.rw_fleet.specs.Work.{IsWorked, AreWorked, finished_of, queue_of}
 use Rattle.rw_fleet.specs.declared.joined.StoppedShard.{StoppedShard}
 use Rattle.rw_fleet.specs.declared.joined.Finished.{Finished}
-use Rattle.rw_feeder.specs.Logs.{named, dropped}
-use Rattle.rw_shipper.specs.Reports.{part_of}
-use Rattle.rw_shipper.specs.Shipping.{Shipping, HasStopped}
-use Rattle.rw_shipper.specs.declared.report.Report.{Report}
+use Rattle.rw_sender.specs.Logs.{named, dropped}
+use Rattle.rw_sender.specs.Reports.{part_of}
+use Rattle.rw_sender.specs.Shipping.{Shipping, HasStopped}
+use Rattle.rw_sender.specs.declared.report.Report.{Report}
 use Rattle.rw_machine.specs.Worlds.{Setup, Request, World}
 use Rattle.rw_machine.proofs.Places.{get_some}
 use Rattle.rw_simulation.specs.WorkerRuns.{sent_bytes, request_in}

@@ -12,13 +12,13 @@ use Rattle.rw_relabel.specs.declared.choice.Choice.{Choice}
 use Rattle.rw_plain_queue.specs.Items.{samples_in}
 use Rattle.rw_plain_queue.specs.declared.item.Item.{Item}
 use Rattle.rw_plain_queue.specs.declared.item.Item.TheVariants.{Sample, Flush, End}
-use Rattle.rw_router.specs.Fates.{Fate, Drops, Filters, Sends, fate}
-use Rattle.rw_feeder.specs.Logs.{Sent, kept_sample, sent_by_fate, sent_of}
+use Rattle.rw_series_cache.specs.Fates.{Fate, Drops, Filters, Sends, fate}
+use Rattle.rw_sender.specs.Logs.{Sent, kept_sample, sent_by_fate, sent_of}
 use Rattle.rw_fleet.specs.Work.{positions_in}
 use Rattle.rw_fleet.specs.declared.joined.StoppedShard.{StoppedShard}
-use Rattle.rw_shipper.specs.Placement.{as_sent, shard_of, of_shard}
-use Rattle.rw_shipper.specs.Reports.{abandoned_in}
-use Rattle.rw_shipper.specs.Spread.{StandsBefore}
+use Rattle.rw_sender.specs.Placement.{as_sent, shard_of, of_shard}
+use Rattle.rw_sender.specs.Reports.{abandoned_in}
+use Rattle.rw_sender.specs.Spread.{StandsBefore}
 use Rattle.rw_simulation.proofs.RisingOrders.{Differ}
 
 -- ---- facts of each element

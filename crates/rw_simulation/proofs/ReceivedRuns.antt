@@ -39,16 +39,17 @@ use Rattle.rw_fleet.specs.Fleets.{Shards, AreAll, EndBy}
 use Rattle.rw_fleet.specs.declared.joined.StoppedShard.{StoppedShard}
 use Rattle.rw_fleet.specs.declared.joined.Finished.{Finished}
 use Rattle.rw_fleet.proofs.LaneLemmas.{same_length}
-use Rattle.rw_feeder.specs.Feeders.{HasRead}
-use Rattle.rw_feeder.specs.Logs.{Sent, sent, sent_of}
-use Rattle.rw_shipper.specs.Placement.{IsDealt, IsShardCount, Places, joined}
-use Rattle.rw_shipper.specs.Reports.{IsAbandoned, abandoned_in}
-use Rattle.rw_shipper.specs.Shipping.{Shipping, PlacesAll, HasStopped, Ends}
-use Rattle.rw_shipper.specs.declared.report.Report.{Report}
-use Rattle.rw_shipper.proofs.PlacementLemmas.{whole_is, whole_placed}
-use Rattle.rw_shipper.proofs.ShippingLemmas.{all_is, ends_last}
+use Rattle.rw_sender.specs.Feeders.{HasRead}
+use Rattle.rw_sender.specs.Logs.{Sent, sent, sent_of}
+use Rattle.rw_sender.specs.Placement.{IsDealt, IsShardCount, Places, joined}
+use Rattle.rw_sender.specs.Reports.{IsAbandoned, abandoned_in}
+use Rattle.rw_sender.specs.Shipping.{Shipping, PlacesAll, HasStopped, Ends}
+use Rattle.rw_sender.specs.declared.report.Report.{Report}
+use Rattle.rw_sender.proofs.PlacementLemmas.{whole_is, whole_placed}
+use Rattle.rw_sender.proofs.ShippingLemmas.{all_is, ends_last}
 use Rattle.rw_machine.specs.Shards.{Shard, is_drained, pending, shard_end, shard_flush}
-use Rattle.rw_machine.specs.Worlds.{Setup, World, Complete, Damaged, start, log, ended_as, is_pending, report}
+use Rattle.rw_machine.specs.Worlds.{Setup, World, start, log, ended_as, is_pending, report}
+use Rattle.rw_shard_core.specs.Endings.{Complete, Damaged}
 use Rattle.rw_machine.specs.Steps.{happens, mark, run, unless_over}
 use Rattle.rw_machine.specs.declared.event.Event.{Event}
 use Rattle.rw_machine.specs.declared.event.Event.TheVariants as event

@@ -7,7 +7,7 @@ use Rattle.rw_types.specs.declared.entry.Entry.{Entry}
 use Rattle.rw_wal_format.specs.Pieces.{Piece}
 use Rattle.rw_series_cache.specs.Numbers.{series_of}
 use Rattle.rw_plain_queue.specs.declared.item.Kind.TheVariants as kind
-use Rattle.rw_feeder.specs.Logs.{filtered}
+use Rattle.rw_sender.specs.Logs.{filtered}
 use Rattle.rw_machine.specs.Shards.{Shard, shard_end}
 use Rattle.rw_machine.specs.Worlds.{Setup, World, new_shards, is_finished, all_drained}
 use Rattle.rw_machine.specs.Steps.{happens, mark, restart_as, unless_over}

@@ -9,8 +9,8 @@ use Rattle.rw_worker.specs.Transcript.{Exchange}
 use Rattle.rw_worker.specs.declared.transport.Reply.{Reply}
 use Rattle.rw_head.specs.Head.{State}
 use Rattle.rw_head.specs.Store.{Store}
-use Rattle.rw_shared_head.specs.declared.question.Question.{Question}
-use Rattle.rw_shared_head.specs.Seats.{Seated, own}
+use Rattle.rw_recv_head.specs.declared.question.Question.{Question}
+use Rattle.rw_recv_head.specs.Seats.{Seated, own}
 use Rattle.rw_machine.specs.Worlds.{Setup}
 use Rattle.rw_simulation.specs.Arrivals.{Arrival, IsBefore, IsAnsweredBy}
 use Rattle.rw_simulation.specs.SharedReceivers.{Coming, questions_of, questions_in, Carries, IsAnsweredAt, IsAnswered, arrival_of, head_behind, IsSharedReceiver}

@@ -14,8 +14,8 @@ use Rattle.rw_head.specs.declared.verdict.Verdict.{Verdict}
 use Rattle.rw_head.specs.Head.{State, status_of, judged_body, answered, answer_to, answer}
 use Rattle.rw_head.specs.Store.{Store}
 use Rattle.rw_head.specs.Verdicts.{judged, taken_all, apply}
-use Rattle.rw_shared_head.specs.declared.question.Question.{Question}
-use Rattle.rw_shared_head.specs.Seats.{store_after, head_after, taken_of, bodies_of}
+use Rattle.rw_recv_head.specs.declared.question.Question.{Question}
+use Rattle.rw_recv_head.specs.Seats.{store_after, head_after, taken_of, bodies_of}
 use Rattle.rw_machine.specs.Worlds.{Setup}
 use Rattle.rw_machine.specs.Steps.{endpoint_answer}
 use Rattle.rw_machine.specs.declared.event.How.{How}

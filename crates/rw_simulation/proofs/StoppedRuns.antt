@@ -35,17 +35,18 @@ use Rattle.rw_fleet.specs.declared.joined.StoppedShard.{StoppedShard}
 use Rattle.rw_fleet.specs.declared.joined.Finished.{Finished}
 use Rattle.rw_fleet.specs.Fleets.{EndBy}
 use Rattle.rw_fleet.proofs.LaneLemmas.{same_length}
-use Rattle.rw_feeder.specs.Feeders.{HasRead}
-use Rattle.rw_feeder.specs.Logs.{Sent, sent, sent_of, filtered}
-use Rattle.rw_shipper.specs.Placement.{IsDealt, IsShardCount, AreTurned, Places, joined}
-use Rattle.rw_shipper.specs.Reports.{IsAbandoned}
-use Rattle.rw_shipper.specs.Shipping.{Shipping, HasStopped, Ends}
-use Rattle.rw_shipper.specs.declared.report.Report.{Report}
-use Rattle.rw_shipper.proofs.PlacementLemmas.{whole_is, whole_placed}
-use Rattle.rw_shipper.proofs.ShippingLemmas.{all_is, ends_last}
+use Rattle.rw_sender.specs.Feeders.{HasRead}
+use Rattle.rw_sender.specs.Logs.{Sent, sent, sent_of, filtered}
+use Rattle.rw_sender.specs.Placement.{IsDealt, IsShardCount, AreTurned, Places, joined}
+use Rattle.rw_sender.specs.Reports.{IsAbandoned}
+use Rattle.rw_sender.specs.Shipping.{Shipping, HasStopped, Ends}
+use Rattle.rw_sender.specs.declared.report.Report.{Report}
+use Rattle.rw_sender.proofs.PlacementLemmas.{whole_is, whole_placed}
+use Rattle.rw_sender.proofs.ShippingLemmas.{all_is, ends_last}
 use Rattle.rw_types.proofs.AllLemmas.{AllByRecursion-left, AllByRecursion-right}
 use Rattle.rw_machine.specs.Shards.{Shard, is_drained, shard_end, shard_flush}
-use Rattle.rw_machine.specs.Worlds.{Setup, Request, World, Ending, Complete, start, log, ended_as, report}
+use Rattle.rw_machine.specs.Worlds.{Setup, Request, World, start, log, ended_as, report}
+use Rattle.rw_shard_core.specs.Endings.{Ending, Complete}
 use Rattle.rw_machine.specs.Steps.{happens, mark, unless_over}
 use Rattle.rw_machine.specs.declared.event.Event.TheVariants as event
 use Rattle.rw_machine.specs.Promises.{CanWork}
@@ -57,7 +58,7 @@ use Rattle.rw_simulation.specs.Tallies.{Past, IsNamedSo, IsTallied}
 use Rattle.rw_simulation.specs.EpochRuns.{ShardFate, end_in, AreUnsent, IsAllPut, Reaches}
 use Rattle.rw_simulation.specs.FleetRuns.{IsShardRun, fate_by, fate_at}
 use Rattle.rw_simulation.specs.StoppedShards.{IsShardOf}
-use Rattle.rw_machine.specs.Endings.{ending_of}
+use Rattle.rw_shard_core.specs.Endings.{ending_of}
 use Rattle.rw_simulation.specs.StoppedRuns.{IsSetAs, HasNumbers, AreNumbers, EndInTurn, first_number, IsAlike, Tells, IsRun, StopsAsRun, StopsInOrder}
 use Rattle.rw_simulation.proofs.Changes.{run-append}
 use Rattle.rw_simulation.proofs.ReshardRuns.{BeginsEpoch, reshard-run}

@@ -21,7 +21,7 @@ use Rattle.rw_shard_core.specs.Shard.{Core, name_all, positions, settle_names}
 use Rattle.rw_worker.specs.declared.transport.Reply.{Reply}
 use Rattle.rw_worker.specs.declared.transport.Lost.{Lost}
 use Rattle.rw_worker.specs.Steps.{Working, Step, Takes, Freezes, Sends, Waits, after_step}
-use Rattle.rw_feeder.specs.Logs.{named, dropped, dropped_of, with_name}
+use Rattle.rw_sender.specs.Logs.{named, dropped, dropped_of, with_name}
 use Rattle.rw_machine.specs.Worlds.{Setup, Request, World, start}
 use Rattle.rw_machine.proofs.Lists as lists
 use Rattle.rw_machine.proofs.Names.{ledger_insert}

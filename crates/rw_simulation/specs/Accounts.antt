@@ -8,8 +8,8 @@ use Rattle.rw_series_cache.specs.Rising.{rises}
 use Rattle.rw_ledger.specs.declared.ledger.Reason.{Reason}
 use Rattle.rw_ledger.specs.Names.{Named}
 use Rattle.rw_worker.specs.Transcript.{Exchange}
-use Rattle.rw_shipper.specs.Shipping.{Shipping, HasStopped}
-use Rattle.rw_shipper.specs.declared.report.Report.{Report}
+use Rattle.rw_sender.specs.Shipping.{Shipping, HasStopped}
+use Rattle.rw_sender.specs.declared.report.Report.{Report}
 use Rattle.rw_machine.specs.Worlds.{Setup}
 use Rattle.rw_machine.specs.Promises.{Accounted}
 use Rattle.rw_simulation.specs.StoppedRuns.{IsMachineOf, IsNamedIn, IsRun}

@@ -14,8 +14,8 @@ use Rattle.rw_plain_queue.specs.declared.item.Item.{Item}
 use Rattle.rw_plain_queue.specs.declared.item.Item.TheVariants.{Sample, Flush, End}
 use Rattle.rw_plain_queue.specs.declared.item.Kind.{Kind}
 use Rattle.rw_worker.specs.Steps.{Working, working, Step, Takes, Freezes, Sends, Waits, AreSteps, after, items_of, exchanges_of}
-use Rattle.rw_feeder.specs.Logs.{Sent, sent_of, filtered}
-use Rattle.rw_shipper.specs.Placement.{as_sent, of_shard}
+use Rattle.rw_sender.specs.Logs.{Sent, sent_of, filtered}
+use Rattle.rw_sender.specs.Placement.{as_sent, of_shard}
 use Rattle.rw_machine.specs.Shards.{Shard, Queued}
 use Rattle.rw_machine.specs.Worlds.{Setup, Request, World}
 use Rattle.rw_simulation.specs.Freely.{Happening, IsOwn, run_freely}

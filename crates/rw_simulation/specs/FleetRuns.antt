@@ -11,8 +11,8 @@ use Rattle.rw_plain_queue.specs.declared.item.Item.{Item}
 use Rattle.rw_worker.specs.Setups.{start_of}
 use Rattle.rw_worker.specs.Steps.{Step, AreSteps, after, items_of, exchanges_of, new_working}
 use Rattle.rw_fleet.specs.ShardHistories.{ShardHistory}
-use Rattle.rw_feeder.specs.Logs.{sent_of, filtered}
-use Rattle.rw_shipper.specs.Placement.{IsDealt}
+use Rattle.rw_sender.specs.Logs.{sent_of, filtered}
+use Rattle.rw_sender.specs.Placement.{IsDealt}
 use Rattle.rw_machine.specs.Worlds.{Setup, World, new_shards}
 use Rattle.rw_simulation.specs.WorkerRuns.{queued, request_in}
 use Rattle.rw_simulation.specs.Tallies.{Past, IsTallied, requests_of}

@@ -26,10 +26,10 @@ use Rattle.rw_worker.specs.Steps.{exchanges_of}
 use Rattle.rw_fleet.specs.Work.{AreResolved, AreWorked}
 use Rattle.rw_fleet.specs.Fleets.{Shards, AreAll, EndBy}
 use Rattle.rw_fleet.specs.declared.joined.StoppedShard.{StoppedShard}
-use Rattle.rw_shipper.specs.Placement.{IsShardCount}
-use Rattle.rw_shipper.specs.Reports.{IsAbandoned}
-use Rattle.rw_shipper.specs.Shipping.{Shipping, PlacesAll, HasStopped}
-use Rattle.rw_shipper.specs.declared.report.Report.{Report}
+use Rattle.rw_sender.specs.Placement.{IsShardCount}
+use Rattle.rw_sender.specs.Reports.{IsAbandoned}
+use Rattle.rw_sender.specs.Shipping.{Shipping, PlacesAll, HasStopped}
+use Rattle.rw_sender.specs.declared.report.Report.{Report}
 use Rattle.rw_machine.specs.Worlds.{Setup}
 use Rattle.rw_machine.specs.Promises.{CanWork, Point, owed, pair_of}
 use Rattle.rw_simulation.specs.Arrivals.{Arrival, IsOneReceiver}

@@ -7,8 +7,8 @@ use Rattle.rw_worker.specs.Transcript.{Exchange}
 use Rattle.rw_worker.specs.declared.transport.Reply.{Reply}
 use Rattle.rw_head.specs.Head.{State}
 use Rattle.rw_head.specs.Store.{Store}
-use Rattle.rw_shared_head.specs.declared.question.Question.{Question}
-use Rattle.rw_shared_head.specs.Seats.{Seated, HasGathered, own}
+use Rattle.rw_recv_head.specs.declared.question.Question.{Question}
+use Rattle.rw_recv_head.specs.Seats.{Seated, HasGathered, own}
 use Rattle.rw_machine.specs.Worlds.{Setup}
 use Rattle.rw_simulation.specs.Arrivals.{Arrival, IsOneReceiver}
 use Rattle.rw_simulation.specs.SharedReceivers.{IsAnsweredAt}

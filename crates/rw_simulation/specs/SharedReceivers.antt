@@ -6,8 +6,8 @@ use Rattle.rw_shard_core.specs.Shard.{body_of}
 use Rattle.rw_worker.specs.Transcript.{Exchange, batch_request}
 use Rattle.rw_head.specs.Head.{State}
 use Rattle.rw_head.specs.Store.{Store}
-use Rattle.rw_shared_head.specs.declared.question.Question.{Question}
-use Rattle.rw_shared_head.specs.Seats.{Seated, HasAsked, HasGathered, bodies_of, head_after}
+use Rattle.rw_recv_head.specs.declared.question.Question.{Question}
+use Rattle.rw_recv_head.specs.Seats.{Seated, HasAsked, HasGathered, bodies_of, head_after}
 use Rattle.rw_machine.specs.Worlds.{Setup}
 use Rattle.rw_machine.specs.declared.event.How.{How}
 use Rattle.rw_machine.specs.declared.event.How.TheVariants.{Plain, Busy, OutOfMemory}

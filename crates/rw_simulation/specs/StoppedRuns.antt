@@ -19,13 +19,14 @@ use Rattle.rw_fleet.specs.ShardHistories.{ShardHistory, put_into}
 use Rattle.rw_fleet.specs.Work.{AreEndedBy, AreResolved, lane_of, put_of, queue_of, taken_of}
 use Rattle.rw_fleet.specs.Fleets.{Shards, AreAll, EndBy}
 use Rattle.rw_fleet.specs.declared.joined.Finished.{Finished}
-use Rattle.rw_feeder.specs.Logs.{sent}
-use Rattle.rw_shipper.specs.Placement.{IsShardCount, Places, joined}
-use Rattle.rw_shipper.specs.Reports.{IsAbandoned}
-use Rattle.rw_shipper.specs.Shipping.{Shipping, PlacesAll, HasStopped}
-use Rattle.rw_shipper.specs.declared.report.Report.{Report}
+use Rattle.rw_sender.specs.Logs.{sent}
+use Rattle.rw_sender.specs.Placement.{IsShardCount, Places, joined}
+use Rattle.rw_sender.specs.Reports.{IsAbandoned}
+use Rattle.rw_sender.specs.Shipping.{Shipping, PlacesAll, HasStopped}
+use Rattle.rw_sender.specs.declared.report.Report.{Report}
 use Rattle.rw_machine.specs.Shards.{Shard}
-use Rattle.rw_machine.specs.Worlds.{Setup, Request, World, Ending, Complete, Abandoned, Damaged, report}
+use Rattle.rw_machine.specs.Worlds.{Setup, Request, World, report}
+use Rattle.rw_shard_core.specs.Endings.{Ending, Complete, Abandoned, Damaged}
 use Rattle.rw_machine.specs.Promises.{CanWork}
 use Rattle.rw_simulation.specs.Freely.{Happening}
 use Rattle.rw_simulation.specs.FreeLaws.{KeepsLaws, world_of}

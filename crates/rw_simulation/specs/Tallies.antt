@@ -5,7 +5,7 @@ use Rattle.std.specs.Ordering.{nat_cmp}
 use Rattle.std.specs.FinMap.{FinMap, get}
 use Rattle.rw_types.specs.declared.entry.Entry.{Entry}
 use Rattle.rw_ledger.specs.declared.ledger.Reason.{Reason}
-use Rattle.rw_feeder.specs.Logs.{named, dropped}
+use Rattle.rw_sender.specs.Logs.{named, dropped}
 use Rattle.rw_machine.specs.Worlds.{Setup, Request, World}
 use Rattle.rw_simulation.specs.Freely.{Happening}
 use Rattle.rw_simulation.specs.FreeLaws.{world_of}

@@ -2,8 +2,8 @@
 
 ghost use Rattle.std.specs.Prelude.{ℕ, List};
 ghost use Rattle.rw_fleet.specs.declared.joined.StoppedShard.{StoppedShard};
-ghost use Rattle.rw_shipper.specs.Shipping.{Shipping};
-ghost use Rattle.rw_shipper.specs.declared.report.Report.{Report};
+ghost use Rattle.rw_sender.specs.Shipping.{Shipping};
+ghost use Rattle.rw_sender.specs.declared.report.Report.{Report};
 ghost use Rattle.rw_head.specs.Head.{State};
 ghost use Rattle.rw_worker.specs.Transcript.{Exchange};
 ghost use Rattle.rw_machine.specs.Worlds.{Setup, World};
@@ -17,7 +17,7 @@ ghost use Rattle.rw_simulation.specs.StoppedRuns.{StopsAbandoned, StopsAsRun, St
 ghost use Rattle.rw_simulation.specs.Accounts.{RunAccounts};
 ghost use Rattle.rw_simulation.specs.Received.{ReceivesAbandoned, ReceivesInOrder};
 ghost use Rattle.rw_head.specs.Store.{Store};
-ghost use Rattle.rw_shared_head.specs.Seats.{Seated};
+ghost use Rattle.rw_recv_head.specs.Seats.{Seated};
 ghost use Rattle.rw_simulation.specs.SharedReceivers.{Coming, SharesAsOne};
 ghost use Rattle.rw_simulation.specs.Seatings.{SeatsAsOne};
 

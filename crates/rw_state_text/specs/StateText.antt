@@ -1,7 +1,6 @@
 -- The state of a sender and a receiver as text, one fact a line.
 use Rattle.std.specs.Prelude.{ℕ, List, [], ◌∷◌, ◌++◌, flat_map, Option, Some, None, codes, decimal}
 use Rattle.std.specs.Fmt.{signed_decimal}
-use Rattle.std.specs.FinMap.{entries}
 use Rattle.rw_types.specs.Labels.{Labels}
 use Rattle.rw_wal_format.specs.Faults.{log_fault_number}
 use Rattle.rw_text.specs.LabelText.{labels_text}
@@ -10,7 +9,7 @@ use Rattle.rw_ledger.specs.declared.ledger.Reason.{Reason}
 use Rattle.rw_ledger.specs.declared.ledger.Reason.TheVariants.{Status, BadLabels, NoSeries, NotRising}
 use Rattle.rw_head.specs.Order.{Point}
 use Rattle.rw_head.specs.Store.{Store, list_of, label_sets}
-use Rattle.rw_machine.specs.Worlds.{World, Ending, Complete, Abandoned, Damaged, report}
+use Rattle.rw_shard_core.specs.Endings.{Ending, Complete, Abandoned, Damaged}
 
 -- ` T=VALUE`
 abbrev pub point_text : Point → List ℕ
@@ -53,7 +52,3 @@ ending_text (Some (Damaged fault)) = codes "report damaged " ++ decimal (log_fau
 -- filtered, and its end
 abbrev pub work_text : List (ℕ × Reason) → ℕ → Option Ending → List ℕ
 work_text names filtered ending = flat_map dropped_text names ++ filtered_text filtered ++ ending_text ending
-
--- the whole state
-abbrev pub state_text : World → List ℕ
-state_text w = store_text w.head.store ++ work_text (entries w.names) w.filtered (report w)

@@ -4,7 +4,7 @@ ghost use Rattle.std.specs.Prelude.{◌≡◌, ◌∷◌, [], ◌++◌, decimal,
 ghost use Rattle.std.specs.FinMap.{entries};
 ghost use Rattle.std.specs.Option.{option_map};
 ghost use Rattle.rw_types.specs.Beginnings.{Begins};
-ghost use Rattle.rw_machine.specs.Endings.{ending_of};
+ghost use Rattle.rw_shard_core.specs.Endings.{ending_of};
 ghost use Rattle.rw_state_text.specs.StateText.{point_text, received_text, store_text, reason_text, dropped_text, filtered_text, abandoned_text, ending_text, work_text};
 
 use rw_head::Head;

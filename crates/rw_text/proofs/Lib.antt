@@ -8,3 +8,6 @@ mod PrintLemmas
 pub mod RecordLemmas
 pub mod SplitLemmas
 mod ValueLemmas
+pub mod HexPairLemmas
+pub mod HexLineLemmas
+pub mod HexLawLemmas

@@ -8,7 +8,7 @@ use Rattle.std.proofs.lemmas.List.{length-append}
 use Rattle.std.proofs.lemmas.Str.Parse.{digit_from_value}
 use Rattle.byteorder.specs.Endian.{big_bytes}
 use Rattle.hex.specs.Hex.{decode_sized}
-use Rattle.rw_hex.specs.HexText.{hex_text, read_digits}
+use Rattle.rw_text.specs.HexText.{hex_text, read_digits}
 use Rattle.rw_types.specs.Labels.{Label, Labels}
 use Rattle.rw_types.specs.Words.{word_of_int, int_of_word}
 use Rattle.rw_types.proofs.WordValues.{word-from_int_of_word}

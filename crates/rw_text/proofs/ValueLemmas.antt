@@ -8,7 +8,7 @@ use Rattle.byteorder.specs.Numbers.{big_number-reads_back}
 use Rattle.hex.specs.Hex.{IsBytes, decode_sized, lower_digits}
 use Rattle.hex.specs.declared.error.FromHexError.{FromHexError}
 use Rattle.hex.proofs.HexLemmas.{IsDigits-lower_digits, decode_pairs-encode_with, length-encode_with}
-use Rattle.rw_hex.specs.HexText.{hex_text}
+use Rattle.rw_text.specs.HexText.{hex_text}
 use Rattle.rw_types.specs.Words.{word_of_int}
 use Rattle.rw_types.proofs.WordReads.{reads_word}
 

@@ -4,3 +4,7 @@ pub mod LineText
 pub mod Numbers
 pub mod RecordLines
 pub mod ValueText
+pub mod HexText
+pub mod HexFaults
+pub mod ToolFaults
+pub mod Printed

@@ -3,7 +3,7 @@ use Rattle.std.specs.Prelude.{◌≡◌, ◌^◌, ◌<◌, ℕ, ℤ, List, ◌�
 use Rattle.std.proofs.Common.{w64}
 use Rattle.std.specs.Str.{is_utf8}
 use Rattle.rw_types.specs.Labels.{Labels}
-use Rattle.rw_hex.specs.HexText.{read_digits}
+use Rattle.rw_text.specs.HexText.{read_digits}
 use Rattle.rw_text.specs.Numbers.{IsNumber, IsInteger}
 use Rattle.rw_text.specs.LabelText.{labels_text}
 use Rattle.rw_text.specs.ValueText.{IsValue}

@@ -2,7 +2,7 @@
 use Rattle.std.specs.Prelude.{◌≡◌, ◌⊎◌, ℕ, ℤ, List, ◌++◌, codes, Option, Some, None}
 use Rattle.std.specs.Fmt.{signed_decimal}
 use Rattle.byteorder.specs.Endian.{big_bytes}
-use Rattle.rw_hex.specs.HexText.{hex_text}
+use Rattle.rw_text.specs.HexText.{hex_text}
 use Rattle.rw_types.specs.Words.{word_of_int, int_of_word}
 use Rattle.rw_text.specs.Numbers.{IsInteger}
 

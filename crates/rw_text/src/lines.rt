@@ -7,11 +7,11 @@ ghost use Rattle.rw_text.specs.LineText.{Line, IsSeries, IsSample, IsRaw, Says, 
 
 use crate::bytes::{after, split_at_byte};
 use crate::fault::TextFault;
+use crate::hex_reading::read_digits;
 use crate::labels::read_labels;
 use crate::line::LogLine;
 use crate::numbers::{read_integer, read_number};
 use crate::values::read_value;
-use rw_hex::read_digits;
 use std::alloc::Global;
 
 fn is_utf8_text(bytes: &[u8]) -> bool

@@ -2,7 +2,7 @@
 
 ghost use Rattle.std.specs.Prelude.{◌≡◌, ◌<◌, ◌^◌, ◌++◌, ℕ, ℤ, Some, MatchOption, OnOk, OnErr};
 ghost use Rattle.byteorder.specs.Endian.{big_bytes};
-ghost use Rattle.rw_hex.specs.HexText.{hex_text};
+ghost use Rattle.rw_text.specs.HexText.{hex_text};
 ghost use Rattle.rw_types.specs.Words.{word_of_int};
 ghost use Rattle.rw_text.specs.Numbers.{IsInteger};
 ghost use Rattle.rw_text.specs.ValueText.{hex_word_text, IsValue, value_text};

@@ -1,7 +1,7 @@
-pub use Rattle.rw_fault.specs.Faults
-pub use Rattle.rw_fault.specs.Printed
-pub use Rattle.rw_labelling.specs.Labelled
-pub use Rattle.rw_labelling.specs.Labelling
+pub use Rattle.rw_text.specs.ToolFaults
+pub use Rattle.rw_text.specs.Printed
+pub use Rattle.rw_log_commands.specs.Labelled
+pub use Rattle.rw_log_commands.specs.Labelling
 pub use Rattle.rw_log_commands.specs.Body
 pub use Rattle.rw_log_commands.specs.Filling
 pub use Rattle.rw_log_commands.specs.Logging
@@ -12,9 +12,9 @@ pub use Rattle.rw_log_commands.specs.Taking
 pub use Rattle.rw_replay.specs.Played
 pub use Rattle.rw_replay.specs.Runs
 pub use Rattle.rw_replay.specs.Writing
-pub use Rattle.rw_log_shipping.specs.Halting
-pub use Rattle.rw_log_shipping.specs.Segments
-pub use Rattle.rw_log_shipping.specs.Steps
+pub use Rattle.rw_send.specs.Halting
+pub use Rattle.rw_send.specs.Segments
+pub use Rattle.rw_send.specs.Steps
 pub use Rattle.rw_send.specs.Folders
 pub use Rattle.rw_send.specs.Following
 pub use Rattle.rw_send.specs.Opening

@@ -2,7 +2,7 @@
 //! the crates of the engines have.
 #![tactic(auto)]
 
-pub use rw_fault::ToolFault;
+pub use rw_text::ToolFault;
 pub use rw_follow::{Segments, Watch};
 pub use rw_log_commands::{run_body, run_log, run_log_dir, run_plan};
 pub use rw_metrics::{ReceiveCounters, SendCounters};

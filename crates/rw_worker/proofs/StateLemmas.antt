@@ -12,7 +12,7 @@ use Rattle.rw_plain_queue.specs.declared.item.Item.TheVariants as item
 use Rattle.rw_plain_queue.specs.declared.item.Kind.{Kind}
 use Rattle.rw_plain_queue.specs.declared.item.Kind.TheVariants.{Orderly, Reshard, Hard}
 use Rattle.rw_plain_queue.proofs.Histories.{history-nil}
-use Rattle.rw_shard_channel.specs.Ends.{QueueId, Draining}
+use Rattle.rw_shard_queue.specs.Ends.{QueueId, Draining}
 use Rattle.rw_shard_core.specs.Shard.{Core, IsCore, AreInRow, HasRoomFor, is_empty, is_due, can_take, can_freeze, can_send, freeze, freeze_room, take_item, pending, places_of, request_for, MayTake}
 use Rattle.rw_worker.specs.declared.report.TakingEnd.{TakingEnd}
 use Rattle.rw_worker.specs.declared.report.TakingEnd.TheVariants as end

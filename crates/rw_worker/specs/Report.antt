@@ -6,7 +6,7 @@ use Rattle.rw_plain_queue.specs.History.{IsHistory}
 use Rattle.rw_plain_queue.specs.declared.item.Item.TheVariants as item
 use Rattle.rw_plain_queue.specs.declared.item.Kind.{Kind}
 use Rattle.rw_plain_queue.specs.declared.item.Kind.TheVariants.{Orderly, Reshard, Hard}
-use Rattle.rw_shard_channel.specs.Ends.{Draining}
+use Rattle.rw_shard_queue.specs.Ends.{Draining}
 use Rattle.rw_shard_core.specs.Shard.{Core, is_due}
 use Rattle.rw_worker.specs.declared.report.TakingEnd.{TakingEnd}
 use Rattle.rw_worker.specs.declared.report.TakingEnd.TheVariants as end

@@ -1,6 +1,6 @@
 -- What a worker is set up with.
 use Rattle.std.specs.Prelude.{ℕ}
-use Rattle.rw_shard_channel.specs.Ends.{QueueId}
+use Rattle.rw_shard_queue.specs.Ends.{QueueId}
 use Rattle.rw_shard_core.specs.declared.config.Target.{Target}
 use Rattle.rw_worker.specs.Steps.{Working, new_working}
 

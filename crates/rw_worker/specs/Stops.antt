@@ -1,8 +1,8 @@
 -- What makes a worker stop before its End.
 use Rattle.std.specs.Prelude.{◌≡◌, ◌⊎◌, ℕ, Option, IfSome, IsSome, ⊤}
-use Rattle.rw_shard_channel.specs.Ends.{Draining}
-use Rattle.rw_shard_channel.specs.Taken.{TakesFront}
-use Rattle.rw_shard_channel.specs.declared.ends.Taken.TheVariants as taken
+use Rattle.rw_shard_queue.specs.Ends.{Draining}
+use Rattle.rw_shard_queue.specs.Taken.{TakesFront}
+use Rattle.rw_shard_queue.specs.declared.ends.Taken.TheVariants as taken
 use Rattle.rw_worker.specs.declared.gone.Next.{Next}
 use Rattle.rw_worker.specs.declared.gone.Next.TheVariants.{Item, End, Gone}
 use Rattle.rw_worker.specs.declared.report.TakingEnd.{TakingEnd}

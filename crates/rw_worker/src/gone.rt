@@ -3,7 +3,7 @@
 ghost use Rattle.rw_worker.specs.Stops.{TakesNext};
 
 use crate::state::Sending;
-use rw_shard_channel::{Drain, Ended, Item, Killed, Kind, Open, Taken};
+use rw_shard_queue::{Drain, Ended, Item, Killed, Kind, Open, Taken};
 use std::marker::Model;
 use std::sync::Wait;
 

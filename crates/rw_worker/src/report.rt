@@ -3,7 +3,7 @@
 use crate::gone::FeederGone;
 use crate::stop::Stopped;
 use rw_ledger::Ledger;
-use rw_shard_channel::{Drain, Ended, Killed, Kind};
+use rw_shard_queue::{Drain, Ended, Killed, Kind};
 
 /// The end of its queue that a worker gives back.
 #[derive(Drop)]

@@ -10,7 +10,7 @@ use crate::stop::Stopped;
 use crate::tally::Tally;
 use crate::worker::Worker;
 use rw_ledger::Ledger;
-use rw_shard_channel::{Drain, Ended, Kind, Open};
+use rw_shard_queue::{Drain, Ended, Kind, Open};
 use rw_shard_core::ShardCore;
 use std::snapshot::Snapshot;
 

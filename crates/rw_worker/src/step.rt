@@ -11,7 +11,7 @@ use crate::send::send_once;
 use crate::state::{Intake, Progress, Sending, Start};
 use crate::stop::{StopFlag, Stopped};
 use crate::transport::{Pause, Transport};
-use rw_shard_channel::{Drain, Item, Kind, Open};
+use rw_shard_queue::{Drain, Item, Kind, Open};
 use std::sync::Wait;
 
 /// Freezes the builder, which is due. If memory runs out, it waits.

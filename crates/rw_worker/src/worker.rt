@@ -12,7 +12,7 @@ use crate::stop::StopFlag;
 use crate::tally::Tally;
 use crate::transport::{Pause, Transport};
 use rw_ledger::Ledger;
-use rw_shard_channel::{Drain, Open};
+use rw_shard_queue::{Drain, Open};
 use rw_shard_core::{Config, ShardCore};
 use std::alloc::{AllocError, Global};
 use std::marker::Model;

@@ -7,7 +7,7 @@ use Rattle.std.specs.List.{position, position_or_len}
 use Rattle.rw_batch.specs.declared.batch.BatchId.{BatchId}
 use Rattle.rw_series_cache.specs.Known.{known}
 use Rattle.rw_series_cache.specs.Numbers.{number_of}
-use Rattle.rw_router.specs.Fates.{Fate, Drops, Filters, Sends}
+use Rattle.rw_series_cache.specs.Fates.{Fate, Drops, Filters, Sends}
 use Rattle.rw_types.specs.Labels.{Labels}
 use Rattle.rw_types.specs.declared.entry.Entry.{Entry}
 use Rattle.rw_types.specs.declared.entry.Entry.TheVariants.{Def, Sample}

@@ -13,7 +13,7 @@ use Rattle.rw_series_cache.specs.Known.{standing_of}
 use Rattle.rw_series_cache.specs.Numbers.{with_series, with_entry, series_of}
 use Rattle.rw_series_cache.specs.Cached.{Taken}
 use Rattle.rw_series_cache.proofs.KnownLemmas.{series_of-definitions_of, series_of-none}
-use Rattle.rw_router.specs.Routing.{Routing, Knows}
+use Rattle.rw_series_cache.specs.Routing.{Routing, Knows}
 use Rattle.rw_shard_core.specs.Shard.{can_send, new_core}
 use Rattle.rw_shard_core.specs.declared.config.Target.{Target}
 use Rattle.rw_machine.specs.Shards.{Shard, new_shard, shard_send}

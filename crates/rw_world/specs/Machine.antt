@@ -6,9 +6,9 @@ use Rattle.rw_types.specs.declared.entry.Entry.TheVariants.{Sample}
 use Rattle.rw_wal_format.specs.Pieces.{Piece, entries}
 use Rattle.rw_series_cache.specs.Numbers.{series_of, HasNumber}
 use Rattle.rw_ledger.specs.declared.ledger.Reason.{Reason}
-use Rattle.rw_router.specs.Fates.{Drops, Sends, fate}
-use Rattle.rw_router.specs.Routing.{Routing, Knows}
-use Rattle.rw_router.specs.declared.sample.RoutedSample.{RoutedSample}
+use Rattle.rw_series_cache.specs.Fates.{Drops, Sends, fate}
+use Rattle.rw_series_cache.specs.Routing.{Routing, Knows}
+use Rattle.rw_series_cache.specs.declared.sample.RoutedSample.{RoutedSample}
 use Rattle.rw_plain_queue.specs.declared.item.Kind.{Kind}
 use Rattle.rw_plain_queue.specs.declared.item.Kind.TheVariants as kind
 use Rattle.rw_shard_core.specs.Configs.{choice_of}

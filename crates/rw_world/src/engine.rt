@@ -9,7 +9,7 @@ ghost use Rattle.rw_world.specs.Machine.{setup_of};
 use rw_head::{Head, LabelSets, Limits};
 use rw_ledger::Ledger;
 use rw_relabel::Choice;
-use rw_router::Router;
+use rw_series_cache::Router;
 use rw_shard_core::{Config, ConfigFields};
 use rw_types::{Bounded, HostName, LabelSet, Word};
 use rw_world_parts::{Answer, Log, Sent, Shards, copy_of, limits_at};

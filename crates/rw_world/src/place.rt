@@ -7,7 +7,7 @@ ghost use Rattle.rw_world.specs.Machine.{IsDroppedNext, IsSampleNext, with_sampl
 
 use crate::engine::Engine;
 use rw_ledger::Reason;
-use rw_router::{Routed, RoutedSample};
+use rw_series_cache::{Routed, RoutedSample};
 use std::alloc::AllocError;
 
 impl Engine {

@@ -5,7 +5,7 @@ ghost use Rattle.std.specs.List.{list_any};
 ghost use Rattle.std.specs.List.Sorted.{IsNonDecreasing};
 ghost use Rattle.std.specs.Option.{option_map};
 ghost use Rattle.rw_machine.specs.Worlds.{is_pending, report, up_to};
-ghost use Rattle.rw_machine.specs.Endings.{ending_of};
+ghost use Rattle.rw_shard_core.specs.Endings.{ending_of};
 
 use crate::engine::Engine;
 use rw_shard_core::Outcome;

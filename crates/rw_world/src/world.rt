@@ -5,7 +5,7 @@ ghost use Rattle.rw_head.specs.Store.{list_of, label_sets};
 ghost use Rattle.std.specs.Option.{option_map};
 ghost use Rattle.rw_machine.specs.Worlds.{Request, start, report, is_over};
 ghost use Rattle.rw_machine.specs.Promises.{IsSettled};
-ghost use Rattle.rw_machine.specs.Endings.{ending_of};
+ghost use Rattle.rw_shard_core.specs.Endings.{ending_of};
 ghost use Rattle.rw_machine.specs.Steps.{happens, run};
 ghost use Rattle.rw_world.specs.Machine.{setup_of, takes_memory};
 ghost use Rattle.rw_world.specs.Reached.{IsKept};

@@ -2,7 +2,7 @@
 use Rattle.std.specs.Prelude.{ℕ}
 use Rattle.rw_send.specs.declared.follow_fault.FollowFault.{FollowFault}
 use Rattle.rw_send.specs.declared.follow_fault.FollowFault.TheVariants as Follow
-use Rattle.rw_fault.specs.Printed.{exit_status}
+use Rattle.rw_text.specs.Printed.{exit_status}
 use Rattle.rwship.specs.declared.settings.Unset.{Unset}
 use Rattle.rwship.specs.declared.settings.Unset.TheVariants.{Tool, Unreadable, Settings}
 

@@ -2,13 +2,13 @@
 
 ghost use Rattle.std.specs.Prelude.{◌≡◌, MatchResult};
 ghost use Rattle.std.specs.Process as process;
-ghost use Rattle.rw_fault.specs.Printed.{exit_status};
+ghost use Rattle.rw_text.specs.Printed.{exit_status};
 ghost use Rattle.rwship.specs.Statuses.{follow_status, unset_status};
 
 use crate::settings::Unset;
 use clap::ArgMatches;
 use clap::error::ErrorKind;
-use rw_fault::ToolFault;
+use rw_text::ToolFault;
 use rw_send::FollowFault;
 use rw_settings::SettingsNote;
 use rw_words::bad_address;

@@ -5,7 +5,7 @@ use crate::explaining::explained;
 use crate::input::{Form, Input, Reader};
 use crate::inspecting::{log_fault, note_checkpoint, print_plan};
 use crate::settings::settings_in;
-use rw_fault::ToolFault;
+use rw_text::ToolFault;
 use rw_log_commands::{run_body, run_log, run_log_dir, run_plan};
 use rw_replay::run_replay;
 use rw_settings::Settings;

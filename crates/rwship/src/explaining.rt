@@ -3,8 +3,8 @@
 use crate::ending::{ended, point_to_explain};
 use crate::input::{Form, Input, Reader};
 use crate::inspecting::{inspect_segment, tell_report};
-use rw_fault::ToolFault;
-use rw_line_notes::{log_line_note, numbered_line, script_line_note, shown_line};
+use rw_text::ToolFault;
+use rw_replay::{log_line_note, numbered_line, script_line_note, shown_line};
 use std::alloc::AllocError;
 use std::process::ExitCode;
 
@@ -48,7 +48,7 @@ fn tell_input(
 ) -> Result<(), ToolFault> {
     match fault {
         ToolFault::Log(_) => match form {
-            Form::Digits => tell_segment(rt, &rw_hex::read(rt.alloc(), text)?),
+            Form::Digits => tell_segment(rt, &rw_text::read_hex(rt.alloc(), text)?),
             _ => tell_segment(rt, text),
         },
         ToolFault::Line(number) => {

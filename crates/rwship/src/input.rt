@@ -1,6 +1,6 @@
 //! Standard input, as the commands read it.
 
-use rw_fault::ToolFault;
+use rw_text::ToolFault;
 use rw_types::{Failed, Source, Std, read_to_end};
 use std::rt::Stdin;
 

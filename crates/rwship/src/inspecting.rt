@@ -2,7 +2,7 @@
 
 use crate::ending::{followed, point_to_explain, tell_device};
 use crate::input::Reader;
-use rw_fault::ToolFault;
+use rw_text::ToolFault;
 use rw_inspect::{Damage, Named, Report, find_entries, inspect, json_of, plan_segments, table_of};
 use rw_metrics::SendCounters;
 use rw_send::{

@@ -17,7 +17,7 @@ use ending::{bad_words, ended, followed, missing, no_address, unparsed, unset};
 use engines::{body, log, plan, replay};
 use inspecting::{log_fault, print_found, print_inspected};
 use receiving::receive;
-use rw_fault::ToolFault;
+use rw_text::ToolFault;
 use rw_send::FollowFault;
 use rw_types::{Std, write_all};
 use rw_words::{LogDir, SettingsFile, Task, command_line, positions_of, task_of};

@@ -4,7 +4,7 @@ use crate::ending::{ended, point_to_explain, unset};
 use crate::reporting::{begin_reporting, end_reporting, tell_unheard};
 use crate::settings::settings_in;
 use crate::sign::sign_of;
-use rw_fault::ToolFault;
+use rw_text::ToolFault;
 use rw_metrics::{Counters, ReceiveCounters};
 use rw_receive::{Service, run_receive, run_receive_until};
 use rw_settings::Settings;

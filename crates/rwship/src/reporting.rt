@@ -1,7 +1,7 @@
 //! Reports the progress of the work.
 
 use crate::ending::tell_device;
-use rw_fault::ToolFault;
+use rw_text::ToolFault;
 use rw_metrics::{Counters, Screen, serve_metrics, show_progress, write_end};
 use rw_text::Address;
 use rw_words::Reporting;

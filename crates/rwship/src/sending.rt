@@ -5,7 +5,7 @@ use crate::inspecting::{files_of, log_fault, note_checkpoint, passes_checkpoint_
 use crate::reporting::{begin_reporting, end_reporting, is_watched};
 use crate::settings::settings_in;
 use crate::sign::{Told, sign_of};
-use rw_fault::ToolFault;
+use rw_text::ToolFault;
 use rw_follow::Timed;
 use rw_metrics::{Counters, SendCounters, show_stalls};
 use rw_send::{Counted, Folder, FollowFault, LogFiles, StopFlag, TcpConnect, run_follow, run_send};

@@ -4,7 +4,7 @@
 use crate::rows::none_is_wrong;
 use rw_head::Limits;
 use rw_machine::Event;
-use rw_script::{Command, read_script};
+use rw_replay::{Command, read_script};
 use rw_shard_core::{Config, ConfigFields};
 use rw_state_text::{push_received, push_work};
 use rw_types::Bounded;

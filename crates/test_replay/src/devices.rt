@@ -1,7 +1,7 @@
 //! Readers and writers that fail.
 
 use crate::played::run;
-use rw_fault::ToolFault;
+use rw_text::ToolFault;
 use rw_types::{Failed, Source};
 use std::alloc::Global;
 

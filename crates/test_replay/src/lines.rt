@@ -2,7 +2,7 @@
 
 use crate::played::plays;
 use crate::rows::none_is_wrong;
-use rw_fault::ToolFault;
+use rw_text::ToolFault;
 use std::alloc::{AllocError, Global};
 
 /// Lines that are bad wherever they are.

@@ -1,6 +1,6 @@
 //! One run of the command.
 
-use rw_fault::ToolFault;
+use rw_text::ToolFault;
 use rw_replay::run_replay;
 use rw_settings::read_settings;
 use rw_types::{Room, Source};

@@ -1,6 +1,6 @@
 //! A sender and a receiver in one process, over the loopback interface.
 
-use rw_fault::ToolFault;
+use rw_text::ToolFault;
 use rw_metrics::{ReceiveCounters, SendCounters};
 use rw_receive::{Service, run_receive};
 use rw_settings::{Settings, read_settings};

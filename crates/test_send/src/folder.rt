@@ -7,7 +7,7 @@ use crate::receivers::Receivers;
 use crate::rows::none_is_wrong;
 use crate::shipped::settings_of;
 use http::StatusCode;
-use rw_fault::ToolFault;
+use rw_text::ToolFault;
 use rw_metrics::SendCounters;
 use rw_send::{Counted, Opened, SegmentFile, StopFlag, run_send, segment_files};
 use rw_types::{Room, Source, read_to_end};

@@ -5,7 +5,7 @@ use crate::folder::{new_folder, ready, write_name};
 use crate::kept::{Kept, follow_into};
 use crate::shipped::settings_of;
 use Change::{Dir, Goes, Grows, Nothing};
-use rw_fault::ToolFault;
+use rw_text::ToolFault;
 use rw_follow::{Broken, Sign, Timed, Wish};
 use rw_metrics::SendCounters;
 use rw_send::{Counted, Folder, FollowFault, StopFlag, run_follow};

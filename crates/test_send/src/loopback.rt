@@ -6,7 +6,7 @@ use rw_metrics::{ReceiveCounters, SendCounters};
 use rw_receive::{Service, run_receive};
 use rw_send::{Counted, StopFlag, TcpConnect, run_send};
 use rw_settings::read_settings;
-use rw_shipper::Connect;
+use rw_sender::Connect;
 use rw_tcp::look_up;
 use rw_types::{Bounded, Room};
 use std::alloc::Global;

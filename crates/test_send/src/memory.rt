@@ -6,7 +6,7 @@ use crate::receivers::Receivers;
 use crate::rows::none_is_wrong;
 use Part::{Changed, Cut, Fails, Many, Whole};
 use http::StatusCode;
-use rw_fault::ToolFault;
+use rw_text::ToolFault;
 use rw_metrics::SendCounters;
 use rw_send::{Counted, StopFlag, run_send};
 use rw_settings::read_settings;

@@ -1,7 +1,7 @@
 //! Receivers within memory.
 
 use http::StatusCode;
-use rw_shipper::Connect;
+use rw_sender::Connect;
 use rw_worker::{Lost, Pause, Reply, Transport};
 use std::alloc::AllocError;
 use std::thread;

@@ -10,7 +10,7 @@ use crate::receivers::Receivers;
 use crate::rows::none_is_wrong;
 use Part::{Cut, Gap, More, Next, Padded, Quiet, Rest};
 use http::StatusCode;
-use rw_fault::ToolFault;
+use rw_text::ToolFault;
 use rw_follow::{Event, Listed, Sign, Timed, Watch, Wish};
 use rw_metrics::SendCounters;
 use rw_send::{Counted, FollowFault, StopFlag, run_follow};

@@ -4,7 +4,7 @@ ghost use Rattle.std.specs.Prelude.{◌≡◌, IfSome};
 
 use crate::feeding::two;
 use crate::rows::holds;
-use rw_shard_channel::{Drain, Ended, Feed, Gone, Item, Kind, Open, Taken, begins, compare, open};
+use rw_shard_queue::{Drain, Ended, Feed, Gone, Item, Kind, Open, Taken, begins, compare, open};
 use rw_types::{LabelSet, Word};
 use std::alloc::{AllocError, Global};
 use std::sync::{Arc, Wait};

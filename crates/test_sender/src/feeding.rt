@@ -3,7 +3,7 @@
 ghost use Rattle.std.specs.Prelude.{◌≡◌, [], IfSome};
 
 use crate::samples::sample_item;
-use rw_shard_channel::{Ended, Feed, Item, Kind, Open};
+use rw_shard_queue::{Ended, Feed, Item, Kind, Open};
 use rw_types::{LabelSet, Word};
 use std::sync::{Arc, Wait};
 

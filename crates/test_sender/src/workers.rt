@@ -8,7 +8,7 @@ use crate::rows::holds;
 use crate::samples::shared_metric;
 use http::StatusCode;
 use rw_ledger::{Ledger, Reason};
-use rw_shard_channel::{Drain, Feed, Kind, Open, open};
+use rw_shard_queue::{Drain, Feed, Kind, Open, open};
 use rw_shard_core::{Config, ConfigFields};
 use rw_types::{Bounded, LabelFault, LabelSet, Word};
 use rw_worker::{Lost, Reply, StopFlag, TakingEnd, Worker, WorkerReport, spawn};

@@ -10,7 +10,7 @@ use Call::{Feed, Flush, NextSegment, Reshard};
 use rw_head::{Head, Limits};
 use rw_in_memory::{Endpoint, Line, Lines, Receiver, Shipped, ship};
 use rw_ledger::Reason;
-use rw_shared_head::{Blank, Seat};
+use rw_recv_head::{Blank, Seat};
 use rw_types::{Bounded, LabelFault, LabelSet, Names, Word};
 use rw_wal_tail::Piece;
 use std::alloc::{AllocError, Global};

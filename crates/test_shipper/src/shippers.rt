@@ -6,7 +6,7 @@ use crate::work::{Call, Ending, Stop, Task, Wanted, Work, config_of, done, ends_
 use Call::{Feed, Flush, NextSegment, Reshard};
 use http::StatusCode;
 use rw_ledger::Reason;
-use rw_shipper::{FeedFault, Load, Outcome, Shipper};
+use rw_sender::{FeedFault, Load, Outcome, Shipper};
 use rw_wal_tail::{Piece, TailFault};
 use std::alloc::{AllocError, Global};
 use std::sync::atomic::AtomicBool;

@@ -5,7 +5,10 @@ use rw_recv_head::{
     stores_are_lists, stores_hold_no_empty_list, what_is_answered_204_is_held, what_is_stored_stays,
 };
 use rw_recv_http::{Answer, replies_are_determined, replies_are_short};
-use rw_sender::{batches_are_short, queues_stay_within, samples_are_spread};
+use rw_sender::{
+    batches_are_short, body_within_its_count, cuts_keep_within, marks_keep_within,
+    queues_stay_within, samples_are_spread,
+};
 use rw_series_cache::{
     known_at_a_position, notes_entry_by_entry, numbers_stay, points_below_a_position,
     points_entry_by_entry, samples_define_nothing,
@@ -39,6 +42,7 @@ pub fn of_senders() {
     let _ = (message_grows, message_keeps_all, numbers_stand_for_labels);
     let _ = (histories_go_on, batches_are_short, queues_stay_within);
     let _ = (samples_are_spread, requests_are_answered_as_bytes);
+    let _ = (body_within_its_count, cuts_keep_within, marks_keep_within);
 }
 
 /// The laws of rw_recv_head and rw_recv_http.

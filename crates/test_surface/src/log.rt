@@ -4,7 +4,7 @@ use rw_codes::{
     CodeFault, crc32c, get_uvarint, get_varint, push_uvarint, put_uvarint, put_varint, uvarint_len,
 };
 use rw_relabel::{Action, Choice, Rule, RuleFault, Rules};
-use rw_series_cache::{Cache, Known};
+use rw_series_cache::{Cache, Known, Router};
 use rw_types::{Entry, LabelFault, LabelSet, Names, Place, RawLabels, Sink, Source, Word};
 use rw_wal_tail::{Piece, Tail, TailFault, is_out_of_memory};
 use rw_wal_write::{LogFault, SegmentWriter, sample_record, series_record};
@@ -45,5 +45,7 @@ pub fn of_series() {
     let _ = (Rule::build, Rules::new, Rules::keeps, Choice::legacy);
     let _ = (Cache::new, Cache::define, Cache::look, Cache::rises);
     let _ = (Cache::note, Cache::names, Cache::series_count);
+    let _ = (Router::new, Router::place, Router::sent);
+    let _ = (Router::would_send, Router::filtered);
     let _ = (encode, decode);
 }

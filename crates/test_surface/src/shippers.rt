@@ -1,9 +1,9 @@
 //! The upper half of the sender: shards, workers, shippers.
 
 use rw_sender::{
-    Attempt, Config, Connect, FeedFault, Finished, Load, Lost, Outcome, Pause, Reply, ReplyRead,
-    Report, ShardCore, Shipper, StopFlag, Target, Transport, Worker, WorkerReport, read_reply,
-    request_bytes,
+    Attempt, Config, Connect, Cuts, FeedFault, Feeder, Finished, Load, Lost, Outcome, Pause, Reply,
+    ReplyRead, Report, ShardCore, Shipper, StopFlag, Target, Transport, Worker, WorkerReport,
+    read_reply, request_bytes,
 };
 use std::sync::Wait;
 use std::thread::Threads;
@@ -36,6 +36,14 @@ pub fn of_new_workers() {
 pub fn of_workers<T: Transport + Drop, P: Pause, R: Wait>() {
     let _ = (T::exchange, P::pause);
     let _ = Worker::run::<T, P, R>;
+}
+
+/// The calls of what a shipper feeds its shards with.
+pub fn of_feeders() {
+    let _ = (Feeder::new, Feeder::feed, Feeder::read, Feeder::place);
+    let _ = (Feeder::sent, Feeder::count, Feeder::dropped);
+    let _ = (Feeder::filtered, Feeder::finish);
+    let _ = (Cuts::within, Cuts::reset, Cuts::count);
 }
 
 /// The start of a shipper.

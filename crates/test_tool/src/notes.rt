@@ -1,7 +1,7 @@
 //! What is said of lines that are of no form.
 
 use crate::rows::{holds, none_is_wrong};
-use rw_line_notes::{log_line_note, numbered_line, script_line_note, shown_line};
+use rw_replay::{log_line_note, numbered_line, script_line_note, shown_line};
 use std::alloc::{AllocError, Global};
 use std::test::Fail;
 

@@ -2,7 +2,7 @@
 
 use crate::logs::fault;
 use crate::rows::none_is_wrong;
-use rw_fault::ToolFault;
+use rw_text::ToolFault;
 use rw_log_commands::run_plan;
 use rw_settings::read_settings;
 use rw_types::Room;

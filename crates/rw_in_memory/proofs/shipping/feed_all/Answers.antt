@@ -1,6 +1,6 @@
 use Rattle.std.proofs.Common.{refl, sym, ap, ◌∙◌, ◌++◌, ◌∷◌, [], length, append-nil, append_assoc, subst, arith}
 use Rattle.rw_wal_tail.specs.Fed.{piece_of}
-use Rattle.rw_shipper.specs.Shipping.{Feeds, Joins}
+use Rattle.rw_sender.specs.Shipping.{Feeds, Joins}
 use Rattle.rw_in_memory.proofs.ShipLemmas.{grown, fleet_on, fails}
 use Rattle.rw_in_memory.proofs.shipping.feed_all.Goals as goal
 

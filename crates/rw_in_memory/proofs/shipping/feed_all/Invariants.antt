@@ -1,7 +1,7 @@
 use Rattle.std.proofs.Common.{◌≡◌, None, ◌++◌, map, length}
 use Rattle.std.specs.Vec.Iter.{into_iter_items, into_iter_len}
 use Rattle.rw_wal_tail.specs.Fed.{piece_of}
-use Rattle.rw_feeder.specs.Feeders.{HasRead}
+use Rattle.rw_sender.specs.Feeders.{HasRead}
 use Rattle.rw_in_memory.proofs.shipping.feed_all.Given as goal
 
 abbrev pub invariant-loop-piece : goal.invariant-loop-piece

@@ -1,7 +1,7 @@
 use Rattle.std.proofs.Common.{refl, sym, ap, ◌∙◌, length, subst}
 use Rattle.std.proofs.lemmas.List.{length-map}
 use Rattle.rw_fleet.specs.declared.joined.Finished.{Finished}
-use Rattle.rw_shared_head.specs.Seats.{HasGathered, Opening}
+use Rattle.rw_recv_head.specs.Seats.{HasGathered, Opening}
 use Rattle.rw_in_memory.specs.Lines.{Line, IsLine}
 use Rattle.rw_in_memory.specs.Held.{seat_of}
 use Rattle.rw_in_memory.proofs.ShippedLemmas.{workers_count, ended_so, failed_so, each_of}

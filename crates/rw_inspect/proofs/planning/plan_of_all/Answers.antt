@@ -1,5 +1,5 @@
 use Rattle.std.proofs.Common.{ap, ◌∙◌}
-use Rattle.rw_plan.specs.Planned.{Planned}
+use Rattle.rw_log_commands.specs.Planned.{Planned}
 use Rattle.rw_inspect.proofs.PlanningLemmas.{planned}
 use Rattle.rw_inspect.proofs.planning.plan_of_all.Goals as goal
 

@@ -1,5 +1,5 @@
 use Rattle.std.proofs.Common.{map}
-use Rattle.rw_script.specs.ScriptText.{order_of}
+use Rattle.rw_replay.specs.ScriptText.{order_of}
 use Rattle.rw_world.specs.Machine.{setup_of}
 use Rattle.rw_replay.proofs.PrintLemmas.{printed, also_if_ok}
 use Rattle.rw_replay.proofs.run.state_after.Goals as goal

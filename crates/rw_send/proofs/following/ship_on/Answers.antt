@@ -1,8 +1,8 @@
 use Rattle.std.proofs.Common.{◌≡◌, None, true, refl, ap, ◌∙◌}
-use Rattle.rw_feeder.specs.Feeders.{Sorting}
+use Rattle.rw_sender.specs.Feeders.{Sorting}
 use Rattle.rw_send.proofs.AnswerLemmas.{cut_for, ends_for, failed_so}
 use Rattle.rw_send.proofs.FollowLemmas.{follow_so, follow_why, halts_so, live_so, signed_answers}
-use Rattle.rw_log_shipping.proofs.EpochLemmas.{none_ended}
+use Rattle.rw_send.proofs.EpochLemmas.{none_ended}
 use Rattle.rw_send.specs.Following.{FollowStopsAtOnce, meal_of}
 use Rattle.rw_send.proofs.following.ship_on.Goals as goal
 

@@ -1,8 +1,8 @@
 use Rattle.std.proofs.Common.{Ok, Err}
 use Rattle.rw_wal_format.specs.Pieces.{bytes}
 use Rattle.rw_send.proofs.FollowLemmas.{err_so, fed_piece, feed_fails, part_piece}
-use Rattle.rw_log_shipping.proofs.PartLemmas.{joins_or_not}
-use Rattle.rw_log_shipping.proofs.ShortLemmas.{short_fed}
+use Rattle.rw_send.proofs.PartLemmas.{joins_or_not}
+use Rattle.rw_send.proofs.ShortLemmas.{short_fed}
 use Rattle.rw_send.specs.Following.{FailsWith}
 use Rattle.rw_send.proofs.live.feed_bytes.Goals as goal
 use Rattle.rw_types.proofs.AnswerLemmas.{OnErr-always}

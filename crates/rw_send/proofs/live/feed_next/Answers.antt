@@ -1,9 +1,9 @@
 use Rattle.std.proofs.Common.{sym, ap, ◌∙◌}
-use Rattle.rw_feeder.specs.Feeders.{Sorting}
+use Rattle.rw_sender.specs.Feeders.{Sorting}
 use Rattle.rw_send.proofs.FollowLemmas.{begin_fails, err_so, fed_next, part_next, set_fails}
 use Rattle.rw_send.specs.Following.{FailsWith}
-use Rattle.rw_log_shipping.proofs.EpochLemmas.{last_compared, last_stays, next_resolved, still_resolved}
-use Rattle.rw_log_shipping.proofs.HaltLemmas.{count_so, live_no_more}
+use Rattle.rw_send.proofs.EpochLemmas.{last_compared, last_stays, next_resolved, still_resolved}
+use Rattle.rw_send.proofs.HaltLemmas.{count_so, live_no_more}
 use Rattle.rw_send.proofs.live.feed_next.Goals as goal
 use Rattle.rw_types.proofs.AnswerLemmas.{OnErr-always}
 

@@ -1,6 +1,6 @@
-use Rattle.rw_log_shipping.proofs.HaltLemmas.{fails_so}
+use Rattle.rw_send.proofs.HaltLemmas.{fails_so}
 use Rattle.rw_send.specs.Following.{FailsWith}
-use Rattle.rw_log_shipping.proofs.EpochLemmas.{same_length}
+use Rattle.rw_send.proofs.EpochLemmas.{same_length}
 use Rattle.rw_send.proofs.FollowLemmas.{err_so, flush_fails}
 use Rattle.rw_send.proofs.live.flush.Goals as goal
 use Rattle.rw_types.proofs.AnswerLemmas.{OnErr-always}

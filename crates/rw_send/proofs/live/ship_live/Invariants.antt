@@ -2,8 +2,8 @@ use Rattle.std.proofs.Common.{◌≡◌, ◌<◌, ◌≤◌, length, true, None}
 use Rattle.rw_follow.specs.Growth.{IsFollowed, IsGivenAt, Known}
 use Rattle.rw_fleet.specs.Work.{AreResolved}
 use Rattle.rw_send.specs.Following.{meal_of}
-use Rattle.rw_log_shipping.specs.Segments.{AreShort}
-use Rattle.rw_log_shipping.specs.Steps.{IsKept}
+use Rattle.rw_send.specs.Segments.{AreShort}
+use Rattle.rw_send.specs.Steps.{IsKept}
 use Rattle.rw_send.proofs.live.ship_live.Given as goal
 
 abbrev pub invariant-loop : goal.invariant-loop

@@ -1,9 +1,9 @@
 use Rattle.std.proofs.Common.{true, map, refl, ap, ◌∙◌}
-use Rattle.rw_feeder.specs.Feeders.{Sorting}
-use Rattle.rw_log_shipping.specs.Steps.{AreShipped, AreShippedPart}
+use Rattle.rw_sender.specs.Feeders.{Sorting}
+use Rattle.rw_send.specs.Steps.{AreShipped, AreShippedPart}
 use Rattle.rw_send.proofs.AnswerLemmas.{answers_too, at_ok, failed_so, send_ends}
-use Rattle.rw_log_shipping.proofs.EpochLemmas.{none_ended}
-use Rattle.rw_log_shipping.proofs.StepLemmas.{between}
+use Rattle.rw_send.proofs.EpochLemmas.{none_ended}
+use Rattle.rw_send.proofs.StepLemmas.{between}
 use Rattle.rw_send.proofs.send.ship.Goals as goal
 
 pub returns : goal.returns

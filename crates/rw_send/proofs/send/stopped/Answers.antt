@@ -1,9 +1,9 @@
 use Rattle.std.proofs.Common.{Option, sym, ◌∙◌, subst}
 use Rattle.std.specs.Prelude.{is_some}
-use Rattle.rw_fault.specs.declared.tool_fault.ToolFault.{ToolFault}
+use Rattle.rw_text.specs.declared.tool_fault.ToolFault.{ToolFault}
 use Rattle.rw_fleet.specs.Fleets.{EndBy}
 use Rattle.rw_fleet.specs.declared.running.Fault.{Fault}
-use Rattle.rw_shipper.specs.Reports.{kind_of}
+use Rattle.rw_sender.specs.Reports.{kind_of}
 use Rattle.rw_send.proofs.AnswerLemmas.{abandons_so, answers_orderly, answers_hard, goes_on, same_answer}
 use Rattle.rw_send.proofs.send.stopped.Goals as goal
 

@@ -1,5 +1,5 @@
 use Rattle.std.proofs.Common.{◌≡◌, true}
-use Rattle.rw_log_shipping.specs.Segments.{AreSure, HasMoreBytes}
+use Rattle.rw_send.specs.Segments.{AreSure, HasMoreBytes}
 use Rattle.rw_send.specs.Sending.{StopsAtOnce}
 use Rattle.rw_send.specs.Following.{FollowStopsAtOnce, meal_of}
 use Rattle.rw_sent_held.proofs.HeldLemmas.{holds}

@@ -1,6 +1,6 @@
 use Rattle.rw_types.specs.declared.place.Place.{Place}
 use Rattle.std.proofs.Common.{map, refl, sym, ap, ◌∙◌}
-use Rattle.rw_shard_channel.specs.Ends.{QueueId}
+use Rattle.rw_shard_queue.specs.Ends.{QueueId}
 use Rattle.rw_fleet.proofs.PutLemmas.{places_mark}
 use Rattle.rw_fleet.proofs.SoftLemmas.{unended_push}
 use Rattle.rw_fleet.proofs.running.RunningShard.mark.Goals as goal

@@ -1,5 +1,5 @@
 use Rattle.std.proofs.Common.{◌≡◌, ℕ, rules, refl, sym, ap, ◌∙◌, subst}
-use Rattle.rw_shard_channel.specs.Ends.{QueueId}
+use Rattle.rw_shard_queue.specs.Ends.{QueueId}
 use Rattle.rw_worker.specs.Setups.{Setup}
 use Rattle.rw_fleet.specs.Positions.{Positions}
 use Rattle.rw_fleet.specs.Work.{positions_in}

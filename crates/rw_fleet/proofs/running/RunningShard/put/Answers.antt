@@ -3,7 +3,7 @@ use mir.Syntax.{w64}
 use Rattle.std.proofs.Common.{rules, ◌≡◌, ◌<◌, Some, ◌∷◌, ◌++◌, [], length, refl, sym, ap, ◌∙◌, subst}
 use Rattle.std.proofs.lemmas.Int.{to_z-of_z}
 use Rattle.std.specs.Prelude.{slice_get}
-use Rattle.rw_shard_channel.specs.Ends.{QueueId}
+use Rattle.rw_shard_queue.specs.Ends.{QueueId}
 use Rattle.rw_plain_queue.specs.Items.{Placed, samples_in, places_in}
 use Rattle.rw_plain_queue.specs.declared.item.Item.{Item}
 use Rattle.rw_fleet.specs.ShardHistories.{ShardHistory, put_as, item_as, marks_in}

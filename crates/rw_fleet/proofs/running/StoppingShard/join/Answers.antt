@@ -1,6 +1,6 @@
 use Rattle.std.proofs.Common.{drop, sym, ap, ◌∙◌, subst, length, ◌≤◌, ◌+◌}
 use Rattle.rw_plain_queue.specs.History.{IsHistory}
-use Rattle.rw_shard_channel.specs.Ends.{QueueId}
+use Rattle.rw_shard_queue.specs.Ends.{QueueId}
 use Rattle.rw_worker.specs.Setups.{Setup}
 use Rattle.rw_fleet.specs.Work.{positions_in, put_of, taken_of}
 use Rattle.rw_fleet.proofs.SoftLemmas.{report_done}

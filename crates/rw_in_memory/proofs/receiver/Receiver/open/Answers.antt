@@ -1,5 +1,5 @@
 use Rattle.std.proofs.Common.{◌≡◌, [], ap}
-use Rattle.rw_shared_head.specs.Seats.{Seated}
+use Rattle.rw_recv_head.specs.Seats.{Seated}
 use Rattle.rw_in_memory.proofs.ShippedLemmas.{all_of}
 use Rattle.rw_in_memory.proofs.receiver.Receiver.open.Goals as goal
 

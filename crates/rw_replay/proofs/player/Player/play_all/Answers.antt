@@ -1,6 +1,6 @@
 use Rattle.std.proofs.Common.{◌≡◌, ◌∷◌, map, length, ap, arith}
 use Rattle.std.specs.Vec.Iter.{into_iter_items}
-use Rattle.rw_script.specs.ScriptText.{order_of}
+use Rattle.rw_replay.specs.ScriptText.{order_of}
 use Rattle.rw_replay.proofs.PlayedLemmas.{playing_more}
 use Rattle.rw_replay.proofs.player.Player.play_all.Goals as goal
 

@@ -1,6 +1,6 @@
 use Rattle.std.proofs.Common.{◌≡◌, length, map}
 use Rattle.std.specs.Vec.Iter.{into_iter_items, into_iter_len}
-use Rattle.rw_script.specs.ScriptText.{order_of}
+use Rattle.rw_replay.specs.ScriptText.{order_of}
 use Rattle.rw_replay.proofs.PlayedLemmas.{Playing}
 use Rattle.rw_replay.proofs.player.Player.play_all.Given as goal
 

@@ -1,6 +1,6 @@
 use Rattle.rw_replay.proofs.PlayedLemmas.{settled}
 use Rattle.rw_replay.specs.Played.{Played}
-use Rattle.rw_machine.specs.Endings.{ending_of}
+use Rattle.rw_shard_core.specs.Endings.{ending_of}
 use Rattle.rw_replay.proofs.player.Player.settle.Goals as goal
 
 pub returns : goal.returns

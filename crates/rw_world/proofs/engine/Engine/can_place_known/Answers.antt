@@ -3,8 +3,8 @@ use Rattle.std.proofs.Math.Facts.{to_z-of_z}
 use Rattle.rw_wal_format.specs.Pieces.{entries}
 use Rattle.rw_series_cache.specs.Known.{known}
 use Rattle.rw_series_cache.specs.Numbers.{number_of}
-use Rattle.rw_router.specs.Fates.{fate}
-use Rattle.rw_router.specs.Routing.{WouldSend}
+use Rattle.rw_series_cache.specs.Fates.{fate}
+use Rattle.rw_series_cache.specs.Routing.{WouldSend}
 use Rattle.rw_machine.specs.Settling.{can_place_known}
 use Rattle.rw_world.specs.Machine.{Machine, placed_entries}
 use Rattle.rw_world.specs.contracts.engine.Engine.{the_view}

@@ -3,10 +3,10 @@ use Rattle.std.specs.Prelude.{slice_get}
 use Rattle.rw_types.specs.declared.entry.Entry.{Entry}
 use Rattle.rw_types.specs.declared.entry.Entry.TheVariants.{Def, Sample}
 use Rattle.rw_wal_format.specs.Pieces.{entries}
-use Rattle.rw_router.specs.Fates.{Fate, Drops, Filters, Sends, fate}
-use Rattle.rw_router.specs.Routing.{Routing, Routes, RoutesAs, KnowsMore}
-use Rattle.rw_router.specs.declared.router.Routed.TheVariants as routed
-use Rattle.rw_router.proofs.RouteLemmas.{placed_filtered, told_dropped, told_sample}
+use Rattle.rw_series_cache.specs.Fates.{Fate, Drops, Filters, Sends, fate}
+use Rattle.rw_series_cache.specs.Routing.{Routing, Routes, RoutesAs, KnowsMore}
+use Rattle.rw_series_cache.specs.declared.router.Routed.TheVariants as routed
+use Rattle.rw_series_cache.proofs.RouteLemmas.{placed_filtered, told_dropped, told_sample}
 use Rattle.rw_machine.specs.Steps.{place, place_as, place_entry}
 use Rattle.rw_world.specs.Machine.{Machine, IsWorld}
 use Rattle.rw_world.specs.contracts.engine.Engine.{the_view}

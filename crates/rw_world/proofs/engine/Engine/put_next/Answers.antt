@@ -6,7 +6,7 @@ use Rattle.std.specs.Arc.{arc_value}
 use Rattle.rw_types.specs.declared.entry.Entry.TheVariants.{Sample}
 use Rattle.rw_wal_format.specs.Pieces.{entries}
 use Rattle.rw_series_cache.specs.Numbers.{number_of}
-use Rattle.rw_router.specs.Routing.{Routing, IsSentNext}
+use Rattle.rw_series_cache.specs.Routing.{Routing, IsSentNext}
 use Rattle.rw_machine.specs.Steps.{shard_of, put_if_room}
 use Rattle.rw_world_parts.specs.Sending.{Sending, room_at, put_to}
 use Rattle.rw_world.specs.Machine.{Machine, IsSampleNext, with_sample}

@@ -1,2 +1,0 @@
-pub mod SizeLemmas
-pub mod CuttingLemmas

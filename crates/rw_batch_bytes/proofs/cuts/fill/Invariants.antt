@@ -1,5 +1,0 @@
-use Rattle.std.proofs.Common.{◌≡◌, ℕ, ◌<◌, get_or}
-use Rattle.rw_batch_bytes.proofs.cuts.fill.Given as goal
-
-abbrev pub invariant-loop-room : goal.invariant-loop-room
-invariant-loop-room l = (k : ℕ) → k < l.room-index → get_or l.rooms k 0 ≡ l.limit

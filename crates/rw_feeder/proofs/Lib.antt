@@ -1,3 +1,0 @@
-pub mod HeldLemmas
-pub mod TailLemmas
-pub mod FeederLemmas

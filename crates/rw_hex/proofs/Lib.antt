@@ -1,3 +1,0 @@
-pub mod PairLemmas
-pub mod LineLemmas
-pub mod LawLemmas

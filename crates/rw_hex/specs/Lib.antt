@@ -1,2 +1,0 @@
-pub mod HexText
-pub mod Faults

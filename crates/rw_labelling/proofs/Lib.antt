@@ -1,2 +1,0 @@
-pub mod LabelledLemmas
-pub mod LabellingLemmas

@@ -1,6 +1,0 @@
-//! The samples of a log, grouped by label set as its entries come.
-#![tactic(auto)]
-
-mod labelling;
-
-pub use labelling::Labelling;

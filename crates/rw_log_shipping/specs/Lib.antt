@@ -1,3 +1,0 @@
-pub mod Halting
-pub mod Segments
-pub mod Steps

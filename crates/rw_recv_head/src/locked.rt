@@ -1,0 +1,104 @@
+//! The value under the lock.
+
+ghost use Rattle.std.specs.Prelude.{◌≡◌, ◌≢◌, ℕ, ◌+◌, ◌<◌, ◌≤◌, [], Some, length, slice_get};
+ghost use Rattle.rw_head.specs.Head.{answer, IsStatus};
+ghost use Rattle.rw_head.specs.Store.{total, label_sets};
+ghost use Rattle.rw_head.specs.Growth.{EachRises};
+ghost use Rattle.rw_recv_head.specs.Seats.{most, bodies_of, store_after, HasAsked};
+ghost use Rattle.rw_recv_head.specs.declared.question.Question.{Question};
+
+use crate::naming::Naming;
+use crate::questions::Questions;
+use crate::seat::Seat;
+use rw_head::Head;
+use std::marker::Model;
+use std::sync::ledger::{Share, Total};
+
+/// A head, what it was asked, and the rest of its ledger: how many samples could still be stored.
+/// Contracts see the head and the questions.
+#[derive(Drop)]
+pub(crate) struct Locked<L: Naming> {
+    head: Head,
+    questions: Questions<L>,
+    rest: Share<L>,
+}
+
+impl<L: Naming> Model for Locked<L> {
+    ghost use Rattle.std.specs.Coded.{codes};
+    ghost use Rattle.std.specs.FinMap as map;
+    ghost use Rattle.rw_recv_head.specs.Seats.{Held, IsKept};
+
+    ghost Value = { Held };
+
+    ghost coded = { Prim.hlevel (codes, map.code) };
+
+    ghost view = { λ l. record { head = l.head; questions = l.questions } };
+
+    ghost invariant = { λ l. IsKept L.opening L.parts
+        (record { head = l.head; questions = l.questions }) l.rest.parts l.rest.amount };
+}
+
+impl<L: Naming> Locked<L> {
+    /// Returns a head that was not asked anything yet, with the number of samples that could still
+    /// be stored.
+    pub(crate) fn new(head: Head, questions: Questions<L>, rest: Share<L>) -> Locked<L>
+        requires opening { head ≡ L.opening }
+        requires nothing { questions.asked ≡ [] }
+        requires all_given { L.parts ≡ questions.given + 1 }
+        requires none_back { questions.back ≡ [] }
+        requires one_part { rest.parts ≡ 1 }
+        requires adds_up { total head.store + rest.amount ≡ most }
+        ensures { result ≡ record { head = head; questions = questions } }
+    {
+        let _total = head.total();
+        Locked {
+            head,
+            questions,
+            rest,
+        }
+    }
+
+    /// Returns the head, what it was asked, and the number of samples that could still be stored.
+    pub(crate) fn into_parts(self) -> (Head, Questions<L>, Share<L>)
+        ensures head { result.0 ≡ self.head }
+        ensures questions { result.1 ≡ self.questions }
+        ensures holds { result.0.store ≡ store_after L.opening (bodies_of result.1.asked) }
+        ensures limits { result.0.limits ≡ L.opening.limits }
+        ensures each { (n : ℕ) (q : Question) → slice_get result.1.asked n ≡ Some q
+            → q.seat < result.1.given }
+        ensures all_given { L.parts ≡ result.1.given + 1 }
+        ensures none_back { result.1.back ≡ [] }
+        ensures one_part { result.2.parts ≡ 1 }
+        ensures adds_up { total self.head.store + result.2.amount ≡ most }
+        ensures rises { EachRises self.head.store }
+    {
+        (self.head, self.questions, self.rest)
+    }
+
+    /// Asks the head, notes the question, and moves as many samples as the head stored from the
+    /// rest to the seat, which then has seen all questions.
+    pub(crate) fn answer(&mut self, all: &Total<L>, seat: &mut Seat<L>, body: &[u8]) -> u16
+        requires fits { all.now.amount ≤ most }
+        ensures status { result ≢ 503 → result ≡ (answer self.old.head body.now).status }
+        ensures head { result ≢ 503 → self.new.head ≡ (answer self.old.head body.now).head }
+        ensures no_memory { result ≡ 503
+            → (self.new.head ≡ self.old.head) × (self.old.head.busy ≡ 0) }
+        ensures statuses { IsStatus result }
+        ensures asked { HasAsked L.opening seat.old body.now result seat.new }
+        ensures seen { seat.new.asked ≡ self.new.questions.asked }
+    {
+        let before = self.head.total();
+        let status = self.head.answer(body);
+        seat.note(&mut self.questions, status, body);
+        seat.take(all, &mut self.rest, self.head.total() - before);
+        status
+    }
+
+    /// Returns of how many label sets the head has samples.
+    pub(crate) fn label_sets(&self) -> usize
+        ensures { result ≡ length (label_sets (store_after L.opening
+            (bodies_of self.now.questions.asked))) }
+    {
+        self.head.places()
+    }
+}

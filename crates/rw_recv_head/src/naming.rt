@@ -1,0 +1,23 @@
+//! Which shared head it is.
+
+use std::marker::Brand;
+use std::sync::ledger::Ledger;
+
+/// Which shared head it is: its ledger, the head that it began as, and the table by which its seats
+/// know what it was asked. Each call of a program picks it.
+pub trait Naming: Ledger {
+    ghost use Rattle.atomic_table.specs.Seated.{TableId};
+    ghost use Rattle.rw_head.specs.Head.{State};
+
+    ghost opening: { State };
+
+    ghost table: { TableId };
+}
+
+impl Naming for Brand {
+    ghost use Rattle.rw_recv_head.specs.Questions.{no_head, no_table};
+
+    ghost opening = { no_head };
+
+    ghost table = { no_table };
+}

@@ -1,0 +1,120 @@
+//! A handle by which one thread asks the shared head.
+
+ghost use Rattle.std.specs.Prelude.{◌≡◌, ◌+◌, ◌≤◌, ◌<◌, [], ◌∷◌, ◌++◌, length};
+ghost use Rattle.rw_head.specs.Head.{IsStatus};
+ghost use Rattle.rw_head.specs.Store.{label_sets};
+ghost use Rattle.rw_recv_head.specs.Questions.{IsSeat};
+ghost use Rattle.rw_recv_head.specs.Seats.{most, bodies_of, store_after, HasAsked};
+
+use crate::naming::Naming;
+use crate::questions::{Questions, Seen};
+use crate::shared_head::SharedHead;
+use std::marker::Model;
+use std::sync::Wait;
+use std::sync::ledger::{Share, Total};
+
+/// How a request was answered.
+#[derive(Clone, Copy, Debug, PartialEq, Eq)]
+pub struct Asked {
+    /// 204, 400, 429 or 503.
+    pub status: u16,
+    /// Of how many label sets the head has samples from then on.
+    pub label_sets: usize,
+}
+
+/// A handle by which one thread asks a shared head. Contracts see its number, how many samples its
+/// requests stored, and what the head had been asked from all seats when this one asked last.
+#[derive(Drop)]
+pub struct Seat<L: Naming> {
+    stored: u64,
+    share: Share<L>,
+    seen: Seen<L>,
+}
+
+impl<L: Naming> Model for Seat<L> {
+    ghost use Rattle.std.specs.Prelude.{◌≡◌};
+    ghost use Rattle.rw_recv_head.specs.Seats.{Seated};
+
+    ghost Value = { Seated };
+
+    ghost view = { λ s. record { number = s.seen.number; stored = s.stored; asked = s.seen.asked } };
+
+    ghost invariant = { λ s. (s.share.parts ≡ 1) × (s.share.amount ≡ s.stored) };
+}
+
+impl<L: Naming> Seat<L> {
+    /// Returns a seat that has stored nothing.
+    pub(crate) fn new(share: Share<L>, seen: Seen<L>) -> Seat<L>
+        requires one_part { share.parts ≡ 1 }
+        requires nothing { share.amount ≡ 0 }
+        ensures { result ≡ record { number = seen.number; stored = 0; asked = seen.asked } }
+    {
+        Seat {
+            stored: 0,
+            share,
+            seen,
+        }
+    }
+
+    /// Moves samples from the rest of the ledger to this seat.
+    pub(crate) fn take(&mut self, all: &Total<L>, rest: &mut Share<L>, count: u64)
+        requires there { count ≤ rest.old.amount }
+        requires part { 0 < rest.old.parts }
+        requires fits { all.now.amount ≤ most }
+        ensures stored { self.new ≡ record self.old { stored = self.old.stored + count } }
+        ensures parts { rest.new.parts ≡ rest.old.parts }
+        ensures amount { rest.new.amount + count ≡ rest.old.amount }
+    {
+        rest.transfer(&mut self.share, count);
+        all.audit(&mut self.share);
+        self.stored += count;
+    }
+
+    /// Notes what this seat was asked and how it was answered, and sees all questions.
+    pub(crate) fn note(&mut self, questions: &mut Questions<L>, status: u16, body: &[u8])
+        ensures questions { questions.new ≡ record questions.old {
+          asked = questions.old.asked
+              ++ record { seat = self.old.number; body = body.now; status = status } ∷ [];
+        } }
+        ensures seat { self.new ≡ record self.old { asked = questions.new.asked } }
+        ensures is_seat { IsSeat questions.old self.old.number self.old.asked }
+    {
+        questions.push(&mut self.seen, status, body);
+    }
+
+    /// Returns the share of the ledger, and what was seen.
+    pub(crate) fn into_parts(self) -> (Share<L>, Seen<L>)
+        ensures parts { result.0.parts ≡ 1 }
+        ensures amount { result.0.amount ≡ self.stored }
+        ensures seen { result.1 ≡ record { number = self.number; asked = self.asked } }
+    {
+        (self.share, self.seen)
+    }
+
+    /// Returns how many samples the requests from this seat stored. This takes no memory.
+    pub fn stored(&self) -> u64
+        ensures { result ≡ self.now.stored }
+    {
+        self.stored
+    }
+
+    /// Returns the head's answer to a request's body, under the lock: 204, 400, 429 or 503, as
+    /// `Head::answer` returns it. It may wait for the lock.
+    pub fn answer<R: Wait>(&mut self, rt: &R, shared: &SharedHead<L>, body: &[u8]) -> u16
+        ensures statuses { IsStatus result }
+        ensures asked { HasAsked L.opening self.old body.now result self.new }
+    {
+        self.ask(rt, shared, body).status
+    }
+
+    /// Answers a request as `answer` does, and also returns of how many label sets the head then
+    /// has samples.
+    pub fn ask<R: Wait>(&mut self, rt: &R, shared: &SharedHead<L>, body: &[u8]) -> Asked
+        ensures statuses { IsStatus result.status }
+        ensures asked { HasAsked L.opening self.old body.now result.status self.new }
+        ensures label_sets { result.label_sets
+            ≡ length (label_sets (store_after L.opening (bodies_of self.new.asked))) }
+    {
+        shared.ask(rt, self, body)
+    }
+}

@@ -1,0 +1,112 @@
+//! A head under a lock.
+
+ghost use Rattle.std.specs.Prelude.{◌≡◌, ℕ, ◌+◌, ◌<◌, [], Some, IfOk, IfErr, length, slice_get, sum_by, vec_len};
+ghost use Rattle.rw_head.specs.Head.{IsStatus};
+ghost use Rattle.rw_head.specs.Store.{total, label_sets};
+ghost use Rattle.rw_head.specs.Growth.{EachRises};
+ghost use Rattle.rw_recv_head.specs.Seats.{bodies_of, store_after, Seated, HasAsked, HasGathered};
+
+use crate::blank::Blank;
+use crate::locked::Locked;
+use crate::naming::Naming;
+use crate::seat::{Asked, Seat};
+use rw_head::Head;
+use std::alloc::{AllocError, Global};
+use std::marker::Model;
+use std::sync::ledger::Total;
+use std::sync::{Mutex, Wait};
+
+/// A head that threads ask under one lock. Contracts see how many samples it held when it was
+/// shared, and among how many seats.
+///
+/// Whenever the lock is free, the timestamps of each list rise strictly, and the head's total is
+/// that at the start with what the seats stored.
+#[derive(Drop)]
+pub struct SharedHead<L: Naming> {
+    locked: Mutex<Locked<L>>,
+    all: Total<L>,
+}
+
+impl<L: Naming> Model for SharedHead<L> {
+    ghost use Rattle.std.specs.Prelude.{◌≡◌, ◌-◌, ◌<◌, ◌≤◌};
+    ghost use Rattle.rw_recv_head.specs.Seats.{Opening, most};
+
+    ghost Value = { Opening };
+
+    ghost view = { λ s. record { start = most - s.all.amount; seats = s.all.parts - 1 } };
+
+    ghost invariant = { λ s. (s.all.amount ≤ most) × (0 < s.all.parts) × (s.all.parts ≡ L.parts) };
+}
+
+impl<L: Naming> SharedHead<L> {
+    /// Shares a head among `n` seats, which are numbered from 0, over a blank of `n` + 1 parts: one
+    /// for each seat and one for the lock. If memory runs out, the head comes back as it was.
+    pub fn seats(
+        alloc: Global,
+        blank: Blank,
+        head: Head,
+        n: usize,
+    ) -> Result<(SharedHead<L>, Vec<Seat<L>>), (Head, AllocError)>
+        requires seats { 0 < n }
+        requires name { blank.name ≡ L.name }
+        requires parts { (blank.parts ≡ n + 1) × (L.parts ≡ n + 1) }
+        requires table { blank.table ≡ L.table }
+        requires opening { head ≡ L.opening }
+        ensures shared { IfOk result (λ r. r.0 ≡ record { start = total head.store; seats = n }) }
+        ensures seats { IfOk result (λ r. vec_len r.1 ≡ n) }
+        ensures numbered { IfOk result (λ r. (k : ℕ) (s : Seated) → slice_get r.1.items k ≡ Some s
+            → s ≡ record { number = k; stored = 0; asked = [] }) }
+        ensures refused { IfErr result (λ e. e.0 ≡ head) }
+    {
+        let mut seats = Vec::new(alloc);
+        if seats.reserve(n).is_err() {
+            return Err((head, AllocError));
+        }
+        let (ledger, mut questions) = blank.named::<L>();
+        let (mut book, mut rest) = ledger.open::<L>();
+        book.add(&mut rest, u64::MAX - head.total());
+        let all = book.close();
+        for k in 0..n {
+            let seen = questions.give(k as u64);
+            seats.push_reserved(Seat::new(rest.split_off(1, 0), seen));
+        }
+        let locked = Mutex::new(Locked::new(head, questions, rest));
+        Ok((SharedHead { locked, all }, seats))
+    }
+
+    /// Returns the answer to a body from a seat, under the lock.
+    pub(crate) fn ask<R: Wait>(&self, rt: &R, seat: &mut Seat<L>, body: &[u8]) -> Asked
+        ensures statuses { IsStatus result.status }
+        ensures asked { HasAsked L.opening seat.old body.now result.status seat.new }
+        ensures label_sets { result.label_sets
+            ≡ length (label_sets (store_after L.opening (bodies_of seat.new.asked))) }
+    {
+        let mut locked = self.locked.lock(rt);
+        let status = locked.answer(&self.all, seat, body);
+        Asked {
+            status,
+            label_sets: locked.label_sets(),
+        }
+    }
+
+    /// Returns the head, once all seats were returned. It holds what was reported to each of them
+    /// as stored, has taken nothing that none of them was asked, and takes label sets by the limits
+    /// that it had. This takes no memory and never waits.
+    pub fn gather(self, seats: Vec<Seat<L>>) -> Head
+        requires { vec_len seats ≡ self.seats }
+        ensures gathered { HasGathered L.opening seats.items result.store }
+        ensures limits { result.limits ≡ L.opening.limits }
+        ensures total { total result.store ≡ self.start + sum_by (λ s. s.stored) seats.items }
+        ensures rises { EachRises result.store }
+    {
+        let SharedHead { locked, all } = self;
+        let (head, mut questions, mut rest) = locked.into_inner().into_parts();
+        for seat in seats {
+            let (share, seen) = seat.into_parts();
+            questions.take_back(seen);
+            rest.merge(share);
+        }
+        all.audit(&mut rest);
+        head
+    }
+}

@@ -1,2 +1,0 @@
-pub mod KnowsLemmas
-pub mod RouteLemmas

@@ -1,5 +1,0 @@
-use Rattle.rw_script.proofs.OrderLemmas.{order_one}
-use Rattle.rw_script.proofs.laws.order_is_one.Goals as goal
-
-pub returns : goal.returns
-returns c = order_one

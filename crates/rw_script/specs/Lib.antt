@@ -1,3 +1,0 @@
-pub mod Scripts
-pub mod ScriptText
-pub mod Ways

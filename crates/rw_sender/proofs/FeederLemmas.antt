@@ -1,0 +1,190 @@
+-- What a feeder keeps, with one entry more.
+use Rattle.std.proofs.Common.{◌≡◌, ℕ, ℤ, ◌+◌, ◌<◌, ◌≤◌, cond, List, [], ◌∷◌, ◌++◌, length, take, Option, None, Some, refl, sym, ap, ◌∙◌, subst, append-nil, length-append, add-zero, arith}
+use Rattle.std.specs.Prelude.{fold, drop}
+use Rattle.std.proofs.lemmas.List.Sums.{fold-append}
+use Rattle.std.specs.Cmp.{nat_cmp_total}
+use Rattle.std.specs.Ordering.{nat_cmp}
+use Rattle.std.specs.FinMap.{FinMap, empty, get, insert, get-insert, get-empty}
+use Rattle.rw_types.specs.declared.entry.Entry.{Entry}
+use Rattle.rw_types.specs.declared.entry.Entry.TheVariants.{Def, Sample}
+use Rattle.rw_wal_format.specs.Pieces.{Piece, entries, reading}
+use Rattle.rw_wal_format.specs.Segments.{segment}
+use Rattle.rw_wal_format.specs.declared.tail_fault.TailFault.{TailFault}
+use Rattle.rw_ledger.specs.declared.ledger.Reason.{Reason}
+use Rattle.rw_relabel.specs.declared.choice.Choice.{Choice}
+use Rattle.rw_series_cache.specs.Fates.{Fate, Drops, Filters, Sends, fate}
+use Rattle.rw_series_cache.specs.Routing.{Routing, Knows, Routes, RoutesAs, IsSentNext}
+use Rattle.rw_series_cache.specs.declared.router.Routed.TheVariants as routed
+use Rattle.rw_series_cache.specs.declared.sample.RoutedSample.{RoutedSample}
+use Rattle.rw_wal_tail.specs.Fed.{Fed}
+use Rattle.rw_sender.specs.Logs.{Sent, kept_sample, sent_by_fate, sent_of, with_name, named, dropped, dropped_by_fate, dropped_of, filtered, filtered_by_fate, filtered_of}
+use Rattle.rw_sender.specs.Feeders.{Sorting, HasTaken, HasRead, IsFeeder, sent_by}
+use Rattle.rw_types.proofs.GatherLemmas.{gather-push}
+use Rattle.rw_sender.proofs.HeldLemmas.{held_more, held_placed}
+use Rattle.rw_types.proofs.TimeLemmas.{nat_cmp-apart}
+
+-- the entry in hand was placed
+placed_next : (tail : Fed) (router after : Routing) (names now : FinMap nat_cmp Reason) (n m : ℕ) (ps hand : List Entry) (e : Entry) → IsFeeder tail router names n ps hand → hand ≡ e ∷ [] → m ≡ tail.given → after.cache.choice ≡ router.cache.choice
+    → Knows (ps ++ e ∷ []) after.cache → now ≡ fold with_name names (dropped_of router.cache.choice ps e) → ((p : ℕ) → n < p → get now p ≡ None) → after.filtered ≡ router.filtered + length (filtered_of router.cache.choice ps e) → after.filtered ≤ n + 1
+    → IsFeeder tail after now m (ps ++ hand) []
+placed_next tail router after names now n m ps hand e h is up choice knows names_are below counted within =
+    let given = h.taken.count in
+    let len = length-append ps hand in
+    let one = ap length is in
+    let count = h.counted in
+    let all : ps ++ hand ≡ ps ++ e ∷ [] = ap (λ x. ps ++ x) is in
+    let drops : dropped after.cache.choice (ps ++ hand) ≡ dropped router.cache.choice ps ++ dropped_of router.cache.choice ps e = ap (λ r. dropped r (ps ++ hand)) choice ∙ ap (dropped router.cache.choice) all ∙ gather-push (dropped_of router.cache.choice) ps e in
+    let filters : filtered after.cache.choice (ps ++ hand) ≡ filtered router.cache.choice ps ++ filtered_of router.cache.choice ps e = ap (λ r. filtered r (ps ++ hand)) choice ∙ ap (filtered router.cache.choice) all ∙ gather-push (filtered_of router.cache.choice) ps e in
+    record {
+      taken = subst (HasTaken tail) (sym (append-nil (ps ++ hand))) h.taken;
+      counted = up ∙ given;
+      knows = subst (λ es. Knows es after.cache) (sym all) knows;
+      names_are = names_are ∙ ap (λ x. fold with_name x (dropped_of router.cache.choice ps e)) h.names_are ∙ sym (ap named drops ∙ fold-append with_name empty (dropped router.cache.choice ps) (dropped_of router.cache.choice ps e));
+      below = λ p le. below p (omega arith);
+      filter_counted = counted ∙ ap (λ k. k + length (filtered_of router.cache.choice ps e)) h.filter_counted ∙ sym (ap length filters ∙ length-append (filtered router.cache.choice ps) (filtered_of router.cache.choice ps e));
+      filter_within = omega arith;
+    }
+
+pub placed_held : (tail : Fed) (router after : Routing) (names now : FinMap nat_cmp Reason) (n m : ℕ) (r : List Entry) (e : Entry) → IsFeeder tail router names n (take n r) (drop n r) → drop n r ≡ e ∷ [] → m ≡ tail.given → after.cache.choice ≡ router.cache.choice
+    → Knows (take n r ++ e ∷ []) after.cache → now ≡ fold with_name names (dropped_of router.cache.choice (take n r) e) → ((p : ℕ) → n < p → get now p ≡ None) → after.filtered ≡ router.filtered + length (filtered_of router.cache.choice (take n r) e) → after.filtered ≤ n + 1
+    → IsFeeder tail after now m (take m r) (drop m r)
+placed_held tail router after names now n m r e h is up choice knows names_are below counted within =
+    let q = held_placed n m r (up ∙ h.taken.count) in
+    rw (q.0, q.1) (placed_next tail router after names now n m (take n r) (drop n r) e h is up choice knows names_are below counted within)
+
+-- and is what contracts see
+pub placed_seen : (tail : Fed) (router after : Routing) (names : FinMap nat_cmp Reason) (n m : ℕ) (r : List Entry) (old : Sorting) → IsFeeder tail router names n (take n r) (drop n r) → m ≡ tail.given → after.cache.choice ≡ router.cache.choice
+    → record { choice = router.cache.choice; pieces = tail.pieces; placed = take n r; hand = drop n r } ≡ old
+    → ◌≡◌ {A = Sorting} (record { choice = after.cache.choice; pieces = tail.pieces; placed = take m r; hand = drop m r }) (record old { placed = old.placed ++ old.hand; hand = [] })
+placed_seen tail router after names n m r old h up choice seen =
+    let q = held_placed n m r (up ∙ h.taken.count) in
+    let now : ◌≡◌ {A = Sorting} (record { choice = after.cache.choice; pieces = tail.pieces; placed = take m r; hand = drop m r }) (record { choice = router.cache.choice; pieces = tail.pieces; placed = take n r ++ drop n r; hand = [] }) =
+    λ i. record { choice = choice i; pieces = tail.pieces; placed = q.0 i; hand = q.1 i } in
+    now ∙ ap (λ (s : Sorting). record s { placed = s.placed ++ s.hand; hand = [] }) seen
+
+-- another reader, as far with the same entries
+pub same_taken : (tail after : Fed) (router : Routing) (names : FinMap nat_cmp Reason) (n : ℕ) (ps hand : List Entry) → IsFeeder tail router names n ps hand → HasTaken after (ps ++ hand) → IsFeeder after router names n ps hand
+same_taken tail after router names n ps hand h taken = record {
+  taken = taken;
+  counted = h.counted;
+  knows = h.knows;
+  names_are = h.names_are;
+  below = h.below;
+  filter_counted = h.filter_counted;
+  filter_within = h.filter_within;
+}
+
+pub same_tail : (tail after : Fed) (router : Routing) (names : FinMap nat_cmp Reason) (n : ℕ) (ps hand : List Entry) → IsFeeder tail router names n ps hand → after.pieces ≡ tail.pieces → after.given ≡ tail.given → IsFeeder after router names n ps hand
+same_tail tail after router names n ps hand h pieces given =
+    same_taken tail after router names n ps hand h (record { count = given ∙ h.taken.count; rest = h.taken.rest; begins = ap entries pieces ∙ h.taken.begins })
+
+-- a name for the next position leaves those after it without one
+pub named_below : (names now : FinMap nat_cmp Reason) (n : ℕ) (reason : Reason) → ((p : ℕ) → n ≤ p → get names p ≡ None) → now ≡ insert names n reason → (p : ℕ) → n < p → get now p ≡ None
+named_below names now n reason h is p lt =
+    ap (λ m. get m p) is ∙ get-insert nat_cmp_total names n reason p ∙ ap (λ b. cond b (Some reason) (get names p)) (nat_cmp-apart n p lt) ∙ h p (omega arith)
+
+-- an entry that the router placed
+pub router_placed : (router after : Routing) (ps : List Entry) (pos : ℕ) (e : Entry) → Routes router ps pos e after routed.Placed
+    → (after.cache.choice ≡ router.cache.choice) × (dropped_of router.cache.choice ps e ≡ []) × (sent_of router.cache.choice ps e ≡ []) × (after.filtered ≡ router.filtered + length (filtered_of router.cache.choice ps e)) × (after.filtered ≤ router.filtered + 1)
+router_placed router after ps pos (Def reference l) is =
+    let same = ap (λ (x : Routing). x.filtered) is.1 in
+    (ap (λ (x : Routing). x.cache.choice) is.1, refl, refl, same ∙ sym (add-zero router.filtered), omega arith)
+router_placed router after ps pos (Sample reference t word) is = by_fate (fate router.cache.choice ps reference t) is
+  where
+    by_fate : (f : Fate) → RoutesAs router ps pos t word f after routed.Placed
+        → (after.cache.choice ≡ router.cache.choice) × (dropped_by_fate (length ps) f ≡ []) × (sent_by_fate router.cache.choice ps t word f ≡ []) × (after.filtered ≡ router.filtered + length (filtered_by_fate (length ps) f)) × (after.filtered ≤ router.filtered + 1)
+    by_fate (Drops reason) is = absurd is
+    by_fate Filters is =
+        let more = ap (λ (x : Routing). x.filtered) is in
+        (ap (λ (x : Routing). x.cache.choice) is, refl, refl, omega arith, omega arith)
+    by_fate (Sends l) is = absurd is
+
+-- a sample that it told to send
+pub router_sends : (router after : Routing) (ps : List Entry) (pos : ℕ) (e : Entry) (s : RoutedSample) → pos ≡ length ps → Routes router ps pos e after (routed.Sample s)
+    → (after ≡ router) × (sent_of router.cache.choice ps e ≡ sent_by s ∷ []) × IsSentNext router.cache.choice ps e s.series s.t
+router_sends router after ps pos (Def reference l) s at is = absurd (cc)
+router_sends router after ps pos (Sample reference t word) s at is = by_fate (fate router.cache.choice ps reference t) refl is
+  where
+    by_fate : (f : Fate) → fate router.cache.choice ps reference t ≡ f → RoutesAs router ps pos t word f after (routed.Sample s)
+        → (after ≡ router) × (sent_by_fate router.cache.choice ps t word f ≡ sent_by s ∷ []) × IsSentNext router.cache.choice ps (Sample reference t word) s.series s.t
+    by_fate (Drops why) e is = absurd is
+    by_fate Filters e is = absurd is
+    by_fate (Sends l) e is =
+        let h = is.0 in
+        let same : ◌≡◌ {A = Sent} (kept_sample router.cache.choice ps t word l) (sent_by s) =
+        λ i. record { pos = (sym at ∙ sym h.pos_is) i; series = sym h.numbered.numbered i; t = sym h.time i; word = sym h.word_is i; labels = sym h.labels_are i } in
+        (is.1, ap (λ (x : Sent). x ∷ []) same, (sym h.time, (l, ap (fate router.cache.choice ps reference) h.time ∙ e, h.numbered)))
+
+-- a sample that is dropped is named, and not counted
+pub dropped_is : (choice : Choice) (ps : List Entry) (reference : ℕ) (t : ℤ) (word : ℕ) (reason : Reason) → fate choice ps reference t ≡ Drops reason
+    → (dropped_of choice ps (Sample reference t word) ≡ (length ps, reason) ∷ []) × (filtered_of choice ps (Sample reference t word) ≡ []) × (sent_of choice ps (Sample reference t word) ≡ [])
+dropped_is choice ps reference t word reason is = (ap (dropped_by_fate (length ps)) is, ap (filtered_by_fate (length ps)) is, ap (sent_by_fate choice ps t word) is)
+
+-- a sample that is sent is named nowhere
+pub sent_is : (choice : Choice) (ps : List Entry) (e : Entry) (series : ℕ) (t : ℤ) → IsSentNext choice ps e series t → (dropped_of choice ps e ≡ []) × (filtered_of choice ps e ≡ [])
+sent_is choice ps (Def reference l) series t next = absurd next
+sent_is choice ps (Sample reference u word) series t next =
+    let is = ap (fate choice ps reference) next.0 ∙ next.1.1 in
+    (ap (dropped_by_fate (length ps)) is, ap (filtered_by_fate (length ps)) is)
+
+-- an entry was read
+pub read_next : (tail after : Fed) (router : Routing) (names : FinMap nat_cmp Reason) (n : ℕ) (r now : List Entry) (e : Entry) → IsFeeder tail router names n (take n r) (drop n r) → drop n r ≡ [] → now ≡ r ++ e ∷ [] → HasTaken after ((take n r ++ drop n r) ++ e ∷ [])
+    → IsFeeder after router names n (take n now) (drop n now)
+read_next tail after router names n r now e h none is taken =
+    let q = held_more n r e none h.counted in
+    let whole : (take n r ++ drop n r) ++ e ∷ [] ≡ take n r ++ e ∷ [] = ap (λ x. (take n r ++ x) ++ e ∷ []) none ∙ ap (λ y. y ++ e ∷ []) (append-nil (take n r)) in
+    let next : IsFeeder after router names n (take n r) (e ∷ []) = same_hand (subst (HasTaken after) whole taken) in
+    subst (λ x. IsFeeder after router names n (take n x) (drop n x)) (sym is) (subst (λ (x : List Entry × List Entry). IsFeeder after router names n x.0 x.1) (λ i. (sym q.0 i, sym q.1 i)) next)
+  where
+    same_hand : HasTaken after (take n r ++ e ∷ []) → IsFeeder after router names n (take n r) (e ∷ [])
+    same_hand t = record {
+      taken = t;
+      counted = h.counted;
+      knows = h.knows;
+      names_are = h.names_are;
+      below = h.below;
+      filter_counted = h.filter_counted;
+      filter_within = h.filter_within;
+    }
+
+-- and is what contracts see
+pub next_seen : (tail after : Fed) (router : Routing) (names : FinMap nat_cmp Reason) (n : ℕ) (r now : List Entry) (e : Entry) (old : Sorting) → IsFeeder tail router names n (take n r) (drop n r) → drop n r ≡ [] → now ≡ r ++ e ∷ [] → after.pieces ≡ tail.pieces
+    → record { choice = router.cache.choice; pieces = tail.pieces; placed = take n r; hand = drop n r } ≡ old
+    → ◌≡◌ {A = Sorting} (record { choice = router.cache.choice; pieces = after.pieces; placed = take n now; hand = drop n now }) (record old { hand = e ∷ [] })
+next_seen tail after router names n r now e old h none is pieces seen =
+    let q = held_more n r e none h.counted in
+    let front = ap (take n) is ∙ q.0 in
+    let hand = ap (drop n) is ∙ q.1 in
+    let parts : ◌≡◌ {A = Sorting} (record { choice = router.cache.choice; pieces = after.pieces; placed = take n now; hand = drop n now }) (record { choice = router.cache.choice; pieces = tail.pieces; placed = take n r; hand = e ∷ [] }) =
+    λ i. record { choice = router.cache.choice; pieces = pieces i; placed = front i; hand = hand i } in
+    parts ∙ ap (λ (s : Sorting). record s { hand = e ∷ [] }) seen
+
+pub end_seen : (choice : Choice) (pieces now : List Piece) (ps hand : List Entry) (old : Sorting) → now ≡ pieces → record { choice = choice; pieces = pieces; placed = ps; hand = hand } ≡ old
+    → ◌≡◌ {A = Sorting} (record { choice = choice; pieces = now; placed = ps; hand = hand }) old
+end_seen choice pieces now ps hand old same seen = ap (λ (p : List Piece). record { choice = choice; pieces = p; placed = ps; hand = hand }) same ∙ seen
+
+pub read_all : (choice : Choice) (pieces : List Piece) (ps hand : List Entry) (old : Sorting) (found : Option TailFault) → HasRead pieces (ps ++ hand) found → hand ≡ [] → record { choice = choice; pieces = pieces; placed = ps; hand = hand } ≡ old
+    → HasRead old.pieces old.placed found
+read_all choice pieces ps hand old found h none seen =
+    subst (λ (s : Sorting). HasRead s.pieces s.placed found) seen (record { all = sym (ap (λ x. ps ++ x) none ∙ append-nil ps) ∙ h.all; fault_is = h.fault_is })
+
+-- a name for the next position
+pub named_next : (names roomed now : FinMap nat_cmp Reason) (n pos : ℕ) (reason : Reason) (ds : List (ℕ × Reason)) → roomed ≡ names → now ≡ insert roomed n reason → n ≡ pos → ds ≡ (pos, reason) ∷ [] → now ≡ fold with_name names ds
+named_next names roomed now n pos reason ds a b counted is =
+    b ∙ ap (λ m. insert m n reason) a ∙ ap (λ k. insert names k reason) counted ∙ sym (ap (fold with_name names) is)
+
+pub no_more : (fc : ℕ) (fs : List ℕ) → fs ≡ [] → fc ≡ fc + length fs
+no_more fc fs is = sym (ap (λ l. fc + length l) is ∙ add-zero fc)
+
+-- before the first piece
+pub feeder_begun : (tail : Fed) (router : Routing) (names : FinMap nat_cmp Reason) (r : List Entry) → tail ≡ record { pieces = []; given = 0; skipped = 0; fault = None } → Knows [] router.cache → router.filtered ≡ 0 → names ≡ empty → r ≡ [] → IsFeeder tail router names 0 (take 0 r) (drop 0 r)
+unfolding reading segment
+feeder_begun tail router names r t knows none m is = subst (IsFeeder tail router names 0 []) (sym is) (record {
+  taken = record { count = ap (λ (x : Fed). x.given) t; rest = []; begins = ap (λ (x : Fed). entries x.pieces) t };
+  counted = refl;
+  knows = knows;
+  names_are = m;
+  below = λ p le. ap (λ x. get x p) m ∙ get-empty nat_cmp p;
+  filter_counted = none;
+  filter_within = omega (arith, none);
+})

@@ -1,0 +1,5 @@
+use Rattle.rw_sender.proofs.SpreadLemmas.{placed_spread}
+use Rattle.rw_sender.proofs.laws.samples_are_spread.Goals as goal
+
+pub returns : goal.returns
+returns c = placed_spread

@@ -1,0 +1,83 @@
+-- How far a log is sorted.
+use Rattle.std.specs.Prelude.{◌≡◌, ℕ, ◌≤◌, ℤ, List, [], ◌∷◌, ◌++◌, length, Option, Some, None}
+use Rattle.std.specs.Arc.{arc_value}
+use Rattle.std.specs.Ordering.{nat_cmp}
+use Rattle.std.specs.FinMap.{FinMap, get}
+use Rattle.rw_types.specs.declared.entry.Entry.{Entry}
+use Rattle.rw_types.specs.declared.entry.Entry.TheVariants.{Sample}
+use Rattle.rw_wal_format.specs.Pieces.{Piece, entries, fault}
+use Rattle.rw_wal_format.specs.declared.tail_fault.TailFault.{TailFault}
+use Rattle.rw_ledger.specs.declared.ledger.Reason.{Reason}
+use Rattle.rw_relabel.specs.declared.choice.Choice.{Choice}
+use Rattle.rw_series_cache.specs.Fates.{Drops, fate}
+use Rattle.rw_series_cache.specs.Routing.{Routing, Knows, IsSentNext}
+use Rattle.rw_series_cache.specs.declared.sample.RoutedSample.{RoutedSample}
+use Rattle.rw_wal_tail.specs.Fed.{Fed}
+use Rattle.rw_sender.specs.Logs.{Sent, sent_of, named, dropped, filtered}
+use Rattle.rw_sender.specs.declared.feeder.Next.{Next}
+use Rattle.rw_sender.specs.declared.feeder.Next.TheVariants as next
+
+-- the rules, the pieces of the log so far, the entries that were placed, and those that were read
+-- and are to be placed
+pub record Sorting : Type 0 where
+  pub choice : Choice
+  pub pieces : List Piece
+  pub placed : List Entry
+  pub hand : List Entry
+
+-- these entries were taken from the reader, each in its turn
+pub record HasTaken (tail : Fed) (taken : List Entry) : Type 0 where
+  pub count : tail.given ≡ length taken
+  pub rest : List Entry
+  pub begins : entries tail.pieces ≡ taken ++ rest
+
+-- what a feeder keeps
+pub record IsFeeder (tail : Fed) (router : Routing) (names : FinMap nat_cmp Reason) (count : ℕ) (placed hand : List Entry) : Type 0 where
+  pub taken : HasTaken tail (placed ++ hand)
+  pub counted : count ≡ length placed
+  pub knows : Knows placed router.cache
+  pub names_are : names ≡ named (dropped router.cache.choice placed)
+  pub below : (p : ℕ) → count ≤ p → get names p ≡ None
+  pub filter_counted : router.filtered ≡ length (filtered router.cache.choice placed)
+  pub filter_within : router.filtered ≤ count
+
+-- what was in hand is placed
+abbrev pub HasPlaced : Sorting → Sorting → Type 0
+HasPlaced old new = new ≡ record old { placed = old.placed ++ old.hand; hand = [] }
+
+-- the next entry is a sample that is dropped for this reason
+pub record IsDropped (s : Sorting) (reason : Reason) : Type 0 where
+  pub reference : ℕ
+  pub t : ℤ
+  pub word : ℕ
+  pub hand : s.hand ≡ Sample reference t word ∷ []
+  pub fate_is : fate s.choice s.placed reference t ≡ Drops reason
+
+-- the next entry is a sample that is dropped, for some reason
+abbrev pub IsDroppedSample : Sorting → Type 0
+IsDroppedSample s = (reason : Reason) × IsDropped s reason
+
+-- the next entry is a sample that is sent, in the series of this number, at this time
+pub record IsToBeSent (s : Sorting) (series : ℕ) (t : ℤ) : Type 0 where
+  pub entry : Entry
+  pub hand : s.hand ≡ entry ∷ []
+  pub next : IsSentNext s.choice s.placed entry series t
+
+abbrev pub sent_by : RoutedSample → Sent
+sent_by l = record { pos = l.pos; series = l.series; t = l.t; word = l.word; labels = arc_value l.labels }
+
+-- the log has these entries and no more: there is this fault after them, or none
+pub record HasRead (pieces : List Piece) (placed : List Entry) (found : Option TailFault) : Type 0 where
+  pub all : placed ≡ entries pieces
+  pub fault_is : fault pieces ≡ found
+
+-- an entry is in hand, or the log has been read to its end, or to a fault
+abbrev pub Reads : Sorting → Sorting → Next → Type 0
+Reads old new (next.Entry e) = new ≡ record old { hand = e ∷ [] }
+Reads old new next.End = (new ≡ old) × HasRead old.pieces old.placed None
+Reads old new (next.Damaged f) = (new ≡ old) × HasRead old.pieces old.placed (Some f)
+
+-- an entry was placed that is not to be sent, or gives a sample that is
+abbrev pub Judges : Sorting → Sorting → Entry → Option RoutedSample → Type 0
+Judges old new e None = HasPlaced old new × (sent_of old.choice old.placed e ≡ [])
+Judges old new e (Some l) = (new ≡ old) × (sent_of old.choice old.placed e ≡ sent_by l ∷ []) × IsToBeSent old l.series l.t

@@ -1,0 +1,125 @@
+-- The document that the expressions of settings define.
+use Rattle.std.proofs.Common.{◌≡◌, List, [], ◌∷◌, ◌++◌, flat_map, codes, Option, Some, refl}
+use Rattle.toml.specs.Data.{string, array, table, Items, no_items, item, push_item, Members, no_members, member}
+use Rattle.toml.specs.Tables.{value, open_table, open_array, header, Nodes, no_nodes, node, close, Expression, Document, define, along_header, along_dots, at_key}
+use Rattle.toml.proofs.ReadLines.{run}
+use Rattle.rw_relabel.specs.Rules.{RuleConfig}
+use Rattle.rw_shard_core.specs.declared.config.ConfigFields.{ConfigFields}
+use Rattle.rw_head.specs.declared.limits.Limits.{Limits}
+use Rattle.rw_settings.specs.declared.settings.Settings.{Settings}
+use Rattle.rw_settings.specs.SettingsText.{names_text, action_text}
+use Rattle.rw_settings.proofs.Written.{number, text_items, send_expressions, receive_expressions, rule_expressions}
+
+abbrev send_nodes : ConfigFields → Nodes
+send_nodes send =
+    node (codes "batch") (value (number send.batch))
+    (node (codes "capacity") (value (number send.capacity))
+    (node (codes "host") (value (string send.target.host))
+    (node (codes "max_backoff_ms") (value (number send.max_backoff_ms))
+    (node (codes "max_shards") (value (number send.max_shards))
+    (node (codes "min_backoff_ms") (value (number send.min_backoff_ms))
+    (node (codes "min_shards") (value (number send.min_shards))
+    (node (codes "names") (value (string (names_text send.names)))
+    (node (codes "path") (value (string send.target.path))
+    (node (codes "shards") (value (number send.shards))
+    (node (codes "timeout_ms") (value (number send.timeout_ms)) no_nodes))))))))))
+
+abbrev receive_nodes : Limits → Nodes
+receive_nodes limits =
+    node (codes "busy_first") (value (number limits.busy_first))
+    (node (codes "max_body_bytes") (value (number limits.max_body_bytes))
+    (node (codes "max_label_bytes") (value (number limits.max_label_bytes))
+    (node (codes "max_labels") (value (number limits.max_labels))
+    (node (codes "names") (value (string (names_text limits.names)))
+    (node (codes "path") (value (string limits.path)) no_nodes)))))
+
+abbrev rule_nodes : RuleConfig → Nodes
+rule_nodes rule =
+    node (codes "action") (value (string (action_text rule.action)))
+    (node (codes "regex") (value (string rule.pattern))
+    (node (codes "separator") (value (string rule.separator))
+    (node (codes "source_labels") (value (array (text_items rule.source_labels))) no_nodes)))
+
+-- the tables of the document
+abbrev pub send_members : ConfigFields → Members
+send_members send = close (send_nodes send)
+
+abbrev pub receive_members : Limits → Members
+receive_members limits = close (receive_nodes limits)
+
+abbrev pub rule_members : RuleConfig → Members
+rule_members rule = close (rule_nodes rule)
+
+-- the items after those that are done
+abbrev pub with_rules : Items → List RuleConfig → Items
+with_rules done [] = done
+with_rules done (rule ∷ rules) = with_rules (push_item done (table (rule_members rule))) rules
+
+abbrev pub rules_before_send : List RuleConfig → Members → Members
+rules_before_send [] rest = rest
+rules_before_send (rule ∷ rules) rest = member (codes "rule") (array (with_rules (item (table (rule_members rule)) no_items) rules)) rest
+
+-- the document that the text writes
+abbrev pub document_of : ConfigFields → Limits → List RuleConfig → Members
+document_of send limits rules =
+    member (codes "receive") (table (receive_members limits))
+    (rules_before_send rules (member (codes "send") (table (send_members send)) no_members))
+
+-- the root without rules, and with a last rule
+abbrev without_rules : ConfigFields → Limits → Nodes
+without_rules send limits =
+    node (codes "receive") (open_table header (receive_nodes limits)) (node (codes "send") (open_table header (send_nodes send)) no_nodes)
+
+abbrev with_last : ConfigFields → Limits → Items → Nodes → Nodes
+with_last send limits done last =
+    node (codes "receive") (open_table header (receive_nodes limits))
+    (node (codes "rule") (open_array done last) (node (codes "send") (open_table header (send_nodes send)) no_nodes))
+
+send_defined : (send : ConfigFields) (es : List Expression) → run (no_nodes, []) (send_expressions send ++ es) ≡ run (node (codes "send") (open_table header (send_nodes send)) no_nodes, codes "send" ∷ []) es
+unfolding define along_header along_dots at_key
+send_defined send es = refl
+
+receive_defined : (send : ConfigFields) (limits : Limits) (es : List Expression)
+    → run (node (codes "send") (open_table header (send_nodes send)) no_nodes, codes "send" ∷ []) (receive_expressions limits ++ es)
+    ≡ run (without_rules send limits, codes "receive" ∷ []) es
+unfolding define along_header along_dots at_key
+receive_defined send limits es = refl
+
+first_rule_defined : (send : ConfigFields) (limits : Limits) (rule : RuleConfig) (es : List Expression)
+    → run (without_rules send limits, codes "receive" ∷ []) (rule_expressions rule ++ es) ≡ run (with_last send limits no_items (rule_nodes rule), codes "rule" ∷ []) es
+unfolding define along_header along_dots at_key
+first_rule_defined send limits rule es = refl
+
+next_rule_defined : (send : ConfigFields) (limits : Limits) (done : Items) (last : Nodes) (rule : RuleConfig) (es : List Expression)
+    → run (with_last send limits done last, codes "rule" ∷ []) (rule_expressions rule ++ es)
+    ≡ run (with_last send limits (push_item done (table (close last))) (rule_nodes rule), codes "rule" ∷ []) es
+unfolding define along_header along_dots at_key
+next_rule_defined send limits done last rule es = refl
+
+-- the expressions define a document whose root closes as these members
+abbrev Defines : Option Document → Members → Type 0
+Defines o ms = (doc : Document) × (o ≡ Some doc) × (close doc.0 ≡ ms)
+
+more_rules_defined : (send : ConfigFields) (limits : Limits) (rules : List RuleConfig) (done : Items) (last : RuleConfig)
+    → Defines (run (with_last send limits done (rule_nodes last), codes "rule" ∷ []) (flat_map rule_expressions rules))
+    (member (codes "receive") (table (receive_members limits))
+    (member (codes "rule") (array (with_rules (push_item done (table (rule_members last))) rules)) (member (codes "send") (table (send_members send)) no_members)))
+more_rules_defined send limits [] done last = (_, refl, refl)
+more_rules_defined send limits (rule ∷ rules) done last =
+    let next = next_rule_defined send limits done (rule_nodes last) rule (flat_map rule_expressions rules) in
+    rw next (more_rules_defined send limits rules (push_item done (table (rule_members last))) rule)
+
+rules_defined : (send : ConfigFields) (limits : Limits) (rules : List RuleConfig)
+    → Defines (run (without_rules send limits, codes "receive" ∷ []) (flat_map rule_expressions rules)) (document_of send limits rules)
+rules_defined send limits [] = (_, refl, refl)
+rules_defined send limits (rule ∷ rules) =
+    rw (first_rule_defined send limits rule (flat_map rule_expressions rules)) (more_rules_defined send limits rules no_items rule)
+
+-- the expressions of all lines
+abbrev pub settings_expressions : Settings → List Expression
+settings_expressions s = send_expressions s.config ++ (receive_expressions s.limits ++ flat_map rule_expressions s.config.rules)
+
+pub settings_defined : (s : Settings) → (doc : Document) × (run (no_nodes, []) (settings_expressions s) ≡ Some doc) × (close doc.0 ≡ document_of s.config s.limits s.config.rules)
+settings_defined s =
+    let rest = flat_map rule_expressions s.config.rules in
+    rw (send_defined s.config (receive_expressions s.limits ++ rest), receive_defined s.config s.limits rest) (rules_defined s.config s.limits s.config.rules)

@@ -1,5 +1,0 @@
-use Rattle.rw_shard_channel.specs.Spares.{AreEmpty}
-use Rattle.rw_shard_channel.proofs.spares.empty_blocks.Given as goal
-
-abbrev pub invariant-loop : goal.invariant-loop
-invariant-loop l = AreEmpty l.most l.blocks.items

@@ -1,5 +1,0 @@
-use Rattle.rw_shared_head.proofs.HoldingLemmas.{what_is_answered}
-use Rattle.rw_shared_head.proofs.laws.what_is_answered_204_is_held.Goals as goal
-
-pub returns : goal.returns
-returns c = what_is_answered

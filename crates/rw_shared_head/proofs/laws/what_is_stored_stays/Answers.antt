@@ -1,5 +1,0 @@
-use Rattle.rw_shared_head.proofs.StayingLemmas.{stays_stored}
-use Rattle.rw_shared_head.proofs.laws.what_is_stored_stays.Goals as goal
-
-pub returns : goal.returns
-returns c = stays_stored

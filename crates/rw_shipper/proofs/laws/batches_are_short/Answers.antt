@@ -1,5 +1,0 @@
-use Rattle.rw_shipper.proofs.WithinLemmas.{cut_short}
-use Rattle.rw_shipper.proofs.laws.batches_are_short.Goals as goal
-
-pub returns : goal.returns
-returns c = cut_short c.body_within_its_count.ensures

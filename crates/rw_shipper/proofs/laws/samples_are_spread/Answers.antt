@@ -1,5 +1,0 @@
-use Rattle.rw_shipper.proofs.SpreadLemmas.{placed_spread}
-use Rattle.rw_shipper.proofs.laws.samples_are_spread.Goals as goal
-
-pub returns : goal.returns
-returns c = placed_spread

@@ -1,9 +1,0 @@
-use Rattle.std.proofs.Common.{◌≡◌, []}
-use Rattle.rw_shipper.specs.Cutting.{GoesCut}
-use Rattle.rw_shipper.specs.Shipping.{PlacesAll, GoesOn}
-use Rattle.rw_shipper.proofs.place.place_all.Given as goal
-
-abbrev pub invariant-loop : goal.invariant-loop
-invariant-loop g l =
-    (l.feeder.hand ≡ []) × GoesOn l.initial.cuts.limit l.initial.feeder l.feeder l.initial.fleet l.fleet × PlacesAll l.feeder l.fleet
-    × (l.cuts.limit ≡ l.initial.cuts.limit) × GoesCut l.initial.cuts l.cuts l.initial.fleet.current l.fleet.current

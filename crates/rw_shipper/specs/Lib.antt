@@ -1,5 +1,0 @@
-pub mod Placement
-pub mod Spread
-pub mod Reports
-pub mod Cutting
-pub mod Shipping
