@@ -145,7 +145,7 @@ fn is_sample(entry: &Entry, sample: (u64, i64, Word)) -> bool {
     }
 }
 
-/// Counts the samples that are read, in order, up to the first that is another one.
+/// Counts the samples that are read, in order, up to the first that differs.
 fn read_count(alloc: Global, reference: u64, bytes: &[u8]) -> usize {
     let mut tail = Tail::new(alloc);
     if tail.feed(bytes).is_err() {

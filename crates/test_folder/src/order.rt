@@ -15,7 +15,7 @@ struct Row {
     name: &'static str,
     segments: &'static [Written],
     checkpoints: &'static [(u64, &'static [Written])],
-    /// None if this number is missing.
+    /// `None` if this number is missing.
     missing: Option<u64>,
     read: &'static [Read],
 }

@@ -74,7 +74,7 @@ footer { margin-top: 1.2rem; font-size: .9rem }
 </html>
 ";
 
-/// After the style, which both pages have.
+/// What follows the style, which both pages have.
 const RECEIVER: &str = "</style>
 </head>
 <body>

@@ -27,12 +27,12 @@ fn is_spelled(alloc: Global, body: &[u8], wanted: &[u8]) -> bool {
     }
 }
 
-/// Returns whether a body has this fault, if it is read and if it is judged.
+/// Returns whether a body has this fault, both when it is read and when it is judged.
 fn is_refused(alloc: Global, body: &[u8], wanted: WireFault) -> bool {
     check_message(body) == Err(wanted) && spelling(alloc, body).err() == Some(wanted)
 }
 
-/// Returns whether a body is read and judged as it is to be.
+/// Returns whether a body is read and judged as expected.
 pub(crate) fn is_read(alloc: Global, body: &[u8]) -> bool {
     match plain_spelling(alloc, body) {
         Ok(wanted) => is_spelled(alloc, body, &wanted),

@@ -20,7 +20,7 @@ fn agree(reader: Reader, alloc: Global, text: &[u8]) -> bool {
     }
 }
 
-/// Returns the first length of a text, more than so many bytes, at which it is read otherwise.
+/// Returns the first length of a text, above `least` bytes, at which it is read differently.
 fn wrong_length(reader: Reader, alloc: Global, text: &[u8], least: usize) -> Option<usize> {
     for len in 0..=text.len() {
         if len > least && !agree(reader, alloc, &text[..len]) {
@@ -30,8 +30,8 @@ fn wrong_length(reader: Reader, alloc: Global, text: &[u8], least: usize) -> Opt
     None
 }
 
-/// Returns the first value of this byte with which the text, or a front of it that has the byte, is
-/// read otherwise.
+/// Returns the first value of this byte with which the text, or a prefix of it that has the byte,
+/// is read differently.
 fn wrong_value(reader: Reader, alloc: Global, text: &mut [u8], at: usize) -> Option<u8> {
     let byte = *text.get(at)?;
     for value in 0..=255u8 {

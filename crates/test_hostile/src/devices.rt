@@ -8,7 +8,7 @@ use std::cell::Cell;
 /// How many bytes one call gives or takes at most.
 const MOST: usize = 40;
 
-/// Counts a call down. Whether it is the one that fails.
+/// Counts a call down, and returns whether it is the one that fails.
 fn is_failing(calls: &Cell<usize>) -> bool {
     let left = calls.get();
     calls.set(left.saturating_sub(1));

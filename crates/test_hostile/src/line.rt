@@ -38,7 +38,7 @@ impl<'a> Line<'a> {
         }
     }
 
-    /// Gives the head what came of a request, and what came of its reply to the sender.
+    /// Delivers a request to the head, and its reply to the sender, as far as no call fails.
     fn carry(&mut self, request: &[u8]) -> Result<Reply, Lost> {
         let mut out = Taking::new(self.alloc, self.calls);
         let is_sent = write_all(&mut out, request).is_ok();

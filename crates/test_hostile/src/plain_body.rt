@@ -1,12 +1,12 @@
-//! A plain reading of a message: field by field, and each part spelled canonically in a list of its
-//! own.
+//! A plain reading of a message: field by field, with each part spelled canonically into its own
+//! list.
 
 use crate::plain_segment::are_zeros;
 use rw_codes::put_uvarint;
 use rw_write_request::WireFault;
 use std::alloc::{AllocError, Global};
 
-/// The wire types that a message asks of its fields 1 and 2, if it has them.
+/// The wire types that a message requires of its fields 1 and 2, if it has them.
 type Wires = [Option<u64>; 2];
 
 /// A field: its number, its number as content, its bytes as content, and what follows it.

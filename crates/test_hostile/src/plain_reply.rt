@@ -1,15 +1,14 @@
-//! A plain reading of a reply whose heads are short: byte by byte, by the words of the format
-//! alone.
+//! A plain reading of a reply whose heads are short: byte by byte, by the text of the format alone.
 
 use rw_shard_core::ReplyRead;
 
-/// What is before a reason: `v` for 0 or 1, and `d` for a digit.
+/// What comes before a reason: `v` for 0 or 1, and `d` for a digit.
 static START: &[u8] = b"HTTP/1.v ddd";
 
-/// Where a head goes on.
+/// The places of a head.
 #[derive(Clone, Copy)]
 enum Place {
-    /// After so many bytes of its start. Empty lines may come before it.
+    /// After this many bytes of its start. Empty lines may come before it.
     Start(usize),
     /// After the CR of such a line.
     Empty,
@@ -26,7 +25,7 @@ enum Place {
     End,
 }
 
-/// Returns whether a byte stands for one of the start.
+/// Returns whether a byte is like one of the start.
 fn is_like(byte: u8, wanted: u8) -> bool {
     match wanted {
         b'v' => byte == b'0' || byte == b'1',
@@ -53,7 +52,7 @@ fn is_of_text(byte: u8) -> bool {
     byte == b'\t' || (byte >= b' ' && byte != 127)
 }
 
-/// Returns the place after a byte that is no part of a line's end.
+/// Returns the place after a byte that is not part of a line's end.
 fn behind(place: Place, byte: u8) -> Option<Place> {
     match place {
         Place::Start(12) if byte == b' ' => Some(Place::Text),
@@ -85,7 +84,7 @@ fn behind_return(place: Place) -> Option<Place> {
     }
 }
 
-/// Returns the place after a byte; none if no head has it.
+/// Returns the place after a byte, or `None` if no head has it.
 fn next(place: Place, byte: u8) -> Option<Place> {
     match byte {
         b'\n' => behind_feed(place),

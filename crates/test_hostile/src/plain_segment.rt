@@ -1,4 +1,4 @@
-//! A plain reading of a page, by the words of the format alone: one fragment after the other, each
+//! A plain reading of a page, by the text of the format alone: one fragment after the other, each
 //! checksum bit by bit.
 
 use rw_wal_tail::TailFault;
@@ -81,7 +81,7 @@ fn found_at(text: &[u8], at: usize) -> Found<'_> {
     }
 }
 
-/// Reads a page whose whole records are to be these, in this order.
+/// Reads a page whose whole records are expected to be these, in this order.
 pub(crate) fn plain_reading(page: &[u8], records: &[&[u8]]) -> Reading {
     let mut read = 0;
     let mut is_open = false;

@@ -14,7 +14,7 @@ const CONTINUED: &[u8] =
 const REFUSAL: &[u8] =
     b"HTTP/1.1 429 Too Many Requests\r\nRetry-After: 1\r\nContent-Length: 0\r\nConnection: close\r\n\r\n";
 
-/// Returns whether the bytes of a reply say what they are to say.
+/// Returns whether the bytes of a reply say what is expected.
 pub(crate) fn is_read(text: &[u8]) -> bool {
     read_reply(text) == plain_reply(text)
 }

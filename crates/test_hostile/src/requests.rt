@@ -1,5 +1,5 @@
-//! The sender's request with each byte changed to each value: the replies that each part of it may
-//! have then. `rt try --test` is too slow for it.
+//! The sender's request with each byte changed to each value, and the replies that may result for
+//! each part of it. `rt try --test` is too slow for it.
 
 use crate::bodies::one;
 use rw_endpoint::{ServeEnd, serve};
@@ -57,8 +57,8 @@ static REPLIES: [(&[u8], Outcome); 8] = [
     ),
 ];
 
-/// The parts of the head, and what becomes of the request if one of their bytes is another one. A
-/// line feed ends a line, so a CR that is one ends the head.
+/// The parts of the head, and what becomes of the request if one of their bytes is changed. A line
+/// feed ends a line, so a CR that becomes one ends the head.
 static PARTS: [(&[u8], &[Outcome]); 11] = [
     (b"POST ", &[OTHER_METHOD, BAD]),
     (b"/api/v1/write", &[NOT_FOUND, BAD]),
@@ -90,8 +90,8 @@ fn parts() -> &'static [(&'static [u8], &'static [Outcome])] {
     &PARTS
 }
 
-/// Returns what became of a request, by the reply, the end and what the head then holds. None if
-/// these do not fit.
+/// Returns what became of a request, by the reply, the end and what the head then holds, or `None`
+/// if these do not fit.
 fn outcome_of(written: &[u8], end: ServeEnd, total: u64) -> Option<Outcome> {
     for (reply, outcome) in replies() {
         if *reply == written {
@@ -144,7 +144,7 @@ fn wrong_value(
     None
 }
 
-/// Returns the first byte of this part of the head that may not be another one.
+/// Returns the first byte of this part of the head whose change has another outcome.
 fn wrong_byte(
     alloc: Global,
     limits: &Limits,
@@ -200,7 +200,7 @@ fn is_answered(alloc: Global, limits: &Limits, request: &[u8], from: usize) -> b
     served(alloc, limits, request) == Some(answer_to(alloc, limits, body))
 }
 
-/// Returns the first value of this byte with which the reply is another one.
+/// Returns the first value of this byte with which the reply differs.
 fn wrong_answer(
     alloc: Global,
     limits: &Limits,

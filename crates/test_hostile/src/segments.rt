@@ -47,7 +47,7 @@ fn up() -> &'static [u8; 63] {
     &UP
 }
 
-/// Returns whether a page is read as it is to be.
+/// Returns whether a page is read as expected.
 pub(crate) fn is_read(alloc: Global, page: &[u8]) -> bool {
     let mut tail = Tail::new(alloc);
     tail.feed(page).is_ok()

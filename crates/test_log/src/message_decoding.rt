@@ -27,7 +27,8 @@ fn is_one(series: &Series) -> bool {
         && *timestamp == 1000
 }
 
-/// Returns whether the series of a message are such, so many of them; no, if there is no message.
+/// Returns whether a message consists of this many such series. The answer is no if there is no
+/// message.
 fn has_ones(message: Result<Message, WireFault>, count: usize) -> bool {
     let Ok(message) = message else {
         return false;
@@ -81,7 +82,7 @@ static SPELLINGS: [(&[u8], &[u8]); 6] = [
     ),
 ];
 
-/// Returns whether a text is read, and then spelled so.
+/// Returns whether a text is read, and then has this spelling.
 fn is_respelled(alloc: Global, text: &[u8], canonical: &[u8]) -> bool {
     match decode(alloc, text) {
         Ok(message) => is_spelled(alloc, &message, canonical),
@@ -180,7 +181,7 @@ fn fronts_are_truncated(rt: HostRuntime) {
     none_is_wrong(&rt, whole_front(rt.alloc()));
 }
 
-/// Counts the answers to the texts that differ from `ONE` in the byte at this place.
+/// Counts the results for the texts that differ from `ONE` in the byte at this place.
 fn count_changes(alloc: Global, counts: &mut [u32; 10], i: usize) {
     let mut bytes = ONE;
     for byte in 0..=255u8 {
@@ -192,7 +193,7 @@ fn count_changes(alloc: Global, counts: &mut [u32; 10], i: usize) {
     }
 }
 
-/// Returns how many of the texts that differ from `ONE` in one byte get each answer.
+/// Returns how many of the texts that differ from `ONE` in one byte get each result.
 fn counts_of_changes(alloc: Global) -> [u32; 10] {
     let mut counts = [0u32; 10];
     for i in 0..32usize {

@@ -1,7 +1,7 @@
 //! What happens if memory runs out. Each test takes memory in the two calls alone, so it can be run
-//! with each allocation refused in turn: the refused call says so, and the next one answers as if
-//! nothing had happened. What is no message is refused for its first fault whatever allocation
-//! fails.
+//! with each allocation failing in turn: the failed call says so, and the next one answers as if
+//! nothing had happened. Bytes that are not a message are refused for their first fault whatever
+//! allocation fails.
 
 use crate::message_rows::{ONE, is_spelled};
 use crate::rows::holds;

@@ -12,7 +12,7 @@ pub const ONE: [u8; 32] = [
 /// The word of 1.
 pub const WORD_OF_ONE: u64 = 0x3ff0_0000_0000_0000;
 
-/// Returns the message's canonical spelling. If memory runs out it is spelled again.
+/// Returns the message's canonical spelling. If memory runs out, it is spelled again.
 fn encoded(alloc: Global, message: &Message) -> Result<Vec<u8>, AllocError> {
     match encode(alloc, message) {
         Err(_) => encode(alloc, message),

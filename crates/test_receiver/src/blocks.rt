@@ -18,7 +18,7 @@ fn tens(alloc: Global, ranges: &[(u32, u32)]) -> Result<Vec<(i64, u64)>, AllocEr
     Ok(samples)
 }
 
-/// Returns whether a head stores all of these samples of `up`, in requests of so many.
+/// Returns whether a head stores all of these samples of `up`, in requests of `size` samples.
 fn stores(alloc: Global, head: &mut Head, samples: Samples<'_>, size: usize) -> bool {
     for part in samples.chunks(size.max(1)) {
         let Verdict::Stored(_) = asked(alloc, head, &[(UP, part)]) else {
@@ -29,7 +29,7 @@ fn stores(alloc: Global, head: &mut Head, samples: Samples<'_>, size: usize) -> 
 }
 
 /// Returns a head with the samples `i` at `10 * i` of `up`, for `i` from 1 to 241, in requests of
-/// so many.
+/// `size` samples.
 fn filled(alloc: Global, size: usize) -> Result<Head, AllocError> {
     let samples = tens(alloc, &[(1, 241)])?;
     let mut head = narrow(alloc)?;
@@ -91,7 +91,7 @@ static REQUESTS: [(Samples<'static>, Verdict, Shape); 4] = [
     (&[(2410, 241), (2420, 242)], Verdict::Stored(1), (2, 2, 242)),
 ];
 
-/// Returns whether a head of the 241 samples judges the requests so.
+/// Returns whether a head of the 241 samples judges the requests in this way.
 fn judges_requests(alloc: Global, head: &mut Head) -> bool {
     for (samples, verdict, then) in &REQUESTS {
         if !is_judged(alloc, head, &[(UP, *samples)], *verdict, *then) {
@@ -101,7 +101,7 @@ fn judges_requests(alloc: Global, head: &mut Head) -> bool {
     true
 }
 
-/// Returns whether a head that was filled by requests of so many samples has its blocks, and judges
+/// Returns whether a head that was filled by requests of `size` samples has its blocks, and judges
 /// the requests.
 fn is_the_same_by(alloc: Global, size: usize) -> bool {
     match filled(alloc, size) {
@@ -112,7 +112,7 @@ fn is_the_same_by(alloc: Global, size: usize) -> bool {
     }
 }
 
-/// Returns the first size of requests after which it is otherwise.
+/// Returns the first size of requests with which the result differs.
 fn wrong_size(alloc: Global) -> Option<usize> {
     for size in [1, 119, 120, 121, 241] {
         if !is_the_same_by(alloc, size) {
@@ -185,7 +185,7 @@ fn a_request_fills_several_blocks(rt: HostRuntime) {
     holds(&rt, takes_each_once(rt.alloc()));
 }
 
-/// Returns whether a head of the 241 samples refuses these before a bad series, and holds what it
+/// Returns whether a head of the 241 samples refuses these before a bad series, and keeps what it
 /// held.
 fn refuses(alloc: Global, more: Samples<'_>) -> bool {
     let Ok(mut head) = filled(alloc, 100) else {
@@ -200,7 +200,7 @@ fn refuses(alloc: Global, more: Samples<'_>) -> bool {
     ) && has_tens(alloc, &head, 241)
 }
 
-/// Returns the same of 259 samples more.
+/// Returns the same for 259 samples more.
 fn refuses_more(alloc: Global) -> bool {
     match tens(alloc, &[(242, 500)]) {
         Ok(more) => refuses(alloc, &more),
@@ -216,7 +216,7 @@ fn a_refused_request_leaves_the_blocks(rt: HostRuntime) {
 /// A new series before one that is out of order.
 const BAD: Parts<'static> = &[(DOWN, &[(10, 1)]), (UP, &[(5, 1)])];
 
-/// What the head holds at last.
+/// What the head holds at the end.
 static LAST: [(Labels<'static>, Samples<'static>); 2] = [(UP, &[(10, 1)]), (DOWN, &[(10, 1)])];
 
 static ROWS: [Row; 5] = [
@@ -255,7 +255,7 @@ fn verdict_at_last(alloc: Global, head: &mut Head, parts: Parts<'_>) -> Verdict 
     }
 }
 
-/// Returns whether 259 samples more of `up` and a new series are taken at last.
+/// Returns whether 259 samples more of `up` and a new series are taken in the end.
 fn takes_more_at_last(alloc: Global, head: &mut Head, more: Samples<'_>) -> bool {
     verdict_at_last(alloc, head, &[(UP, more), (DOWN, &[(10, 1)])]) == Verdict::Stored(260)
         && shape(head) == (4, 20, 501)

@@ -31,8 +31,8 @@ fn busy(alloc: Global) -> Result<Head, AllocError> {
     Ok(Head::new(alloc, &limits))
 }
 
-/// Asks with bodies one after the other. Gives the first one with another status, or another number
-/// of samples after it.
+/// Asks with bodies one after the other. Returns the first one with another status, or another
+/// number of samples after it.
 fn first_wrong(head: &mut Head, rows: &[(&[u8], u16, u64)]) -> Option<usize> {
     for (i, (body, status, total)) in rows.iter().enumerate() {
         if head.answer(body) != *status || head.total() != *total {
@@ -42,7 +42,7 @@ fn first_wrong(head: &mut Head, rows: &[(&[u8], u16, u64)]) -> Option<usize> {
     None
 }
 
-/// Returns the first body that a head wrongly answers that is busy for this one.
+/// Returns the first body that is answered wrongly by a head that is busy for this one.
 fn wrong_of_busy(alloc: Global, first: &[u8]) -> Option<usize> {
     let rows = [
         (first, 429, 0),
@@ -130,8 +130,8 @@ const FIRST_TWO: Samples<'static> = &[(10, VALUES[0]), (20, VALUES[1])];
 
 const FIRST_THREE: Samples<'static> = &[(10, VALUES[0]), (20, VALUES[1]), (30, VALUES[2])];
 
-/// What a request shows, its samples and its status, and what a head holds after it that held the
-/// first two samples.
+/// What a request shows, its samples and its status, and what a head that held the first two
+/// samples holds after it.
 type Later = (&'static str, Samples<'static>, u16, Samples<'static>);
 
 static LATER: [Later; 3] = [
@@ -159,7 +159,7 @@ fn later() -> &'static [Later] {
     &LATER
 }
 
-/// How a head answers the body of these samples of one series. 503 if memory runs out.
+/// Returns how a head answers the body of these samples of one series, or 503 if memory runs out.
 fn status_of(alloc: Global, head: &mut Head, samples: Samples<'_>) -> u16 {
     let Ok(message) = message(alloc, &[(UP, samples)]) else {
         return 503;
@@ -170,8 +170,8 @@ fn status_of(alloc: Global, head: &mut Head, samples: Samples<'_>) -> u16 {
     }
 }
 
-/// Returns whether a head that holds the first two samples answers a request so, and then holds
-/// just this.
+/// Returns whether a head that holds the first two samples answers a request in this way, and then
+/// holds just this.
 fn is_answered_so(alloc: Global, row: &Later) -> bool {
     let Ok(mut head) = standard(alloc) else {
         return false;
@@ -182,7 +182,7 @@ fn is_answered_so(alloc: Global, row: &Later) -> bool {
         && head.total() == row.3.len() as u64
 }
 
-/// Returns the first request that is answered otherwise, each by a head of its own.
+/// Returns the first request that is answered differently, each by a new head.
 fn wrong_by_itself(alloc: Global) -> Option<&'static str> {
     for row in later() {
         if !is_answered_so(alloc, row) {
@@ -192,8 +192,8 @@ fn wrong_by_itself(alloc: Global) -> Option<&'static str> {
     None
 }
 
-/// Asks one head with all requests. Gives the first one that has another status, or after which the
-/// head holds anything but the first three samples.
+/// Asks one head with all requests. Returns the first one that has another status, or after which
+/// the head holds anything but the first three samples.
 fn wrong_in_turn(alloc: Global) -> Option<&'static str> {
     let Ok(mut head) = standard(alloc) else {
         return Some("a head");
@@ -216,7 +216,7 @@ fn later_samples_are_appended_and_earlier_ones_refused(rt: HostRuntime) {
     none_differs(&rt, wrong_in_turn(rt.alloc()));
 }
 
-/// Returns the body of so many samples of one series, with no timestamp that is short.
+/// Returns the body of `count` samples of one series, with timestamps that are not short.
 fn long_body(alloc: Global, count: i64) -> Result<Vec<u8>, AllocError> {
     let mut samples = Vec::new(alloc);
     for t in 0..count {
@@ -225,7 +225,8 @@ fn long_body(alloc: Global, count: i64) -> Result<Vec<u8>, AllocError> {
     encode(alloc, &message(alloc, &[(UP, &samples)])?)
 }
 
-/// Returns the body of 10,000 samples of one series whose times rise, and of one more after them.
+/// Returns the body of 10,000 samples of one series with ascending times, and of one more after
+/// them.
 fn body_with_last(alloc: Global, last: i64) -> Result<Vec<u8>, AllocError> {
     let mut samples = Vec::new(alloc);
     for t in 0..10_000 {
@@ -235,7 +236,7 @@ fn body_with_last(alloc: Global, last: i64) -> Result<Vec<u8>, AllocError> {
     encode(alloc, &message(alloc, &[(UP, &samples)])?)
 }
 
-/// Returns the first that a new head wrongly answers of these bodies: one whose last sample is too
+/// Returns the first of these bodies that a new head answers wrongly: one whose last sample is too
 /// old, and one with a later one, twice.
 fn wrong_of_parts(alloc: Global) -> Option<usize> {
     let (Ok(bad), Ok(good)) = (body_with_last(alloc, -1), body_with_last(alloc, 10_000)) else {
@@ -268,7 +269,7 @@ fn takes_a_long_body(alloc: Global) -> bool {
     }
 }
 
-/// Nothing is refused for its length but by the endpoint's limit, which a head does not know.
+/// Only the endpoint's limit, which a head does not know, refuses a body for its length.
 #[test]
 fn a_long_body_is_taken(rt: HostRuntime) {
     holds(&rt, takes_a_long_body(rt.alloc()));
@@ -289,7 +290,7 @@ fn push_series(body: &mut Vec<u8>, number: u32) -> Result<(), AllocError> {
     body.extend_from_slice(&BEHIND)
 }
 
-/// As many series, the first or the last one first.
+/// Returns a body of many series, the first or the last one first.
 fn many_series(alloc: Global, is_falling: bool) -> Result<Vec<u8>, AllocError> {
     let mut body = Vec::new(alloc);
     for i in 0..200_000 {
@@ -298,7 +299,7 @@ fn many_series(alloc: Global, is_falling: bool) -> Result<Vec<u8>, AllocError> {
     Ok(body)
 }
 
-/// Returns the first that a new head wrongly answers of these bodies: as many series, and the same
+/// Returns the first of these bodies that a new head answers wrongly: many series, and the same
 /// ones from the last one on.
 fn wrong_of_many(alloc: Global) -> Option<usize> {
     let (Ok(rising), Ok(falling)) = (many_series(alloc, false), many_series(alloc, true)) else {

@@ -21,8 +21,9 @@ const FIRST_REPLY: &[u8] = b"HTTP/1.1 204 No Content\r\n\r\n";
 /// More reads and writes than these connections take.
 const MANY: usize = 1000;
 
-/// How the requests end with a reader and a writer that fail after so many calls. None, if what was
-/// written is not a prefix of the replies, or the end does not tell whether a device failed.
+/// Returns how the requests end with a reader and a writer that fail after this many calls. `None`
+/// if what was written is not a prefix of the replies, or the end does not say whether a device
+/// failed.
 fn end_of_broken(
     alloc: Global,
     store: &mut Store,
@@ -64,8 +65,8 @@ enum Side {
     Writer,
 }
 
-/// Returns whether the requests take more than ten calls of one side, and all is well if one of
-/// them fails.
+/// Returns whether the requests take more than ten calls of one side, and the result is right if
+/// one of them fails.
 fn may_fail(alloc: Global, side: Side) -> bool {
     for n in 0..MANY {
         let (reads, writes) = match side {
@@ -120,7 +121,7 @@ impl Answer for Counter {
     }
 }
 
-/// What is written and how the connection ends after so many bodies, if all have their replies or
+/// What is written and how the connection ends after this many bodies, if all have their replies or
 /// memory ran out.
 static ENDS: [(&[u8], ServeEnd); 3] = [
     (b"", ServeEnd::OutOfMemory),
@@ -146,7 +147,8 @@ fn leaves_whole_replies(alloc: Global) -> bool {
     is_whole(counter.asked, room.as_slice(), end)
 }
 
-/// If memory runs out, what was asked has its whole reply, and what was not asked has none.
+/// If memory runs out, a body that was asked for has its whole reply, and one that was not has
+/// none.
 #[test]
 fn refused_memory_leaves_whole_replies(rt: HostRuntime) {
     holds(&rt, leaves_whole_replies(rt.alloc()));

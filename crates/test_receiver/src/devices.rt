@@ -13,7 +13,7 @@ pub(crate) struct Giving<'a> {
 }
 
 impl<'a> Giving<'a> {
-    /// Gives an input, at most so many bytes at each of so many reads.
+    /// Returns a reader that gives an input, at most `most` bytes at each of a number of reads.
     pub(crate) fn new(input: &'a [u8], most: usize, reads: usize) -> Giving<'a> {
         Giving {
             left: input,
@@ -57,7 +57,7 @@ pub(crate) struct Taking {
 }
 
 impl Taking {
-    /// Takes at most so many bytes at each of so many writes.
+    /// Returns a writer that takes at most `most` bytes at each of a number of writes.
     pub(crate) fn new(alloc: Global, most: usize, writes: usize) -> Taking {
         Taking {
             taken: Vec::new(alloc),

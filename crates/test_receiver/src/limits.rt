@@ -16,7 +16,7 @@ const TAKEN: &[u8] = b"HTTP/1.1 204 No Content\r\nConnection: close\r\n\r\n";
 const REFUSED: &[u8] =
     b"HTTP/1.1 400 Bad Request\r\nContent-Length: 0\r\nConnection: close\r\n\r\n";
 
-/// Texts, and how often each is.
+/// Texts, and how often each is repeated.
 type Texts = &'static [(&'static [u8], usize)];
 
 /// Requests, their bytes, and the replies to them.

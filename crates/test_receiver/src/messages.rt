@@ -14,8 +14,8 @@ pub(crate) type Samples<'a> = &'a [(i64, u64)];
 /// Label sets with samples: the series of a message, or what a head holds.
 pub(crate) type Parts<'a> = &'a [(Labels<'a>, Samples<'a>)];
 
-/// A message, the verdict on it, and how many samples of each label set the head then has_samples,
-/// of those that it holds at last.
+/// A message, the verdict on it, and how many samples of each label set the head then has, of those
+/// that it holds at the end.
 pub(crate) type Row = (Parts<'static>, Verdict, &'static [usize]);
 
 pub(crate) const UP: Labels<'static> = &[("__name__", "up")];
@@ -25,7 +25,7 @@ pub(crate) const DOWN: Labels<'static> = &[("__name__", "down")];
 /// More labels than a narrow head takes.
 pub(crate) const WIDE: Labels<'static> = &[("__name__", "up"), ("job", "x")];
 
-/// No label set, since the names do not rise.
+/// Not a label set, since the names are not sorted.
 pub(crate) const FALLING: Labels<'static> = &[("job", "x"), ("__name__", "up")];
 
 fn texts(alloc: Global, labels: Labels<'_>) -> Result<Vec<(String, String)>, AllocError> {
@@ -91,7 +91,8 @@ pub(crate) fn are_same(held: &[(i64, Word)], samples: Samples<'_>) -> bool {
         && held.iter().zip(samples).all(|(held, sample)| held.0 == sample.0 && held.1.0 == sample.1)
 }
 
-/// Returns whether the head holds just these samples of these labels. No, if memory runs out.
+/// Returns whether the head holds just these samples of these labels. The answer is no if memory
+/// runs out.
 pub(crate) fn has_samples(
     alloc: Global,
     head: &Head,
@@ -107,7 +108,7 @@ pub(crate) fn has_samples(
     }
 }
 
-/// Returns whether the head holds the first samples of these, so many of each label set, and no
+/// Returns whether the head holds the first samples of these, this many of each label set, and no
 /// others, and has a place for just the label sets that have some.
 fn holds_first(alloc: Global, head: &Head, parts: Parts<'_>, counts: &[usize]) -> bool {
     let mut total: u64 = 0;
@@ -123,8 +124,8 @@ fn holds_first(alloc: Global, head: &Head, parts: Parts<'_>, counts: &[usize]) -
     head.total() == total && head.places() == places
 }
 
-/// Asks a head with messages one after the other, of which it holds these samples at last. Gives
-/// the first row with another verdict, or after which it holds other samples.
+/// Asks a head with messages one after the other, of which it holds these samples at the end.
+/// Returns the first row with another verdict, or after which it holds other samples.
 pub(crate) fn first_wrong(
     alloc: Global,
     head: &mut Head,

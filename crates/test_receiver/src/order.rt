@@ -9,7 +9,7 @@ use rw_head::{Head, HeldSeries, Verdict};
 use rw_types::LabelSet;
 use std::alloc::Global;
 
-/// What the head holds at last.
+/// What the head holds at the end.
 static LAST: [(Labels<'static>, Samples<'static>); 2] = [
     (UP, &[(10, 1), (20, 2), (30, 3), (40, 4), (50, 5)]),
     (DOWN, &[]),
@@ -109,7 +109,7 @@ fn has_label_sets(alloc: Global, head: &Head, list: &[Labels<'_>]) -> bool {
     sets.next().is_none()
 }
 
-/// Returns whether a series is that of these labels and samples. No, if memory runs out.
+/// Returns whether a series has these labels and samples. The answer is no if memory runs out.
 fn is_series(
     alloc: Global,
     series: &HeldSeries<'_>,

@@ -12,7 +12,7 @@ const NEW: Labels<'static> = &[("__name__", "new")];
 
 const OTHER: Labels<'static> = &[("__name__", "other")];
 
-/// What the head holds at last.
+/// What the head holds at the end.
 static LAST: [(Labels<'static>, Samples<'static>); 5] = [
     (UP, &[(10, 1), (20, 1), (30, 1), (40, 1), (50, 1), (60, 1)]),
     (DOWN, &[(10, 2), (20, 2), (30, 2), (50, 2), (60, 2)]),
@@ -68,13 +68,14 @@ static ROWS: [Row; 9] = [
         Verdict::Stored(2),
         &[5, 4, 5, 0, 0],
     ),
-    // a new series takes the place that the refused one had for a while, and comes if that one came
+    // a new series takes the place that the refused one had for a while, and comes where that one
+    // came
     (
         &[(UP, &[(60, 1)]), (OTHER, &[(10, 9)]), (DOWN, &[(60, 2)])],
         Verdict::Stored(3),
         &[6, 5, 5, 1, 0],
     ),
-    // the refused one comes again if the other one is expected
+    // the refused one comes again where the other one is expected
     (
         &[(UP, &[(60, 1)]), (NEW, &[(10, 7)])],
         Verdict::Stored(1),
@@ -88,8 +89,8 @@ static ROWS: [Row; 9] = [
     ),
 ];
 
-/// Returns the first wrong row, or the number of them if the head has other than five places at
-/// last.
+/// Returns the first wrong row, or the number of rows if the head does not have five places in the
+/// end.
 fn wrong_row(alloc: Global) -> Option<usize> {
     let Ok(mut head) = narrow(alloc) else {
         return Some(0);

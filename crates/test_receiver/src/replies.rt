@@ -10,7 +10,7 @@ use rw_endpoint::ServeEnd;
 use std::alloc::{AllocError, Global};
 use std::cell::Cell;
 
-/// The line that each request begins with whose fields alone are of interest.
+/// The first line of each request for which only the fields matter.
 const LINE: &[u8] = b"POST /api/v1/write HTTP/1.1|";
 
 /// The head that the shipper sends, and the message of one sample.
@@ -39,8 +39,8 @@ pub(crate) fn put_all_lines(out: &mut Vec<u8>, texts: &[&[u8]]) -> Result<(), Al
     Ok(())
 }
 
-/// Returns whether an input has these replies for one who sends it and then waits for them: no more
-/// is read before they are written.
+/// Returns whether an input has these replies for a client that sends it and then waits for them:
+/// no more is read before they are written.
 fn is_served_at_once(alloc: Global, input: &[u8], replies: &[u8]) -> bool {
     let heard = Cell::new(0);
     let mut reader = Waiting::new(input, replies.len(), &heard);
@@ -50,8 +50,8 @@ fn is_served_at_once(alloc: Global, input: &[u8], replies: &[u8]) -> bool {
     !reader.waited && writer.taken.as_slice() == replies
 }
 
-/// Returns whether an input has these replies and ends so: if it comes whole, if it comes byte by
-/// byte, and for one who waits.
+/// Returns whether an input has these replies and ends in this way: if it comes whole, if it comes
+/// byte by byte, and for a client that waits.
 fn is_served_however_it_comes(alloc: Global, input: &[u8], replies: &[u8], how: ServeEnd) -> bool {
     let mut whole = input;
     let mut slow = Giving::new(input, 1, usize::MAX);
@@ -107,7 +107,7 @@ static ROWS: [Row; 44] = [
         b"Content-Length: 3|transfer-encoding: identity||abc",
         LENGTH_REQUIRED,
     ),
-    // lengths that are none
+    // values that are not a length
     Fields(b"Content-Length: ||", BAD_REQUEST),
     Fields(b"Content-Length: +3||abc", BAD_REQUEST),
     Fields(b"Content-Length: 3, 3||abc", BAD_REQUEST),
@@ -303,7 +303,8 @@ fn connections_have_their_replies(rt: HostRuntime) {
     none_is_wrong(&rt, wrong_row(rt.alloc()));
 }
 
-/// If the shipper's request may be cut so that it has a reply, or ends otherwise than a torn one.
+/// Returns a place at which the shipper's request, cut there, has a reply, or ends otherwise than a
+/// torn one.
 fn wrong_cut_of(alloc: Global, request: &[u8]) -> Option<usize> {
     for len in 0..request.len() {
         let mut part = &request[..len];

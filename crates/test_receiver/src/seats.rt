@@ -18,7 +18,7 @@ use std::test::Fail;
 use std::thread;
 use std::thread::Threads;
 
-/// Returns a blank of so many parts, made again if memory ran out.
+/// Returns a blank of `parts` parts, made again if memory ran out.
 pub(crate) fn blank(alloc: Global, parts: u64) -> Result<Blank, AllocError>
     ensures { IfOk result (λ b. b.parts ≡ parts) }
 {
@@ -101,7 +101,7 @@ fn one_body_from_two_seats_is_stored_once(rt: HostRuntime) -> Result<(), Fail> {
     Ok(())
 }
 
-/// What a seat is asked, and what it is to answer.
+/// What a seat is asked, and the expected answers.
 #[derive(Clone, Copy)]
 pub(crate) enum Talk<'a> {
     /// Bodies one after the other, each with its status and with what the seat then has stored.
@@ -126,7 +126,7 @@ fn answered_at_last<L: Naming, R: Wait>(
     }
 }
 
-/// Returns whether each body has its status, and the seat then has stored so much.
+/// Returns whether each body has its status, and the seat then has stored this much.
 fn answers<L: Naming, R: Wait>(
     asking: &mut Asking<'_, R, L>,
     bodies: &[(&[u8], u16, u64)],
@@ -142,7 +142,7 @@ fn answers<L: Naming, R: Wait>(
     true
 }
 
-/// Returns whether a seat answers as it is to.
+/// Returns whether a seat answers as expected.
 fn is_answered<L: Naming, R: Wait>(
     alloc: Global,
     asking: &mut Asking<'_, R, L>,
@@ -158,8 +158,8 @@ fn is_answered<L: Naming, R: Wait>(
     }
 }
 
-/// Asks from the one seat of a head. Gives whether it answers as it is to, and the head. If no seat
-/// could be had there is no answer, and the head is as it was.
+/// Asks from the one seat of a head. Returns whether it answers as expected, and the head. If no
+/// seat could be made there is no answer, and the head is as it was.
 pub(crate) fn answered<L: Naming, R: Wait>(
     rt: &R,
     alloc: Global,
@@ -214,7 +214,7 @@ fn holds_what_was_stored(alloc: Global, is_answered: Option<bool>, head: &Head) 
     }
 }
 
-/// Holds whichever growth is refused; `tools/refuse-each` refuses each of them in turn.
+/// Holds whichever allocation fails; `tools/refuse-each` lets each of them fail in turn.
 #[test]
 fn a_seat_counts_what_was_stored(rt: HostRuntime) -> Result<(), Fail> {
     let alloc = rt.alloc();

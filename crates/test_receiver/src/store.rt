@@ -63,7 +63,8 @@ fn limits(alloc: Global) -> Result<Limits, AllocError> {
     Ok(limits)
 }
 
-/// Serves a connection within these limits. It ends because memory ran out also if they have none.
+/// Serves a connection within these limits. It ends with out of memory also if there was no memory
+/// for the limits.
 pub(crate) fn served<R: Source, W: Sink, A: Answer>(
     alloc: Global,
     reader: &mut R,
@@ -76,7 +77,8 @@ pub(crate) fn served<R: Source, W: Sink, A: Answer>(
     }
 }
 
-/// Returns whether a connection has these replies and ends so. No, if memory runs out.
+/// Returns whether a connection has these replies and ends in this way. The answer is no if memory
+/// runs out.
 pub(crate) fn is_served_by<R: Source, A: Answer>(
     alloc: Global,
     reader: &mut R,

@@ -47,7 +47,7 @@ impl Source for Waiting<'_> {
     }
 }
 
-/// Keeps what is written, and tells how much that is.
+/// Keeps what is written, and counts its bytes.
 #[derive(Drop)]
 pub(crate) struct Hearing<'a> {
     pub(crate) taken: Vec<u8>,

@@ -17,7 +17,8 @@ fn entries_in(len: usize) -> u64 {
     }
 }
 
-/// A crash leaves so many of the bytes that were being written, and `junk` in place of the others.
+/// A crash leaves this many of the bytes that were being written, and `junk` in place of the
+/// others.
 #[derive(Drop)]
 struct Crash {
     synced: usize,
@@ -70,8 +71,8 @@ static SYNCED: [usize; 4] = [0, 7, 29, 40];
 
 static JUNK: [&[u8]; 3] = [&[], &[0], &[9; 40]];
 
-/// Returns the first crash that is not opened with the entries of the bytes that it left: if it was
-/// synced, and how many bytes were left.
+/// Returns the first crash that is not opened with the entries of the bytes that it left: how many
+/// bytes were synced, and how many were left.
 fn first_wrong(alloc: Global) -> Result<Option<(usize, usize)>, ReopenError> {
     for synced in SYNCED {
         for left in synced..UP.len() {

@@ -20,7 +20,7 @@ struct Text {
 
 #[derive(Clone, Copy, Debug, PartialEq, Eq)]
 enum Outcome {
-    /// How many entries there are, if the last segment was cut, how many bytes were cut off, and
+    /// How many entries there are, where the last segment was cut, how many bytes were cut off, and
     /// the greatest reference.
     Opened(u64, usize, usize, u64),
     Refused(TailFault, u64, u64),

@@ -1,11 +1,11 @@
-//! Lines that are no script lines.
+//! Lines that are not lines of a script.
 
 use crate::played::plays;
 use crate::rows::none_is_wrong;
 use rw_text::ToolFault;
 use std::alloc::{AllocError, Global};
 
-/// Lines that are bad wherever they are.
+/// Lines that are bad anywhere in a script.
 static BAD: [&[u8]; 46] = [
     b" place",
     b"place ",
@@ -55,7 +55,7 @@ static BAD: [&[u8]; 46] = [
     b"log series 1 {a=\"\xff\"}",
 ];
 
-/// A script whose fourth line is this one.
+/// Puts a script whose fourth line is this one.
 fn put_script(script: &mut Vec<u8>, line: &[u8]) -> Result<(), AllocError> {
     script.extend_from_slice(b"place\n\nclose\n")?;
     script.extend_from_slice(line)?;
@@ -144,7 +144,7 @@ fn odd_lines(rt: HostRuntime) {
     none_is_wrong(&rt, wrong_odd(rt.alloc(), odd()));
 }
 
-/// A `log raw` line of so many times 32 KiB of byte 3, and these digits.
+/// Puts a `log raw` line of `chunks` times 32 KiB of byte 3, and these digits.
 fn push_raw(
     script: &mut Vec<u8>,
     digits: &[u8],

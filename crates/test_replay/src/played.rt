@@ -6,7 +6,8 @@ use rw_settings::read_settings;
 use rw_types::{Room, Source};
 use std::alloc::Global;
 
-/// How a run ends, and what it writes with so much room; none if memory runs out before it begins.
+/// Returns how a run ends, and what it writes with this much room, or `None` if memory runs out
+/// before it begins.
 pub(crate) fn run<S: Source>(
     alloc: Global,
     settings: &[u8],
@@ -19,7 +20,7 @@ pub(crate) fn run<S: Source>(
     Some((ended, output.into_bytes()))
 }
 
-/// Returns whether a script ends so, and this is written.
+/// Returns whether a script ends in this way, and this is written.
 pub(crate) fn plays(
     alloc: Global,
     settings: &str,

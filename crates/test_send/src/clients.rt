@@ -14,11 +14,11 @@ pub(crate) enum Clients {
     InTurn,
     /// A second one has its reply while a first one has a connection.
     SideBySide,
-    /// One has its reply, and keeps its connection when the end is wished.
+    /// One has its reply, and keeps its connection when the stop is requested.
     Stays,
-    /// One writes the last byte of its second request when the end is wished already.
+    /// One writes the last byte of its second request after the stop was requested.
     IsInside,
-    /// The same, if an end at once is wished.
+    /// The same, if a stop at once is requested.
     IsCutOff,
     /// One writes a byte and is silent. Another one comes after it.
     WritesOneByte,
@@ -27,7 +27,7 @@ pub(crate) enum Clients {
     /// Two come, and the first one goes. Five come one after the other while the second one keeps
     /// its connection.
     OneStays,
-    /// One has its last reply, and writes on, as long as it may.
+    /// One has its last reply, and writes on, as long as it can.
     WritesOn,
 }
 
@@ -37,7 +37,7 @@ const PATIENCE_SECONDS: u64 = 10;
 /// The reply to a request that is taken.
 const TAKEN: &[u8] = b"HTTP/1.1 204 No Content\r\n\r\n";
 
-/// If clients connect to, and how they ask for an end.
+/// Where clients connect to, and how they request a stop.
 #[derive(Clone, Copy)]
 pub(crate) struct Door<'a, N> {
     pub(crate) net: &'a N,
@@ -46,8 +46,8 @@ pub(crate) struct Door<'a, N> {
     pub(crate) sign: &'a Sign,
 }
 
-/// Returns a request to store the sample 1 of `{__name__="up"}` at 1000 ms and so many more, less
-/// than 8.
+/// Returns a request to store the sample 1 of `{__name__="up"}` at 1000 ms plus `later`, which is
+/// less than 8.
 fn request(alloc: Global, later: u8) -> Result<Vec<u8>, AllocError> {
     let mut bytes = Vec::from_slice(
         alloc,
@@ -82,7 +82,7 @@ fn ask(stream: &mut TcpStream, request: &[u8], read: &mut Vec<u8>) -> io::Result
     Ok(())
 }
 
-/// Five ask, the first of them for a sample so much later.
+/// Five ask, the first of them for a later sample.
 fn in_turn<N: Net<Stream = TcpStream>>(
     door: &Door<'_, N>,
     first: u8,
@@ -113,7 +113,7 @@ fn stays<N: Net<Stream = TcpStream>>(door: &Door<'_, N>, read: &mut Vec<u8>) -> 
     Ok(())
 }
 
-/// Writes a request, and another one of which the last byte comes when a stop is wished.
+/// Writes a request, and another one of which the last byte comes after a stop was requested.
 fn is_inside<N: Net<Stream = TcpStream> + Clock>(
     door: &Door<'_, N>,
     is_hard: bool,
@@ -200,7 +200,7 @@ fn writes_on<N: Net<Stream = TcpStream> + Clock>(
     Ok(())
 }
 
-/// Returns what the clients read, each after the one before. They ask for an end at last.
+/// Returns what the clients read, each after the one before. They request a stop at the end.
 pub(crate) fn read_by<N: Net<Stream = TcpStream> + Clock>(
     door: &Door<'_, N>,
     clients: Clients,

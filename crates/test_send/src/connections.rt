@@ -38,12 +38,12 @@ fn request_of(alloc: Global, body: &[u8]) -> Result<Vec<u8>, AllocError> {
 enum Client {
     /// It has a connection that says nothing until a second one has its reply.
     InTurn,
-    /// It writes nothing on one connection, a request without its last byte on the next, and no
-    /// HTTP on the last.
+    /// It writes nothing on one connection, a request without its last byte on the next, and bytes
+    /// that are not HTTP on the last.
     Stray,
-    /// It asks so often by one transport.
+    /// It asks this often by one transport.
     Asks(u64),
-    /// It asks once, and its first address is one if nobody listens.
+    /// It asks once, and at its first address nobody listens.
     AsksBehindDeserted,
     /// It writes a whole request before it reads.
     WritesFirst,
@@ -100,7 +100,7 @@ fn reply_after_all<N: Net<Stream = TcpStream>>(
     Ok(reply)
 }
 
-/// Connects again and again while a first connection is open, and says whether it was refused in
+/// Connects again and again while a first connection is open, and returns whether it was refused in
 /// the end.
 fn comes_again<N: Net<Stream = TcpStream> + Clock>(
     net: &N,
@@ -117,8 +117,8 @@ fn comes_again<N: Net<Stream = TcpStream> + Clock>(
     Ok(Vec::new(alloc))
 }
 
-/// Writes nothing on one connection, a request without its last byte on the next, and no HTTP on
-/// the last.
+/// Writes nothing on one connection, a request without its last byte on the next, and bytes that
+/// are not HTTP on the last.
 fn stray<N: Net<Stream = TcpStream>>(
     net: &N,
     address: SocketAddr,
@@ -134,12 +134,12 @@ fn stray<N: Net<Stream = TcpStream>>(
     Ok(())
 }
 
-/// Returns an address if nobody listens any more.
+/// Returns an address at which nobody listens any more.
 fn deserted<N: Net<Stream = TcpStream, Listener = TcpListener>>(net: &N) -> io::Result<SocketAddr> {
     TcpListener::bind(net, "127.0.0.1:0")?.local_addr()
 }
 
-/// Returns the statuses of so many requests with the same bytes, each after a space.
+/// Returns the statuses of `count` requests with the same bytes, each after a space.
 fn statuses<N: Net<Stream = TcpStream> + Clock + Copy>(
     alloc: Global,
     transport: &mut TcpTransport<N>,
@@ -221,7 +221,7 @@ fn are_served<
     Ok(ended == row.ended && read?.as_slice() == row.read)
 }
 
-/// Returns whether a receiver that is set so and its client do as a row says.
+/// Returns whether a receiver with this setting and its client do as a row says.
 fn does_with<
     R: Net<Stream = TcpStream, Listener = TcpListener>
         + Threads
@@ -237,7 +237,7 @@ fn does_with<
     Ok(is_so && (row.ended.is_err() || printed.as_slice() == row.printed))
 }
 
-/// Returns whether all is as a row says.
+/// Returns whether everything is as a row says.
 fn does<
     R: Net<Stream = TcpStream, Listener = TcpListener>
         + Threads
@@ -251,7 +251,7 @@ fn does<
     Ok(does_with(rt, alloc, row, &settings)?)
 }
 
-/// Returns the name of the first row that goes otherwise.
+/// Returns the name of the first row that differs.
 fn wrong_row<
     R: Net<Stream = TcpStream, Listener = TcpListener>
         + Threads
@@ -281,7 +281,7 @@ static ROWS: [Row<'static>; 6] = [
         ended: Ok(()),
         printed: UP_AT_1000,
     },
-    // how a connection ends is no fault
+    // how a connection ends is not a fault
     Row {
         name: "nothing is held of nothing",
         settings: b"",
@@ -407,7 +407,7 @@ fn long_text(alloc: Global) -> Result<Vec<u8>, AllocError> {
     Ok(text)
 }
 
-/// No one read or write takes such a request. All that it brings is held.
+/// No single read or write takes such a request. Everything that it brings is held.
 #[test]
 fn a_long_request_arrives_whole(rt: HostRuntime) -> Result<(), Fail> {
     let body = long_body(rt.alloc())?;
@@ -428,7 +428,7 @@ fn a_long_request_arrives_whole(rt: HostRuntime) -> Result<(), Fail> {
     Ok(())
 }
 
-/// Not less, and not seconds.
+/// A pause takes at least that long, and not seconds.
 #[test]
 fn a_pause_lasts_so_many_milliseconds(rt: HostRuntime) -> Result<(), Fail> {
     let start = Instant::now(&rt)?;
@@ -465,7 +465,7 @@ fn a_failed_accept_is_a_device_fault(rt: HostRuntime) -> Result<(), Fail> {
     Ok(())
 }
 
-/// Returns a transport to one address, with a timeout of so many milliseconds.
+/// Returns a transport to one address, with a timeout in milliseconds.
 fn transport_to<N: Net<Stream = TcpStream> + Clock + Copy>(
     net: &N,
     alloc: Global,
@@ -482,8 +482,8 @@ fn is_lost<N: Net<Stream = TcpStream> + Clock + Copy>(transport: &mut TcpTranspo
     matches!(transport.exchange(b"POST"), Err(Lost))
 }
 
-/// Returns whether a request is lost that nobody answers within the timeout, and one if nobody
-/// listens any more.
+/// Returns whether a request is lost that nobody answers within the timeout, and one to an address
+/// at which nobody listens any more.
 fn are_lost<N: Net<Stream = TcpStream, Listener = TcpListener> + Clock + Copy>(
     net: &N,
     alloc: Global,
@@ -502,7 +502,7 @@ fn no_reply_is_lost(rt: HostRuntime) -> Result<(), Fail> {
     Ok(())
 }
 
-/// Reads the request of one connection whole, and closes it without a word.
+/// Reads the request of one connection whole, and closes it without a reply.
 fn hang_up(listener: &TcpListener) -> io::Result<()> {
     let (mut stream, _) = listener.accept()?;
     stream.read_exact(&mut [0; 4])
@@ -538,8 +538,8 @@ fn drip<R: Clock>(clock: &R, listener: &TcpListener) -> io::Result<()> {
     Ok(())
 }
 
-/// Returns how long a request takes whose reply comes byte by byte, with a timeout of 200 ms; none
-/// if it has a reply.
+/// Returns how long a request takes whose reply comes byte by byte, with a timeout of 200 ms, or
+/// `None` if it has a reply.
 fn dripped<
     R: Net<Stream = TcpStream, Listener = TcpListener> + Threads + Clock + Copy + Send + Sync,
 >(rt: &R, alloc: Global) -> io::Result<Option<Duration>> {

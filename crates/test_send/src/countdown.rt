@@ -1,4 +1,4 @@
-//! Watches that say to stop after so many looks.
+//! Watches that ask for a stop after a number of looks.
 
 ghost use Rattle.std.specs.Prelude.{◌≡◌, ◌<◌};
 
@@ -6,8 +6,8 @@ use rw_follow::{Sign, Watch, Wish};
 use rw_metrics::SendCounters;
 use std::alloc::Global;
 
-/// Says this wish once it was asked so often. What was fed is flushed at once, or never, and so is
-/// the number of shards asked for.
+/// Asks for this stop at the given look. What was fed is flushed at once, or never, and the number
+/// of shards is adjusted likewise.
 #[derive(Drop)]
 pub(crate) struct Countdown {
     pub(crate) looks: u32,
@@ -15,12 +15,12 @@ pub(crate) struct Countdown {
     pub(crate) flushes: bool,
     pub(crate) reshards: bool,
     pub(crate) said: Wish,
-    /// The sleeps so far. The greatest number stands for more, too.
+    /// The sleeps so far; the greatest number also stands for more.
     pub(crate) naps: u32,
 }
 
 impl Countdown {
-    /// Returns what is said at this look.
+    /// Returns what is asked for at this look.
     fn next(&mut self) -> Wish
         ensures { self.new.naps ≡ self.old.naps }
     {
@@ -59,7 +59,7 @@ impl Watch for Countdown {
     }
 }
 
-/// Asks for an end after so many looks: at once if the counters tell then that one sample was
+/// Asks for a stop after a number of looks: at once if the counters then say that one sample was
 /// placed and none waits, and in order otherwise.
 #[derive(Drop)]
 pub(crate) struct Onlooker<'a> {
@@ -69,7 +69,7 @@ pub(crate) struct Onlooker<'a> {
 }
 
 impl Onlooker<'_> {
-    /// Returns whether the counters tell that one sample was placed and none waits.
+    /// Returns whether the counters say that one sample was placed and none waits.
     fn has_settled(&self) -> bool {
         match self.counters.numbers(self.alloc) {
             Ok(numbers) => numbers.placed == 1 && numbers.waiting == 0,

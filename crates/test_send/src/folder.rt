@@ -21,7 +21,7 @@ use std::thread::Threads;
 use std::time::{Clock, Duration};
 use std::{env, fs};
 
-/// Adds what the segments hold, one after the other. No, if one cannot be read.
+/// Adds what the segments hold, one after the other. The answer is no if one cannot be read.
 fn are_read<R: Files<File = File> + Drop>(
     alloc: Global,
     segments: Vec<Opened<SegmentFile<R>>>,
@@ -125,7 +125,7 @@ fn a_missing_folder_cannot_be_read(rt: HostRuntime) -> Result<(), Fail> {
     Ok(())
 }
 
-/// Receivers that take each request at once.
+/// Returns receivers that take each request at once.
 pub(crate) fn ready<R: Copy>(clock: &R) -> Receivers<R> {
     Receivers {
         clock: *clock,
@@ -216,7 +216,7 @@ static LISTED: [Row<'static>; 3] = [
     ),
 ];
 
-/// The second segment is gone, or a folder is in its place.
+/// The second segment is gone, or there is a folder in its place.
 #[test]
 fn what_is_gone_is_no_end(rt: HostRuntime) -> Result<(), Fail> {
     none_is_wrong(&rt, wrong_row(&rt, &rt, &LISTED)?);

@@ -22,9 +22,9 @@ enum Happens<'a> {
     Gap(u64),
 }
 
-/// What happens, after how many looks it is to stop, by which wish, in pieces of how many bytes;
-/// how the following ends, the segments that were given whole, the beginning of the next one, and
-/// how often it was flushed.
+/// What happens, after how many looks it is to stop, in which way, in pieces of how many bytes; how
+/// the following ends, the segments that were read whole, the part of the next one, and how often
+/// it was flushed.
 type Row<'a> = (
     &'a [Happens<'a>],
     u32,
@@ -59,7 +59,7 @@ fn put_events(
     Ok(())
 }
 
-/// Follows the log of a row, and gives the number of the missing segment if it broke so.
+/// Follows the log of a row, and returns the number of the missing segment if that ended it.
 fn followed<R: Wait>(
     rt: &R,
     log: &mut Listed,
@@ -97,7 +97,7 @@ fn are_whole(kept: &Kept, wanted: &[&[u8]]) -> bool {
     true
 }
 
-/// Returns whether a row is so.
+/// Returns whether a row holds.
 fn does<R: Wait>(rt: &R, alloc: Global, row: &Row<'_>) -> Result<bool, AllocError> {
     let mut events = VecDeque::new(alloc);
     put_events(alloc, &mut events, row.0)?;
@@ -229,7 +229,7 @@ fn logs_grow(rt: HostRuntime) -> Result<(), Fail> {
 }
 
 static STOPPED: [Row<'static>; 4] = [
-    // the sign comes, and then some bytes and a segment that stood
+    // the stop signal comes, and then some bytes and a segment that were there before
     (
         &[Quiet, Quiet, More(b"ab"), Turn(b"c", b"d")],
         1,
@@ -253,7 +253,7 @@ static STOPPED: [Row<'static>; 4] = [
         b"ab",
         1,
     ),
-    // a segment is missing, and the sign has come
+    // a segment is missing, and the stop signal has come
     (
         &[More(b"ab"), Gap(3)],
         0,

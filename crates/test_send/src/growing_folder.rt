@@ -25,7 +25,7 @@ use std::time::{Clock, Duration};
 #[derive(Clone, Copy)]
 pub(crate) enum Change {
     Nothing,
-    /// A file has these bytes more. It comes if it is not there.
+    /// A file grows by these bytes. It is created if it does not exist.
     Grows(&'static str, &'static [u8]),
     /// A file goes.
     Goes(&'static str),
@@ -33,7 +33,7 @@ pub(crate) enum Change {
     Dir(&'static str),
 }
 
-/// Returns the text of a file that goes on.
+/// Returns the text of a file that is being extended.
 fn has_grown<R: Files<File = File>>(rt: &R, path: Path<'_>, bytes: &[u8]) -> bool {
     let mut options = OpenOptions::new();
     options.append(true).create(true);
@@ -65,7 +65,7 @@ pub(crate) fn has_changed<R: Files<File = File> + AllocGlobal>(
     }
 }
 
-/// Lets a change happen at each look, and says to end after the last one, or if one cannot be.
+/// Makes a change at each look, and asks for a stop after the last one, or if one cannot be made.
 #[derive(Drop)]
 struct Writer<R> {
     rt: R,
@@ -89,8 +89,8 @@ impl<R: Files<File = File> + AllocGlobal> Sign for Writer<R> {
     }
 }
 
-/// Returns what was given, a bar after each segment that is over, and at the end the number that is
-/// missing or a point.
+/// Returns what was read, with a bar after each segment that is over, and at the end the number
+/// that is missing or a point.
 fn text_of(alloc: Global, kept: &Kept, end: Option<u64>) -> Result<String, AllocError> {
     let mut text = Vec::new(alloc);
     for segment in &kept.whole {
@@ -133,7 +133,7 @@ fn followed<W: Wait>(
     text_of(alloc, &kept, end)
 }
 
-/// Other names are passed over, and what was there before is read first, in order.
+/// Other names are skipped, and what was there before is read first, in order.
 static COMES: [Change; 9] = [
     Nothing,
     Grows("checkpoint.00000007", b"x"),
@@ -157,7 +157,7 @@ fn files_come_and_grow(rt: HostRuntime) -> Result<(), Fail> {
     Ok(())
 }
 
-/// A file that is read goes, and so does the next one before it was seen.
+/// A file that is read is removed, and so is the next one before it was seen.
 static GOES: [Change; 6] = [
     Grows("00000001", b"a"),
     Nothing,
@@ -175,7 +175,7 @@ fn a_missing_file_is_told(rt: HostRuntime) -> Result<(), Fail> {
     Ok(())
 }
 
-/// Follows a folder by the command `send`, and says to end after some looks.
+/// Follows a folder by the command `send`, and asks for a stop after some looks.
 fn follow_sending<R: Threads + Wait + Clock + Copy + Send + 'static>(
     rt: &HostRuntime,
     threads: &R,
@@ -214,7 +214,7 @@ fn follow_sending<R: Threads + Wait + Clock + Copy + Send + 'static>(
     ))
 }
 
-/// Returns whether a folder that is followed is told as one that cannot be read.
+/// Returns whether following a folder is reported as one that cannot be read.
 fn is_unreadable<R: Threads + Wait + Clock + Copy + Send + 'static>(
     rt: &HostRuntime,
     threads: &R,
@@ -226,7 +226,7 @@ fn is_unreadable<R: Threads + Wait + Clock + Copy + Send + 'static>(
     Ok(is_printed && answer == Err(FollowFault::Tool(ToolFault::Device)))
 }
 
-/// A folder can be opened as a file is, and cannot be read so.
+/// A folder can be opened as a file is, but cannot be read so.
 #[test]
 fn what_cannot_be_read_is_no_quiet_log(rt: HostRuntime) -> Result<(), Fail> {
     let dir = new_folder(&rt, "rwship-what-cannot-be-read-is-no-quiet-log")?;

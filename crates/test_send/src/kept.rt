@@ -13,7 +13,7 @@ pub(crate) struct Kept {
     pub(crate) alloc: Global,
     /// The segments that were given whole.
     pub(crate) whole: Vec<Vec<u8>>,
-    /// The beginning of the next one.
+    /// What was read of the next one.
     pub(crate) begun: Vec<u8>,
     pub(crate) flushes: u64,
 }

@@ -82,8 +82,8 @@ fn connect_to<N: Net<Stream = TcpStream> + Drop>(
     Ok(TcpConnect::new(alloc, net, addresses, Bounded::new(10_000), counters))
 }
 
-/// Returns whether a receiver takes the connections of a sender, or one if there are none, ends
-/// well and has counted what it holds.
+/// Returns whether a receiver takes the connections of a sender, or one if the sender makes none,
+/// ends well and has counted what it holds.
 fn receives<R: Threads + Wait + Clock + Sync>(
     rt: &R,
     alloc: Global,
@@ -140,14 +140,15 @@ fn sends<R: Threads + Wait + Clock + Copy + Send + 'static, C: Connect + Drop>(
     }
 }
 
-/// Returns whether somebody else connects and says nothing, once a sender that does not connect has
-/// ended. A receiver ends after one connection.
+/// Returns whether the sender made a connection, or another client can connect after it: a receiver
+/// ends after one connection.
 fn passes_by<N: Net<Stream = TcpStream>>(net: &N, row: &Row<'_>, address: SocketAddr) -> bool {
     row.1 > 0 || TcpStream::connect(net, address).is_ok()
 }
 
 /// A receiver that is busy for the first connection takes the sample of the second one. Samples
-/// that do not rise are named and not sent, and so are names that the sender does not take.
+/// that are not later than the last one are listed and not sent, and so are those with names that
+/// the sender does not accept.
 #[test]
 fn what_is_sent_is_received(rt: HostRuntime) -> Result<(), Fail> {
     let alloc = rt.alloc();

@@ -22,7 +22,7 @@ use std::time::{Clock, Duration};
 #[derive(Clone, Copy)]
 enum Part<'a> {
     Whole(&'a [u8]),
-    /// It has one series and so many samples.
+    /// It has one series and this many samples.
     Many(u32),
     /// Its last byte is changed.
     Changed(&'a [u8]),
@@ -33,7 +33,7 @@ enum Part<'a> {
 }
 
 /// How receivers answer: by which status, after how many milliseconds, and how many requests before
-/// they refuse. For the shards of the epochs from this one on there is no memory.
+/// they refuse. There is no memory for the shards of the epochs from this one on.
 #[derive(Clone, Copy)]
 struct Answers {
     status: u16,
@@ -112,7 +112,7 @@ fn put_readers(alloc: Global, readers: &mut Vec<Torn>, log: &[Part<'_>]) -> Resu
     Ok(())
 }
 
-/// Receivers that answer so.
+/// Returns receivers that answer in this way.
 fn receivers_of<R: Copy>(clock: &R, answers: Answers) -> Result<Receivers<R>, AllocError> {
     match StatusCode::from_u16(answers.status) {
         Ok(status) => Ok(Receivers {
@@ -148,7 +148,7 @@ fn shipped<R: Threads + Wait + Clock + Copy + Send + 'static>(
     }
 }
 
-/// Returns whether a run does as a row says, and is counted so.
+/// Returns whether a run does as a row says, and is counted accordingly.
 fn does<R: Threads + Wait + Clock + Copy + Send + 'static>(
     rt: &R,
     alloc: Global,
@@ -387,7 +387,7 @@ static FAILING: [Row<'static>; 3] = [
 ];
 
 /// The receivers are always busy, so that a sample that was read is not resolved when the work is
-/// stopped. Of two shards with full queues each hears of the stop.
+/// stopped. Both of two shards with full queues are stopped.
 #[test]
 fn a_reader_that_fails(rt: HostRuntime) -> Result<(), Fail> {
     none_is_wrong(&rt, wrong_row(&rt, rt.alloc(), &FAILING)?);
@@ -462,8 +462,8 @@ static SHARDS: [Row<'static>; 5] = [
 ];
 
 /// A queue and a batch of one sample each: if the receiver is slow, two of four samples may wait,
-/// so one shard is to become three. Where that is refused the work ends. Nothing changes if the
-/// receiver keeps up, and after the last segment.
+/// so one shard is to become three. If that fails, the work ends. Nothing changes if the receiver
+/// keeps up, and after the last segment.
 #[test]
 fn the_number_of_shards_follows_the_load(rt: HostRuntime) -> Result<(), Fail> {
     none_is_wrong(&rt, wrong_row(&rt, rt.alloc(), &SHARDS)?);

@@ -78,8 +78,7 @@ fn reply_to<N: Net<Stream = TcpStream>>(
     Ok(reply)
 }
 
-/// Returns the first request that is answered otherwise, by the page of a receiver that has done
-/// nothing.
+/// Returns the first request that the page of a receiver that has done nothing answers differently.
 fn wrong_reply<
     N: Net<Stream = TcpStream, Listener = TcpListener> + Threads + Clock + Copy + Send + 'static,
 >(rt: &N, alloc: Global) -> io::Result<Option<usize>> {

@@ -1,4 +1,4 @@
-//! A receiver, which is stopped by a sign or ends after its connections, and its clients, in
+//! A receiver, which is stopped by a stop signal or ends after its connections, and its clients, in
 //! threads of one process.
 
 use crate::clients::{Clients, Door, read_by};
@@ -16,11 +16,12 @@ use std::thread::Threads;
 use std::time::{Clock, Duration, Instant};
 use std::{io, thread};
 
-/// The bounds of a service, what clients do, how many replies they have, and what is printed at
-/// last.
+/// The bounds of a service, what clients do, how many replies they have, and what is printed at the
+/// end.
 #[derive(Drop)]
 struct Row<'a> {
-    /// Whether it serves until it is stopped. Else it serves as many connections as it may at once.
+    /// Whether it serves until it is stopped. Otherwise it serves as many connections as it may at
+    /// once.
     has_sign: bool,
     most: u64,
     idle_ms: u64,
@@ -32,7 +33,7 @@ struct Row<'a> {
 /// The reply to a request that is taken.
 const TAKEN: &[u8] = b"HTTP/1.1 204 No Content\r\n\r\n";
 
-/// Returns whether these are so many replies to requests that were taken.
+/// Returns whether these are `count` replies to requests that were taken.
 fn are_replies(read: &[u8], count: usize) -> bool {
     let mut left = read;
     for _ in 0..count {
@@ -67,7 +68,8 @@ fn service_of(
     }
 }
 
-/// Returns whether a service and its clients do as a row says, in time, and is counted so.
+/// Returns whether a service and its clients do as a row says, in time, and are counted
+/// accordingly.
 fn does_with<R: Net<Stream = TcpStream, Listener = TcpListener> + Threads + Wait + Clock + Sync>(
     rt: &R,
     alloc: Global,
@@ -108,7 +110,7 @@ fn does_with<R: Net<Stream = TcpStream, Listener = TcpListener> + Threads + Wait
     Ok(is_done && are_replies(&read?, row.replies) && is_counted)
 }
 
-/// Returns the place of the first row that goes otherwise.
+/// Returns the number of the first row that differs.
 fn wrong_row<R: Net<Stream = TcpStream, Listener = TcpListener> + Threads + Wait + Clock + Sync>(
     rt: &R,
     alloc: Global,
@@ -150,7 +152,7 @@ static ROWS: [Row<'static>; 11] = [
         replies: 2,
         printed: b"received {__name__=\"up\"} 1000=1 1001=1\n",
     },
-    // whoever is in no request is closed at the stop
+    // a connection without a request is closed at the stop
     Row {
         has_sign: true,
         most: 2,
@@ -159,7 +161,7 @@ static ROWS: [Row<'static>; 11] = [
         replies: 1,
         printed: b"received {__name__=\"up\"} 1000=1\n",
     },
-    // whoever is in a request has its reply
+    // a connection in a request has its reply
     Row {
         has_sign: true,
         most: 2,
@@ -176,7 +178,7 @@ static ROWS: [Row<'static>; 11] = [
         replies: 1,
         printed: b"received {__name__=\"up\"} 1000=1\n",
     },
-    // nobody holds the only seat by silence
+    // a silent client does not keep the only seat
     Row {
         has_sign: true,
         most: 1,
@@ -202,7 +204,7 @@ static ROWS: [Row<'static>; 11] = [
         replies: 7,
         printed: b"received {__name__=\"up\"} 1000=1 1001=1 1002=1 1003=1 1004=1 1005=1 1006=1\n",
     },
-    // nobody holds the end by silence, nor by writing on after the last reply
+    // neither a silent client nor one that writes on after its last reply delays the end
     Row {
         has_sign: false,
         most: 2,

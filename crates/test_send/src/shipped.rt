@@ -118,7 +118,7 @@ fn follow<R: Threads + Wait + Clock + Copy + Send + 'static, W: Watch>(
     Ok(run_follow(rt, alloc, settings, &mut log, line, watch, printed))
 }
 
-/// Receivers that answer one request by this status at once. They refuse each later one.
+/// Returns receivers that answer one request with this status at once. They refuse each later one.
 fn receivers_of<R: Copy>(clock: &R, status: StatusCode) -> Receivers<R> {
     Receivers {
         clock: *clock,
@@ -129,12 +129,11 @@ fn receivers_of<R: Copy>(clock: &R, status: StatusCode) -> Receivers<R> {
     }
 }
 
-/// What happens, after how many looks it is to stop, by which wish; the answer, and what is
-/// printed.
+/// What happens, after how many looks it is to stop, in which way; the answer, and what is printed.
 type Row<'a> = (&'a [Part<'a>], u32, Wish, Result<(), FollowFault>, &'a [u8]);
 
-/// Returns whether a run does as a row says, where the number of shards is asked for at each turn,
-/// or never.
+/// Returns whether a run does as a row says, if the number of shards is adjusted at each turn, or
+/// never.
 fn does<R: Threads + Wait + Clock + Copy + Send + 'static>(
     rt: &R,
     alloc: Global,
@@ -199,7 +198,7 @@ static SHIPPED: [Row<'static>; 10] = [
         Ok(()),
         b"filtered 0\nreport complete 3\n",
     ),
-    // the sign has come before the log was looked at
+    // the stop signal has come before the log was looked at
     (
         &[More(UP)],
         0,
@@ -264,7 +263,7 @@ fn logs_are_shipped(rt: HostRuntime) -> Result<(), Fail> {
 }
 
 /// Follows a log of one sample for some looks by the clock, and is stopped at once if the counters
-/// tell then that nothing waits.
+/// then say that nothing waits.
 fn flushed<R: Threads + Wait + Clock + Copy + Send + 'static>(
     rt: &R,
     alloc: Global,
@@ -301,7 +300,7 @@ fn a_quiet_log_is_flushed(rt: HostRuntime) -> Result<(), Fail> {
     Ok(())
 }
 
-/// The sign of the program, as a follower sees it.
+/// The stop signal of the program, as a follower sees it.
 #[derive(Drop)]
 struct Seen<'a> {
     sign: &'a rw_stop::Sign,
@@ -317,7 +316,8 @@ impl Sign for Seen<'_> {
     }
 }
 
-/// Asks for an end in order, and later for one at once, which workers are told after the sign.
+/// Asks for a stop in order, and later for one at once; the workers are stopped after the stop
+/// signal is set.
 fn stop_twice<R: Clock>(rt: &R, sign: &rw_stop::Sign, workers: &StopFlag) {
     thread::sleep(rt, Duration::from_millis(200));
     sign.end();
@@ -326,8 +326,8 @@ fn stop_twice<R: Clock>(rt: &R, sign: &rw_stop::Sign, workers: &StopFlag) {
     workers.set();
 }
 
-/// Follows a log while its receiver is always busy, until the sign or the flag of the workers ends
-/// that.
+/// Follows a log while its receiver is always busy, until the stop signal or the flag of the
+/// workers ends that.
 fn follow_in_vain<R: Threads + Wait + Clock + Copy + Send + 'static>(
     rt: &R,
     alloc: Global,
@@ -363,7 +363,7 @@ fn follow_in_vain<R: Threads + Wait + Clock + Copy + Send + 'static>(
     )
 }
 
-/// Follows a log in vain, and is stopped twice.
+/// Follows a log whose receiver is always busy, and is stopped twice.
 fn stopped_twice<R: Threads + Wait + Clock + Copy + Send + Sync + 'static>(
     rt: &R,
     alloc: Global,

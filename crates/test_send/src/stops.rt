@@ -1,4 +1,4 @@
-//! What sets a sign.
+//! What sets a stop signal.
 
 use rw_stop::{Sign, Wish, watch_file, watch_input};
 use std::alloc::Global;
@@ -7,7 +7,7 @@ use std::test::Fail;
 use std::time::{Clock, Duration};
 use std::{fs, io, thread};
 
-/// Returns what is wished after an input.
+/// Returns what is asked for after an input.
 fn wish_behind(alloc: Global, text: &[u8]) -> Wish {
     let sign = Sign::new();
     let mut input = text;
@@ -15,7 +15,7 @@ fn wish_behind(alloc: Global, text: &[u8]) -> Wish {
     sign.wish()
 }
 
-/// Returns the place of the first input after which something else is wished.
+/// Returns the index of the first input after which something else is asked for.
 fn wrong_input(alloc: Global) -> Option<usize> {
     INPUTS
         .iter()
@@ -52,16 +52,16 @@ fn nothing_is_wished_at_first(rt: HostRuntime) -> Result<(), Fail> {
     Ok(())
 }
 
-/// Writes this to a file, which a watch looks at, and gives what is wished a while later.
+/// Writes this to a file, which a watch looks at, and returns what is asked for a while later.
 fn wish_after<R: Clock + Files>(rt: &R, path: &str, text: &[u8], sign: &Sign) -> Option<Wish> {
     fs::write(rt, path, text).ok()?;
     thread::sleep(rt, Duration::from_millis(1_000));
     Some(sign.wish())
 }
 
-/// Makes a file, which a watch has looked for then, and writes to it. Gives what was wished after
-/// an empty file, after another line, and after the line `hard`; and asks for an end at once, so
-/// that the watch ends.
+/// Makes a file that a watch looks for, and writes to it. Returns what was asked for after an empty
+/// file, after another line, and after the line `hard`; and asks for a stop at once, so that the
+/// watch ends.
 fn write_later<R: Clock + Files>(rt: &R, path: &str, sign: &Sign) -> [Option<Wish>; 3] {
     thread::sleep(rt, Duration::from_millis(300));
     let empty = wish_after(rt, path, b"", sign);
@@ -71,7 +71,7 @@ fn write_later<R: Clock + Files>(rt: &R, path: &str, sign: &Sign) -> [Option<Wis
     [empty, other, hard]
 }
 
-/// Returns the file comes after the first look, and is looked at again.
+/// The file is created after the first look, and is looked at again.
 #[test]
 fn a_file_sets_a_sign(rt: HostRuntime) -> io::Result<()> {
     let sign = Sign::new();

@@ -37,7 +37,7 @@ impl Clock for Ticks {
     }
 }
 
-/// A sign that is never set.
+/// A stop signal that is never set.
 #[derive(Drop)]
 struct Unset;
 
@@ -47,8 +47,8 @@ impl Sign for Unset {
     }
 }
 
-/// Returns a watch of five seconds between two looks, if something may wait for three, and the
-/// number of shards is asked for after two.
+/// Returns a watch with five seconds between two looks, a flush after three, and an adjustment of
+/// the number of shards after two.
 fn watch_by(ticks: &Ticks) -> Timed<&Ticks, Unset> {
     let poll = Duration::from_secs(5);
     let patience = Duration::from_secs(3);
@@ -56,7 +56,7 @@ fn watch_by(ticks: &Ticks) -> Timed<&Ticks, Unset> {
     Timed::new(ticks, Unset, poll, patience, reshard)
 }
 
-/// Whether a flush is due when it is asked for at 0, 1, 2 s and so on, and the number of shards at
+/// Whether a flush is due when asked at 0, 1, 2 s and so on, and an adjustment of the shards at
 /// 0.5, 1.5, 2.5 s.
 static DUE: [(bool, bool); 9] = [
     (false, false),
@@ -70,7 +70,7 @@ static DUE: [(bool, bool); 9] = [
     (false, true),
 ];
 
-/// Returns the first two questions of which one is answered otherwise.
+/// Returns the first two questions of which one is answered differently.
 fn wrong_answer(watch: &mut impl Watch) -> Option<usize> {
     for (i, due) in DUE.iter().enumerate() {
         let answers = (watch.is_flush_due(), watch.is_reshard_due());
@@ -81,7 +81,7 @@ fn wrong_answer(watch: &mut impl Watch) -> Option<usize> {
     None
 }
 
-/// A timer begins anew once it is due, and each goes by its own time.
+/// A timer starts again once it is due, and each has its own time.
 #[test]
 fn timers_begin_anew(rt: HostRuntime) {
     assert_eq!(rt; wrong_answer(&mut watch_by(&Ticks::new())), None);

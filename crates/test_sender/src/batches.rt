@@ -1,5 +1,5 @@
-//! Batches that are built and frozen. The calls that take memory are made again if it is refused,
-//! so each test can be run with each allocation refused in turn: the refused call changes nothing.
+//! Batches that are built and frozen. The calls that take memory are made again if they fail, so
+//! each test can be run with each allocation failing in turn: the failed call changes nothing.
 
 ghost use Rattle.std.specs.Prelude.{◌<◌, ◌≤◌};
 
@@ -54,7 +54,7 @@ fn take_all(alloc: Global, builder: &mut Builder, rows: &[Row]) {
     }
 }
 
-/// Returns a builder with room for so many samples that took these.
+/// Returns a builder with room for `batch` samples that took these.
 fn built(alloc: Global, batch: usize, rows: &[Row]) -> Result<Builder, AllocError>
     requires some { 0 < batch }
     requires most { batch ≤ 10000 }
@@ -113,7 +113,7 @@ fn freeze_again(builder: Builder, ledger: &mut Ledger) -> Result<Batch, AllocErr
     }
 }
 
-/// Freezes, and if memory runs out and nothing was changed freezes again.
+/// Freezes, and freezes again if memory ran out and nothing was changed.
 fn frozen(builder: Builder, ledger: &mut Ledger) -> Result<Batch, AllocError> {
     let (len, left) = (builder.len(), ledger.left());
     match freeze(builder, ledger) {
@@ -128,7 +128,7 @@ fn frozen(builder: Builder, ledger: &mut Ledger) -> Result<Batch, AllocError> {
     }
 }
 
-/// Returns whether a batch has so many samples from the number 7 on, and this body.
+/// Returns whether a batch has this many samples from the number 7 on, and this body.
 fn is_batch(batch: &Batch, samples: usize, body: &[u8]) -> bool {
     let id = BatchId {
         epoch: 3,
@@ -138,8 +138,8 @@ fn is_batch(batch: &Batch, samples: usize, body: &[u8]) -> bool {
     batch.id() == id && batch.places().len() == samples && batch.body().as_slice() == body
 }
 
-/// Returns whether a builder makes a batch of so many samples with this body, and room for them in
-/// the ledger.
+/// Returns whether a builder makes a batch of this many samples with this body, and room for them
+/// in the ledger.
 fn makes_batch(alloc: Global, builder: Builder, samples: usize, body: &[u8]) -> bool {
     let mut ledger = Ledger::new(alloc);
     match frozen(builder, &mut ledger) {
@@ -193,7 +193,7 @@ static NEXT: [Next; 4] = [
     (THREE, 10, ("a", 0, 4), false),
 ];
 
-/// Returns whether a builder of three has so many samples, is full or not, and takes no mark.
+/// Returns whether a builder of three has this many samples, is full or not, and takes no mark.
 fn has_taken(builder: &Builder, count: usize) -> bool {
     builder.len() == count
         && builder.is_full() == (count == 3)
@@ -209,7 +209,7 @@ fn takes(alloc: Global, samples: &[Row], next: &Item, can: bool) -> bool {
     }
 }
 
-/// Returns the same of the sample of this number.
+/// Returns the same for the sample of this number.
 fn takes_row(alloc: Global, samples: &[Row], seq: u64, row: Row, can: bool) -> bool {
     match item(alloc, seq, row) {
         Ok(next) => takes(alloc, samples, &next, can),

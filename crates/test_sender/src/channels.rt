@@ -1,4 +1,4 @@
-//! The queue between threads: both ends in one thread, and each in a thread of its own.
+//! The queue between threads: both ends in one thread, and each in its own.
 
 ghost use Rattle.std.specs.Prelude.{◌≡◌, IfSome};
 
@@ -28,7 +28,7 @@ fn position(item: &Item) -> Option<u64> {
     }
 }
 
-/// Takes as long as something is put.
+/// Takes items as long as some are put.
 fn drained<R: Wait>(rt: &R, drain: Drain<Open>, positions: Vec<Option<u64>>) -> Haul
     ensures { IfSome result.end (λ e. e.1.queue ≡ drain.queue) }
 {
@@ -113,7 +113,7 @@ fn two_threads(rt: HostRuntime) {
     holds(&rt, takes_in_two_threads(&rt, rt.alloc()) == Ok(true));
 }
 
-/// Returns whether an end that waits for room is told when the other end is given up.
+/// Returns whether an end that waits for room returns when the other end is given up.
 fn feed_is_told<R: Threads + Wait + Sync>(rt: &R, alloc: Global) -> Result<bool, AllocError> {
     let (mut feed, drain) = open(alloc, 3, 1, 1)?;
     let is_put = feed.put(rt, Item::Flush).is_ok();
@@ -130,7 +130,7 @@ fn feed_is_told<R: Threads + Wait + Sync>(rt: &R, alloc: Global) -> Result<bool,
     Ok(is_put && is_told && is_told_at_end)
 }
 
-/// Returns whether an end that waits for an item is told.
+/// Returns whether an end that waits for an item returns when the other end is given up.
 fn drain_is_told<R: Threads + Wait + Sync>(rt: &R, alloc: Global) -> Result<bool, AllocError> {
     let (feed, drain) = open(alloc, 3, 1, 1)?;
     let (haul, ()) = join(rt, || drained(rt, drain, Vec::new(alloc)), || drop(feed));

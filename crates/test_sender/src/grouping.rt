@@ -1,5 +1,5 @@
-//! Samples grouped by label set. The calls that take memory are made again if it is refused, so
-//! each test can be run with each allocation refused in turn: the refused call changes nothing.
+//! Samples grouped by label set. The calls that take memory are made again if they fail, so each
+//! test can be run with each allocation failing in turn: the failed call changes nothing.
 
 ghost use Rattle.std.specs.Prelude.{◌≡◌, ◌∷◌, [], codes, OnOk};
 ghost use Rattle.rw_batch.specs.Grouping.{with_sample};

@@ -1,5 +1,5 @@
-//! Dropped samples. The calls that take memory are made again if it is refused, so each test can be
-//! run with each allocation refused in turn: the refused call changes nothing.
+//! Dropped samples. The calls that take memory are made again if they fail, so each test can be run
+//! with each allocation failing in turn: the failed call changes nothing.
 
 use crate::rows::holds;
 use rw_ledger::{Ledger, Reason};
@@ -23,7 +23,7 @@ static SORTED: [Name; 4] = [
     (9, Reason::NoSeries),
 ];
 
-/// Adds room for so many names, and answers whether a refused call, if there was one, changed
+/// Reserves room for `n` names, and returns whether a failed call, if there was one, changed
 /// nothing.
 fn add_room(ledger: &mut Ledger, n: usize) -> bool {
     let (left, total) = (ledger.left(), ledger.total());
@@ -49,7 +49,7 @@ fn add_names(ledger: &mut Ledger) -> bool {
     true
 }
 
-/// Gives the room back that is left, if that is so much.
+/// Gives the room back that is left, if that is `n`.
 fn give_back(ledger: &mut Ledger, n: usize) -> bool {
     if ledger.left() != n {
         return false;
@@ -63,7 +63,7 @@ fn is_named(ledger: &Ledger, pos: u64, reason: Reason) -> bool {
     ledger.get(pos) == Some(reason) && ledger.get(pos.saturating_add(1)).is_none()
 }
 
-/// Returns whether these are all names that there are.
+/// Returns whether these are all names in the ledger.
 fn has_names(ledger: &Ledger) -> bool {
     for (pos, reason) in SORTED {
         if !is_named(ledger, pos, reason) {

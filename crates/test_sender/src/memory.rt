@@ -27,7 +27,7 @@ pub struct Script {
 }
 
 impl Script {
-    /// Returns the exchanges are counted from 1.
+    /// Returns a transport with these answers. Exchanges count from 1.
     pub fn new(
         alloc: Global,
         answers: Vec<Result<Reply, Lost>>,
@@ -52,7 +52,7 @@ impl Script {
         &self.notes
     }
 
-    /// Returns whether memory sufficed to note all of them.
+    /// Returns whether there was memory to note all of them.
     pub fn is_complete(&self) -> bool {
         self.is_complete
     }
@@ -102,11 +102,11 @@ impl Transport for Script {
     }
 }
 
-/// The pauses that were asked for, in milliseconds. It waits for nothing.
+/// Notes the pauses that were asked for, in milliseconds. It never waits.
 #[derive(Drop)]
 pub struct Times {
     pub milliseconds: Vec<u64>,
-    /// Whether memory sufficed to note all of them.
+    /// Whether there was memory to note all of them.
     pub is_complete: bool,
 }
 

@@ -1,5 +1,5 @@
-//! The queue within one thread. The call that takes memory is made again if it is refused, so each
-//! test can be run with each allocation refused in turn.
+//! The queue within one thread. The call that takes memory is made again if it fails, so each test
+//! can be run with each allocation failing in turn.
 
 use crate::rows::none_is_wrong;
 use rw_plain_queue::{Item, Kind, PlainQueue, PutFault};
@@ -16,11 +16,11 @@ enum Step {
     Take(Option<Kind>),
     Close,
     Kill,
-    /// So many items are there.
+    /// There are this many items.
     Len(usize),
     /// Nothing can be put, for this reason.
     Refusal(PutFault),
-    /// Flushes alone are there.
+    /// There are only Flushes.
     Flushes,
 }
 
@@ -35,8 +35,8 @@ fn is_end(item: &Item, kind: Kind) -> bool {
     matches!(item, Item::End(of) if *of == kind)
 }
 
-/// Returns whether putting an End has a fault of this number, and gives it back, or none, if that
-/// is 0.
+/// Returns whether putting an End has the fault of this number, and gives it back, or has none if
+/// the number is 0.
 fn puts(queue: &mut PlainQueue, kind: Kind, fault: u8) -> bool {
     match queue.put(Item::End(kind)) {
         Ok(()) => fault == 0,
@@ -53,7 +53,7 @@ fn takes(queue: &mut PlainQueue, kind: Option<Kind>) -> bool {
     }
 }
 
-/// Returns whether Flushes alone are there.
+/// Returns whether there are only Flushes.
 fn has_flushes(queue: &PlainQueue) -> bool {
     for item in queue.iter() {
         if !matches!(item, Item::Flush) {
@@ -83,7 +83,7 @@ fn does(queue: &mut PlainQueue, step: Step) -> bool {
     }
 }
 
-/// Returns the first of these steps that goes otherwise.
+/// Returns the first of these steps that differs.
 fn wrong_step(queue: &mut PlainQueue, steps: &[Step]) -> Option<usize> {
     for (i, step) in steps.iter().enumerate() {
         if !does(queue, *step) {

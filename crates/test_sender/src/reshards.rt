@@ -19,7 +19,7 @@ impl Shard for Part {
     }
 }
 
-/// Makes so many parts, and then no more.
+/// Makes a number of parts, and then no more.
 #[derive(Drop)]
 struct Maker {
     left: u32,

@@ -1,5 +1,4 @@
-//! Label sets of one label, and samples. The calls that take memory are made again if it is
-//! refused.
+//! Label sets of one label, and samples. The calls that take memory are made again if they fail.
 
 ghost use Rattle.std.specs.Prelude.{◌≡◌, ◌∷◌, [], codes, IfOk};
 ghost use Rattle.rw_plain_queue.specs.declared.item.Item.TheVariants as item;
@@ -57,7 +56,7 @@ pub(crate) fn sample_item(seq: u64, pos: u64, t: i64, word: Word, labels: Arc<La
     Item::Sample(place, t, word, labels)
 }
 
-/// Returns the same, with a label set of its own.
+/// Returns the same, with its own label set.
 pub(crate) fn sample(alloc: Global, seq: u64, pos: u64, row: Row) -> Result<Item, LabelFault> {
     let (name, word, t) = row;
     Ok(sample_item(seq, pos, t, Word(word), shared_metric(alloc, name)?))

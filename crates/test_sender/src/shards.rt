@@ -1,6 +1,6 @@
-//! A shard after its queue: what it takes, sends and resolves. The calls that take memory are made
-//! again if it is refused, so each test can be run with each allocation refused in turn: the
-//! refused call changes nothing.
+//! A shard behind its queue: what it takes, sends and resolves. The calls that take memory are made
+//! again if they fail, so each test can be run with each allocation failing in turn: the failed
+//! call changes nothing.
 
 use crate::rows::{holds, none_is_wrong};
 use crate::samples::sample;
@@ -39,7 +39,7 @@ fn target(alloc: Global) -> Result<Target, AllocError> {
     }
 }
 
-/// Shard 1 of epoch 3, with batches of two samples.
+/// Returns shard 1 of epoch 3, with batches of two samples.
 fn core_of(alloc: Global) -> Result<ShardCore, AllocError> {
     let target = target(alloc)?;
     match ShardCore::new(alloc, &target, 3, 1, 2) {
@@ -58,7 +58,7 @@ enum Step {
     /// The builder is frozen, or not.
     Freeze(bool),
     /// The batch whose first sample has this number is sent, with the bytes of the attempt before
-    /// it, or of none.
+    /// it if there is one. `None` if nothing is sent.
     Send(Option<u64>),
     /// A reply to the batch whose first sample has this number, with this status.
     Reply(u64, u16, Option<Judgement>),
@@ -109,7 +109,7 @@ fn take_sample(alloc: Global, shard: &mut Shard) -> bool {
     }
 }
 
-/// Returns whether freezing answers this. If memory runs out nothing is changed, and it freezes
+/// Returns whether freezing has this result. If memory runs out, nothing is changed, and it freezes
 /// again.
 fn freezes(core: &mut ShardCore, ledger: &mut Ledger, done: bool) -> bool {
     let (due, left, pending) = (core.due(), ledger.left(), core.pending_places().len());
@@ -146,7 +146,7 @@ fn note_attempt(last: &mut Option<Attempt>, attempt: Option<Attempt>, seq: Optio
     }
 }
 
-/// Attempts. If memory runs out nothing is changed, and it attempts again.
+/// Begins an attempt. If memory runs out, nothing is changed, and it tries again.
 fn sends(shard: &mut Shard, seq: Option<u64>) -> bool {
     let id = shard.core.batch_id();
     if let Ok(attempt) = shard.core.attempt() {
@@ -159,8 +159,8 @@ fn sends(shard: &mut Shard, seq: Option<u64>) -> bool {
     }
 }
 
-/// Returns whether a reply of this status to the batch whose first sample has the number `seq` is
-/// judged so.
+/// Returns whether a reply of this status to the batch whose first sample has the number `seq` gets
+/// this judgement.
 fn judges(shard: &mut Shard, seq: u64, status: u16, wanted: Option<Judgement>) -> bool {
     let id = BatchId {
         epoch: 3,
@@ -187,7 +187,7 @@ fn is_sent(shard: &Shard, head: &[u8], body: &[u8]) -> bool {
     }
 }
 
-/// Returns whether what is seen is so.
+/// Returns whether the shard is as a step says.
 fn sees(shard: &Shard, step: Step) -> bool {
     match step {
         Step::CanTake(can) => shard.core.can_take() == can,
@@ -229,7 +229,7 @@ fn does(alloc: Global, shard: &mut Shard, step: Step) -> bool {
     }
 }
 
-/// Returns the first of these steps that goes otherwise.
+/// Returns the first of these steps that differs.
 fn wrong_step(alloc: Global, shard: &mut Shard, steps: &[Step]) -> Option<usize> {
     for (i, step) in steps.iter().enumerate() {
         if !does(alloc, shard, *step) {

@@ -18,8 +18,8 @@ use std::marker::Brand;
 use std::sync::{Arc, Wait};
 use std::thread::Threads;
 
-/// What is shipped to so many seats of a head, what is wanted, and the samples that the head then
-/// has, all of one metric.
+/// What is shipped to this many seats of a head, what is expected, and the samples that the head
+/// then has, all of one metric.
 struct Row<'a> {
     seats: u64,
     task: Task<'a>,
@@ -34,7 +34,7 @@ fn put_seats<R: Drop, L: Endpoint>(seats: &mut Vec<Seat<L>>, lines: Vec<Line<R, 
     }
 }
 
-/// Returns a receiver over the head, and so many seats of it.
+/// Returns a receiver over the head, and this many seats of it.
 fn opened<L: Endpoint>(
     alloc: Global,
     limits: Limits,
@@ -56,7 +56,7 @@ fn opened<L: Endpoint>(
     Ok((Arc::new(alloc, receiver)?, seats))
 }
 
-/// Returns the head, if all seats are back and nobody else has a part in it.
+/// Returns the head, if all seats were returned and nobody else shares it.
 fn gathered<L: Endpoint>(
     receiver: Arc<Receiver<L>>,
     seats: Vec<Seat<L>>,
@@ -71,8 +71,8 @@ fn gathered<L: Endpoint>(
     Some(receiver.into_shared().gather(seats))
 }
 
-/// Ships to the seats of the head, of which each worker takes one, and gathers them. Gives whether
-/// all was done as wanted, and the head.
+/// Ships to the seats of the head, of which each worker takes one, and gathers them. Returns
+/// whether everything was done as expected, and the head.
 fn shipped<R: Threads + Wait + Copy + Send + 'static, L: Endpoint + Send + Sync + 'static>(
     rt: &R,
     alloc: Global,
@@ -101,7 +101,7 @@ fn shipped<R: Threads + Wait + Copy + Send + 'static, L: Endpoint + Send + Sync 
     Some((is_so, gathered(receiver, seats, count)?))
 }
 
-/// Returns the same for so many seats.
+/// Returns the same for this many seats.
 fn shipped_to_seats<R: Threads + Wait + Copy + Send + 'static>(
     rt: &R,
     alloc: Global,
@@ -152,7 +152,7 @@ fn holds(
     Ok(head.total() == wanted.len() as u64 && are(&held, wanted))
 }
 
-/// Returns whether a head has what a row wants.
+/// Returns whether a head has what a row expects.
 fn has_all<R: Threads + Wait + Copy + Send + 'static>(
     rt: &R,
     alloc: Global,
@@ -295,7 +295,7 @@ fn is_shipped_whole<R: Threads + Wait + Copy + Send + 'static>(
     }
 }
 
-/// The third and the fourth reference are one series. The limit on bodies does not count.
+/// The third and the fourth reference are one series. The limit on bodies does not apply.
 #[test]
 fn a_log_is_shipped_to_a_head_in_this_process(rt: HostRuntime) {
     assert_eq!(rt; is_shipped_whole(&rt, rt.alloc()), Ok(true));

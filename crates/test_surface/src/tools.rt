@@ -1,4 +1,4 @@
-//! What the engines of the program take: folders, connections, counters, settings, stop signs.
+//! What the engines of the program take: folders, connections, counters, settings, stop signals.
 
 use rw_tool::{
     Folder, Open, Opened, ReceiveCounters, SegmentFile, Segments, SendCounters, SettingsFault,
@@ -9,7 +9,7 @@ use std::alloc::{AllocGlobal, Global};
 use std::fs::File;
 use std::rt::Files;
 
-/// The calls of settings, faults and stop signs.
+/// The calls of settings, faults and stop signals.
 pub fn of_settings() {
     let _ = (read_settings, SettingsFault::number);
     let _ = ToolFault::exit_status;

@@ -31,7 +31,7 @@ const FULL: Option<ToolFault> = Some(ToolFault::SegmentFull);
 enum Row {
     /// A line of log text, and the record that it stands for.
     Good(&'static str, &'static str),
-    /// A line that is no log text.
+    /// A line that is not log text.
     Bad(&'static [u8]),
     /// The lengths of `raw` lines, what follows them, the pages of a segment, the fault, and how
     /// many bytes are written.
@@ -172,14 +172,14 @@ fn stands_for(alloc: Global, line: &str, rec: &str) -> bool {
         && is_fragment_of(output.as_slice(), rec)
 }
 
-/// Log text whose fourth line is this one.
+/// Puts log text whose fourth line is this one.
 fn put_line(text: &mut Vec<u8>, line: &[u8]) -> Result<(), AllocError> {
     text.extend_from_slice(b"\n\nraw 03\n")?;
     text.extend_from_slice(line)?;
     text.extend_from_slice(b"\nraw\n")
 }
 
-/// Returns whether a run has this fault or none, and writes so many bytes.
+/// Returns whether a run has this fault or none, and writes this many bytes.
 fn fills(
     alloc: Global,
     text: &[u8],
@@ -200,7 +200,7 @@ fn is_refused(alloc: Global, line: &[u8]) -> bool {
     put_line(&mut text, line).is_ok() && fills(alloc, &text, true, 1, Some(ToolFault::Line(4)), 0)
 }
 
-/// A `raw` line of so many times byte 3, and its LF.
+/// Puts a `raw` line of `len` times byte 3, and its LF.
 fn push_run(text: &mut Vec<u8>, len: usize) -> Result<(), AllocError> {
     text.extend_from_slice(b"raw ")?;
     for _ in 0..len {
@@ -209,7 +209,7 @@ fn push_run(text: &mut Vec<u8>, len: usize) -> Result<(), AllocError> {
     text.extend_from_slice(b"\n")
 }
 
-/// `raw` lines of these lengths, and what follows them.
+/// Puts `raw` lines of these lengths, and what follows them.
 fn put_runs(text: &mut Vec<u8>, lens: &[usize], last: &str) -> Result<(), AllocError> {
     for len in lens {
         push_run(text, *len)?;
@@ -218,7 +218,7 @@ fn put_runs(text: &mut Vec<u8>, lens: &[usize], last: &str) -> Result<(), AllocE
 }
 
 /// Returns whether a run over `raw` lines of these lengths, and what follows them, has this fault
-/// or none, and writes so many bytes.
+/// or none, and writes this many bytes.
 fn is_segment(
     alloc: Global,
     lens: &[usize],
@@ -289,7 +289,7 @@ impl Sink for ByteByByte {
     }
 }
 
-/// Returns whether a writer that takes so many bytes has them, and the run fails if there are more.
+/// Returns whether a writer that takes `left` bytes has them, and the run fails if there are more.
 fn fails_after(alloc: Global, left: usize) -> bool {
     let whole = b"010001b34623a602010001b34623a602\n";
     let mut reader = b"raw 02\nraw 02".as_slice();
@@ -309,7 +309,7 @@ fn fails_after(alloc: Global, left: usize) -> bool {
         && whole.as_slice().starts_with(&writer.taken)
 }
 
-/// Returns the number of bytes after which a writer does otherwise.
+/// Returns the number of bytes after which a writer behaves differently.
 fn wrong_writer(alloc: Global) -> Option<usize> {
     for left in 0..34 {
         if !fails_after(alloc, left) {
@@ -332,7 +332,7 @@ fn len_of(rt: &HostRuntime, path: &str) -> Option<usize> {
     }
 }
 
-/// Returns whether the file of a folder with this number has this length, or is not there.
+/// Returns whether the file of a folder with this number has this length, or does not exist.
 fn has_file(rt: &HostRuntime, dir: &str, number: u32, len: Option<usize>) -> bool {
     match format!(in rt.alloc(); "{dir}/{number:08}") {
         Ok(path) => len_of(rt, path.as_str()) == len,
@@ -389,14 +389,14 @@ fn wrong_folder(rt: &HostRuntime, dir: &str) -> Option<usize> {
     None
 }
 
-/// Returns a folder of this test alone, which is not there yet.
+/// Returns a folder of this test alone, which does not exist yet.
 fn new_folder(rt: &HostRuntime) -> Result<PathBuf, Fail> {
     let temp = env::temp_dir(rt)?;
     let name = format!(in rt.alloc(); "rwship-log-test-{}", process::id(rt.process()))?;
     Ok(temp.join(rt.alloc(), name.as_str())?)
 }
 
-/// Nothing can be logged into a folder that is not there. The folder is made then, and removed.
+/// Nothing can be logged into a folder that does not exist. The folder is then made, and removed.
 fn wrong_in_new(rt: &HostRuntime, dir: &str) -> Option<usize> {
     let is_missing = logs_into(rt, dir, &[1], 1, Some(ToolFault::Device));
     let is_made = fs::create_dir(rt, dir).is_ok();

@@ -9,7 +9,7 @@ use rw_types::Room;
 use rw_wal_format::TailFault;
 use std::alloc::Global;
 
-/// Returns the segment of log text. Nothing, if memory runs out or a line is bad.
+/// Returns the segment of log text, or nothing if memory runs out or a line is bad.
 fn segment_of(alloc: Global, log: &str) -> Vec<u8> {
     let Ok(mut room) = Room::new(alloc, 4096) else {
         return Vec::new(alloc);
@@ -20,7 +20,8 @@ fn segment_of(alloc: Global, log: &str) -> Vec<u8> {
     }
 }
 
-/// How a run under these settings ends. If there are none, memory ran out, or no test wants it.
+/// Returns how a run under these settings ends. If there are no settings, memory ran out; no test
+/// expects that.
 fn ended(
     alloc: Global,
     settings: &[u8],
@@ -95,7 +96,7 @@ const PLAN_OF_REDEFINED: &str = "1 kept 0 {job=\"a\"}
 samples kept 3 filtered 1 bad 2 noseries 2
 ";
 
-/// Two series whose names are no legacy ones, an empty name, and an empty name of a metric.
+/// Two series whose names are not legacy names, an empty name, and an empty name of a metric.
 const NAMES: &str = r#"series 1 {__name__="http.rate","säge"="1"}
 series 2 {"9x"="1"}
 series 3 {""="1"}
@@ -118,7 +119,7 @@ const UTF8_PLAN: &str = "1 kept 0 {__name__=\"http.rate\",\"säge\"=\"1\"}
 samples kept 2 filtered 0 bad 0 noseries 0
 ";
 
-/// What a run is over.
+/// The input of a run.
 enum Input {
     /// The segment of log text.
     Log(&'static str),

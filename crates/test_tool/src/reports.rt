@@ -45,7 +45,7 @@ fn named<'a>(alloc: Global, name: &str, text: &'a [u8]) -> Result<Named<&'a [u8]
     })
 }
 
-/// Two segments.
+/// Returns the readers of two segments.
 fn both<'a>(
     alloc: Global,
     first: &'a [u8],
@@ -144,7 +144,7 @@ fn plan_of(
 }
 
 /// Returns whether both segments have their plan, and whether nothing is written if the last byte
-/// of the second is another one.
+/// of the second is changed.
 fn are_planned(alloc: Global) -> Result<(bool, bool), ReadFault> {
     let first = segment_of(alloc, &FIRST)?;
     let mut second = segment_of(alloc, &SECOND)?;
@@ -178,7 +178,7 @@ const FOUND: &str = "4 \"1 series 3 {\"9\"=\"a\"}
 5 \"1 sample 3 1 0 {\"9\"=\"a\"}
 ";
 
-/// Returns what is found at the positions, how many are not there, and whether the log is damaged.
+/// Returns what is found at the positions, how many do not exist, and whether the log is damaged.
 fn found_in(alloc: Global) -> Result<(Vec<u8>, u64, bool), ReadFault> {
     let first = segment_of(alloc, &FIRST)?;
     let second = segment_of(alloc, &SECOND)?;

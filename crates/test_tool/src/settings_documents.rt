@@ -6,8 +6,7 @@ use rw_settings::{Settings, SettingsFault, read_settings};
 use rw_types::{LabelSet, Names};
 use std::alloc::Global;
 
-/// Returns the number of a text's fault, or 9 if it has none. That of out of memory is none that a
-/// row has.
+/// Returns the number of a text's fault, or 9 if it has none. No row expects out of memory.
 pub(crate) fn fault(alloc: Global, text: &[u8]) -> u8 {
     match read_settings(alloc, text) {
         Ok(_) => 9,
@@ -16,13 +15,13 @@ pub(crate) fn fault(alloc: Global, text: &[u8]) -> u8 {
     }
 }
 
-/// Texts with no fault or with one, and then with two at once, and the number that is answered, or
+/// Texts with no fault or with one, and then with two at once, and the number that is returned, or
 /// 9.
 static FAULTS: [(&[u8], u8); 68] = [
     (b"", 9),
     (b"# nothing\n\n", 9),
     (b"rule = []\n[send]\n[receive]\n", 9),
-    // no TOML
+    // not TOML
     (b"send", 1),
     (b"[send]\nshards = 1\nshards = 1", 1),
     (b"[send]\nshards = 9223372036854775808", 1),
@@ -268,7 +267,7 @@ fn readings() -> &'static [(&'static [u8], Read, Kept)] {
     &READ
 }
 
-/// Returns whether rules keep a set, or not, as is said here.
+/// Returns whether rules keep or drop a set, as is said here.
 fn keeps(s: &Settings, set: &LabelSet, want: bool) -> bool {
     s.config.fields().rules.keeps(set) == Ok(want)
 }
@@ -281,7 +280,7 @@ fn is_kept(alloc: Global, s: &Settings, labels: &[(&str, &str)], want: bool) -> 
     }
 }
 
-/// Returns whether the rules keep these labels, or not, as is said beside them.
+/// Returns whether the rules keep or drop these labels, as is said beside them.
 fn are_kept(alloc: Global, s: &Settings, kept: Kept) -> bool {
     for (labels, want) in kept {
         if !is_kept(alloc, s, labels, *want) {

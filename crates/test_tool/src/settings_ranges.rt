@@ -77,7 +77,7 @@ fn numbers(rt: HostRuntime) {
     none_is_wrong(&rt, wrong_range(rt.alloc(), ranges()));
 }
 
-/// Returns a text of this beginning and so many letters.
+/// Returns a text that begins in this way, and has this many letters after that.
 fn with_letters(alloc: Global, front: &str, letters: usize) -> Result<String, AllocError> {
     let mut text = String::from_str(alloc, front)?;
     for _ in 0..letters {
@@ -94,7 +94,7 @@ fn is_text_fault(alloc: Global, key: &str, value: &str, want: u8) -> bool {
     }
 }
 
-/// A key with a text, which so many letters follow, and the number of the fault, or 9.
+/// A key with a text, how many letters follow it, and the number of the fault, or 9.
 type Text = (&'static str, &'static str, usize, u8);
 
 static TEXTS: [Text; 23] = [
@@ -124,7 +124,7 @@ static TEXTS: [Text; 23] = [
     ("receive.path", "/", 255, 4),
 ];
 
-/// Returns the same of a text of this beginning and so many letters.
+/// Returns the same for a text that begins in this way, and has this many letters after that.
 fn is_fault_of_letters(alloc: Global, key: &str, front: &str, letters: usize, want: u8) -> bool {
     match with_letters(alloc, front, letters) {
         Ok(text) => is_text_fault(alloc, key, text.as_str(), want),

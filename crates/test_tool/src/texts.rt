@@ -16,7 +16,7 @@ type Labels = &'static [(&'static str, &'static str)];
 enum Row {
     /// A word, and the text that it prints and is read from.
     Value(u64, &'static str),
-    /// A text, and the number and the integer that it stands for, if so.
+    /// A text, and the number and the integer that it stands for, if any.
     Number(&'static str, Option<u64>, Option<i64>),
     /// A label set, and the text that it prints and is read from.
     Labelled(Labels, &'static str),
@@ -64,7 +64,7 @@ static ROWS: [Row; 35] = [
         &[("__name__", "http.rate"), ("säge", "1")],
         r#"{__name__="http.rate","säge"="1"}"#,
     ),
-    // no label set, whatever names are taken
+    // not a label set, whatever names are accepted
     Other(&[("", "")], r#"{""=""}"#),
     Other(&[("a:b", "1"), ("a-b", "2")], r#"{a:b="1","a-b"="2"}"#),
     Other(
@@ -155,8 +155,8 @@ fn there_and_back(rt: HostRuntime) {
     holds(&rt, prints_numbers(rt.alloc()));
 }
 
-/// Returns a name of the most bytes that a label set may have beside a value of one. It is shorter
-/// if memory runs out.
+/// Returns a name of the most bytes that a label set may have beside a value of one byte. It is
+/// shorter if memory runs out.
 fn long_name(alloc: Global) -> String {
     let mut name = String::new(alloc);
     for i in 0..16_383u32 {
@@ -201,7 +201,7 @@ fn prints_four(alloc: Global, set: &LabelSet) -> bool {
     true
 }
 
-/// Returns the same of a set of two labels; if memory runs out before, nothing is printed.
+/// Returns the same for a set of two labels. If memory runs out before, nothing is printed.
 fn prints_set(alloc: Global) -> bool {
     match label_set(alloc, &[("__name__", "up"), ("job", "a\nb")]) {
         Ok(set) => prints_four(alloc, &set),
@@ -213,7 +213,8 @@ fn fault_of(alloc: Global, text: &[u8]) -> Option<TextFault> {
     read_labels(alloc, text).err()
 }
 
-/// An `Err` of a printer leaves the text as it was. It shows when each allocation fails in turn.
+/// A printer that returns an `Err` leaves the text as it was. The test shows this when each
+/// allocation fails in turn.
 #[test]
 fn refused_memory_prints_nothing(rt: HostRuntime) {
     holds(&rt, prints_set(rt.alloc()));
