@@ -18,7 +18,7 @@ use rw_wal_format::TailFault;
 use std::alloc::{AllocError, Global};
 use std::marker::Model;
 
-/// Whether the fault is `OutOfMemory`, which is none of the log.
+/// Returns whether the fault is `OutOfMemory`, which is not one of the log.
 pub fn is_out_of_memory(fault: TailFault) -> bool
     ensures { result ≡ is_out_of_memory fault }
 {
@@ -28,10 +28,11 @@ pub fn is_out_of_memory(fault: TailFault) -> bool
     }
 }
 
-/// Follows a Prometheus write-ahead log (wal.md) that comes in pieces, and gives its entries.
+/// Follows a Prometheus write-ahead log (wal.md) that comes in pieces, and returns its entries.
 ///
-/// It holds what it was fed and has not read yet, and one record. Contracts see the pieces that it was fed, how many entries it has given, how
-/// many records it had passed over when it last found no entry, and the fault that it has reported.
+/// It holds what it was fed and has not read yet, and one record. Contracts see the pieces that it
+/// was fed, how many entries it has returned, how many records it had skipped when it last found no
+/// entry, and the fault that it has reported.
 #[derive(Drop)]
 pub struct Tail {
     reader: Reader,
@@ -62,7 +63,7 @@ impl Model for Tail {
 }
 
 impl Tail {
-    /// A reader at the start of a segment, which was fed nothing. This takes no memory.
+    /// Returns a reader at the start of a segment, which was fed nothing. This takes no memory.
     pub fn new(alloc: Global) -> Tail
         ensures { result ≡ record { pieces = []; given = 0; skipped = 0; fault = None } }
     {
@@ -76,7 +77,8 @@ impl Tail {
         }
     }
 
-    /// Takes more bytes of the segment at hand, cut anywhere. An `Err` changes nothing; it is also the answer where a count would reach 2^60.
+    /// Takes more bytes of the current segment, cut anywhere. An `Err` changes nothing; it is also
+    /// the result if a count would reach 2^60.
     pub fn feed(&mut self, piece: &[u8]) -> Result<(), AllocError>
         ensures ok { OnOk result
             (self.new ≡ record self.old { pieces = self.old.pieces ++ bytes piece.now ∷ [] }) }
@@ -91,7 +93,7 @@ impl Tail {
         Ok(())
     }
 
-    /// Ends the segment at hand: what comes next belongs to the next one. This takes no memory.
+    /// Ends the current segment: what comes next belongs to the next one. This takes no memory.
     pub fn next_segment(&mut self)
         ensures next { self.new
             ≡ record self.old { pieces = self.old.pieces ++ next_segment ∷ [] } }
@@ -161,7 +163,7 @@ impl Tail {
         }
     }
 
-    /// How many entries were given.
+    /// Returns how many entries were returned.
     pub fn entries_read(&self) -> u64
         ensures count { result ≡ self.now.given }
         ensures within { result ≤ length (entries self.now.pieces) }
@@ -177,7 +179,8 @@ impl Tail {
         self.skipped
     }
 
-    /// Where the fault is that `next_entry` has reported; `None` before it has reported one. This takes no memory.
+    /// Returns where the fault is that `next_entry` has reported, or `None` before it has reported
+    /// one. This takes no memory.
     pub fn fault_place(&self) -> Option<FaultPlace>
         ensures place { result ≡ told_place self.now.fault self.now.pieces }
         ensures is_fault { (f : TailFault) → self.now.fault ≡ Some f
@@ -189,7 +192,7 @@ impl Tail {
         }
     }
 
-    /// A copy of the reader, at the same place, for a caller who may have to go back.
+    /// Returns a copy of the reader, at the same place, for a caller who may have to go back.
     pub fn copy(&self) -> Result<Tail, AllocError>
         ensures { IfOk result (λ t. t ≡ self.now) }
     {
