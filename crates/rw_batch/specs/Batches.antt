@@ -10,7 +10,8 @@ use Rattle.rw_batch.specs.Grouping.{LabelledSample, message}
 use Rattle.rw_batch.specs.Kept.{Fielded, Rowed, samples_alone}
 use Rattle.rw_batch.specs.declared.batch.BatchId.{BatchId}
 
--- samples that are taken until there are so many: where each is and what it is, in the same order
+-- samples that are taken until there are `room` of them: where each is and what it is, in the same
+-- order
 pub record Building : Type 0 where
   pub batch : ℕ
   pub places : List Place

@@ -31,7 +31,7 @@ abbrev pub samples_alone : List LabelledSample → List Sample
 samples_alone xs = map (λ x. x.sample) xs
 
 -- the fields of the samples in a row; mark k is where the field of sample k begins, and the last
--- one if all end
+-- one where all end
 pub record AreFields (room : ℕ) (bytes : Vec ℕ Global) (marks : Vec ℕ Global) (samples : List Sample) : Type 0 where
   pub most : room ≤ 10000
   pub within : length samples ≤ room

@@ -75,7 +75,7 @@ replies_short path limit answers input body old text one (further {first = first
     let p = one_reply path limit answers input body old first rest false middle one r in
     absurd (let e : false ≡ true = p.closing in cc)
 
--- a refusal has one of its statuses, and a body that is asked for has at most so many bytes
+-- a refusal has one of its statuses, and a body that is asked for has at most this many bytes
 abbrev pub FindingWithin : ℕ → Finding → Type 0
 FindingWithin limit (Refused status) = IsTrue (is_refusal status)
 FindingWithin limit (Body len closes) = len ≤ limit

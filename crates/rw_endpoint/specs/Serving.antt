@@ -88,7 +88,7 @@ pub data RepliesTo {S : Type 0} (path : List ℕ) (limit : ℕ) (answers : S →
       RepliesTo path limit answers rest middle text →
       RepliesTo path limit answers input old (first ++ text)
 
--- so many bytes of room do not hold the replies to some first requests
+-- this many bytes of room do not hold the replies to some first requests
 abbrev pub IsTooSmall : {S : Type 0} → List ℕ → ℕ → (S → List ℕ → ℕ → S → Type 0) → List ℕ → S → ℕ → Type 0
 IsTooSmall path limit answers input old room =
     (replies : List ℕ) × RepliesTo path limit answers input old replies × (room < length replies)

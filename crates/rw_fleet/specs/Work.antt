@@ -96,10 +96,10 @@ IsEndTaken (taking.Ended kind d) = ⊤
 IsEndTaken (taking.Killed d) = ⊥
 
 -- A shard's ends and counts are what a worker of this queue reported, over a transport that was
--- made for it and had told nothing. The samples after those resolved are abandoned: no more than
--- the queue holds, and a batch. What was put went through the queue in order, and what was left in
--- it fits it; if the ends were compared an End came last. A shard that left nothing keeps no
--- room for what it might have left.
+-- made for it and had recorded nothing. The samples after those resolved are abandoned: at most as
+-- many as the queue holds, and a batch. What was put went through the queue in order, and what was
+-- left in it fits it; if the ends were compared an End came last. A shard that left nothing keeps
+-- no room for what it might have left.
 pub record IsWorked {T : Type 0} (tells : T → Type 0) (seen : T → List Exchange) (is_for : ℕ → ℕ → T → Type 0) (j : StoppedShard T) : Type 0 where
   pub begun : T
   pub end : TakingEnd

@@ -96,7 +96,8 @@ pub record IsBeginning (meal : Meal) (segments : List (List ℕ)) : Type 0 where
   pub after : List (List ℕ)
   pub whole : segments ≡ meal.whole ++ (meal.begun ++ rest) ∷ after
 
--- All that stood a moment ago was fed: since then nothing was read, and more may have come.
+-- Everything that was there a moment ago was fed: since then nothing was read, and more may have
+-- come.
 pub record HadAll (meal : Meal) (now : Moment) : Type 0 where
   pub earlier : Moment
   pub later : Later earlier [] now

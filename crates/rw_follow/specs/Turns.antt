@@ -8,7 +8,7 @@ use Rattle.rw_follow.specs.declared.follower.Turn.TheVariants as turn
 use Rattle.rw_follow.specs.declared.watch.Wish.{Wish}
 use Rattle.rw_follow.specs.declared.watch.Wish.TheVariants as wish
 
--- the wish that stops it so
+-- the request that stops it so
 abbrev pub wish_of : Stop → Wish
 wish_of stop.Orderly = wish.End
 wish_of stop.Hard = wish.Hard
@@ -29,6 +29,6 @@ IsWithin turn.Flush len = ⊤
 IsWithin turn.Nothing len = ⊤
 IsWithin (turn.Stopped s) len = ⊤
 
--- so much more was given of the log
+-- this much more of the log was read
 abbrev pub Moves : Option Moment → Option Moment → (Meal → Meal) → Type 0
 Moves old new more = (meal : Meal) → Known old (λ m. IsGivenAt meal m) → Known new (λ m. IsGivenAt (more meal) m)

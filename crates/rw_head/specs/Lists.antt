@@ -1,4 +1,4 @@
--- The lists of a head while it judges a message: how each stood before, and how it would be.
+-- The lists of a head while it judges a message: how each was before, and how it would be.
 use Rattle.std.specs.Prelude.{◌≡◌, ◌≢◌, ℕ, ◌+◌, ◌-◌, ◌^◌, ◌<◌, ◌≤◌, int_lt, Bool, true, false, if◌then◌else◌, nat_eq, List, [], ◌∷◌, ◌++◌, length, map, drop, slice_index, slice_index_or, slice_set, AllPairs, Option, Some, None, Result, Ok, Err}
 use Rattle.std.specs.BTreeMap.{BTreeMap, get, Updates}
 use Rattle.std.specs.FinMap.{empty}

@@ -1,4 +1,4 @@
--- A shipper over lines, from its start to where the head is back.
+-- A shipper over lines, from its start until the head is back.
 use Rattle.std.proofs.Common.{◌≡◌, inl, inr, ℕ, ◌≤◌, List, [], ◌∷◌, ◌++◌, All, map, take, length, Option, None, Some, Result, Ok, Err, IfOk, IfSome, slice_get, get_or, refl, sym, ap, ◌∙◌, subst, arith}
 use Rattle.std.specs.Prelude.{IsSome, is_some, OnOk}
 use Rattle.std.specs.FinMap.{empty}

@@ -19,7 +19,7 @@ AreMade path [] = ⊤
 AreMade path (x ∷ xs) = ((host : List ℕ) × (body : List ℕ) × (is_host_name host ≡ true) × (x.request ≡ request_of host path body)) × AreMade path xs
 
 -- If its requests are such, the seat was asked for them, and for nothing else. The endpoint has
--- this path, and reads bodies of at most so many bytes.
+-- this path, and reads bodies of at most this many bytes.
 abbrev pub IsLine : State → List ℕ → ℕ → Line → Type 0
 IsLine opening path limit line = AreMade path line.seen → IsSeatOf path limit opening line.seen line.seat
 

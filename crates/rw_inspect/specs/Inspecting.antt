@@ -67,7 +67,7 @@ pub record IsInspected (texts : List (List ℕ)) (t : Fed) (counted : Counted) (
   pub all : HasTakenAll t counted.entries found
   pub rows_are : AreRows [] texts rows
 
--- where the next segment begins
+-- the pieces when the next segment begins
 abbrev pub begun : Bool → List Piece → List Piece
 begun true pieces = pieces
 begun false pieces = pieces ++ next_segment ∷ []
@@ -96,8 +96,8 @@ pub record IsReportOf (texts : List (List ℕ)) (r : Report) : Type 0 where
   pub first_are : r.first_not_rising.items ≡ take 10 (not_rising (troubles_of (entries (log_of texts))))
   pub fault_is : fault_in r.damage ≡ fault (log_of texts)
 
--- The report of the first segments of these sources, up to the end of one with a fault; of all
--- if there is none.
+-- The report of the first segments of these sources, up to the end of one with a fault, or of all
+-- if there is no fault.
 pub record IsReportOfFirst (lefts : List (Option (List ℕ))) (r : Report) : Type 0 where
   pub texts : List (List ℕ)
   pub read : ReadsFirst lefts texts (fault (log_of texts))

@@ -42,7 +42,7 @@ pub record TakesAll (t new : Fed) (before after : Counted) (found : Option TailF
   pub all : HasTakenAll new after.entries found
   pub grows : Grows before after
 
--- one more piece of so many bytes was read and fed
+-- one more piece of this many bytes was read and fed
 pub record FeedsMore (left_before left_after : Option (List ℕ)) (before after : Fed) (n : ℕ) : Type 0 where
   pub text : List ℕ
   pub read : Consumes left_before left_after text

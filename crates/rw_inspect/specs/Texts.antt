@@ -61,7 +61,7 @@ next_step tail.Compressed = codes "let Prometheus write its log with --no-storag
 next_step tail.TornSegment = codes "copy the segment again, or let Prometheus repair the log as it starts; send ships what stands before the fault"
 next_step f = codes "copy the segment again and compare; send ships what stands before the fault, and nothing behind it"
 
--- how many pages so many bytes take
+-- how many pages this many bytes take
 abbrev pub pages_of : ℕ → ℕ
 pages_of n = if n % 32768 == 0 then n / 32768 else n / 32768 + 1
 

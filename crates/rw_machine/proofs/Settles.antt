@@ -79,7 +79,7 @@ or_false_right : (a b : Bool) → (a || b) ≡ false → b ≡ false
 or_false_right true b h = absurd (true≢false h)
 or_false_right false b h = h
 
--- where no step of `settle` can be made but a restart
+-- no step of `settle` can be made but a restart
 module _ (c : Setup) (w : World) (can : CanWork c) (at : Live c w) (end : ℕ) (shut : w.closed ≡ Some end) (over : is_over w ≡ false)
     (no_place : can_place c w ≡ false)
     (no_open : (i : ℕ) (s : Shard) → slice_get w.shards i ≡ Some s → not (is_empty s.core.batch) ≡ false)

@@ -1,4 +1,4 @@
--- What every schedule keeps, in the words of the log, the rules, the named samples and the store.
+-- What every schedule keeps, said of the log, the rules, the named samples and the store.
 use Rattle.std.specs.Prelude.{◌≡◌, ◌⊎◌, ◌&&◌, if◌then◌else◌, ℕ, ◌<◌, ◌≤◌, ℤ, Bool, true, false, List, [], ◌∷◌, ◌++◌, length, take, map, filter, Option, Some, None, is_none, slice_get}
 use Rattle.std.specs.Ordering.{nat_cmp}
 use Rattle.std.specs.FinMap.{FinMap, get}
@@ -199,7 +199,7 @@ abbrev pub NamesExactly : FinMap nat_cmp Reason → List (ℕ × ℕ) → Type 0
 NamesExactly names refused =
     (p s : ℕ) → (get names p ≡ Some (Status s) → Stands (p, s) refused) × (Stands (p, s) refused → get names p ≡ Some (Status s))
 
--- that is, where a reply with that status refused a batch with it
+-- that is, if a reply with that status refused a batch with it
 abbrev pub NamesRefusals : Setup → List Event → Type 0
 NamesRefusals c events = NamesExactly (run c events (start c)).names (refusals c events (start c))
 

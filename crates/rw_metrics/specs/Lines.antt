@@ -32,7 +32,7 @@ unfoldable pub last_told : Option Cause → List ℕ
 last_told None = []
 last_told (Some c) = codes " last " ++ cause_text c
 
--- how many hundredths of so many bytes were read
+-- how many hundredths of the bytes were read
 abbrev pub percent : ℕ → ℕ → ℕ
 percent bytes all = min (bytes * 100 / all) 100
 

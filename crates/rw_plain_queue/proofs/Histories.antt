@@ -1,4 +1,4 @@
--- A history with one item more, and the beginnings of a history.
+-- A history with one item more, and the prefixes of a history.
 use Rattle.std.proofs.Common.{◌≡◌, inl, inr, ℕ, ◌<◌, ◌≤◌, ◌^◌, false, true≢false, List, [], ◌∷◌, ◌++◌, length, Some, refl, sym, ap, ◌∙◌, append_assoc, append-nil, length-append, arith}
 use Rattle.std.specs.Prelude.{slice_get}
 use Rattle.rw_types.specs.Rising.{Rises}

@@ -72,7 +72,7 @@ pub record AreKept (s : State Question View) : Type 0 where
   pub at : ℕ → ℕ
   pub fits : (k : ℕ) (v : View) → get_elem? s.views k ≡ some v → Fits place known at k v
 
--- the question that the step tells is added, and seen
+-- the question of the step is added, and seen
 abbrev pub Added : Step Question → Me Question View → ℕ → Me Question View → Type 0
 Added s v found w = (q : Question) → s.said ≡ some q
     → (w ≡ (host (record v.0.known { asked = v.0.known.asked ++ q ∷ [] }) v.0.number (v.0.known.asked ++ q ∷ []), v.1))

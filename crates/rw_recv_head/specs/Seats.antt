@@ -16,7 +16,7 @@ abbrev pub store_after : State → List (List ℕ) → Store
 store_after head [] = head.store
 store_after head (body ∷ bodies) = store_after (record head { store = (judged_body head (read body)).store }) bodies
 
--- that head, while it is busy for so many more requests
+-- that head, while it is busy for this many more requests
 abbrev pub head_after : State → List (List ℕ) → ℕ → State
 head_after head bodies busy = record head { store = store_after head bodies; busy = busy }
 
@@ -45,9 +45,9 @@ abbrev pub HasStored : List ℕ → ℕ → ℕ → Type 0
 HasStored body old new = (m : WriteRequest) × (read body ≡ Ok m) × (new ≤ old + sample_count m)
 
 -- A seat of the head that was `opening` asked. The head had been asked `before` then: first what
--- the seat knew, and since then by other seats alone. It answered as it does that holds what it
--- took of these. This question is the next one. If it is answered 204 the head takes its body,
--- and else nothing. Memory is refused to messages alone, by a head that is not busy.
+-- the seat knew, and since then by other seats alone. It answered as a head does that holds what it
+-- took of these. This question is the next one. If it is answered 204 the head takes its body, and
+-- otherwise nothing. Memory runs out only for messages, in a head that is not busy.
 pub record HasAsked (opening : State) (old : Seated) (body : List ℕ) (status : ℕ) (new : Seated) : Type 0 where
   pub before : List Question
   pub busy : ℕ

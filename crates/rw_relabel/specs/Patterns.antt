@@ -1,4 +1,4 @@
--- What the text of a pattern means, in the words of the regex crate.
+-- What the text of a pattern means to the regex crate.
 use Rattle.std.specs.Prelude.{◌≢◌, ◌⊎◌, ℕ, List, ◌++◌, Bool, Option, Some, None, false, is_some, codes, chars}
 use Rattle.regex_hir.specs.Find.{find_str}
 use Rattle.regex_hir.specs.Re.{Re}

@@ -23,7 +23,7 @@ pub record Played : Type 0 where
 abbrev pub segment_pages : ℕ
 segment_pages = 4096
 
--- a record has no room after so many bytes of a segment
+-- a record has no room after this many bytes of a segment
 abbrev pub is_full : ℕ → List ℕ → Bool
 is_full offset rec = nat_lt (room page_size segment_pages offset) (length rec)
 
@@ -52,7 +52,7 @@ in_world p w = record p { machine = record p.machine { world = w } }
 abbrev pub world_after : Played → List Event → World
 world_after p events = run p.machine.setup events p.machine.world
 
--- events happened that carry out these orders, and so many bytes are written
+-- events happened that carry out these orders, and this many bytes are written
 abbrev pub Feeds : Played → List Order → ℕ → Played → Type 0
 Feeds p orders offset q =
     (events : List Event) × (map order_of_event events ≡ orders) × (q ≡ record (in_world p (world_after p events)) { offset = offset })
@@ -61,7 +61,7 @@ Feeds p orders offset q =
 abbrev pub Happens : Played → Order → Played → Type 0
 Happens p o q = (e : Event) × (order_of_event e ≡ o) × (q ≡ in_world p (happens p.machine.setup p.machine.world e))
 
--- the world after so many rounds of an orderly shutdown
+-- the world after this many rounds of an orderly shutdown
 abbrev pub settled_after : Played → ℕ → World
 settled_after p rounds = settle p.machine.setup rounds p.machine.world
 

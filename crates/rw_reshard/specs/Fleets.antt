@@ -2,7 +2,8 @@
 use Rattle.std.specs.Prelude.{◌≡◌, ℕ, ◌+◌, ◌≤◌, List, ◌++◌, length, take, drop, Some, slice_get}
 use Rattle.rw_types.specs.Beginnings.{Begins}
 
--- the shards of an epoch, and those that were made for the next one, which is to have so many
+-- the shards of an epoch, and those that were made for the next one, with the number that it is to
+-- have
 pub record Shards (S : Type 0) : Type 0 where
   pub epoch : ℕ
   pub running : List S

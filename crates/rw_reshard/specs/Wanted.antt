@@ -14,8 +14,8 @@ desired n placed resolved backlog least most = within least most (div_ceil (n * 
 abbrev pub if_far : ℕ → ℕ → ℕ
 if_far n new = if nat_lt (3 * n) (10 * abs_diff new n) then new else n
 
--- the shards that are wanted if there are n, after so many samples were placed and resolved;
--- while none is resolved, as many as there are
+-- the shards that are wanted if there are n, after these numbers of samples were placed and
+-- resolved; while none is resolved, as many as there are
 abbrev pub wanted : ℕ → ℕ → ℕ → ℕ → ℕ → ℕ → ℕ
 wanted n placed resolved backlog least most =
     let now = within least most n in

@@ -44,7 +44,7 @@ use Rattle.rw_sender.specs.Feeders.{Sorting}
 use Rattle.rw_send.proofs.HaltLemmas.{failed_of, fails_so, halts}
 use Rattle.rw_send.proofs.PrintLemmas.{failed}
 
--- ---- what pieces tell
+-- ---- what pieces say
 
 meal_after-piece : (m : Meal) (ps : List Piece) (b : List ℕ) → meal_after m (ps ++ bytes b ∷ []) ≡ with_piece (meal_after m ps) b
 meal_after-piece m [] b = refl
@@ -185,7 +185,7 @@ follow_so s now unsure said fed o ended shipped answer so e f whole signed c a h
     let is_hard = subst (λ (r : Result (Unit {0}) Halt). (t : ToolFault) → hard_fault r ≡ Some t → IsAbandoned o) e hard in
     subst (λ (r : Result (Unit {0}) FollowFault). FollowAnswers now said fed o r) (sym f) (follow_answers s now unsure said fed o ended answer whole signed c answers is_hard)
 
--- what was left is told so whatever the sign says
+-- what was left is answered in the same way, whatever the stop signal says
 err_answers : (W V : Type 0) (o : Outcome) (f : ToolFault) → Answers W ⊤ o (Err f) → Answers V ⊤ o (Err f)
 err_answers W V o (tool.Log f) h = h
 err_answers W V o tool.OutOfMemory h = h

@@ -37,7 +37,7 @@ pub record IsUnread (m : Moment) : Type 0 where
   pub done : m.done ≡ []
   pub given : m.given ≡ []
 
--- what these pieces tell: the bytes between two words of a next segment, joined; here after some
+-- what these pieces make: the bytes between two ends of segments, joined; here after some
 abbrev pub meal_after : Meal → List Piece → Meal
 meal_after meal [] = meal
 meal_after meal (bytes b ∷ pieces) = meal_after (with_piece meal b) pieces
@@ -122,13 +122,13 @@ answer_by (Err (cut.Halted h)) answer = told answer
 abbrev pub left_undone : Result (Unit {0}) FollowFault
 left_undone = Err (fault.Tool tool.OutOfMemory)
 
--- it was told to end, and all that was there was fed
+-- it was asked to end, and everything that was there was fed
 abbrev pub HasRead : Option Moment → Wish → Meal → Type 0
 HasRead now said fed = (said ≡ wish.End) × Known now (HadAll fed)
 
--- How a following answers whose report has this outcome: all is well only if it was told to end,
--- all that was there was fed and the outcome is complete; a missing segment is one that the log
--- says is missing; and it ends at once only if it was told to.
+-- How a following answers whose report has this outcome: all is well only if it was asked to end,
+-- everything that was there was fed and the outcome is complete; a missing segment is one that is
+-- missing in the log; and it ends at once only if it was asked to.
 abbrev pub FollowAnswers : Option Moment → Wish → Meal → Outcome → Result (Unit {0}) FollowFault → Type 0
 FollowAnswers now said fed o (Ok u) = Answers (HasRead now said fed) ⊤ o (Ok u)
 FollowAnswers now said fed o (Err (fault.Tool f)) = Answers (HasRead now said fed) ⊤ o (Err f)

@@ -19,7 +19,7 @@ names_in parts = flat_map (λ (part : Named). entries part.names) parts
 abbrev pub AreByPosition : List (ℕ × Reason) → List (ℕ × Reason) → Type 0
 AreByPosition names sorted = IsPermutation names sorted × IsNonDecreasingBy (λ (name : ℕ × Reason). name.0) sorted
 
--- the end that an outcome tells, with the samples that are not resolved by position
+-- the end that an outcome is, with the samples that are not resolved by position
 abbrev pub IsEnding : Outcome → Ending → Type 0
 IsEnding (outcome.Complete end) ending = ending ≡ Complete end
 IsEnding (outcome.Abandoned placed samples) ending =

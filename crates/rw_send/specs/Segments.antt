@@ -3,8 +3,8 @@ use Rattle.std.specs.Prelude.{◌≡◌, ℕ, ◌<◌, ◌≤◌, Bool, true, fa
 use Rattle.std.specs.Io.KnownBytes.{Consumes}
 use Rattle.rw_wal_format.specs.Pieces.{Piece, bytes, next_segment}
 
--- the text of each segment that pieces tell: the bytes between two words of a next segment, joined;
--- here after some text of the first one
+-- the text of each segment that pieces make: the bytes between two ends of segments, joined; here
+-- after some text of the first one
 abbrev pub texts_after : List ℕ → List Piece → List (List ℕ)
 texts_after text [] = text ∷ []
 texts_after text (bytes b ∷ pieces) = texts_after (text ++ b) pieces

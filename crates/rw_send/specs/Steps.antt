@@ -27,7 +27,7 @@ IsKept old new = (new.log.choice ≡ old.log.choice) × (new.fleet.config ≡ ol
 abbrev pub wanted_under : (fewest most n : ℕ) → Load → ℕ
 wanted_under fewest most n load = wanted n load.placed load.resolved load.backlog fewest most
 
--- the same, by what was placed and resolved beyond so much
+-- the same, by what was placed and resolved beyond these numbers
 abbrev pub wanted_since : (fewest most n placed resolved : ℕ) → Load → ℕ
 wanted_since fewest most n placed resolved load = wanted n (load.placed - placed) (load.resolved - resolved) load.backlog fewest most
 

@@ -99,7 +99,7 @@ router_placed router after ps pos (Sample reference t word) is = by_fate (fate r
         (ap (λ (x : Routing). x.cache.choice) is, refl, refl, omega arith, omega arith)
     by_fate (Sends l) is = absurd is
 
--- a sample that it told to send
+-- a sample that the router returned to be sent
 pub router_sends : (router after : Routing) (ps : List Entry) (pos : ℕ) (e : Entry) (s : RoutedSample) → pos ≡ length ps → Routes router ps pos e after (routed.Sample s)
     → (after ≡ router) × (sent_of router.cache.choice ps e ≡ sent_by s ∷ []) × IsSentNext router.cache.choice ps e s.series s.t
 router_sends router after ps pos (Def reference l) s at is = absurd (cc)

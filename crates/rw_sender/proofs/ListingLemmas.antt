@@ -99,7 +99,7 @@ module _ {T : Type 0} where
         samples_within = omega arith;
       }
 
-  -- so many shards more
+  -- room for more shards
   pub space_more : (n m k window : ℕ) (a b : Lists T) → HasSpace n m a → b.room ≡ a.room + k → vec_len b.parts ≡ vec_len a.parts → vec_len b.workers ≡ vec_len a.workers → vec_len b.samples ≡ vec_len a.samples
       → vec_len a.parts + b.room ≤ vec_capacity b.parts → vec_len a.workers + b.room ≤ vec_capacity b.workers → vec_len a.samples + k * window ≤ vec_capacity b.samples → HasSpace (n + k) (k * window) b
   space_more n m k window a b h room pl wl sl pc wc sc =

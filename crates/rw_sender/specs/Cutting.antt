@@ -56,7 +56,7 @@ abbrev pub IsCutAt : Bool → ℕ → ShardHistory → List ShardHistory → Lis
 IsCutAt true k was old new = new ≡ set old k (marked was)
 IsCutAt false k was old new = new ≡ old
 
--- a sample of so many bytes is counted for the shard numbered k, which was put a Flush if the
+-- a sample of this many bytes is counted for the shard numbered k, which was put a Flush if the
 -- sample does not fit
 pub record HasRoomMade (k bytes : ℕ) (old new : Counting) (was now : List ShardHistory) : Type 0 where
   pub lane : ShardHistory

@@ -9,7 +9,7 @@ item_bytes (Sample place t word labels) = bytes_of labels.value (word, t)
 item_bytes Flush = 0
 item_bytes (End kind) = 0
 
--- what the samples after the last mark count, if so much was counted before these items
+-- what the samples after the last mark count, if this much was counted before these items
 abbrev pub bytes_after : ℕ → List Item → ℕ
 bytes_after n [] = n
 bytes_after n (Sample place t word labels ∷ xs) = bytes_after (n + bytes_of labels.value (word, t)) xs
@@ -30,7 +30,7 @@ AreSamples (Sample place t word labels ∷ xs) = AreSamples xs
 AreSamples (Flush ∷ xs) = ⊥
 AreSamples (End kind ∷ xs) = ⊥
 
--- a sample that counts so much does not fit into what is left of the limit after those counted;
+-- a sample that counts this much does not fit into what is left of the limit after those counted;
 -- without a limit each one fits
 abbrev pub is_over : Option ℕ → ℕ → ℕ → Bool
 is_over None counted bytes = false
@@ -41,7 +41,7 @@ abbrev pub behind_cut : Bool → Item → List Item
 behind_cut true x = Flush ∷ x ∷ []
 behind_cut false x = x ∷ []
 
--- what is counted with so much more: it alone after a Flush
+-- what is counted with this much more: it alone after a Flush
 abbrev pub counted_with : Bool → ℕ → ℕ → ℕ
 counted_with true counted bytes = bytes
 counted_with false counted bytes = counted + bytes

@@ -26,7 +26,7 @@ AreKept [] (q ∷ qs) = ⊥
 AreKept (p ∷ ps) [] = ⊥
 AreKept (p ∷ ps) (q ∷ qs) = IsKept p q × AreKept ps qs
 
--- the shard of a series, among so many
+-- the shard of a series, among this many
 abbrev pub shard_of : ℕ → ℕ → ℕ
 shard_of shards series = series % shards
 
@@ -51,7 +51,7 @@ joined (lanes ∷ later) = lanes ++ joined later
 abbrev pub IsShardCount : ℕ → Type 0
 IsShardCount n = (1 ≤ n) × (n ≤ 1000)
 
--- each of these epochs had so many shards, and they were ended because their number changed
+-- each of these epochs had this many shards, and they were ended because their number changed
 abbrev pub AreTurned : List (List ShardHistory) → Type 0
 AreTurned [] = ⊤
 AreTurned (lanes ∷ later) = IsShardCount (length lanes) × AreEndedBy Reshard (map put_into lanes) × AreTurned later

@@ -30,11 +30,11 @@ abandoned_in (j ∷ js) = j.abandoned.items ++ abandoned_in js
 abbrev pub HasRoom : {T : Type 0} → Lists T → List (StoppedShard T) → Type 0
 HasRoom lists js = (vec_len lists.parts + length js ≤ vec_capacity lists.parts) × (vec_len lists.workers + length js ≤ vec_capacity lists.workers) × (vec_len lists.samples + length (abandoned_in js) ≤ vec_capacity lists.samples)
 
--- these shards are listed after what stood there
+-- these shards are listed after what was listed before
 abbrev pub ListsAfter : {T : Type 0} → Lists T → List (StoppedShard T) → Lists T → Type 0
 ListsAfter old js new = (new.parts.items ≡ old.parts.items ++ map part_of js) × (new.workers.items ≡ old.workers.items ++ map finished_of js) × (new.samples.items ≡ old.samples.items ++ abandoned_in js)
 
--- nothing is listed, and there is room for so many shards, one part more, and so many samples
+-- nothing is listed, and there is room for this many shards, one part more, and this many samples
 pub record HasSpace {T : Type 0} (shards samples : ℕ) (lists : Lists T) : Type 0 where
   pub no_parts : vec_len lists.parts ≡ 0
   pub no_workers : vec_len lists.workers ≡ 0
@@ -71,7 +71,7 @@ abbrev pub end_of : ℕ → Option TailFault → Outcome
 end_of placed None = Complete placed
 end_of placed (Some f) = Damaged f
 
--- the work was stopped with so many entries placed, and these samples not resolved
+-- the work was stopped with this many entries placed, and these samples not resolved
 abbrev pub IsAbandonedAt : ℕ → List ℕ → Outcome → Type 0
 IsAbandonedAt placed positions (Complete end) = ⊥
 IsAbandonedAt placed positions (Abandoned entries samples) = (entries ≡ placed) × (samples.items ≡ positions)

@@ -8,7 +8,7 @@ use Rattle.rw_types.specs.declared.entry.Entry.TheVariants.{Def, Sample}
 use Rattle.rw_relabel.specs.declared.choice.Choice.{Choice}
 use Rattle.rw_series_cache.specs.Known.{Standing, Unknown, Bad, Filtered, Kept, standing_of}
 
--- a label set that is kept and is none of the series yet becomes the last one
+-- a label set that is kept and is not yet a series becomes the last one
 abbrev pub with_series : List Labels → Standing → List Labels
 with_series series Unknown = series
 with_series series (Bad fault) = series

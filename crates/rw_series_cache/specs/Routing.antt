@@ -1,4 +1,4 @@
--- What a router knows, and what it tells.
+-- What a router knows, and what it returns.
 use Rattle.std.specs.Prelude.{◌≡◌, ◌⊎◌, None, ℕ, suc, ℤ, List, [], ◌∷◌, ◌++◌}
 use Rattle.std.specs.Arc.{arc_value}
 use Rattle.rw_types.specs.Labels.{Labels, label_fault}

@@ -62,8 +62,7 @@ abbrev pub found_or : {A : Type 0} → A → Result (Option A) SettingsFault →
 found_or default (Ok (Some x)) = x
 found_or default _ = default
 
--- the table at a key, which is empty if there is none, unless a value of another type is
--- there
+-- the table at a key, which is empty if there is no value, unless a value of another type is there
 abbrev pub section : Option Data → Option Members
 section None = Some no_members
 section (Some value) = as_table value
@@ -78,7 +77,7 @@ abbrev pub part_fault : {A : Type 0} → (A → Option SettingsFault) → Option
 part_fault fault None = Some WrongType
 part_fault fault (Some part) = fault part
 
--- a section, or an empty one if there is none that can be taken
+-- a section, or an empty one if there is no valid one
 abbrev pub part_or : {A : Type 0} → A → Option A → A
 part_or empty None = empty
 part_or empty (Some part) = part

@@ -9,7 +9,7 @@ abbrev pub is_ordered : ConfigFields → Bool
 is_ordered c =
     (nat_le c.min_shards c.shards && nat_le c.shards c.max_shards) && nat_le c.min_backoff_ms c.max_backoff_ms
 
--- what a sender is told nothing else
+-- the configuration of a sender that is given no other
 abbrev pub standard : ConfigFields
 standard = record {
   target = record { host = codes "localhost:9090"; path = codes "/api/v1/write" };

@@ -7,7 +7,7 @@ use Rattle.rw_shard_core.specs.declared.replies.ReplyRead.TheVariants.{Status, P
 use Rattle.rw_shard_core.specs.declared.replies.Front.{Front}
 use Rattle.rw_shard_core.specs.declared.replies.Front.TheVariants.{Informational, Decided}
 
--- the text is a head of at most so many bytes and 64 fields, and then the rest
+-- the text is a head of at most this many bytes and 64 fields, and then the rest
 pub record BeginsWith (room : ℕ) (text : List ℕ) (head : ResponseHead) (rest : List ℕ) : Type 0 where
   pub reads : ReadsResponse text head rest
   pub short : length (print_response head) ≤ room
@@ -43,13 +43,13 @@ EndsEarly room text = HasNoResponse text × MayBecomeResponse text × (length te
 abbrev pub HasNoReply : ℕ → List ℕ → Type 0
 HasNoReply room text = (status : ℕ) → ¬ (Passes (Answers status) room text)
 
--- what the bytes that have come say, where the heads may take so many
+-- what the bytes that have come say, if the heads may take this many
 abbrev pub Reads : ℕ → List ℕ → ReplyRead → Type 0
 Reads room text (Status status) = Passes (Answers status) room text
 Reads room text Partial = Passes EndsEarly room text
 Reads room text Bad = (more : List ℕ) → HasNoReply room (text ++ more)
 
--- what is at the front: an informational head of so many bytes, or what decides
+-- what is at the front: an informational head of this many bytes, or what decides
 abbrev pub Found : ℕ → List ℕ → Front → Type 0
 Found room text (Informational len) =
     (head : ResponseHead) × BeginsWith room text head (drop len text) × IsInformational head × (len ≡ length (print_response head))

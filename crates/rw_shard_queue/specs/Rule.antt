@@ -18,7 +18,7 @@ abbrev pub joined : List Filled → List Item
 joined [] = []
 joined (b ∷ bs) = b.items ++ joined bs
 
--- each block has an item, and room for so many
+-- each block has an item, and room for this many
 abbrev pub AreBlocks : ℕ → List Filled → Type 0
 AreBlocks most [] = ⊤
 AreBlocks most (b ∷ bs) = (0 < length b.items) × (length b.items ≤ most) × (b.most ≡ most) × AreBlocks most bs

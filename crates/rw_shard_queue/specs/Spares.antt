@@ -5,7 +5,7 @@ use lib.ListN.{get_elem?}
 use Rattle.crossbeam_channel.specs.Claims.{Pass, view}
 use Rattle.rw_shard_queue.specs.Rule.{Filled}
 
--- a block without items that has room for so many
+-- a block without items that has room for this many
 abbrev pub empty_block : ℕ → Filled
 empty_block most = record { items = []; most = most }
 

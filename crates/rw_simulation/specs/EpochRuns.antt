@@ -111,8 +111,8 @@ pub record IsUnderWay (c : Setup) (past : Past) (pieces : List Piece) (epoch n :
 abbrev pub AreUnsent : (ℕ → ShardFate) → Type 0
 AreUnsent fates = (k : ℕ) → (fates k).requests ≡ []
 
--- A free schedule leads from this world to one of which this holds. Where it is quiet nobody
--- answers in it.
+-- A free schedule leads from this world to one with this property. If it is quiet, nobody answers
+-- in it.
 pub record Reaches (quiet : Type 0) (c : Setup) (w : World) (P : World → Type 0) : Type 0 where
   pub events : List Happening
   pub world : World

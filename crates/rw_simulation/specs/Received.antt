@@ -35,13 +35,12 @@ use Rattle.rw_machine.specs.Promises.{CanWork, Point, owed, pair_of}
 use Rattle.rw_simulation.specs.Arrivals.{Arrival, IsOneReceiver}
 use Rattle.rw_simulation.specs.StoppedRuns.{IsMachineOf, NamesAll, first_number}
 
--- these are the exchanges of each worker, by its epoch and shard: those of the steps that its
--- report tells of
+-- these are the exchanges of each worker, by its epoch and shard: those of the steps in its report
 abbrev pub AreOfSteps : {T : Type 0} (tells : T → Type 0) (seen : T → List Exchange) (is_for : ℕ → ℕ → T → Type 0) → (ℕ → ℕ → List Exchange) → (js : List (StoppedShard T)) → AreWorked tells seen is_for js → Type 0
 AreOfSteps tells seen is_for exchanges [] h = ⊤
 AreOfSteps tells seen is_for exchanges (j ∷ js) h = (exchanges j.worker.value.queue.epoch j.worker.value.queue.shard ≡ exchanges_of h.0.report.steps) × AreOfSteps tells seen is_for exchanges js h.1
 
--- and there are no others. What a transport tells is the same, if it tells.
+-- and there are no others. What a transport recorded is the same, if it records.
 pub record AreExchangesOf {T : Type 0} (tells : T → Type 0) (seen : T → List Exchange) (is_for : ℕ → ℕ → T → Type 0) (js : List (StoppedShard T)) (worked : AreWorked tells seen is_for js) (exchanges : ℕ → ℕ → List Exchange) : Type 0 where
   pub each : AreOfSteps tells seen is_for exchanges js worked
   pub owned : (e k i : ℕ) (x : Exchange) → slice_get (exchanges e k) i ≡ Some x → (n : ℕ) × (j : StoppedShard T) × (slice_get js n ≡ Some j) × (j.worker.value.queue.epoch ≡ e) × (j.worker.value.queue.shard ≡ k)

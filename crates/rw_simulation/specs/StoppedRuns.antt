@@ -84,14 +84,14 @@ NamesAll names parts = (p : ℕ) (reason : Reason) → (get names p ≡ Some rea
 abbrev pub IsOfOne : {T : Type 0} → List (Finished T) → Request → Type 0
 IsOfOne {T} fs q = (k : ℕ) × (f : Finished T) × (slice_get fs k ≡ Some f) × (q.id.epoch ≡ (queue_of f.ends).epoch) × (q.id.shard ≡ (queue_of f.ends).shard)
 
--- of each worker that tells its exchanges the requests are those of its shard, byte by byte and in
--- order; and there are no others
+-- of each worker that records its exchanges the requests are those of its shard, byte by byte and
+-- in order; and there are no others
 pub record SendsAll {T : Type 0} (tells : T → Type 0) (seen : T → List Exchange) (requests : List Request) (fs : List (Finished T)) : Type 0 where
   pub each : (k : ℕ) (f : Finished T) → slice_get fs k ≡ Some f → tells f.transport → map sent_bytes (requests_of (queue_of f.ends).epoch (queue_of f.ends).shard requests) ≡ map request_in (seen f.transport)
   pub owned : AllByRecursion (IsOfOne fs) requests
 
--- the machine's report is the outcome; the samples that are left it tells in rising order, if
--- the shipper has them shard by shard
+-- the machine's report is the outcome; the samples that are left are in rising order, if the
+-- shipper has them shard by shard
 abbrev pub Tells : Outcome → Option Ending → Type 0
 Tells (outcome.Complete end) found = found ≡ Some (Complete end)
 Tells (outcome.Abandoned placed samples) found = (left : List ℕ) × (found ≡ Some (Abandoned placed left)) × IsRisingOrderOf samples.items left
@@ -135,10 +135,10 @@ StopsInOrder tells seen is_for s r =
     (c : Setup) (fed : List Piece) (h : HasStopped tells seen is_for s r) (p : PlacesAll s.log s.fleet) → IsMachineOf c s → CanWork c → s.log.pieces ≡ map piece_of fed → IsShardCount (length s.fleet.current) → first_number p.epochs s.fleet.current ≡ c.shards
     → EndBy Orderly s.fleet r.workers.items → (IsAbandoned r.outcome → ⊥) → IsRun tells seen c s r
 
--- So it is of every shipper that abandoned what was left, however it was stopped. `before` is the
--- fleet as it stood before its last shards were ended: that of the shipper, with the shards that a
+-- The same for every shipper that abandoned what was left, however it was stopped. `before` is the
+-- fleet as it was before its last shards were ended: that of the shipper, with the shards that a
 -- failed reshard had begun; or if that had begun none, the fleet before it. The shards of the
--- epochs before had resolved all.
+-- epochs before had resolved everything.
 abbrev pub StopsAbandoned : {T : Type 0} → (T → Type 0) → (T → List Exchange) → (ℕ → ℕ → T → Type 0) → Shipping T → Report T → Type 0
 StopsAbandoned {T} tells seen is_for s r =
     (c : Setup) (fed : List Piece) (h : HasStopped tells seen is_for s r) (before : Shards T) (p : PlacesAll s.log before) → IsMachineOf c s → CanWork c → s.log.pieces ≡ map piece_of fed

@@ -15,7 +15,7 @@ use Rattle.rw_shard_core.specs.Endings.{Ending, Complete, Abandoned, Damaged}
 abbrev pub point_text : Point → List ℕ
 point_text p = 32 ∷ signed_decimal p.0 ++ 61 ∷ value_text p.1
 
--- `received LABELS` and the samples; no line if there is none
+-- `received LABELS` and the samples, or no line without samples
 abbrev pub received_text : Labels → List Point → List ℕ
 received_text l [] = []
 received_text l (p ∷ ps) = codes "received " ++ labels_text l ++ flat_map point_text (p ∷ ps) ++ 10 ∷ []
@@ -48,7 +48,7 @@ ending_text (Some (Complete end)) = codes "report complete " ++ decimal end ++ 1
 ending_text (Some (Abandoned placed samples)) = flat_map abandoned_text samples ++ codes "report abandoned " ++ decimal placed ++ 10 ∷ []
 ending_text (Some (Damaged fault)) = codes "report damaged " ++ decimal (log_fault_number fault) ++ 10 ∷ []
 
--- what a sender tells of its work: the dropped samples by position, how many the rules have
+-- what a sender reports of its work: the dropped samples by position, how many the rules have
 -- filtered, and its end
 abbrev pub work_text : List (ℕ × Reason) → ℕ → Option Ending → List ℕ
 work_text names filtered ending = flat_map dropped_text names ++ filtered_text filtered ++ ending_text ending

@@ -13,7 +13,7 @@ unfolding read_text
 foreign_at text i lt at before =
     rw (list_any_at is_foreign text i 0 lt at, position_or_len_is is_foreign text i 0 (omega arith) before (λ _. at)) refl
 
--- if there is none, the digits decide
+-- without a foreign character the digits decide
 pub no_foreign : (text : List ℕ) → EachIndex text (λ k. is_foreign (get_or text k 0) ≡ false) → read_text text ≡ bytes_or_line (bytes_of (values text)) (line_after (before_last is_digit text))
 unfolding read_text
 no_foreign text each =

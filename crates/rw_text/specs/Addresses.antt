@@ -1,4 +1,4 @@
--- HOST:PORT, as a word of the command line.
+-- HOST:PORT, as a command-line argument.
 use Rattle.std.specs.Prelude.{◌≡◌, ◌≢◌, ◌⊎◌, ℕ, ◌<◌, ◌≤◌, List, [], ◌∷◌, ◌++◌}
 use Rattle.rw_text.specs.Numbers.{IsNumber}
 

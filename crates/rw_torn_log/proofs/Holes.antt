@@ -23,7 +23,7 @@ whole = log_all 64 0 (series_record 1 up ∷ sample_record ((1, pos 1000, 0x3ff0
 abbrev holed : List ℕ
 holed = take 29 whole ++ replicate 35 0 ++ drop 64 whole
 
--- no fault tells of the sample that is lost, and the later one is read
+-- no fault shows that the sample is lost, and the later one is read
 read_over_a_hole : (segment 64 holed).entries ≡ Def 1 up ∷ Sample 1 (pos 2000) 0x3ff0000000000000 ∷ []
 unfolding groups frame log_bytes item_at segment record_entries number_in_groups crc_bits
 read_over_a_hole = refl

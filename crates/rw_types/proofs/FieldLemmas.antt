@@ -1,4 +1,4 @@
--- Labels are told by their fields: two lists that are spelled alike are the same.
+-- Labels are determined by their fields: two lists with the same spelling are the same.
 use Rattle.std.proofs.Common.{◌≡◌, ℕ, ◌^◌, ◌<◌, Ok, List, [], ◌∷◌, ◌++◌, length, take, drop, refl, ap, ap₂, sym, subst, ◌∙◌, arith, append_assoc, length-append}
 use Rattle.std.proofs.Math.Seq.{take-append_seam, drop-append_seam}
 use Rattle.std.proofs.lemmas.Bool.Decides.{same_from_decides}
@@ -71,7 +71,7 @@ same_label (x ∷ xs, v) (y ∷ ys, w) l m e =
     let right = parts_fit 1 (y ∷ ys) (string_field 2 w) m in
     ap₂ (λ (n u : List ℕ). (n, u)) same.0 (same_strings 2 v w left.1 right.1 same.1)
 
--- labels are told by their fields
+-- labels are determined by their fields
 pub same_where_fields_are : (a b : Labels) → length (label_fields a) < 2 ^ 64 → length (label_fields b) < 2 ^ 64 → label_fields a ≡ label_fields b → a ≡ b
 unfolding label_field
 same_where_fields_are [] [] l m e = refl

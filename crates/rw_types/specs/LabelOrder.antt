@@ -46,6 +46,6 @@ exact_label = exact_pairs (slice_cmp nat_cmp) (slice_cmp nat_cmp) exact_bytes ex
 pub exact_labels : CmpEqualImpliesEq labels_cmp
 exact_labels = exact_lists label_cmp exact_label
 
--- what it does not tell apart is the same
+-- what it calls equal is the same
 pub same_if_equal : (a b : Labels) → is_eq (labels_cmp a b) ≡ true → a ≡ b
 same_if_equal a b e = exact_labels a b ((Equal-is (labels_cmp a b)).0 e)

@@ -5,8 +5,8 @@ use Rattle.rw_wal_format.specs.Segments.{Reading, Stop, between, inside, at_faul
 use Rattle.rw_wal_format.specs.declared.tail_fault.TailFault.{TailFault}
 use Rattle.rw_wal_format.specs.declared.tail_fault.TailFault.TheVariants.{TornSegment}
 
--- what a reader is given next: more bytes of the segment, which may be none, or word that the
--- segment has ended and the next begins
+-- what a reader is given next: more bytes of the segment, which may be empty, or the end of the
+-- segment, after which the next begins
 pub data Piece : Type 0 where
   bytes : List ℕ → Piece
   next_segment : Piece
@@ -32,7 +32,7 @@ reading_after page text (next_segment ∷ pieces) = then_next (segment page text
 unfoldable pub reading : ℕ → List Piece → Reading
 reading page pieces = reading_after page [] pieces
 
--- the fault, where reading stops at one
+-- the fault at which reading stops, if any
 abbrev pub fault_at : Stop → Option TailFault
 fault_at (at_fault f) = Some f
 fault_at _ = None

@@ -64,7 +64,7 @@ text_at bytes = found (read_uvarint bytes) then λ n.
 abbrev pub label_at : List ℕ → Option ((List ℕ × List ℕ) × List ℕ)
 label_at bytes = text_at bytes then λ name. text_at name.1 then λ value. Some ((name.0, value.0), value.1)
 
--- so many labels
+-- a number of labels
 abbrev pub label_list_at : ℕ → List ℕ → Option (Labels × List ℕ)
 label_list_at zero bytes = Some ([], bytes)
 label_list_at (suc n) bytes = label_at bytes then λ label. label_list_at n label.1 then λ more. Some (label.0 ∷ more.0, more.1)

@@ -1,7 +1,7 @@
 -- One segment of a write-ahead log (wal.md, "Segment encoding"): fragments in pages, and the
--- records that they make. No fragment crosses the end of its page. Where a page has no room for a
+-- records that they make. No fragment crosses the end of its page. If a page has no room for a
 -- header of 7 bytes, its rest is zeros. The text is what has come so far, so an item that is not
--- whole at its end is no fault.
+-- whole at its end is not a fault.
 use Rattle.std.specs.Prelude.{ℕ, zero, suc, ◌+◌, ◌-◌, List, [], ◌∷◌, ◌++◌, length, take, drop, Option, Some, None, not, nat_lt, nat_le, ◌==◌, ◌||◌, if◌then◌else◌}
 use Rattle.std.specs.List.{list_all}
 use Rattle.byteorder.specs.Endian.{big_number}
@@ -83,7 +83,7 @@ with_fragment kind data_of l = record { fragments = (kind, data_of) ∷ l.fragme
 abbrev pub left_after : ℕ → ℕ → ℕ → ℕ
 left_after page left n = if nat_lt n left then left - n else page
 
--- the fragments from an item on, if `next` lays out the bytes after it, with so many left in
+-- the fragments from an item on, if `next` lays out the bytes after it, with this many left in
 -- their page
 abbrev pub from_item : ℕ → ℕ → List ℕ → (ℕ → List ℕ → Layout) → Item → Layout
 from_item page left bytes next nothing = record { fragments = []; stop = between }
@@ -97,8 +97,8 @@ abbrev pub layout_of : ℕ → ℕ → ℕ → List ℕ → Layout
 layout_of page zero left bytes = record { fragments = []; stop = between }
 layout_of page (suc k) left bytes = from_item page left bytes (λ l rest. layout_of page k l rest) (item_at left bytes)
 
--- the entries of whole records before the first fault, how many records were passed over, and where
--- it stops
+-- the entries of whole records before the first fault, how many records were skipped, and where it
+-- stops
 pub record Reading : Type 0 where
   pub entries : List Entry
   pub skipped : ℕ

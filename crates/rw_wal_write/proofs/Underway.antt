@@ -28,8 +28,8 @@ pub next_page : (offset n : ℕ) → n ≡ left_at offset → left_at (offset + 
 next_page offset n e = omega arith
 
 module _ {W : Type 0} (contents : W → Option (List ℕ)) (has_failed : W → Bool) (room : W → ℕ) where
-  -- From `start` on, so much of the whole was written that the offset is `at`, and of the record
-  -- the rest is left.
+  -- From `start` on, as much of the whole was written as brings the offset to `at`, and of the
+  -- record the rest is left.
   pub record Underway (old now : W) (start at : ℕ) (goes_on : Bool) (rest whole : List ℕ) : Type 0 where
     pub done : List ℕ
     pub fuel : ℕ

@@ -5,7 +5,7 @@ use Rattle.rw_retry.specs.Backoff.{delay_of}
 use Rattle.rw_worker.specs.Transcript.{is_again}
 use Rattle.rw_worker.specs.Steps.{Step, Takes, Freezes, Sends, Waits}
 
--- the pause after a step, if the open batch was sent in vain so often before
+-- the pause after a step, if the open batch was sent this often before without success
 abbrev pub pause_after : ℕ → ℕ → ℕ → Step → List ℕ
 pause_after least most retries (Takes x) = []
 pause_after least most retries Freezes = []

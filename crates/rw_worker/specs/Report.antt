@@ -47,7 +47,7 @@ StopsAtHard (end.Ended Reshard d) steps = ⊤
 StopsAtHard (end.Ended Hard d) steps = (before : List Step) × (steps ≡ before ++ Takes (item.End Hard) ∷ [])
 StopsAtHard (end.Killed d) steps = ⊤
 
--- the End that is told of is the last item that was taken
+-- the End that is reported is the last item that was taken
 abbrev pub IsLast : TakingEnd → Type 0
 IsLast (end.Ended kind d) = (before : List Item) × (d.taken ≡ before ++ item.End kind ∷ [])
 IsLast (end.Killed d) = ⊤
@@ -165,7 +165,7 @@ abbrev pub IsNotStopped : Progress → Type 0
 IsNotStopped (Goes i) = ⊤
 IsNotStopped (Stops end stopped _) = stopped ≡ None
 
--- a worker that tells of a stop flag read this one, and has done nothing since
+-- a worker that reports a stop flag read this one, and has done nothing since
 abbrev pub IsStoppedAt : {T : Type 0} → ℕ → Intake → Sending T → Progress → Sending T → Type 0
 IsStoppedAt flag i s (Goes j) v = ⊤
 IsStoppedAt flag i s (Stops end stopped _) v = IfSome stopped (λ (f : StopRead). (f ≡ record { flag = flag; resolved = s.resolved }) × (end ≡ given_back i) × (v ≡ s))

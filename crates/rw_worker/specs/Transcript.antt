@@ -88,6 +88,6 @@ with_names names b = names_after (judgement_of b.status) b names
 abbrev pub names_of : List Settled → FinMap nat_cmp Reason
 names_of bs = fold with_names empty bs
 
--- who tells now told before, and this was added to what it tells
+-- what records now recorded before, and this was added to its record
 abbrev pub Adds : {X : Type 0} → Type 0 → Type 0 → List X → List X → List X → Type 0
 Adds before now old new added = now → before × (new ≡ old ++ added)

@@ -47,7 +47,7 @@ newest_more id sent i d lt =
     let n : 0 + length (take i sent) ≡ i = let l = length_taken sent i lt in omega (arith, l) in
     ap (λ rs. newest_from id 0 rs 0) (take_more sent i d lt) ∙ newest_snoc id 0 (take i sent) (get_or sent i d) 0 ∙ pick_same (same_id id (get_or sent i d).id) (0 + length (take i sent)) i (newest_from id 0 (take i sent) 0) n
 
--- the last of so many requests is it, or is passed
+-- the last of these requests is it, or is skipped
 pub newest_found : (id : BatchId) (sent : List Request) (i k : ℕ) (d : Request) → i ≡ k + 1 → k < length sent → newest_from id 0 sent 0 ≡ newest_from id 0 (take i sent) 0 →
     same_id id (get_or sent k d).id ≡ true → k ≡ newest_from id 0 sent 0
 newest_found id sent i k d n lt e h = sym (e ∙ ap (λ j. newest_from id 0 (take j sent) 0) n ∙ newest_more id sent k d lt ∙ ap (λ b. cond b k (newest_from id 0 (take k sent) 0)) h)

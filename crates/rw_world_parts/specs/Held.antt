@@ -61,7 +61,7 @@ sample_for s pos series t word l = record {
 abbrev pub AreNamed : Core → List Placed → Type 0
 AreNamed c xs = All (λ (x : Placed). (x.place.epoch ≡ c.epoch) × (x.place.shard ≡ c.shard)) xs
 
--- the last of so many samples has the number before theirs
+-- the last of this many samples has the number before theirs
 abbrev pub IsCounted : List Placed → Type 0
 IsCounted xs = IfSome (last_of xs) (λ (y : Placed). y.place.seq + 1 ≡ length xs)
 

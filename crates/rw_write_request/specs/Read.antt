@@ -43,7 +43,7 @@ in_message (Err e) = Err (varint_fault e)
 abbrev pub uvarint_at : List ℕ → Result (ℕ × List ℕ) WireFault
 uvarint_at bytes = in_message (read_uvarint bytes)
 
--- so many bytes
+-- this many bytes
 abbrev pub bytes_at : ℕ → List ℕ → Result (List ℕ × List ℕ) WireFault
 bytes_at n bytes = if nat_lt (length bytes) n then Err Truncated else Ok (take n bytes, drop n bytes)
 
