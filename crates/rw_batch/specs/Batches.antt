@@ -1,5 +1,4 @@
--- A batch (Remote-Write 1.0): a stretch of one shard's samples, with one id and one body
--- permanently.
+-- A batch (Remote-Write 1.0): a stretch of one shard's samples, whose id and body never change.
 use Rattle.std.specs.Global.{Global}
 use Rattle.std.specs.Prelude.{◌≡◌, ℕ, ◌+◌, ◌-◌, ◌≤◌, Vec, vec_capacity, List, [], ◌∷◌, ◌++◌, length, Some, slice_get}
 use Rattle.rw_types.specs.declared.place.Place.{Place}

@@ -28,7 +28,7 @@ message xs = map (λ l. record { labels = l; samples = samples_of l xs }) (disti
 abbrev pub series_at : List LabelledSample → ℕ → TimeSeries
 series_at xs place = get_or (message xs) place (record { labels = []; samples = [] })
 
--- a message with one more sample: at the end of the series with its labels, else in a new series
+-- a message with one more sample: at the end of the series with its labels, or in a new series
 -- after the others
 unfoldable pub with_sample : Labels → Sample → WriteRequest → WriteRequest
 with_sample l s [] = record { labels = l; samples = s ∷ [] } ∷ []

@@ -27,7 +27,7 @@ number_in_groups (suc k) (b ∷ bs) =
 abbrev pub uvarint : ℕ → List ℕ
 uvarint n = groups 9 n
 
--- the number of 64 bits that is at the front as one to ten bytes, and the bytes after it
+-- the 64-bit number at the front, as one to ten bytes, and the bytes after it
 abbrev pub read_uvarint : List ℕ → Result (ℕ × List ℕ) CodeFault
 read_uvarint bytes = number_in_groups 9 bytes
 
@@ -44,7 +44,7 @@ un_zig_zag n = if n % 2 == 0 then pos (n / 2) else negsuc (n / 2)
 abbrev pub varint : ℤ → List ℕ
 varint z = uvarint (zig_zag z)
 
--- the signed number that is at the front, and the bytes after it
+-- the signed number at the front, and the bytes after it
 abbrev pub read_varint : List ℕ → Result (ℤ × List ℕ) CodeFault
 read_varint bytes = read_uvarint bytes >>= λ n. Ok (un_zig_zag n.0, n.1)
 

@@ -67,7 +67,7 @@ is_resolved j = is_compared j.finished.ends && (length j.abandoned.items == 0)
 abbrev pub IsSoft : List Item → Type 0
 IsSoft put = (before : List Item) → put ≡ before ++ item.End Hard ∷ [] → ⊥
 
--- the last item is no End
+-- the last item is not an End
 abbrev pub IsUnended : List Item → Type 0
 IsUnended put = (kind : Kind) (before : List Item) → put ≡ before ++ item.End kind ∷ [] → ⊥
 
@@ -75,7 +75,7 @@ IsUnended put = (kind : Kind) (before : List Item) → put ≡ before ++ item.En
 abbrev pub IsEndedBy : Kind → List Item → Type 0
 IsEndedBy kind put = (other : Kind) (before : List Item) → put ≡ before ++ item.End other ∷ [] → other ≡ kind
 
--- and so in each of these queues
+-- and the same in each of these queues
 abbrev pub AreEndedBy : Kind → List (List Item) → Type 0
 AreEndedBy kind [] = ⊤
 AreEndedBy kind (put ∷ puts) = IsEndedBy kind put × AreEndedBy kind puts

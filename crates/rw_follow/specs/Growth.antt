@@ -8,9 +8,9 @@ Grown (x ∷ xs) [] = ⊥
 Grown (x ∷ []) (y ∷ ys) = (more : List ℕ) × (y ≡ x ++ more)
 Grown (x ∷ w ∷ xs) (y ∷ ys) = (y ≡ x) × Grown (w ∷ xs) ys
 
--- What is there at a moment: the segments that were given whole, what was given of the current one
--- and what is left of it, those after it, and the number of the one that is missing after them,
--- if one is.
+-- What exists at a moment: the segments that were read whole, what was read of the current one and
+-- what is left of it, those after it, and the number of the one that is missing after them, if one
+-- is.
 pub record Moment : Type 0 where
   pub done : List (List ℕ)
   pub given : List ℕ
@@ -18,17 +18,17 @@ pub record Moment : Type 0 where
   pub after : List (List ℕ)
   pub gap : Option ℕ
 
--- the texts of the segments that are there, in order
+-- the texts of the segments that exist, in order
 abbrev pub texts : Moment → List (List ℕ)
 texts m = m.done ++ (m.given ++ m.rest) ∷ m.after
 
--- A moment and a later one, before which these bytes of the current segment were given.
+-- A moment and a later one, before which these bytes of the current segment were read.
 pub record Later (old : Moment) (bytes : List ℕ) (new : Moment) : Type 0 where
   pub done : new.done ≡ old.done
   pub given : new.given ≡ old.given ++ bytes
   pub grown : Grown (texts old) (texts new)
 
--- if both moments are known; what is known stays known, and what is not does not come to be
+-- if both moments are known; what is known stays known, and what is not known stays unknown
 abbrev pub Passes : Option Moment → List ℕ → Option Moment → Type 0
 Passes None bytes None = ⊤
 Passes None bytes (Some n) = ⊥
@@ -48,7 +48,7 @@ IsRead m = m.rest ≡ []
 abbrev pub IsFollowed : Moment → Type 0
 IsFollowed m = 0 < length m.after
 
--- none does
+-- no segment does
 abbrev pub IsLast : Moment → Type 0
 IsLast m = m.after ≡ []
 
@@ -60,7 +60,7 @@ HasGap n m = IsLast m × (m.gap ≡ Some n)
 abbrev pub Reads : {E : Type 0} → Option Moment → Option Moment → Result ℕ E → List ℕ → Type 0
 Reads old new r buf = MatchResult r (λ n. Passes old (take n buf) new × (n ≡ 0 → 0 < length buf → Known new IsRead)) (λ _. Passes old [] new)
 
--- The current segment is given whole, and the next one is the current one.
+-- The current segment is read whole, and the next one is the current one.
 pub record Stepped (old new : Moment) : Type 0 where
   pub done : new.done ≡ old.done ++ old.given ∷ []
   pub given : new.given ≡ []
@@ -81,11 +81,11 @@ pub record Meal : Type 0 where
 abbrev pub with_piece : Meal → List ℕ → Meal
 with_piece meal bytes = record { whole = meal.whole; begun = meal.begun ++ bytes }
 
--- with word that the segment is over
+-- with the end of the segment
 abbrev pub with_next : Meal → Meal
 with_next meal = record { whole = meal.whole ++ meal.begun ∷ []; begun = [] }
 
--- What was fed is what was given.
+-- What was fed is what was read.
 pub record IsGivenAt (meal : Meal) (m : Moment) : Type 0 where
   pub whole : meal.whole ≡ m.done
   pub begun : meal.begun ≡ m.given
@@ -105,6 +105,6 @@ pub record HadAll (meal : Meal) (now : Moment) : Type 0 where
   pub is_read : IsRead earlier
   pub is_last : IsLast earlier
 
--- A read over memory gives the next bytes of what was left, after what is there may have grown.
+-- A read over memory returns the next bytes of what was left, after the log may have grown.
 abbrev pub Gives : {E : Type 0} → Moment → Moment → Result ℕ E → List ℕ → Type 0
 Gives old new r buf = MatchResult r (λ n. (old.rest ≡ take n buf ++ new.rest) × ((new.given ≡ old.given ++ take n buf) × (n ≡ 0 → 0 < length buf → new.rest ≡ []))) (λ _. (new.given ≡ old.given) × (new.rest ≡ old.rest))

@@ -13,7 +13,7 @@ abbrev pub wish_of : Stop → Wish
 wish_of stop.Orderly = wish.End
 wish_of stop.Hard = wish.Hard
 
--- what was given with a turn more, which has this buffer
+-- what was read with one more turn, which has this buffer
 abbrev pub given_by : Turn → List ℕ → Meal → Meal
 given_by (turn.Piece n) buf meal = with_piece meal (take n buf)
 given_by turn.Over buf meal = with_next meal

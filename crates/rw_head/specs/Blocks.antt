@@ -25,8 +25,8 @@ sealed_of xs = first_blocks (length xs / 120) xs
 unfoldable pub open_of : List Point → List Point
 open_of xs = drop (length xs / 120 * 120) xs
 
--- The full blocks of each label set stay as they are, in their places: those that it had are a
--- prefix of those that it has.
+-- The full blocks of each label set do not change or move: those that it had are a prefix of those
+-- that it has.
 abbrev pub KeepsBlocks : Store → Store → Type 0
 KeepsBlocks old new = (l : Labels) → Begins (sealed_of (list_of old l)) (sealed_of (list_of new l))
 

@@ -1,4 +1,4 @@
--- The keys by which label sets are found: bytes that are in byte order just as the label sets do.
+-- The keys by which label sets are found: bytes in the same byte order as the label sets.
 use Rattle.std.specs.Prelude.{ℕ, suc, List, [], ◌∷◌, ◌++◌, map}
 use Rattle.std.specs.List.{flat_map}
 use Rattle.rw_types.specs.Labels.{Label, Labels}

@@ -20,7 +20,7 @@ is_later t [] = true
 is_later t (x ∷ []) = int_lt x.0 t
 is_later t (x ∷ y ∷ ys) = is_later t (y ∷ ys)
 
--- the same timestamp and word are there
+-- the list has the same timestamp and word
 abbrev pub holds : Point → List Point → Bool
 holds s [] = false
 holds s (x ∷ xs) = (int_eq x.0 s.0 && (x.1 == s.1)) || holds s xs

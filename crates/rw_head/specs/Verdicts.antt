@@ -55,6 +55,6 @@ abbrev pub judged : Store → Result Store Verdict → Judged
 judged store (Ok next) = record { verdict = Stored (total next - total store); store = next }
 judged store (Err v) = record { verdict = v; store = store }
 
--- the verdict on a message, if memory is there
+-- the verdict on a message, if memory suffices
 abbrev pub apply : LabelLimits → Store → WriteRequest → Judged
 apply limits store m = judged store (taken_all limits (Ok store) m)

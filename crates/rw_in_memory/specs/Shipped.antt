@@ -69,9 +69,10 @@ pub record IsOneEpoch (config : ConfigFields) (s : Shipping Line) : Type 0 where
 -- Some first pieces of the log were fed: all of them, and all of their entries placed, if
 -- `shipped.fed` is `Ok`, and all entries before the fault, if it says damaged (`feeds`). The
 -- shipper's own report is in `gathered`: what its workers were put, sent and read of each reply,
--- and that the parts name exactly what was dropped or refused so, and that the seats of the workers
--- were all that the head, which was `opening`, was asked. So it holds what is owed (`held`). Work
--- is abandoned only if the shipper failed, as `shipped.fed` then says, or a worker was cut.
+-- that the parts name exactly what was dropped or refused, and that the seats of the workers
+-- received all questions that the head, which was `opening`, was asked. So it holds what is owed
+-- (`held`). Work is abandoned only if the shipper failed, as `shipped.fed` then says, or a worker
+-- was cut.
 pub record IsShippedTo (opening : State) (path : List ℕ) (limit : ℕ) (config : ConfigFields) (log : List Piece) (shipped : Shipped) : Type 0 where
   pub fed : ℕ
   pub s : Shipping Line
@@ -95,6 +96,7 @@ pub record IsNew (limits : Limits) (opening : State) : Type 0 where
   pub max_label_bytes : opening.limits.max_label_bytes ≡ limits.max_label_bytes
   pub busy : opening.busy ≡ limits.busy_first
 
--- The head began so. Its endpoint had the path of the target, and read bodies of up to 64 MiB.
+-- This is how the head began. Its endpoint had the path of the target, and read bodies of up to 64
+-- MiB.
 abbrev pub IsShipped : ConfigFields → Limits → List Piece → Shipped → Type 0
 IsShipped config limits log shipped = (opening : State) × IsNew limits opening × IsShippedTo opening config.target.path 67108864 config log shipped

@@ -72,8 +72,8 @@ abbrev pub CanBeNoted : Taken → ℤ → Judged → Type 0
 CanBeNoted cache t (judged.Rising number) = (number < length (series_of cache.choice cache.definitions)) × (is_after (get cache.noted number) t ≡ true)
 CanBeNoted cache t _ = Unit {0}
 
--- a sample was placed: a cache of the entries before it is one with it, and a trouble that it has
--- is one more
+-- a sample was placed: a cache of the entries before it is one with it, and its trouble, if it has
+-- one, is one more
 pub record IsPlaced (cache new : Taken) (troubles now : List (ℕ × Trouble)) (position reference : ℕ) (t : ℤ) : Type 0 where
   pub placed : (before : List Entry) (word : ℕ) → IsCacheOf before cache → position ≡ length before
       → IsCacheOf (before ++ Sample reference t word ∷ []) new × (now ≡ troubles ++ trouble_of before (Sample reference t word))

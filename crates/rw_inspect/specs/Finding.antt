@@ -19,7 +19,7 @@ use Rattle.rw_inspect.specs.declared.finding.Found.{Found}
 use Rattle.rw_inspect.specs.declared.report.Segment.{Segment}
 use Rattle.rw_types.specs.Gathering.{gather}
 
--- all label sets, with names of any text
+-- all label sets, with any UTF-8 names
 abbrev pub any_names : Choice
 any_names = record { names = Utf8; rules = [] }
 
@@ -69,8 +69,8 @@ abbrev pub name_at : List Segment → ℕ → List ℕ
 name_at [] position = []
 name_at (s ∷ segments) position = if nat_lt position s.sums.entries then string_bytes s.name else name_at segments (position - s.sums.entries)
 
--- the line of a position that is there, by the name of its segment and the text of its entry, and
--- of one that is not
+-- the line of a position that exists, by the name of its segment and the text of its entry, and of
+-- one that does not
 unfoldable pub there_text : ℕ → List ℕ → List ℕ → List ℕ
 there_text position name text = decimal position ++ codes " " ++ name ++ codes " " ++ text ++ codes "\n"
 

@@ -14,7 +14,7 @@ use Rattle.rw_inspect.specs.declared.report.Damage.{Damage}
 use Rattle.rw_inspect.specs.declared.report.Report.{Report}
 use Rattle.rw_inspect.specs.declared.report.Segment.{Segment}
 
--- what is said of the source of a named segment
+-- what the source of a named segment has left
 abbrev pub source_of : {S : Type 0} {X : Type 0} → (S → X) → Named S → X
 source_of f n = f n.source
 
@@ -23,7 +23,7 @@ abbrev pub AllSure : List Bool → Type 0
 AllSure [] = ⊤
 AllSure (sure ∷ more) = (sure ≡ true) × AllSure more
 
--- a source that has this left is read to its end, and gives this text
+-- a source that has this left is read to its end, and returns this text
 abbrev pub IsRead : Option (List ℕ) → List ℕ → Type 0
 IsRead left text = (after : Option (List ℕ)) × Consumes left after text × IsAtEnd after
 
@@ -47,7 +47,7 @@ log_of [] = []
 log_of (text ∷ texts) = bytes text ∷ flat_map behind texts
 
 -- What is found in a segment after others: its bytes, the entries that it adds to the log, and the
--- records passed over in it.
+-- records skipped in it.
 pub record IsRow (done : List (List ℕ)) (text : List ℕ) (row : Segment) : Type 0 where
   pub length_is : row.bytes ≡ length text
   pub more : List Entry

@@ -19,7 +19,7 @@ right_text width text = take (width - length text) (codes "                     
 unfoldable pub field_text : List ℕ → ℕ → List ℕ
 field_text name n = name ++ decimal n
 
--- a timestamp, or what stands for none
+-- a timestamp, or the text for its absence
 abbrev pub time_text : List ℕ → Option ℤ → List ℕ
 time_text none None = none
 time_text none (Some t) = signed_decimal t
@@ -42,7 +42,7 @@ quoted text = 34 ∷ flat_map escaped text ++ 34 ∷ []
 unfoldable pub quoted_field : List ℕ → List ℕ → List ℕ
 quoted_field name text = name ++ quoted text
 
--- what is said of a fault
+-- the text about a fault
 abbrev pub fault_words : TailFault → List ℕ
 fault_words tail.OutOfMemory = codes "out of memory"
 fault_words tail.BadType = codes "no fragment has this type byte"

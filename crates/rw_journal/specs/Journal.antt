@@ -7,7 +7,7 @@ use Rattle.rw_journal.specs.declared.journal.JournalError.TheVariants.{Failed}
 abbrev pub Segments : Type 0
 Segments = List (List ℕ)
 
--- the last segment is changed so, and no other
+-- the last segment is changed in this way, and no other
 abbrev pub on_last : (List ℕ → List ℕ) → Segments → Segments
 on_last f [] = []
 on_last f (s ∷ []) = f s ∷ []

@@ -8,7 +8,7 @@ use Rattle.rw_log_commands.specs.Running.{output_of}
 use Rattle.rw_text.specs.declared.tool_fault.ToolFault.{ToolFault}
 use Rattle.rw_text.specs.declared.tool_fault.ToolFault.TheVariants.{OutOfMemory, Log, Line, SegmentFull, Device}
 
--- a fault of log text for one segment: its first bad line, or else records that have no room
+-- a fault of log text for one segment: its first bad line, or otherwise records that have no room
 abbrev pub IsFaultOfLog : ℕ → List ℕ → ToolFault → Type 0
 IsFaultOfLog pages text OutOfMemory = Unit {0}
 IsFaultOfLog pages text (Log f) = ⊥
@@ -50,8 +50,8 @@ WritesLogPart hex pages left_before left_after before after =
     (recs : List (List ℕ)) × ReadsRecords pages left_before left_after recs
     × ((n : ℕ) × (n ≤ length (output_of hex (segment_of recs))) × Appends before after (take n (output_of hex (segment_of recs))))
 
--- a fault of log text for segments one after the other: its first bad line, or else a record that
--- has no room in an empty segment
+-- a fault of log text for segments one after the other: its first bad line, or otherwise a record
+-- that has no room in an empty segment
 abbrev pub IsFaultOfAny : ℕ → List ℕ → ToolFault → Type 0
 IsFaultOfAny pages text (Line number) = IsBadLine text number
 IsFaultOfAny pages text SegmentFull = (recs : List (List ℕ)) × AreRecords (lines text) recs × (pages * (page_size - 7) < longest_of recs)

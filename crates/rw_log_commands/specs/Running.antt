@@ -15,8 +15,7 @@ abbrev pub StandsFor : Bool → List ℕ → List ℕ → Type 0
 StandsFor false input segment = input ≡ segment
 StandsFor true input segment = read_text input ≡ Ok segment
 
--- what is written of a text, which is hexadecimal text with a newline at its end, or the bytes
--- alone
+-- what is written of a text: hexadecimal text with a newline at its end, or the bytes alone
 abbrev pub output_of : Bool → List ℕ → List ℕ
 output_of false text = text
 output_of true text = hex_text text ++ 10 ∷ []

@@ -28,8 +28,8 @@ AllEndBetween page [] [] = Unit {0}
 AllEndBetween page (text ∷ texts) (r ∷ rs) = EndsBetween page text r × AllEndBetween page texts rs
 AllEndBetween page _ _ = ⊥
 
--- How a log stops at a segment that stops so. If another segment follows, there is a fault: the one
--- of the segment, or that its last record is not whole.
+-- How a log stops at a segment that stops in this way. If another segment follows, there is a
+-- fault: the one of the segment, or that its last record is not whole.
 abbrev pub LogStops : List (List ℕ) → Stop → Stop → Type 0
 LogStops [] own stop = stop ≡ own
 LogStops (next ∷ later) between stop = ⊥

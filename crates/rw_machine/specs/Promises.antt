@@ -89,7 +89,7 @@ HoldsNothingElse c w = (l : Labels) → kept_points c.choice (log w) l ≡ [] �
 abbrev pub IsClosedForGood : Setup → World → Type 0
 IsClosedForGood c w = (i : ℕ) (s : Shard) → slice_get w.shards i ≡ Some s → (s.core.ended ≡ true) ⊎ (w.killed ≡ true) → happens c w (event.Take i) ≡ w
 
--- how a sample of a kept series is accounted for, by whether it rises
+-- how a sample of a kept series is accounted for, by whether it is later than those before it
 abbrev pub AccountedKept : Option Reason → Bool → Type 0
 AccountedKept named true = (named ≡ None) ⊎ ((status : ℕ) × (named ≡ Some (Status status)))
 AccountedKept named false = named ≡ Some NotRising
@@ -209,8 +209,8 @@ pub record CanWork (c : Setup) : Type 0 where
   pub batch : 1 ≤ c.batch
   pub shards : 1 ≤ c.shards
 
--- what `settle` leaves: a report; if nothing was killed, that all is through or that the log was
--- damaged, and the head holds all of it
+-- what `settle` leaves: a report; if nothing was killed, that everything is resolved or that the
+-- log was damaged, and the head holds all of it
 pub record IsSettled (c : Setup) (w v : World) : Type 0 where
   pub reports : (e : Ending) × (report v ≡ Some e)
   pub same_log : log v ≡ log w

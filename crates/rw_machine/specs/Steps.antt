@@ -43,7 +43,7 @@ feed w piece = if is_some w.closed then w else record w { pieces = w.pieces ++ p
 abbrev pub shard_of : World → Labels → ℕ
 shard_of w l = number_of w.series l % length w.shards
 
--- the sample that a shard is handed next
+-- the sample that a shard is given next
 abbrev pub next_sample : World → ℕ → Labels → ℤ → ℕ → Shard → Placed
 next_sample w i l t word s = record {
   place = record { epoch = w.epoch; shard = i; seq = length s.put; pos = w.placed; series = number_of w.series l };
@@ -190,8 +190,8 @@ unless_over c w (event.Arrive k how) over = arrive c w how (slice_get w.requests
 unless_over c w e true = w
 unless_over c w e false = act c w e
 
--- one event: if its guard fails nothing changes, and once there is a report only requests go on
--- arriving
+-- one event: if its guard fails nothing changes, and once there is a report only requests still
+-- arrive
 abbrev pub happens : Setup → World → Event → World
 happens c w e = unless_over c w e (is_over w)
 

@@ -22,7 +22,7 @@ use Rattle.rw_shard_core.specs.Endings.{Ending, Complete, Abandoned, Damaged}
 -- what the sender and the receiver are set to
 pub record Setup : Type 0 where
   pub target : Target
-  pub shards : ℕ  -- at the beginning
+  pub shards : ℕ  -- at the start
   pub capacity : ℕ  -- of a queue, in items
   pub batch : ℕ  -- the most samples of a batch
   pub choice : Choice

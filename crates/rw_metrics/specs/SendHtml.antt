@@ -65,7 +65,7 @@ attempts_table n =
     ++ failures_rows n.failures
     ++ table_end
 
--- how many hundredths of a folder were read, if its bytes are known
+-- the percentage of a folder that was read, if its bytes are known
 unfoldable pub percent_row : (bytes all : ℕ) → List ℕ
 percent_row bytes all =
     if all == 0 then [] else row (codes "Percent of the folder") (percent bytes all)

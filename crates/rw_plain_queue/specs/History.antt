@@ -24,7 +24,7 @@ StandsBefore p q = p.pos < q.pos
 abbrev pub EndIsLast : List Item → Type 0
 EndIsLast put = (before after : List Item) (kind : Kind) → put ≡ before ++ End kind ∷ after → after ≡ []
 
--- so few samples that a queue may have had them all
+-- few enough samples that a queue may have had them all
 abbrev pub IsFew : List Item → Type 0
 IsFew put = length (places_in put) ≤ 2 ^ 60
 

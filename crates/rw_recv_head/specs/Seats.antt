@@ -65,9 +65,9 @@ pub record HasAsked (opening : State) (old : Seated) (body : List ℕ) (status :
   pub nothing : status ≢ 204 → new.stored ≡ old.stored
   pub counted : total (store_after opening (bodies_of new.asked)) + old.stored ≡ total (store_after opening (bodies_of before)) + new.stored
 
--- What a head holds once all seats are back: what it takes of all that it was asked, in one order.
--- Each seat knew the first of these questions, and all of its own; and each question is one of
--- these seats, which have numbers of their own.
+-- What a head holds once all seats were returned: what it takes of all that it was asked, in one
+-- order. Each seat knew the first of these questions, and all of its own; and each question is of
+-- one of these seats, which have different numbers.
 pub record HasGathered (opening : State) (seats : List Seated) (store : Store) : Type 0 where
   pub asked : List Question
   pub holds : store ≡ store_after opening (bodies_of asked)

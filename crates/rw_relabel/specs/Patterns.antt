@@ -10,7 +10,7 @@ use Rattle.regex.specs.Strings.{IsDefaultFailure}
 use Rattle.regex.specs.declared.error.Error.{Error}
 use Rattle.regex.specs.declared.error.Error.TheVariants.{Internal, OutOfMemory}
 
--- the pattern as it is used: from the beginning to the end of a text, with `.` for a newline too
+-- the pattern as it is used: from the start to the end of a text, with `.` for a newline too
 abbrev pub anchored : List ℕ → List ℕ
 anchored pattern = codes "^(?s:" ++ pattern ++ codes ")$"
 

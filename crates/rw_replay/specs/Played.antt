@@ -31,8 +31,8 @@ is_full offset rec = nat_lt (room page_size segment_pages offset) (length rec)
 abbrev pub next_segment : Order
 next_segment = order_of_event (event.Feed piece.NextSegment)
 
--- the lines that feed a record to the log: it is written after what there is, or if it has no
--- room there at the front of a next segment
+-- the lines that feed a record to the log: it is written after what there is, or, if it has no room
+-- there, at the front of a next segment
 abbrev pub feeds : ℕ → List ℕ → List Order
 feeds offset rec =
     if is_full offset rec then next_segment ∷ fed (log_bytes page_size 0 rec) ∷ []

@@ -53,7 +53,7 @@ pub record IsBadLine (text : List ℕ) (number : ℕ) : Type 0 where
   pub some : 0 < length line
   pub bad : (o : Order) → IsOrder line o → is_mixed (orders ++ o ∷ []) ≡ true
 
--- a fault is that of the first bad line; of memory nothing is said
+-- a fault is that of the first bad line; nothing is said about memory
 abbrev pub IsFaultOfScript : List ℕ → ScriptFault → Type 0
 IsFaultOfScript text fault.OutOfMemory = Unit {0}
 IsFaultOfScript text (fault.Line number) = IsBadLine text number

@@ -2,7 +2,7 @@
 use Rattle.std.specs.Prelude.{ℕ, ◌+◌, ◌*◌, min, max, ◌==◌, nat_lt, if◌then◌else◌}
 use Rattle.std.specs.Int.{div_ceil, abs_diff}
 
--- a number, brought into a range
+-- a number, limited to a range
 abbrev pub within : ℕ → ℕ → ℕ → ℕ
 within least most n = min (max least n) most
 

@@ -9,7 +9,7 @@ use Rattle.rw_endpoint.specs.Replies.{is_verdict}
 abbrev pub IsRequest : List ℕ → ℕ → List ℕ → Type 0
 IsRequest path limit input = ((body : List ℕ) × IsOneRequest path limit input body) ⊎ ((status : ℕ) × IsOneRefusal path limit input status)
 
--- the body was answered with this status; or memory ran out, and it was not asked
+-- the body was answered with this status; or memory ran out, and nothing was asked
 abbrev pub IsAnswered : {S : Type 0} → (S → List ℕ → ℕ → S → Type 0) → List ℕ → S → Result ℕ AllocError → S → Type 0
 IsAnswered answers body old (Ok status) new = answers old body status new × IsTrue (is_verdict status)
 IsAnswered answers body old (Err e) new = new ≡ old

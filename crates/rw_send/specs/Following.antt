@@ -32,7 +32,7 @@ use Rattle.rw_send.specs.Segments.{AreShort}
 use Rattle.rw_send.specs.Halting.{IsHalted}
 use Rattle.rw_send.specs.Sending.{Answers, IsReportOf, StopsAtOnce}
 
--- nothing was given of the log, of which no segment is over
+-- nothing was read of the log, and none of its segments is over
 pub record IsUnread (m : Moment) : Type 0 where
   pub done : m.done ≡ []
   pub given : m.given ≡ []
@@ -58,7 +58,7 @@ MarksBy turn.Flush old new = new.fleet.current ≡ map marked old.fleet.current
 MarksBy turn.Nothing old new = new ≡ old
 MarksBy (turn.Stopped s) old new = new ≡ old
 
--- the turn gave some bytes
+-- the turn returned some bytes
 abbrev pub IsPiece : Turn → Type 0
 IsPiece (turn.Piece n) = ⊤
 IsPiece turn.Over = ⊥
@@ -79,25 +79,27 @@ HaltsAt turn old new halt.Failed =
     IsSome new.fault ⊎ (IsPiece turn × (new.log.pieces ≡ old.log.pieces))
 HaltsAt turn old new halt.Unreadable = ⊥
 
--- the log has given more bytes than were fed
+-- the log has returned more bytes than were fed
 abbrev pub HasGivenMore : Option Moment → Meal → Type 0
 HasGivenMore now fed =
     (more : List ℕ) × (0 < length more) × Known now (λ m. IsGivenAt (with_piece fed more) m)
 
--- The shipper failed, the log is damaged, or memory ran out for bytes that the log has given.
+-- The shipper failed, the log is damaged, or memory ran out for bytes that the log has returned.
 abbrev pub HaltsFor : {T : Type 0} → Shipping T → Option Moment → Halt → Type 0
 HaltsFor s now (halt.Damaged f) = ⊤
 HaltsFor s now halt.Failed = IsSome s.fault ⊎ HasGivenMore now (meal_of s.log.pieces)
 HaltsFor s now halt.Unreadable = ⊥
 
--- If the shipper takes no more, the log has the fault for which it does not. A call that failed
--- was one of a log of which calls may fail (`unsure`). A segment is missing that the log says is.
+-- If the shipper takes no more, the log has the fault that stopped it. A call that failed was one
+-- of a log whose calls may fail (`unsure`). A segment that is reported as missing is missing in the
+-- log.
 abbrev pub IsCut : {T : Type 0} → Shipping T → Option Moment → (unsure : Type 0) → Cut → Type 0
 IsCut s now unsure (cut.Broken (broken.Unreadable f)) = unsure
 IsCut s now unsure (cut.Broken (broken.Missing n)) = Known now (HasGap n)
 IsCut s now unsure (cut.Halted h) = IsHalted s h × HaltsFor s now h
 
--- how the reading ended: by a hard sign, and if a segment is missing, as if it cannot be read
+-- how the reading ended: by a request to stop at once, and if a segment is missing, as if it cannot
+-- be read
 abbrev pub shipped_by : Result Stop Cut → Result (Unit {0}) Halt
 shipped_by (Ok stop.Orderly) = Ok tt
 shipped_by (Ok stop.Hard) = Err halt.Unreadable
@@ -118,7 +120,7 @@ answer_by (Err (cut.Broken (broken.Missing n))) answer = Err (fault.Missing n)
 answer_by (Err (cut.Broken (broken.Unreadable f))) answer = told answer
 answer_by (Err (cut.Halted h)) answer = told answer
 
--- the answer if work was left that nobody asked to leave
+-- the answer if work was left without a request to leave it
 abbrev pub left_undone : Result (Unit {0}) FollowFault
 left_undone = Err (fault.Tool tool.OutOfMemory)
 
@@ -136,8 +138,8 @@ FollowAnswers now said fed o (Err (fault.Missing n)) = IsAbandoned o × Known no
 FollowAnswers now said fed o (Err fault.Stopped) = IsAbandoned o × (said ≡ wish.Hard)
 
 -- Why a following that answers so was stopped at once: it was asked to, a segment is missing, a
--- call failed of a log of which calls may fail (`unsure`), or memory ran out for bytes that the
--- log has given.
+-- call failed of a log whose calls may fail (`unsure`), or memory ran out for bytes that the log
+-- has returned.
 abbrev pub FollowStopsAtOnce : Option Moment → Wish → (unsure : Type 0) → Meal
     → Result (Unit {0}) FollowFault → Type 0
 FollowStopsAtOnce now said unsure fed (Ok u) = ⊥
@@ -146,9 +148,9 @@ FollowStopsAtOnce now said unsure fed (Err (fault.Tool f)) =
 FollowStopsAtOnce now said unsure fed (Err (fault.Missing n)) = Known now (HasGap n)
 FollowStopsAtOnce now said unsure fed (Err fault.Stopped) = said ≡ wish.Hard
 
--- A prefix of the segments' texts was shipped in order, in short pieces, with word of a next
--- segment between two, and nothing else; with this report and this answer. `is_sure` says whether
--- no call of the log fails.
+-- A prefix of the segments' texts was shipped in order, in short pieces, with the end of a segment
+-- between two, and nothing else; with this report and this answer. `is_sure` says whether no call
+-- of the log fails.
 pub record IsFollowed {T : Type 0} (tells : T → Type 0) (seen : T → List Exchange)
     (is_for : ℕ → ℕ → T → Type 0) (c : ConfigFields) (limit : Option ℕ) (is_sure : Bool)
     (now : Option Moment) (said : Wish) (r : Report T) (answer : Result (Unit {0}) FollowFault)

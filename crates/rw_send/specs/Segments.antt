@@ -22,7 +22,7 @@ abbrev pub AreShort : List Piece → Type 0
 AreShort [] = ⊤
 AreShort (piece ∷ pieces) = IsShort piece × AreShort pieces
 
--- a reader gave all that it had left, if that is known
+-- a reader returned all that it had left, if that is known
 abbrev pub IsAllOf : Option (List ℕ) → List ℕ → Type 0
 IsAllOf None text = ⊤
 IsAllOf (Some left) text = text ≡ left
@@ -49,7 +49,7 @@ abbrev pub HasMoreBytes : List (Option (List ℕ)) → List Piece → Type 0
 HasMoreBytes lefts pieces = (rest : List ℕ) × (later : List Piece) × (0 < length rest)
     × IsLogOf lefts (pieces ++ bytes rest ∷ later)
 
--- before a segment's bytes is word of it, unless it is the first
+-- the end of the segment before comes before a segment's bytes, unless it is the first
 abbrev pub OpensSegment : Bool → List Piece → List Piece → Type 0
 OpensSegment true old new = new ≡ old
 OpensSegment false old new = new ≡ old ++ next_segment ∷ []
@@ -79,11 +79,11 @@ pub record IsFedPart (left : Option (List ℕ)) (old new : List Piece) : Type 0 
 abbrev pub IsFedLess : Option (List ℕ) → List Piece → List Piece → Type 0
 IsFedLess left old new = (part : IsFedPart left old new) × (0 < length part.rest)
 
--- a reader gave some bytes
+-- a reader returned some bytes
 abbrev pub IsSomeRead : Option (List ℕ) → Option (List ℕ) → Type 0
 IsSomeRead before after = (text : List ℕ) × (0 < length text) × Consumes before after text
 
--- a reader gave some bytes more, and they were fed
+-- a reader returned some bytes more, and they were fed
 pub record IsFedMore (left_before left_after : Option (List ℕ)) (old new : List Piece) : Type 0 where
   pub text : List ℕ
   pub consumed : Consumes left_before left_after text

@@ -75,7 +75,7 @@ Answers whole unsure o (Err fault.Device) = IsAbandoned o × unsure
 Answers whole unsure o (Err (fault.Line n)) = ⊥
 Answers whole unsure o (Err fault.SegmentFull) = ⊥
 
--- why a run that answers so was stopped at once: memory for a piece was refused, or a read failed
+-- why a run that answers so was stopped at once: memory for a piece ran out, or a read failed
 abbrev pub StopsAtOnce : (refused unsure : Type 0) → Result (Unit {0}) ToolFault → Type 0
 StopsAtOnce refused unsure (Ok u) = ⊥
 StopsAtOnce refused unsure (Err (fault.Log f)) = ⊥

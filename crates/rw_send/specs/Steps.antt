@@ -54,8 +54,8 @@ pub record IsSet {T : Type 0} (more : Bool) (fewest most : ℕ) (old new : Shipp
 abbrev pub HasPutAll : {T : Type 0} → Shipping T → Type 0
 HasPutAll s = (s.log.placed ≡ entries s.log.pieces) × PlacesAll s.log s.fleet
 
--- all that a reader had left was fed, after word of a next segment unless it is the first, and
--- then the number of shards was set, if more is to come
+-- all that a reader had left was fed, after the end of the segment before unless it is the first,
+-- and then the number of shards was set, if more is to come
 pub record IsShipped {T : Type 0} (fewest most : ℕ) (first : Bool) (left : Option (List ℕ)) (more : Bool) (old new : Shipping T) : Type 0 where
   pub begun : List Piece
   pub begins : OpensSegment first old.log.pieces begun
@@ -69,7 +69,7 @@ abbrev pub is_some_more : {A : Type 0} → List A → Bool
 is_some_more [] = false
 is_some_more (x ∷ xs) = true
 
--- so the segments of these readers, in order
+-- the same for the segments of these readers, in order
 abbrev pub AreShipped : {T : Type 0} → (fewest most : ℕ) → Bool → List (Option (List ℕ)) → Shipping T → Shipping T → Type 0
 AreShipped fewest most first [] old new = new ≡ old
 AreShipped {T} fewest most first (left ∷ lefts) old new = (next : Shipping T) × IsShipped fewest most first left (is_some_more lefts) old next × AreShipped fewest most false lefts next new
@@ -84,7 +84,7 @@ pub record HasHalted {T : Type 0} (first : Bool) (left : Option (List ℕ)) (old
   pub limit : new.limit ≡ fed.limit
   pub fleet : (new.fleet ≡ fed.fleet) ⊎ HasCompared fed.fleet new.fleet
 
--- so the segments of these readers, in order, as far as the reading came
+-- the same for the segments of these readers, in order, as far as the reading came
 abbrev pub AreShippedPart : {T : Type 0} → (fewest most : ℕ) → Bool → List (Option (List ℕ)) → Shipping T → Shipping T → Type 0
 AreShippedPart fewest most first [] old new = new ≡ old
 AreShippedPart {T} fewest most first (left ∷ lefts) old new = HasHalted first left old new ⊎ ((next : Shipping T) × IsShipped fewest most first left (is_some_more lefts) old next × AreShippedPart fewest most false lefts next new)

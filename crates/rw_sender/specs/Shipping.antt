@@ -72,7 +72,7 @@ pub record GoesOn {T : Type 0} (limit : Option ℕ) (old new : Sorting) (was now
   pub kept : AreKept was.current now.current
   pub marks : limit ≡ None → map marks_of now.current ≡ map marks_of was.current
 
--- what one step of the feeder came to
+-- what one step of the feeder resulted in
 abbrev pub Steps : Sorting → Progress → Type 0
 Steps log Placed = log.hand ≡ []
 Steps log End = (log.hand ≡ []) × HasRead log.pieces log.placed None
@@ -82,7 +82,7 @@ abbrev pub answer_to : Fault → FeedFault
 answer_to queue_fault.OutOfMemory = OutOfMemory
 answer_to queue_fault.Gone = Gone
 
--- it has failed, by what the answer says
+-- it has failed, if the answer says so
 abbrev pub FailsBy : Option Fault → FeedFault → Type 0
 FailsBy None e = ⊥
 FailsBy (Some f) e = e ≡ answer_to f

@@ -66,8 +66,8 @@ pub record HoldsAllOf {T : Type 0} (c : ConfigFields) (pieces : List Piece) (r :
   pub each : (l : Labels)
       → list_of store l ≡ map pair_of (owed names (kept_points (choice_of c) (entries pieces) l))
 
--- So it is of what was placed (`placed`), if the last epoch of a shipper that abandoned work had at
--- most 1000 shards; and of all that was fed, if the outcome is complete.
+-- This is true of what was placed (`placed`), if the last epoch of a shipper that abandoned work
+-- had at most 1000 shards; and of all that was fed, if the outcome is complete.
 pub record Holds {T : Type 0} (c : ConfigFields) (s : Shipping T) (pieces : List Piece)
     (r : Report T) (store : Store) : Type 0 where
   pub placed : (IsAbandoned r.outcome → length s.fleet.current ≤ 1000) → IsHeld s r store

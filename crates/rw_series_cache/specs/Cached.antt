@@ -32,7 +32,7 @@ pub record Judged : Type 0 where
 abbrev pub Shared : Type 0
 Shared = Arc (List (List ℕ × List ℕ)) Global
 
--- of all these label sets the rules say the same
+-- the rules decide the same for all these label sets
 abbrev pub AllJudged : Choice → Bool → List Shared → Type 0
 AllJudged choice is_kept sets = (set : Shared) → list_any (λ (s : Shared). labels_eq (arc_value set) (arc_value s)) sets ≡ true → keeps choice.rules (arc_value set) ≡ is_kept
 

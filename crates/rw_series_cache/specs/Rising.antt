@@ -18,7 +18,7 @@ is_after_all t ps = list_all (λ (p : ℕ × ℤ × ℕ). int_lt p.1 t) ps
 unfoldable pub rises : Choice → List Entry → Labels → ℤ → Bool
 rises choice before l t = is_after_all t (kept_points choice before l)
 
--- later than what is noted, if something is
+-- later than the noted timestamp, if there is one
 abbrev pub is_after : Option ℤ → ℤ → Bool
 is_after None t = true
 is_after (Some last) t = int_lt last t

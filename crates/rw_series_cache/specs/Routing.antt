@@ -70,12 +70,12 @@ pub record IsRising (cache : Taken) (series : ℕ) (t : ℤ) : Type 0 where
 abbrev pub WouldSend : Choice → List Entry → ℕ → ℤ → ℕ → Type 0
 WouldSend choice before reference t series = (l : Labels) × (fate choice before reference t ≡ Sends l) × HasNumber (series_of choice before) l series
 
--- it would not
+-- it would not be sent
 abbrev pub WouldKeep : Choice → List Entry → ℕ → ℤ → Type 0
 WouldKeep choice before reference t = (l : Labels) → fate choice before reference t ≡ Sends l → ⊥
 
--- Memory may be refused of this entry: of a definition of a label set, of the first definition of
--- its reference, and of a sample that is sent.
+-- Memory may run out for this entry: for a definition of a label set, for the first definition of
+-- its reference, and for a sample that is sent.
 abbrev pub TakesMemory : Choice → List Entry → Entry → Type 0
 TakesMemory choice before (Def reference l) = (label_fault choice.names l ≡ None) ⊎ (known choice before reference ≡ Unknown)
 TakesMemory choice before (Sample reference t word) = (l : Labels) × (fate choice before reference t ≡ Sends l)

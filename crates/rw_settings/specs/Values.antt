@@ -42,7 +42,7 @@ text_at test (Some value) = text_if test (as_str value)
 abbrev pub any_text : List ℕ → Bool
 any_text text = true
 
--- the names that a text says: `legacy` or `utf8`
+-- the naming scheme that a text says: `legacy` or `utf8`
 abbrev pub names_in : List ℕ → Result (Option Names) SettingsFault
 names_in text =
     if bytes_eq text (codes "legacy") then Ok (Some Legacy)
@@ -57,7 +57,7 @@ abbrev pub names_at : Option Data → Result (Option Names) SettingsFault
 names_at None = Ok None
 names_at (Some value) = names_if (as_str value)
 
--- what was found, or the default if there is nothing that can be taken
+-- what was found, or the default if there is nothing valid
 abbrev pub found_or : {A : Type 0} → A → Result (Option A) SettingsFault → A
 found_or default (Ok (Some x)) = x
 found_or default _ = default

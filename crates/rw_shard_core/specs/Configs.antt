@@ -4,7 +4,7 @@ use Rattle.rw_types.specs.declared.names.Names.TheVariants.{Legacy}
 use Rattle.rw_relabel.specs.declared.choice.Choice.{Choice}
 use Rattle.rw_shard_core.specs.declared.config.ConfigFields.{ConfigFields}
 
--- the shards at the beginning, and the least and the most backoff, are between their bounds
+-- the shards at the start, and the least and the most backoff, are between their bounds
 abbrev pub is_ordered : ConfigFields → Bool
 is_ordered c =
     (nat_le c.min_shards c.shards && nat_le c.shards c.max_shards) && nat_le c.min_backoff_ms c.max_backoff_ms

@@ -15,7 +15,7 @@ abbrev pub batch_part : Option OpenBatch → List Placed → List Placed
 batch_part None pending = []
 batch_part (Some opened) pending = pending
 
--- and else those of the builder
+-- or otherwise those of the builder
 abbrev pub builder_part : Option OpenBatch → List Placed → List Placed
 builder_part None pending = pending
 builder_part (Some opened) pending = []

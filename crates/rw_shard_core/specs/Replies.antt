@@ -1,5 +1,5 @@
 -- The status of a reply (RFC 9110, section 15.2; RFC 9112, section 4): informational heads are
--- passed over.
+-- skipped.
 use Rattle.std.specs.Prelude.{◌≡◌, ℕ, ◌-◌, ◌<◌, ◌≤◌, List, [], ◌∷◌, ◌++◌, length, drop}
 use Rattle.httparse.specs.Grammar.{ResponseHead, ReadsResponse, HasNoResponse, MayBecomeResponse, print_response, status_code}
 use Rattle.rw_shard_core.specs.declared.replies.ReplyRead.{ReplyRead}
@@ -39,7 +39,7 @@ Answers status room text =
 abbrev pub EndsEarly : ℕ → List ℕ → Type 0
 EndsEarly room text = HasNoResponse text × MayBecomeResponse text × (length text < room)
 
--- no reply is here
+-- no reply comes here
 abbrev pub HasNoReply : ℕ → List ℕ → Type 0
 HasNoReply room text = (status : ℕ) → ¬ (Passes (Answers status) room text)
 

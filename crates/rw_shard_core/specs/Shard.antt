@@ -1,4 +1,4 @@
--- One shard of a sender after its queue: what it took, its builder and its open batch
+-- One shard of a sender behind its queue: what it took, its builder and its open batch
 -- (Remote-Write 1.0, "Ordering" and "Retries & backoff").
 use Rattle.std.specs.Prelude.{◌≡◌, ℕ, ℤ, ◌+◌, ◌-◌, ◌<◌, ◌≤◌, List, [], ◌∷◌, ◌++◌, length, map, Bool, true, false, not, ◌&&◌, ◌||◌, ◌==◌, nat_le, Option, None, Some, Ok, All, IfSome, if◌then◌else◌, ⊤}
 use Rattle.std.specs.Ordering.{nat_cmp}
@@ -23,7 +23,7 @@ use Rattle.rw_shard_core.specs.SentRequest.{request_of}
 use Rattle.rw_shard_core.specs.declared.config.Target.{Target}
 use Rattle.rw_shard_core.specs.declared.shard.Attempt.{Attempt}
 
--- No open batch is an empty one.
+-- No open batch is empty.
 pub record Core : Type 0 where
   pub target : Target
   pub epoch : ℕ
@@ -34,7 +34,7 @@ pub record Core : Type 0 where
   pub builder : List Placed
   pub marked : Bool  -- a mark was taken while the builder was not empty
   pub batch : List Placed
-  pub waiting : Bool  -- an attempt of the open batch is under way
+  pub waiting : Bool  -- an attempt to send the open batch is under way
   pub ended : Bool  -- its End was taken
   pub killed : Bool
 
@@ -68,7 +68,7 @@ positions_of ps = map (λ (p : Place). p.pos) ps
 abbrev pub positions : List Placed → List ℕ
 positions xs = positions_of (places_of xs)
 
--- the labels and the sample alone
+-- the sample with its labels
 abbrev pub labelled : Placed → LabelledSample
 labelled x = record { labels = x.labels; sample = (x.word, x.t) }
 
@@ -160,7 +160,7 @@ request_for c = request_of c.target.host c.target.path (body_of c.batch)
 abbrev pub attempt_for : Core → Attempt
 attempt_for c = record { id = batch_id c.batch; request = request_for c }
 
--- Lost, and a reply but for its id: the guard
+-- Lost, and a reply except for its id: the guard
 abbrev pub awaits : Core → Bool
 awaits c = not c.killed && (not (is_empty c.batch) && c.waiting)
 
@@ -183,7 +183,7 @@ same_id a b = (a.epoch == b.epoch && a.shard == b.shard) && a.seq == b.seq
 abbrev pub is_answer : BatchId → Core → Bool
 is_answer id c = awaits c && same_id id (batch_id c.batch)
 
--- a batch that is done or refused is resolved, another is sent again
+-- a batch that is done or refused is resolved, any other is sent again
 abbrev pub settle : Judgement → Core → Core
 settle Done c = resolve c
 settle Refused c = resolve c
@@ -218,13 +218,13 @@ pub record HasRoomFor (c : Core) (l : Named) : Type 0 where
 abbrev pub kill : Core → Core
 kill c = record c { killed = true }
 
--- each sample is the next one of that before it
+-- each sample is the one after the sample before it
 abbrev pub AreInRow : List Placed → Type 0
 AreInRow [] = ⊤
 AreInRow (x ∷ []) = ⊤
 AreInRow (x ∷ y ∷ ys) = IsNext x y × AreInRow (y ∷ ys)
 
--- What holds of each core: what was taken is what was resolved, and then the open batch or the
+-- What is true of each core: what was taken is what was resolved, and then the open batch or the
 -- builder.
 pub record IsCore (c : Core) : Type 0 where
   pub whole : c.taken ≡ c.resolved ++ pending c

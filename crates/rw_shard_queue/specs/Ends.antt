@@ -9,7 +9,8 @@ use Rattle.rw_shard_queue.specs.Rule.{Filled}
 use Rattle.rw_shard_queue.specs.declared.rule.Log.{Log}
 
 -- which queue it is: the shard and its epoch, how many items it holds at most, how many blocks the
--- channel holds, how many items a block has at most, and what no other channel shares with it
+-- channel holds, how many items a block has at most, and what distinguishes its channel from all
+-- others
 pub record QueueId : Type 0 where
   pub epoch : ℕ
   pub shard : ℕ

@@ -1,5 +1,5 @@
--- What the two ends of a queue know. One pass at most feeds, and it has the list of what was handed
--- over; one at most drains.
+-- What the two ends of a queue know. At most one pass feeds, and it has the list of what was handed
+-- over; at most one drains.
 use Rattle.std.specs.Prelude.{◌≡◌, ℕ, ◌≤◌, ◌<◌, ◌+◌, ◌*◌, true, false, List, [], ◌∷◌, ◌++◌, length, ⊤}
 use mathlib.Core.Option.{some}
 use lib.ListN.{get_elem?}
@@ -71,8 +71,8 @@ pub record IsRelayed (blocks : List Filled) (views : List Log) : Type 0 where
 abbrev pub HandsOver : Log → Log → List Item → List Item → Type 0
 HandsOver v w held left = (w ≡ feeder v.name (v.put ++ held)) × (left ≡ [])
 
--- the items of the block join what was taken, which still is a history of the queue; there is one,
--- and no more than a block may have, which the block has room for
+-- the items of the block join what was taken, which still is a history of the queue; there is at
+-- least one, and no more than a block may have, and the block has room for these
 abbrev pub Took : Log → Filled → Log → Type 0
 Took v x w = (w ≡ drainer v.name (v.taken ++ x.items)) × IsHistory v.name.epoch v.name.shard (v.taken ++ x.items) × (0 < length x.items) × (length x.items ≤ v.name.most) × (x.most ≡ v.name.most)
 

@@ -1,4 +1,4 @@
--- What a run of the machine says of a report, in the report's own words.
+-- What a run of the machine says about a report, in the terms of the report.
 use Rattle.std.specs.Prelude.{◌≡◌, ℕ, ◌<◌, List, length, take, Option, Some, None, slice_get}
 use Rattle.rw_types.specs.declared.entry.Entry.{Entry}
 use Rattle.rw_types.specs.declared.entry.Entry.TheVariants.{Def, Sample}
@@ -31,6 +31,6 @@ pub record AccountsForAll {T : Type 0} (s : Shipping T) (r : Report T) : Type 0 
   pub each : (p : ℕ) → p < length s.log.placed → (named : Option Reason) × IsNamedAs r.parts.items p named × AccountedAs s.log.choice s.log.placed p named (slice_get s.log.placed p)
   pub no_other : (p : ℕ) → (p < length s.log.placed → ⊥) → IsNamedAs r.parts.items p None
 
--- so does the report of each shipper that is a run of the machine
+-- the same for the report of each shipper that is a run of the machine
 abbrev pub RunAccounts : {T : Type 0} → (T → Type 0) → (T → List Exchange) → (ℕ → ℕ → T → Type 0) → Shipping T → Report T → Type 0
 RunAccounts tells seen is_for s r = (c : Setup) → HasStopped tells seen is_for s r → IsMachineOf c s → IsRun tells seen c s r → AccountsForAll s r

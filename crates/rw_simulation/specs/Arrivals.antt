@@ -20,8 +20,9 @@ pub record Arrival : Type 0 where
   pub how : How
   pub status : ℕ
 
--- The receiver answers these bytes so, from one head to the next one: without a look at them, or as
--- its endpoint answers the batch that they carry, of which the body reads again as its message.
+-- The receiver answers these bytes in this way, from one head to the next one: without a look at
+-- them, or as its endpoint answers the batch that they carry, whose body reads again as its
+-- message.
 abbrev pub Receives : Setup → How → List ℕ → State → ℕ → State → Type 0
 Receives c Plain bytes head status next =
     (batch : List Placed) → IsReadAgain batch → bytes ≡ batch_request c.target batch

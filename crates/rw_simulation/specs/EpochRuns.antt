@@ -53,7 +53,7 @@ end_in (Flush ∷ xs) = end_in xs
 end_in (End kind ∷ xs) = Some kind
 
 -- The shard's worker has taken all that it will take of what was put: its queue is empty, or it
--- makes no step more.
+-- makes no more steps.
 pub record IsReady (c : Setup) (k : ℕ) (s : Shard) (d : Coming) : Type 0 where
   pub numbered : IsShardNumbered k s.core
   pub allowed : AreSteps (working s.core d.ledger) d.steps

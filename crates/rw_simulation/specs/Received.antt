@@ -59,9 +59,9 @@ owed_of_placed s names l = owed names (kept_points_below s.log.choice (entries s
 -- each once, less exactly those that the report names (`in_order`), and of these only samples that
 -- were placed (`of_placed`). What the report does not name of the placed ones rises strictly in
 -- time (`owed_rises`), and so does what the store holds (`rises`). Of a label set that the rules do
--- not keep it holds none. If the shipper left nothing, the store holds all of the samples that
--- were placed (`whole`); and else each that was placed and of which the report neither says that it
--- was left nor names it (`settled`).
+-- not keep it holds nothing. If the shipper left nothing, the store holds all of the samples that
+-- were placed (`whole`); otherwise it holds each that was placed and that the report neither lists
+-- as left nor names (`settled`).
 pub record IsHeld {T : Type 0} (s : Shipping T) (r : Report T) (store : Store) : Type 0 where
   pub names : FinMap nat_cmp Reason
   pub named : NamesAll names r.parts.items
@@ -72,8 +72,8 @@ pub record IsHeld {T : Type 0} (s : Shipping T) (r : Report T) (store : Store) :
   pub whole : (IsAbandoned r.outcome → ⊥) → (l : Labels) → list_of store l ≡ map pair_of (owed_of_placed s names l)
   pub settled : (p ref : ℕ) (t : ℤ) (word : ℕ) (l : Labels) → slice_get s.log.placed p ≡ Some (Sample ref t word) → known s.log.choice (take p s.log.placed) ref ≡ Kept l → is_left r.outcome p ≡ false → get names p ≡ None → holds (t, word) (list_of store l) ≡ true
 
--- So one receiver holds the samples of every shipper that was stopped in order with nothing left,
--- whatever the network lost, repeated, delayed or put in another order.
+-- One receiver holds the samples of every shipper that was stopped in order with nothing left,
+-- whatever the network lost, repeated, delayed or reordered.
 abbrev pub ReceivesInOrder : {T : Type 0} → (T → Type 0) → (T → List Exchange) → (ℕ → ℕ → T → Type 0) → Shipping T → Report T → Type 0
 ReceivesInOrder tells seen is_for s r =
     (c : Setup) (fed : List Piece) (h : HasStopped tells seen is_for s r) (p : PlacesAll s.log s.fleet) → IsMachineOf c s → CanWork c → s.log.pieces ≡ map piece_of fed → IsShardCount (length s.fleet.current) → first_number p.epochs s.fleet.current ≡ c.shards

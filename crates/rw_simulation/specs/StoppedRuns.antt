@@ -48,7 +48,7 @@ abbrev pub AreNumbers : List (List ShardHistory) → Type 0
 AreNumbers [] = ⊤
 AreNumbers (lanes ∷ later) = IsShardCount (length lanes) × AreNumbers later
 
--- the first epoch has as many as the machine begins with
+-- the first epoch has as many shards as the machine starts with
 abbrev pub HasNumbers : Setup → List (List ShardHistory) → Type 0
 HasNumbers c [] = ⊥
 HasNumbers c (lanes ∷ later) = (length lanes ≡ c.shards) × AreNumbers later
@@ -112,12 +112,12 @@ pub record ComesTo {T : Type 0} (tells : T → Type 0) (seen : T → List Exchan
   pub requests : SendsAll tells seen w.requests r.workers.items
   pub outcome_is : Tells r.outcome (report w)
 
--- some free schedule of the machine leads there, and what the machine's laws say holds of it
+-- some free schedule of the machine leads there, and the machine's laws are true of it
 abbrev pub IsRun : {T : Type 0} → (T → Type 0) → (T → List Exchange) → Setup → Shipping T → Report T → Type 0
 IsRun tells seen c s r = (hs : List Happening) × ComesTo tells seen c s r (world_of c hs) × KeepsLaws c hs
 
--- So it is of every shipper that left nothing, over whichever epochs its samples were placed, if
--- these had such numbers of shards and ended in turn;
+-- The same for every shipper that left nothing, over whichever epochs its samples were placed, if
+-- these had such numbers of shards and ended in turn,
 abbrev pub StopsAsRun : {T : Type 0} → (T → Type 0) → (T → List Exchange) → (ℕ → ℕ → T → Type 0) → Shipping T → Report T → Type 0
 StopsAsRun tells seen is_for s r =
     (c : Setup) (fed : List Piece) (h : HasStopped tells seen is_for s r) (epochs : List (List ShardHistory)) → IsMachineOf c s → CanWork c → s.log.pieces ≡ map piece_of fed
@@ -128,7 +128,7 @@ abbrev pub first_number : List (List ShardHistory) → List ShardHistory → ℕ
 first_number [] current = length current
 first_number (lanes ∷ later) current = length lanes
 
--- however often the number of shards was changed: the machine begins with as many as the first
+-- however often the number of shards was changed: the machine starts with as many as the first
 -- epoch had
 abbrev pub StopsInOrder : {T : Type 0} → (T → Type 0) → (T → List Exchange) → (ℕ → ℕ → T → Type 0) → Shipping T → Report T → Type 0
 StopsInOrder tells seen is_for s r =

@@ -25,6 +25,6 @@ pub record IsRunOf {T : Type 0} (c : Setup) (epoch k : ℕ) (j : StoppedShard T)
   pub run : IsShardRun c epoch k (lane_of j) steps rest
   pub part : j.part.names ≡ (after (start_of j.worker.value) steps).ledger.names
 
--- so it is of each shard that did what its worker reports
+-- the same for each shard that did what its worker reports
 abbrev pub StopsAsShard : {T : Type 0} → (T → Type 0) → (T → List Exchange) → (ℕ → ℕ → T → Type 0) → StoppedShard T → Type 0
 StopsAsShard tells seen is_for j = (c : Setup) (epoch k : ℕ) → IsWorked tells seen is_for j → IsShardOf c epoch k j → IsRunOf c epoch k j

@@ -102,8 +102,8 @@ pub record CanEnd (s : Shard) (steps : List Step) : Type 0 where
   pub ended : s.core.ended ≡ true → items_of steps ≡ []
   pub last : EndIsLast (items_of steps)
 
--- While nothing is killed, the steps that a worker may make, of what waits in its queue, are
--- events; so they are once the log is closed.
+-- While nothing is killed, the steps that a worker may make with what waits in its queue are
+-- events, also once the log is closed.
 abbrev pub IsWorkerRun : Setup → World → ℕ → Type 0
 IsWorkerRun c w i =
     (s : Shard) (ledger : Named) (steps : List Step) (rest : List Queued)

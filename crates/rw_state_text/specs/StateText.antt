@@ -40,8 +40,7 @@ filtered_text count = codes "filtered " ++ decimal count ++ 10 ∷ []
 abbrev pub abandoned_text : ℕ → List ℕ
 abandoned_text pos = codes "abandoned " ++ decimal pos ++ 10 ∷ []
 
--- what is said of the end: an `abandoned` line for each sample that was put and not resolved, and
--- the report
+-- the end: an `abandoned` line for each sample that was put and not resolved, and the report
 abbrev pub ending_text : Option Ending → List ℕ
 ending_text None = codes "report running\n"
 ending_text (Some (Complete end)) = codes "report complete " ++ decimal end ++ 10 ∷ []

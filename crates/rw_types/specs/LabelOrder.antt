@@ -13,7 +13,7 @@ use Rattle.rw_types.specs.Labels.{Label, Labels}
 abbrev pub label_cmp : Label → Label → Ordering
 label_cmp = then_cmp (on (λ l. l.0) (slice_cmp nat_cmp)) (on (λ l. l.1) (slice_cmp nat_cmp))
 
--- label by label; a beginning comes before the whole
+-- label by label; a prefix comes before the whole
 abbrev pub labels_cmp : Labels → Labels → Ordering
 labels_cmp = slice_cmp label_cmp
 

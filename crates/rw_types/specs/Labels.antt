@@ -61,7 +61,7 @@ is_text l = is_utf8 l.0 && is_utf8 l.1
 abbrev pub has_legacy_names : Label → Bool
 has_legacy_names l = is_label_name l.0 && (not (bytes_eq l.0 (codes "__name__")) || is_metric_name l.1)
 
--- the names are such as are taken: any text will do if all are
+-- the names are accepted: any text if all names are
 abbrev pub is_well_named : Names → Label → Bool
 is_well_named Legacy l = has_legacy_names l
 is_well_named Utf8 l = true
@@ -74,7 +74,7 @@ is_filled (b ∷ bs) = true
 abbrev pub rise : Label → Label → Bool
 rise l m = is_lt (slice_cmp nat_cmp l.0 m.0)
 
--- all names rise, so no name is repeated
+-- the names are in strictly ascending order, so none is repeated
 abbrev pub is_sorted : Labels → Bool
 is_sorted [] = true
 is_sorted (l ∷ []) = true
@@ -87,8 +87,8 @@ label_len l = length l.0 + length l.1
 abbrev pub text_len : Labels → ℕ
 text_len ls = sum_by label_len ls
 
--- the first of these that is wrong with the labels, if such names are taken; they are a label
--- set if nothing is
+-- the first of these that is wrong with the labels, if such names are accepted; they are a label
+-- set if nothing is wrong
 abbrev pub label_fault : Names → Labels → Option LabelFault
 label_fault names ls =
     if not (list_all is_text ls) then Some NotUtf8

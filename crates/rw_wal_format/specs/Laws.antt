@@ -1,4 +1,4 @@
--- Words that the laws of the log's grammar are stated in.
+-- Definitions in which the laws of the log's grammar are stated.
 use Rattle.std.specs.Prelude.{◌≡◌, ℕ, ◌+◌, ◌^◌, ◌<◌, ◌≤◌, ℤ, List, [], ◌∷◌, ◌++◌, length, Option, Some, FitsSigned}
 use Rattle.std.proofs.Common.{w64}
 use Rattle.rw_types.specs.declared.entry.Entry.{Entry}
@@ -10,8 +10,9 @@ use Rattle.rw_wal_format.specs.Segments.{Reading, at_fault, between, stopped, wi
 use Rattle.rw_wal_format.specs.Writing.{log_bytes}
 use Rattle.rw_wal_format.specs.declared.tail_fault.TailFault.{TailFault}
 
--- A later reading goes on from an earlier one: it begins with the same entries, and has passed over
--- no fewer records. If the earlier one had met a fault, it is the same.
+-- A later reading goes on from an earlier one: the entries of the earlier one are a prefix of its
+-- entries, and it has skipped at least as many records. If the earlier one had met a fault, the
+-- later one has the same.
 pub record Extends (earlier later : Reading) : Type 0 where
   pub more : List Entry
   pub entries : later.entries ≡ earlier.entries ++ more

@@ -46,7 +46,7 @@ page_size = 32768
 abbrev pub entries : List Piece → List Entry
 entries pieces = (reading page_size pieces).entries
 
--- how many records before the first fault were passed over
+-- how many records before the first fault were skipped
 abbrev pub skipped : List Piece → ℕ
 skipped pieces = (reading page_size pieces).skipped
 

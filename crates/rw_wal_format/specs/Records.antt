@@ -79,7 +79,7 @@ abbrev pub sample_at : ℕ → ℤ → List ℕ → Option (Entry × List ℕ)
 sample_at base start bytes = found (read_varint bytes) then λ reference. found (read_varint reference.1) then λ time. eight_at time.1 then λ word.
     Some (Sample ((base + cast_unsigned w64 reference.0) % 2 ^ 64) (int_wrapping_add w64 start time.0) word.0, word.1)
 
--- the items that are one after the other up to the end of the bytes, of which there are at most k
+-- the items one after the other up to the end of the bytes, of which there are at most k
 abbrev pub all_of : {A : Type 0} → (List ℕ → Option (A × List ℕ)) → ℕ → List ℕ → Option (List A)
 all_of item k [] = Some []
 all_of item zero (b ∷ bs) = None
@@ -107,7 +107,7 @@ record_entries [] = Some []
 record_entries (kind ∷ bytes) =
     if kind == 1 then series_entries bytes else if kind == 2 then sample_entries bytes else Some []
 
--- whether a record is passed over: it is empty, or of another type
+-- whether a record is skipped: it is empty, or of another type
 abbrev pub is_skipped : List ℕ → Bool
 is_skipped [] = true
 is_skipped (kind ∷ bytes) = not (kind == 1 || kind == 2)

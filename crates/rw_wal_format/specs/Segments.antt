@@ -15,7 +15,7 @@ use Rattle.rw_wal_format.specs.declared.tail_fault.TailFault.TheVariants.{BadTyp
 pub data Kind : Type 0 where
   full first middle last : Kind
 
--- what is at a fragment's place
+-- what comes at a fragment's place
 pub data Item : Type 0 where
   -- nothing, or zeros that go on
   nothing : Item
@@ -50,7 +50,7 @@ fragment_at kind left bytes =
     if nat_lt (length bytes) 6 then begun
     else data_at kind left (big_number 2 bytes) (big_number 4 (drop 2 bytes)) (drop 6 bytes)
 
--- What is at a fragment's place, with `left` bytes of the page from there on. A type byte of 0
+-- What comes at a fragment's place, with `left` bytes of the page from there on. A type byte of 0
 -- says that the rest of the page is empty. Those from 8 to 31 have the flags of compressed data,
 -- and all others are unknown.
 unfoldable pub item_at : ℕ → List ℕ → Item

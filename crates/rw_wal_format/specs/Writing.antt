@@ -1,4 +1,4 @@
--- What the writer of a segment puts down for a record (wal.md, "Segment encoding").
+-- What the writer of a segment writes for a record (wal.md, "Segment encoding").
 use Rattle.std.specs.Prelude.{ℕ, zero, suc, ◌+◌, ◌-◌, ◌*◌, ◌/◌, ◌%◌, List, [], ◌∷◌, ◌++◌, length, take, drop, replicate, Bool, true, false, nat_lt, nat_le, if◌then◌else◌}
 use Rattle.byteorder.specs.Endian.{big_bytes}
 use Rattle.rw_codes.specs.Crc.{crc32c_of}

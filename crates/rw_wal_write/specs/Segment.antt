@@ -23,7 +23,7 @@ pub record IsPlace (pages offset : ℕ) : Type 0 where
   pub within : offset ≤ pages * page_size
   pub header : 7 ≤ page_size - offset % page_size
 
--- why a record of this length is not let in, if it is not
+-- why a record of this length is refused, if it is
 abbrev pub refusal : {W : Type 0} → Segment W → ℕ → Option LogFault
 refusal s len =
     if s.closed then Some Device

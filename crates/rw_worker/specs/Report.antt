@@ -61,7 +61,7 @@ abbrev pub given_back : Intake → TakingEnd
 given_back (intake.Open d) = end.Killed d
 given_back (intake.Ended kind d) = end.Ended kind d
 
--- what a worker reports that stops as it is
+-- what a worker reports that stops in its present state
 abbrev pub report_of : {T : Type 0} → TakingEnd → Option StopRead → Option ℕ → Sending T → WorkerReport T
 report_of end stopped gone s = record { end = end; resolved = s.resolved; stopped = stopped; gone = gone; ledger = s.ledger; transport = s.transport }
 
@@ -98,7 +98,7 @@ module _ {T : Type 0} (tells : T → Type 0) (seen : T → List Exchange) (setup
     pub still : IsStill r.stopped r.gone r.resolved
     pub reason : HasReason r.end r.stopped r.gone
 
--- a count of 64 bits, which stays if it is greatest
+-- a count of 64 bits, which stays at the greatest number
 abbrev pub counted_to : ℕ → ℕ
 counted_to n = min n (2 ^ 64 - 1)
 
@@ -145,7 +145,7 @@ module _ {T P : Type 0} (tells : T → Type 0) (seen : T → List Exchange) (wai
       pub report : IsReport tells seen setup begun r
       pub waited : HasPaused pause report.steps
 
-    -- so far after a step, or what is then to be reported
+    -- this state after a step, or what is then to be reported
     abbrev pub IsProgress : Progress → Sending T → P → Type 0
     IsProgress (Goes i) s pause = IsState i s pause
     IsProgress (Stops end stopped gone) s pause = HasRun (report_of end stopped gone s) pause

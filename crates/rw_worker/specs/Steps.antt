@@ -82,8 +82,8 @@ unsettled c = if is_empty c.batch then (if is_due c then c.builder else []) else
 abbrev pub growing : Core → List Placed
 growing c = if is_empty c.batch then (if is_due c then [] else c.builder) else []
 
--- The exchanges are the transcript of the items: they settle the batches in order, but for one at
--- most, of which tries alone were made, and the rest waits for more. What is resolved is what they
+-- The exchanges are the transcript of the items: they settle the batches in order, except at most
+-- one, of which there were only tries, and the rest waits for more. What is resolved is what they
 -- settle, and the samples of the refused batches are named.
 pub record IsTranscriptOf (target : Target) (n : ℕ) (items : List Item) (exchanges : List Exchange) (unsent rest resolved : List Placed) (names : FinMap nat_cmp Reason) : Type 0 where
   pub settled : List Settled

@@ -42,7 +42,7 @@ setup_of c l = record {
   busy = l.busy_first;
 }
 
--- the End that a shard is put, or else a Flush
+-- the End that a shard is put, or otherwise a Flush
 abbrev pub mark_kind : World → Option Kind
 mark_kind w = if is_finished w then Some kind.Orderly else if is_some w.draining then Some kind.Reshard else None
 
@@ -62,8 +62,7 @@ abbrev pub is_arrive : Event → Bool
 is_arrive (event.Arrive k how) = true
 is_arrive e = false
 
--- a Feed, a Place, a Freeze, a Send, an Arrive and a Restart may run out of memory; no other event
--- is
+-- only a Feed, a Place, a Freeze, a Send, an Arrive and a Restart may run out of memory
 abbrev pub takes_memory : Event → Bool
 takes_memory (event.Feed piece) = true
 takes_memory event.Place = true

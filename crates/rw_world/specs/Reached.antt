@@ -8,7 +8,7 @@ use Rattle.rw_machine.specs.Promises.{CanWork, IsInOrder, IsOfPlaced, OwedRises,
 use Rattle.rw_world.specs.Arriving.{AnswersBytes}
 use Rattle.rw_world.specs.Machine.{Machine}
 
--- there are events that led to it, from a beginning that leaves room to work
+-- there are events that led to it, from a start that leaves room to work
 pub record IsReached (m : Machine) : Type 0 where
   pub can : CanWork m.setup
   pub events : List Event

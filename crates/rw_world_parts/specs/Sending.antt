@@ -67,8 +67,8 @@ pub record IsShardAt (target : Target) (capacity batch epoch next i : ℕ) (h : 
   pub number : h.shard.core.shard ≡ i
   pub below : All (λ (x : Placed). x.place.pos < next) h.shard.put
 
--- What holds of the shards: each position waits in one place at most, and then it is not named; and
--- there is room for the names of all open batches.
+-- What is true of the shards: each position waits in at most one place, and then it is not named;
+-- and there is room for the names of all open batches.
 pub record IsSending (target : Target) (capacity batch epoch : ℕ) (hs : List Held) (next : ℕ) (l : Named) : Type 0 where
   pub batch_some : 0 < batch
   pub batch_most : batch ≤ 10000
@@ -95,7 +95,7 @@ abbrev pub room_at : ℕ → Option Shard → Bool
 room_at capacity None = false
 room_at capacity (Some s) = has_room capacity s
 
--- the sample that this shard is handed next
+-- the sample that this shard is given next
 abbrev pub sample_at : Sending → ℕ → ℕ → ℕ → ℤ → ℕ → Labels → Shard → Placed
 sample_at v i pos series t word l s = record {
   place = record { epoch = v.epoch; shard = i; seq = length s.put; pos = pos; series = series };

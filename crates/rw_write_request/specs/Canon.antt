@@ -38,6 +38,6 @@ series_field s = bytes_field 1 (series s)
 abbrev pub canon : WriteRequest → List ℕ
 canon m = flat_map series_field m
 
--- what is before the sample fields of a series whose sample fields take n bytes
+-- what comes before the sample fields of a series whose sample fields take n bytes
 unfoldable pub series_head : Labels → ℕ → List ℕ
 series_head ls n = tag 1 2 ++ uvarint (length (label_fields ls) + n) ++ label_fields ls

@@ -24,8 +24,8 @@ series_on s bytes = read_fields kinds.TimeSeries series_step s bytes
 abbrev pub IsHeadOf : List ℕ → Labels → Type 0
 IsHeadOf head labels = read_series head ≡ Ok (record { labels = labels; samples = [] })
 
--- What a function that reads samples returned says of the series: it has these, if the function
--- read them all.
+-- What a function that reads samples says about the series: it has these, if the function read them
+-- all.
 abbrev pub SamplesGive : Result Bool WireFault → Labels → List Sample → Result TimeSeries WireFault → Type 0
 SamplesGive (Ok true) labels samples series = series ≡ Ok (record { labels = labels; samples = samples })
 SamplesGive (Ok false) labels samples series = Unit {0}

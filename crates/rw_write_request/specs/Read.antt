@@ -24,13 +24,12 @@ abbrev pub GivesOrMemory : {X Y : Type 0} → (X → Y) → Result X WireFault �
 GivesOrMemory view (Ok x) read = read ≡ Ok (view x)
 GivesOrMemory view (Err e) read = e ≢ OutOfMemory → read ≡ Err e
 
--- What a function that judges bytes returned says of reading them: they are read, or this is the
--- fault.
+-- What a function that judges bytes says about reading them: they are read, or this is the fault.
 abbrev pub Judges : {X : Type 0} → Result (Unit {0}) WireFault → Result X WireFault → Type 0
 Judges {X} (Ok u) read = (x : X) × (read ≡ Ok x)
 Judges {X} (Err e) read = read ≡ Err e
 
--- what a varint that can't be read says of its message
+-- what a varint that cannot be read says about its message
 abbrev pub varint_fault : CodeFault → WireFault
 varint_fault Short = Truncated
 varint_fault TooBig = VarintTooBig

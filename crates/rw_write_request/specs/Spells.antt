@@ -14,7 +14,7 @@ pub record AreFieldsOf (kind : Kind) (bytes : List ℕ) (fields : List Field) : 
   pub spelled : AreFields bytes fields
   pub wires : AllByRecursion (HasKnownWire kind) fields
 
--- the last of them, or what stands for none
+-- the last of them, or the value for an absent field
 abbrev pub last_or : {X : Type 0} → X → List X → X
 last_or none [] = none
 last_or none (x ∷ xs) = last_or x xs

@@ -1,4 +1,4 @@
--- The exit status of the program if there are no settings, and if a log was followed.
+-- The exit status of the program if the settings cannot be read, and if following a log ended.
 use Rattle.std.specs.Prelude.{ℕ}
 use Rattle.rw_send.specs.declared.follow_fault.FollowFault.{FollowFault}
 use Rattle.rw_send.specs.declared.follow_fault.FollowFault.TheVariants as Follow
