@@ -1,7 +1,6 @@
 //! The engines of the program `rwship`, one for each of its commands. This crate passes on what the crates of the engines have.
 #![tactic(auto)]
 
-pub use rw_text::ToolFault;
 pub use rw_follow::{Segments, Watch};
 pub use rw_log_commands::{run_body, run_log, run_log_dir, run_plan};
 pub use rw_metrics::{ReceiveCounters, SendCounters};
@@ -13,3 +12,4 @@ pub use rw_send::{
 };
 pub use rw_settings::{Settings, SettingsFault, read_settings};
 pub use rw_stop::Sign;
+pub use rw_text::ToolFault;

@@ -1,9 +1,8 @@
 //! What is told of the work while it goes on.
 
 use crate::ending::tell_device;
-use rw_text::ToolFault;
 use rw_metrics::{Counters, Screen, serve_metrics, show_progress, write_end};
-use rw_text::Address;
+use rw_text::{Address, ToolFault};
 use rw_words::Reporting;
 use std::io::{Error, IsTerminal};
 use std::net::TcpListener;
