@@ -18,8 +18,8 @@ use crate::lists::{
 use crate::load::Load;
 use crate::running::{Fault, RunningShard, StoppingShard};
 use rw_series_cache::RoutedSample;
-use rw_shard_queue::Kind;
 use rw_shard_core::Config;
+use rw_shard_queue::Kind;
 use rw_worker::StopFlag;
 use std::alloc::{AllocError, Global};
 use std::marker::Model;

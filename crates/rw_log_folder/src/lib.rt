@@ -1,10 +1,20 @@
-//! Decides which files of a log in a folder are read, and in which order: the newest checkpoint,
-//! and then the segments after it. No file is touched here: the caller lists the folder and opens
-//! the files.
+//! The files of a log in a folder: which of them are read, in which order, and the files themselves,
+//! opened when they are first read.
+//!
+//! A log is read from its first segment on, or from its newest checkpoint on and then the segments
+//! after it.
 #![tactic(auto)]
 
+mod checkpoint;
+mod files;
+mod folder;
 mod listing;
+mod opened;
 mod order;
 
+pub use checkpoint::{LogFiles, has_checkpoint, log_files};
+pub use files::{SegmentFile, segment_files};
+pub use folder::Folder;
 pub use listing::{Checkpoint, Listing, Name, Place};
+pub use opened::{Open, Opened};
 pub use order::{OrderFault, log_order};

@@ -1,6 +1,4 @@
-pub mod Folders
 pub mod Following
-pub mod Opening
 pub mod ReportText
 pub mod Sending
 pub mod Halting

@@ -2,31 +2,23 @@
 //! grows, and the report is printed.
 #![tactic(auto)]
 
-mod checkpoint;
 mod connect;
 mod feed_counters;
-mod files;
-mod folder;
 mod follow_fault;
 mod following;
 mod halt;
 mod live;
-mod opened;
 mod printing;
 mod send;
 mod sharding;
 mod shipping;
 mod telling;
 
-pub use checkpoint::{LogFiles, has_checkpoint, log_files};
 pub use connect::TcpConnect;
 pub use feed_counters::Means;
-pub use files::{SegmentFile, segment_files};
-pub use folder::Folder;
 pub use follow_fault::FollowFault;
 pub use following::run_follow;
 pub use halt::Halt;
-pub use opened::{Open, Opened};
 pub use rw_worker::StopFlag;
 pub use send::run_send;
 pub use sharding::{Sharding, resharded, retuned};

@@ -15,9 +15,9 @@ pub use Rattle.rw_replay.specs.Writing
 pub use Rattle.rw_send.specs.Halting
 pub use Rattle.rw_send.specs.Segments
 pub use Rattle.rw_send.specs.Steps
-pub use Rattle.rw_send.specs.Folders
+pub use Rattle.rw_log_folder.specs.Folders
 pub use Rattle.rw_send.specs.Following
-pub use Rattle.rw_send.specs.Opening
+pub use Rattle.rw_log_folder.specs.Opening
 pub use Rattle.rw_send.specs.ReportText
 pub use Rattle.rw_send.specs.Sending
 pub use Rattle.rw_receive.specs.Receiving

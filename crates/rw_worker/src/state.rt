@@ -10,8 +10,8 @@ use crate::stop::Stopped;
 use crate::tally::Tally;
 use crate::worker::Worker;
 use rw_ledger::Ledger;
-use rw_shard_queue::{Drain, Ended, Kind, Open};
 use rw_shard_core::ShardCore;
+use rw_shard_queue::{Drain, Ended, Kind, Open};
 use std::snapshot::Snapshot;
 
 /// What a worker began with, which contracts alone see.

@@ -3,8 +3,8 @@
 use crate::ending::{ended, point_to_explain};
 use crate::input::{Form, Input, Reader};
 use crate::inspecting::{inspect_segment, tell_report};
-use rw_text::ToolFault;
 use rw_replay::{log_line_note, numbered_line, script_line_note, shown_line};
+use rw_text::ToolFault;
 use std::alloc::AllocError;
 use std::process::ExitCode;
 

@@ -2,13 +2,12 @@
 
 use crate::ending::{followed, point_to_explain, tell_device};
 use crate::input::Reader;
-use rw_text::ToolFault;
 use rw_inspect::{Damage, Named, Report, find_entries, inspect, json_of, plan_segments, table_of};
+use rw_log_folder::{LogFiles, Opened, SegmentFile, has_checkpoint, log_files, segment_files};
 use rw_metrics::SendCounters;
-use rw_send::{
-    FollowFault, LogFiles, Opened, SegmentFile, has_checkpoint, log_files, segment_files,
-};
+use rw_send::FollowFault;
 use rw_settings::Settings;
+use rw_text::ToolFault;
 use rw_types::{Std, write_all};
 use rw_words::LogDir;
 use std::alloc::{AllocError, Global};

@@ -1,9 +1,8 @@
 //! Reports the progress of the work.
 
 use crate::ending::tell_device;
-use rw_text::ToolFault;
 use rw_metrics::{Counters, Screen, serve_metrics, show_progress, write_end};
-use rw_text::Address;
+use rw_text::{Address, ToolFault};
 use rw_words::Reporting;
 use std::io::{Error, IsTerminal};
 use std::net::TcpListener;

@@ -5,13 +5,13 @@ use crate::inspecting::{files_of, log_fault, note_checkpoint, passes_checkpoint_
 use crate::reporting::{begin_reporting, end_reporting, is_watched};
 use crate::settings::settings_in;
 use crate::sign::{Told, sign_of};
-use rw_text::ToolFault;
 use rw_follow::Timed;
+use rw_log_folder::{Folder, LogFiles};
 use rw_metrics::{Counters, SendCounters, show_stalls};
-use rw_send::{Counted, Folder, FollowFault, LogFiles, StopFlag, TcpConnect, run_follow, run_send};
+use rw_send::{Counted, FollowFault, StopFlag, TcpConnect, run_follow, run_send};
 use rw_settings::Settings;
 use rw_tcp::look_up;
-use rw_text::Address;
+use rw_text::{Address, ToolFault};
 use rw_types::{Bounded, Std};
 use rw_words::{Following, LogDir, Reading, Sending, SettingsFile};
 use std::alloc::{AllocError, Global};

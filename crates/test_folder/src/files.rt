@@ -2,8 +2,8 @@
 //! space.
 
 use rw_follow::{Ahead, Segments};
+use rw_log_folder::{Folder, LogFiles, log_files};
 use rw_metrics::SendCounters;
-use rw_send::{Folder, LogFiles, log_files};
 use rw_types::read_to_end;
 use std::alloc::{AllocError, Global};
 use std::os::unix::fs::symlink;

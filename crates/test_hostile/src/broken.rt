@@ -6,8 +6,8 @@ ghost use Rattle.rw_plain_queue.specs.declared.item.Item.TheVariants as item;
 
 use crate::line::{Line, Quick};
 use rw_head::Limits;
-use rw_shard_queue::{Feed, Item, Kind, Open, open};
 use rw_shard_core::Config;
+use rw_shard_queue::{Feed, Item, Kind, Open, open};
 use rw_types::{LabelFault, LabelSet, Place, RawLabels, Word};
 use rw_worker::{StopFlag, Worker, WorkerReport};
 use std::alloc::Global;

@@ -1,8 +1,8 @@
 //! One run of the command.
 
-use rw_text::ToolFault;
 use rw_replay::run_replay;
 use rw_settings::read_settings;
+use rw_text::ToolFault;
 use rw_types::{Room, Source};
 use std::alloc::Global;
 

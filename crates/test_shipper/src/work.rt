@@ -2,8 +2,8 @@
 
 use crate::logs::{Named, Samples, segment};
 use rw_ledger::{Ledger, Reason};
-use rw_shard_core::{Config, ConfigFields};
 use rw_sender::{Connect, Ends, FeedFault, Finished, Load, Outcome, Report, Shipper};
+use rw_shard_core::{Config, ConfigFields};
 use rw_types::Bounded;
 use rw_wal_tail::{Piece, TailFault};
 use rw_worker::{StopFlag, Transport};

@@ -3,9 +3,8 @@
 
 use crate::rows::none_is_wrong;
 use Row::{Body, Bytes, Fault, Spaced};
-use rw_text::ToolFault;
-use rw_text::read_digits;
 use rw_log_commands::run_body;
+use rw_text::{ToolFault, read_digits};
 use rw_types::Room;
 use rw_wal_format::TailFault;
 use std::alloc::Global;

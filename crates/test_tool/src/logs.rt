@@ -2,8 +2,8 @@
 
 use crate::rows::none_is_wrong;
 use Row::{Bad, Good, Segment};
-use rw_text::ToolFault;
 use rw_log_commands::{run_log, run_log_dir};
+use rw_text::ToolFault;
 use rw_types::{Failed, Room, Sink};
 use std::alloc::{AllocError, Global};
 use std::path::PathBuf;

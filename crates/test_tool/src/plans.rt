@@ -2,9 +2,9 @@
 
 use crate::logs::fault;
 use crate::rows::none_is_wrong;
-use rw_text::ToolFault;
 use rw_log_commands::run_plan;
 use rw_settings::read_settings;
+use rw_text::ToolFault;
 use rw_types::Room;
 use rw_wal_format::TailFault;
 use std::alloc::Global;

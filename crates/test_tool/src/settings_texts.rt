@@ -2,8 +2,7 @@
 
 use crate::rows::{holds, none_is_wrong};
 use Row::{Pattern, Printed, Told};
-use rw_settings::{SettingsNote, explain_settings};
-use rw_settings::print_settings;
+use rw_settings::{SettingsNote, explain_settings, print_settings};
 use std::alloc::{AllocError, Global};
 
 /// What is printed if nothing is set.

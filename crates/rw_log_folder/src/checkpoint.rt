@@ -1,14 +1,15 @@
 //! The files of a log in a folder, from its newest checkpoint on.
 
 ghost use Rattle.std.specs.Prelude.{IfSome};
-ghost use Rattle.rw_send.specs.Folders.{IsCheckpointName, IsNameOf};
+ghost use Rattle.rw_log_folder.specs.Folders.{IsCheckpointName, IsNameOf};
 
 use crate::files::{
     SegmentFile, SegmentName, count_bytes, fault_of, file_of, number_of, push_unreadable,
 };
 use crate::folder::Current;
+use crate::listing::{Checkpoint, Listing, Name, Place};
 use crate::opened::Opened;
-use rw_log_folder::{Checkpoint, Listing, Name, OrderFault, Place, log_order};
+use crate::order::{OrderFault, log_order};
 use rw_metrics::SendCounters;
 use rw_text::ToolFault;
 use rw_types::Std;

@@ -1,7 +1,7 @@
 use Rattle.std.proofs.Common.{rules, string_len}
 use Rattle.std.proofs.lemmas.List.Sorted.{answers_always}
-use Rattle.rw_send.specs.declared.files.SegmentName.{SegmentName}
-use Rattle.rw_send.proofs.files.put_in_order.Goals as goal
+use Rattle.rw_log_folder.specs.declared.files.SegmentName.{SegmentName}
+use Rattle.rw_log_folder.proofs.files.put_in_order.Goals as goal
 
 pub returns-clause-sorted : goal.returns-clause-sorted
 returns-clause-sorted c =

@@ -2,7 +2,7 @@
 use Rattle.std.specs.Prelude.{◌≡◌, ◌++◌, ℕ, ◌≤◌, codes, Bool, List, length, string_len}
 use Rattle.std.specs.Ordering.{is_lt, nat_cmp, ordering_then}
 use Rattle.rw_text.specs.Numbers.{IsNumber}
-use Rattle.rw_send.specs.declared.files.SegmentName.{SegmentName}
+use Rattle.rw_log_folder.specs.declared.files.SegmentName.{SegmentName}
 
 -- one to eight decimal digits, of this number
 abbrev pub IsNameOf : List ℕ → ℕ → Type 0

@@ -2,7 +2,7 @@
 
 ghost use Rattle.std.specs.Prelude.{◌≡◌, ◌<◌, ◌^◌, ℕ, IfOk, MatchOption, string_bytes};
 ghost use Rattle.std.specs.List.Sorted.{IsPermutation, IsSortedBy};
-ghost use Rattle.rw_send.specs.Folders.{IsNameOf, comes_before};
+ghost use Rattle.rw_log_folder.specs.Folders.{IsNameOf, comes_before};
 
 use crate::opened::{Open, Opened};
 use rw_metrics::SendCounters;

@@ -3,7 +3,7 @@
 ghost use Rattle.std.specs.Prelude.{◌≡◌, ℕ, List, Option, IfOk};
 ghost use Rattle.std.specs.Io.{ReadsAtMost};
 ghost use Rattle.std.specs.Io.KnownBytes.{ReadConsumes};
-ghost use Rattle.rw_send.specs.Opening.{left_of};
+ghost use Rattle.rw_log_folder.specs.Opening.{left_of};
 
 use rw_types::{Failed, Source};
 
@@ -81,7 +81,7 @@ impl<O: Open> Opened<O> {
 
 impl<O: Open> Source for Opened<O> {
     ghost use Rattle.std.specs.Prelude.{false};
-    ghost use Rattle.rw_send.specs.Opening.{left_of};
+    ghost use Rattle.rw_log_folder.specs.Opening.{left_of};
 
     ghost remaining = { λ o. left_of (O.text o.place) O.S.remaining o.source };
 
