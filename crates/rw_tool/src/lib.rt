@@ -8,9 +8,6 @@ pub use rw_log_folder::{Folder, Open, Opened, SegmentFile, segment_files};
 pub use rw_metrics::{ReceiveCounters, SendCounters};
 pub use rw_receive::{Service, run_receive, run_receive_until};
 pub use rw_replay::run_replay;
-pub use rw_send::{
-    Folder, FollowFault, Open, Opened, SegmentFile, SendOptions, StopFlag, TcpConnect, run_follow,
-    run_send, segment_files,
-};
+pub use rw_send::{FollowFault, SendOptions, StopFlag, TcpConnect, run_follow, run_send};
 pub use rw_settings::{Settings, SettingsFault, read_settings};
 pub use rw_text::ToolFault;

@@ -9,11 +9,9 @@ use crate::reporting::{begin_reporting, end_reporting, is_watched};
 use crate::settings::settings_in;
 use crate::stopping::stop_signal;
 use rw_follow::Timed;
-use rw_log_folder::{Folder, LogFiles};
+use rw_log_folder::{Folder, Folder, LogFiles, LogFiles};
 use rw_metrics::{Counters, SendCounters, show_stalls};
-use rw_send::{
-    Folder, FollowFault, LogFiles, SendOptions, StopFlag, TcpConnect, run_follow, run_send,
-};
+use rw_send::{FollowFault, SendOptions, StopFlag, TcpConnect, run_follow, run_send};
 use rw_settings::Settings;
 use rw_tcp::look_up;
 use rw_text::{Address, ToolFault};
