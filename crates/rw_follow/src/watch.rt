@@ -2,57 +2,45 @@
 
 ghost use Rattle.std.specs.Prelude.{◌≡◌};
 
-/// What is asked of a follower.
-#[derive(Clone, Copy, Debug, PartialEq, Eq)]
-pub enum Wish {
-    /// To go on.
-    Work,
-    /// To read what is there, and end.
-    End,
-    /// To end at once.
-    Hard,
-}
+use crate::signal::StopRequest;
 
-/// A stop signal that others set.
-pub trait Sign {
-    /// Returns what is asked for now.
-    fn wish(&mut self) -> Wish;
-}
-
-/// The environment of a follower: the stop signal, the sleep and the timers. It also serves what is
-/// fed by the follower.
+/// What a follower, and the caller that feeds what it gives, ask between two looks at a log.
 pub trait Watch {
     ghost use Rattle.std.specs.Prelude.{Bool, ℕ, suc};
-    ghost use Rattle.rw_follow.specs.declared.watch.Wish.{Wish};
+    ghost use Rattle.rw_follow.specs.declared.signal.StopRequest.{StopRequest};
 
-    /// What it asked for last.
-    ghost said: { Self → Wish };
+    /// The last stop request that it returned.
+    ghost said: { Self → StopRequest };
 
     /// Whether it last said that a flush is due.
     ghost due: { Self → Bool };
 
-    /// Whether it has recorded each sleep so far. A watch need not record any.
-    ghost tells: { Self → Type 0 };
+    /// It has counted each sleep so far. A watch need not count any.
+    ghost counts: { Self → Type 0 };
 
     /// How many sleeps there were so far.
-    ghost naps: { Self → ℕ };
+    ghost sleeps: { Self → ℕ };
 
     /// Returns what is asked for now.
-    fn wish(&mut self) -> Wish
+    fn stop_request(&mut self) -> StopRequest
         ensures said { said self.new ≡ result }
-        ensures awake { tells self.new → tells self.old × (naps self.new ≡ naps self.old) };
+        ensures awake { counts self.new
+            → counts self.old × (sleeps self.new ≡ sleeps self.old) };
 
-    /// Sleeps for a short time.
-    fn nap(&mut self)
-        ensures { tells self.new → tells self.old × (naps self.new ≡ suc (naps self.old)) };
+    /// Waits a little.
+    fn sleep(&mut self)
+        ensures { counts self.new
+            → counts self.old × (sleeps self.new ≡ suc (sleeps self.old)) };
 
-    /// Returns whether what was fed since the last flush has waited long enough. It is called while
+    /// Returns whether what was fed since the last flush has waited long enough. It is asked while
     /// something waits.
     fn is_flush_due(&mut self) -> bool
         ensures due { due self.new ≡ result }
-        ensures awake { tells self.new → tells self.old × (naps self.new ≡ naps self.old) };
+        ensures awake { counts self.new
+            → counts self.old × (sleeps self.new ≡ sleeps self.old) };
 
-    /// Returns whether the number of shards is to be adjusted again. It is called at each turn.
+    /// Returns whether the number of shards is to be asked for again. It is asked at each turn.
     fn is_reshard_due(&mut self) -> bool
-        ensures awake { tells self.new → tells self.old × (naps self.new ≡ naps self.old) };
+        ensures awake { counts self.new
+            → counts self.old × (sleeps self.new ≡ sleeps self.old) };
 }

@@ -1,6 +1,6 @@
 //! Reports the progress of the work.
 
-use crate::ending::tell_device;
+use crate::ending::print_device_error;
 use rw_metrics::{Counters, Screen, serve_metrics, show_progress, write_end};
 use rw_text::{Address, ToolFault};
 use rw_words::Reporting;
@@ -8,8 +8,8 @@ use std::io::{Error, IsTerminal};
 use std::net::TcpListener;
 use std::thread::Threads;
 
-/// Writes that the program cannot listen at an address, and why.
-pub fn tell_unheard(rt: &HostRuntime, listen: Address<'_>, error: &Error) {
+/// Says that an address cannot be listened at, and why.
+pub fn print_listen_error(rt: &HostRuntime, listen: Address<'_>, error: &Error) {
     let Address { host, port } = listen;
     let _ = eprintln!(rt; "  cannot listen on {host}:{port}: {error}");
 }

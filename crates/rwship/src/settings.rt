@@ -77,8 +77,8 @@ pub fn settings_in(rt: &HostRuntime, file: SettingsFile<'_>) -> Result<Settings,
     }
 }
 
-/// Returns the settings that are asked for, as a text that gives each key.
-pub fn printed_settings(rt: &HostRuntime, file: SettingsFile<'_>) -> Result<String, Unset>
+/// The settings that are asked for, as a text that gives each key.
+pub fn settings_text(rt: &HostRuntime, file: SettingsFile<'_>) -> Result<String, Unset>
     ensures { file.entry.path ≡ None
         → IfOk result (λ t. IsOkAnd (toml.settings_in []) (λ s. string_bytes t ≡ settings_text s)) }
 {

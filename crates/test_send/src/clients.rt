@@ -1,6 +1,6 @@
 //! What clients do, and what they read.
 
-use rw_stop::Sign;
+use rw_follow::StopSignal;
 use std::alloc::{AllocError, Global};
 use std::io::{self, Read, Write};
 use std::net::{Net, Shutdown, SocketAddr, TcpStream};
@@ -16,9 +16,9 @@ pub(crate) enum Clients {
     SideBySide,
     /// One has its reply, and keeps its connection when the stop is requested.
     Stays,
-    /// One writes the last byte of its second request after the stop was requested.
+    /// One writes the last byte of its second request when the stop is requested already.
     IsInside,
-    /// The same, if a stop at once is requested.
+    /// The same, if an end at once is requested.
     IsCutOff,
     /// One writes a byte and is silent. Another one comes after it.
     WritesOneByte,
@@ -37,13 +37,13 @@ const PATIENCE_SECONDS: u64 = 10;
 /// The reply to a request that is taken.
 const TAKEN: &[u8] = b"HTTP/1.1 204 No Content\r\n\r\n";
 
-/// Where clients connect to, and how they request a stop.
+/// Where clients connect to, and how they ask to stop.
 #[derive(Clone, Copy)]
 pub(crate) struct Door<'a, N> {
     pub(crate) net: &'a N,
     pub(crate) alloc: Global,
     pub(crate) address: SocketAddr,
-    pub(crate) sign: &'a Sign,
+    pub(crate) signal: &'a StopSignal,
 }
 
 /// Returns a request to store the sample 1 of `{__name__="up"}` at 1000 ms plus `later`, which is
@@ -108,12 +108,12 @@ fn side_by_side<N: Net<Stream = TcpStream>>(
 fn stays<N: Net<Stream = TcpStream>>(door: &Door<'_, N>, read: &mut Vec<u8>) -> io::Result<()> {
     let mut stream = connected(door)?;
     ask(&mut stream, &request(door.alloc, 0)?, read)?;
-    door.sign.end();
+    door.signal.finish();
     stream.read_to_end(read)?;
     Ok(())
 }
 
-/// Writes a request, and another one of which the last byte comes after a stop was requested.
+/// Writes a request, and another one of which the last byte comes when a stop is requested.
 fn is_inside<N: Net<Stream = TcpStream> + Clock>(
     door: &Door<'_, N>,
     is_hard: bool,
@@ -126,9 +126,9 @@ fn is_inside<N: Net<Stream = TcpStream> + Clock>(
     stream.write_all(most)?;
     thread::sleep(door.net, Duration::from_millis(500));
     if is_hard {
-        door.sign.hard();
+        door.signal.abort();
     } else {
-        door.sign.end();
+        door.signal.finish();
     }
     thread::sleep(door.net, Duration::from_millis(500));
     let _ = stream.write_all(last);
@@ -217,7 +217,7 @@ pub(crate) fn read_by<N: Net<Stream = TcpStream> + Clock>(
         Clients::OneStays => one_stays(door, &mut read),
         Clients::WritesOn => writes_on(door, &mut read),
     };
-    door.sign.end();
+    door.signal.finish();
     done?;
     Ok(read)
 }

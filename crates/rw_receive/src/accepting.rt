@@ -1,6 +1,6 @@
-//! Accepts connections one at a time, with a look at the stop signal in between.
+//! Accepts connections one at a time, so that the stop signal is looked at in between.
 
-use crate::patient::TICK_MS;
+use crate::timed_stream::TICK_MS;
 use rw_metrics::ReceiveCounters;
 use rw_socket::{accept, limit_accepts};
 use std::net::{TcpListener, TcpStream};
@@ -12,9 +12,9 @@ pub fn accept_in_ticks(listener: &TcpListener) -> io::Result<()> {
     limit_accepts(listener, Duration::from_millis(TICK_MS))
 }
 
-/// Returns the next connection, if one comes within a tick. An accept that fails, for example
-/// because no descriptor is left, is counted, and sleeps for a tick; one that was interrupted, or
-/// whose client has gone, is not.
+/// Returns the next connection, if one comes within a tick. If an accept fails, as for want of
+/// descriptors, it is counted, and followed by a sleep of a tick; not so one that was interrupted, or
+/// whose client has gone.
 pub fn next_connection<C: Clock>(
     clock: &C,
     listener: &TcpListener,
