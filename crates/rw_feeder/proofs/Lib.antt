@@ -1,3 +1,2 @@
 pub mod HeldLemmas
-pub mod TailLemmas
 pub mod FeederLemmas
