@@ -73,7 +73,8 @@ impl SkippedType {
         }
     }
 
-    /// Whether such a record may hold samples, which are lost when it is passed over: one of histograms does, and one of an unknown type may.
+    /// Whether such a record may hold samples, which are lost when it is passed over: one of
+    /// histograms does, and one of an unknown type may.
     pub fn loses_samples(self) -> bool
         ensures { result ≡ loses_samples self }
     {

@@ -16,7 +16,8 @@ use Rattle.rw_wal_tail.specs.Places.{stop_after}
 use Rattle.rw_wal_tail.specs.Placed.{ends_after}
 use Rattle.rw_wal_tail.specs.Steps.{IsReader, still_read, still_place, Counts, IsKept}
 
--- the pieces that were fed, the number of entries that were given, and the types of the records that were passed over
+-- the pieces that were fed, the number of entries that were given, and the types of the records
+-- that were passed over
 pub record Fed : Type 0 where
   pub pieces : List pieces.Piece
   pub given : ℕ

@@ -136,7 +136,8 @@ Ran More r = 0 < length r.ready.items
 Ran Waits r = Ends r
 Ran (Failed f) r = (r.fault ≡ Some f) × (r.ready.items ≡ [])
 
--- There is room for the data of a record in fragments, whatever is not read, and n bounds all counts.
+-- There is room for the data of a record in fragments, whatever is not read, and n bounds all
+-- counts.
 pub record IsKept (n : ℕ) (r : Reader) : Type 0 where
   pub room : length r.begun.items + unread r.input ≤ vec_capacity r.begun
   pub passed : length r.passed + unread r.input ≤ n

@@ -21,6 +21,7 @@ abbrev pub from_here : Option TailFault → ℕ → Option (List ℕ) → List �
 from_here None left so_far rest later = read_on page_size left so_far rest later
 from_here (Some f) left so_far rest later = stopped (at_fault f)
 
--- the entries that are ready, and then the reading of the bytes at hand, of the pieces that wait and of those that come later
+-- the entries that are ready, and then the reading of the bytes at hand, of the pieces that wait
+-- and of those that come later
 unfoldable pub still : List Entry → List SkippedType → Option TailFault → ℕ → Bool → List ℕ → List ℕ → List Piece → List Piece → Reading
 still ready passed fault left is_open d rest waiting later = after ready passed (from_here fault left (open_data is_open d) rest (waiting ++ later))

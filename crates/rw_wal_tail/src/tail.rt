@@ -131,9 +131,11 @@ impl Tail {
         }
     }
 
-    /// The next entry; `None` where what was fed ends before another one. A fault is reported after all entries before it, and then again by each later call.
+    /// The next entry; `None` where what was fed ends before another one. A fault is reported after
+    /// all entries before it, and then again by each later call.
     ///
-    /// After `OutOfMemory` the same call may be made again. It is also the answer where a count would reach 2^60.
+    /// After `OutOfMemory` the same call may be made again. It is also the answer where a count
+    /// would reach 2^60.
     pub fn next_entry(&mut self) -> Result<Option<Entry>, TailFault>
         ensures answer { (result ≡ Err OutOfMemory)
             ⊎ (result ≡ next_of self.old.pieces self.old.given) }
@@ -143,8 +145,8 @@ impl Tail {
             → TakesNext taken result self.new }
         ensures pieces { self.new.pieces ≡ self.old.pieces }
 
-        // Memory is refused only if an entry comes next, or if a count has come to its end: neither a
-        // fault nor the end of the log waits for memory.
+        // Memory is refused only if an entry comes next, or if a count has come to its end: neither
+        // a fault nor the end of the log waits for memory.
         ensures certain { result ≡ Err OutOfMemory
             → (self.old.given < length (entries self.old.pieces))
             ⊎ (2 ^ 60 ≤ size_of self.old.pieces) }
@@ -185,7 +187,8 @@ impl Tail {
         self.count
     }
 
-    /// How many records were passed over, since they are empty or of another type, up to where `next_entry` last found no entry.
+    /// How many records were passed over, since they are empty or of another type, up to where
+    /// `next_entry` last found no entry.
     pub fn skipped(&self) -> u64
         ensures { result ≡ length self.now.skipped }
     {

@@ -613,7 +613,8 @@ fn counts(tail: &Tail) -> [u64; 9] {
     ]
 }
 
-/// Whether a reader counts these records by type, once it has read to their end, and so does its copy.
+/// Whether a reader counts these records by type, once it has read to their end, and so does its
+/// copy.
 fn are_counted_by_type(alloc: Global) -> bool {
     let mut text = Vec::new(alloc);
     if put_skipped(&mut text).is_err() {
