@@ -225,7 +225,7 @@ fn abort_all(lists: &mut Vec<SampleList>, touched: &[usize])
     }
 }
 
-/// That a series was known, or why it is refused.
+/// Returns `Ok(true)` for a known series, or why it is refused.
 fn was_known(outcome: Result<(), Verdict>) -> Result<bool, Verdict>
     ensures { result ≡ known_of outcome }
 {

@@ -138,7 +138,7 @@ FollowAnswers now said fed o (Err (fault.Missing n)) = IsAbandoned o × Known no
 FollowAnswers now said fed o (Err fault.Stopped) = IsAbandoned o × (said ≡ request.Abort)
 
 -- Why a following that answers so was stopped at once: it was asked to, a segment is missing, a
--- call failed of a log of which calls may fail (`unsure`), or memory ran out for bytes that the log
+-- call failed of a log whose calls may fail (`unsure`), or memory ran out for bytes that the log
 -- has returned.
 abbrev pub FollowStopsAtOnce : Option Moment → StopRequest → (unsure : Type 0) → Meal
     → Result (Unit {0}) FollowFault → Type 0

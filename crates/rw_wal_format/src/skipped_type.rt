@@ -1,9 +1,9 @@
-//! What the records hold that are passed over (wal.md).
+//! The types of skipped records (wal.md).
 
 ghost use Rattle.std.specs.Prelude.{◌≡◌, ◌<◌, ◌∷◌, []};
 ghost use Rattle.rw_wal_format.specs.Skipped.{type_of_byte, skipped_type, type_number, loses_samples};
 
-/// The type of a record that is passed over, since it holds neither series nor samples.
+/// The type of a record that is skipped, since it holds neither series nor samples.
 #[derive(Clone, Copy, Debug, PartialEq, Eq, Drop)]
 pub enum SkippedType {
     /// An empty record, or one of a type that is not listed here.
@@ -27,7 +27,7 @@ pub enum SkippedType {
 }
 
 impl SkippedType {
-    /// The type that a record's first byte stands for.
+    /// Returns the type that a record's first byte stands for.
     #[tactic(auto, unfolding(crate::specs::Skipped::type_of_byte))]
     pub fn from_byte(byte: u8) -> SkippedType
         ensures { result ≡ type_of_byte byte }
@@ -45,7 +45,7 @@ impl SkippedType {
         }
     }
 
-    /// The type of a record that is passed over.
+    /// Returns the type of a skipped record.
     pub fn of(bytes: &[u8]) -> SkippedType
         ensures { result ≡ skipped_type bytes.now }
     {
@@ -55,7 +55,7 @@ impl SkippedType {
         SkippedType::from_byte(bytes[0])
     }
 
-    /// The byte that stands for the type, which is at most 10; 0 for `Unknown`.
+    /// Returns the byte that stands for the type, at most 10, or 0 for `Unknown`.
     pub fn number(self) -> u8
         ensures number { result ≡ type_number self }
         ensures small { result < 11 }
