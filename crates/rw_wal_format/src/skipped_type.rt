@@ -73,7 +73,7 @@ impl SkippedType {
         }
     }
 
-    /// Whether such a record may hold samples, which are lost when it is passed over: one of
+    /// Returns whether such a record may hold samples, which are lost when it is skipped: one of
     /// histograms does, and one of an unknown type may.
     pub fn loses_samples(self) -> bool
         ensures { result ≡ loses_samples self }
@@ -91,7 +91,7 @@ impl SkippedType {
         }
     }
 
-    /// The name of the type, as Prometheus has it.
+    /// Returns the name of the type, as Prometheus has it.
     pub fn name(self) -> &'static str {
         match self {
             SkippedType::Unknown => "unknown",

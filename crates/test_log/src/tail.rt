@@ -598,7 +598,7 @@ fn put_skipped(text: &mut Vec<u8>) -> Result<(), AllocError> {
     put_fragment(text, 1, &[7, 9])
 }
 
-/// How many records a reader has passed over of each type.
+/// Returns how many records of each type a reader has skipped.
 fn counts(tail: &Tail) -> [u64; 9] {
     [
         tail.skipped_of(SkippedType::Unknown),
