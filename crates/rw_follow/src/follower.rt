@@ -18,7 +18,7 @@ use std::marker::Model;
 /// How a stop signal has ended the following of a log.
 #[derive(Clone, Copy, Debug, PartialEq, Eq)]
 pub enum FollowEnd {
-    /// All that the log had was given.
+    /// Everything that the log had was read.
     Finished,
     /// It ended at once.
     Aborted,
@@ -59,7 +59,7 @@ impl From<ReadFault> for SegmentError {
     }
 }
 
-/// Follows a log: gives its segments in order, a piece at a turn, until it is asked to stop.
+/// Follows a log: returns its segments in order, a piece at a turn, until it is asked to stop.
 /// Contracts see whether a segment was seen to come after the current one.
 #[derive(Drop)]
 pub struct Follower {
@@ -89,8 +89,8 @@ impl Follower {
     }
 
     /// Takes a turn. A segment is over once another one was seen to come after it and, read again
-    /// after that, it gives no more bytes. Asked to finish, it ends once nothing is left of what
-    /// the log has; until then it does not sleep. It sleeps once if nothing is left and no segment
+    /// after that, it has no more bytes. When asked to finish, it ends once nothing is left of what
+    /// the log has, and does not sleep until then. It sleeps once if nothing is left and no segment
     /// comes after the current one, and in no other case.
     pub fn turn<S: Segments, W: Watch>(
         &mut self,

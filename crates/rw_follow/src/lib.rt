@@ -1,4 +1,4 @@
-//! Follows a log that grows: its segments are given in order, while a writer goes on writing. Has
+//! Follows a log that grows: its segments are read in order, while a writer goes on writing. Has
 //! the stop signal of the services, and what sets it.
 #![tactic(auto)]
 

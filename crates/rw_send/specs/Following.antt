@@ -72,7 +72,7 @@ FailsWith s (error.Damaged f) = ⊤
 FailsWith s error.Failed = IsSome s.fault
 FailsWith s error.Unreadable = ⊥
 
--- or memory was refused for the bytes of this turn, which were not fed
+-- or memory ran out for the bytes of this turn, which were not fed
 abbrev pub HaltsAt : {T : Type 0} → Turn → Shipping T → Shipping T → FeedError → Type 0
 HaltsAt turn old new (error.Damaged f) = ⊤
 HaltsAt turn old new error.Failed =
@@ -84,20 +84,22 @@ abbrev pub HasGivenMore : Option Moment → Meal → Type 0
 HasGivenMore now fed =
     (more : List ℕ) × (0 < length more) × Known now (λ m. IsGivenAt (with_piece fed more) m)
 
--- The shipper failed, the log is damaged, or memory was refused for bytes that the log has given.
+-- The shipper failed, the log is damaged, or memory ran out for bytes that the log has returned.
 abbrev pub HaltsFor : {T : Type 0} → Shipping T → Option Moment → FeedError → Type 0
 HaltsFor s now (error.Damaged f) = ⊤
 HaltsFor s now error.Failed = IsSome s.fault ⊎ HasGivenMore now (meal_of s.log.pieces)
 HaltsFor s now error.Unreadable = ⊥
 
--- Where the shipper takes no more, the log has the fault for which it does not. A call that failed
--- was one of a log of which calls may fail (`unsure`). A segment is missing that the log says is.
+-- If the shipper takes no more, the log has the fault that stopped it. A call that failed was one
+-- of a log whose calls may fail (`unsure`). A segment that is reported as missing is missing in the
+-- log.
 abbrev pub IsCut : {T : Type 0} → Shipping T → Option Moment → (unsure : Type 0) → FollowError → Type 0
 IsCut s now unsure (follow.Segment (segment.Unreadable f)) = unsure
 IsCut s now unsure (follow.Segment (segment.Missing n)) = Known now (HasGap n)
 IsCut s now unsure (follow.Feed h) = IsHalted s h × HaltsFor s now h
 
--- how the reading ended: by a hard sign, and where a segment is missing, as where it cannot be read
+-- how the reading ended: by a request to end at once, and if a segment is missing, as if it cannot
+-- be read
 abbrev pub shipped_by : Result FollowEnd FollowError → Result (Unit {0}) FeedError
 shipped_by (Ok end.Finished) = Ok tt
 shipped_by (Ok end.Aborted) = Err error.Unreadable
@@ -110,7 +112,7 @@ abbrev pub told : Result (Unit {0}) ToolFault → Result (Unit {0}) FollowFault
 told (Ok u) = Ok u
 told (Err f) = Err (fault.Tool f)
 
--- how it is answered, where the shipper's stop is answered so
+-- how it is answered, if the shipper's stop is answered so
 abbrev pub answer_by : Result FollowEnd FollowError → Result (Unit {0}) ToolFault → Result (Unit {0}) FollowFault
 answer_by (Ok end.Finished) answer = told answer
 answer_by (Ok end.Aborted) answer = Err fault.Stopped
@@ -122,13 +124,13 @@ answer_by (Err (follow.Feed h)) answer = told answer
 abbrev pub left_undone : Result (Unit {0}) FollowFault
 left_undone = Err (fault.Tool tool.OutOfMemory)
 
--- it was told to end, and all that stood was fed
+-- it was asked to finish, and everything that was there was fed
 abbrev pub HasRead : Option Moment → StopRequest → Meal → Type 0
 HasRead now said fed = (said ≡ request.Finish) × Known now (HadAll fed)
 
--- How a following answers whose report has this outcome: all is well only where it was told to end,
--- all that stood was fed and the outcome is complete; a missing segment is one that the log says is
--- missing; and it ends at once only where it was told to.
+-- How a following answers whose report has this outcome: all is well only if it was asked to
+-- finish, everything that was there was fed and the outcome is complete; a missing segment is one
+-- that is missing in the log; and it ends at once only if it was asked to.
 abbrev pub FollowAnswers : Option Moment → StopRequest → Meal → Outcome → Result (Unit {0}) FollowFault → Type 0
 FollowAnswers now said fed o (Ok u) = Answers (HasRead now said fed) ⊤ o (Ok u)
 FollowAnswers now said fed o (Err (fault.Tool f)) = Answers (HasRead now said fed) ⊤ o (Err f)
@@ -136,8 +138,8 @@ FollowAnswers now said fed o (Err (fault.Missing n)) = IsAbandoned o × Known no
 FollowAnswers now said fed o (Err fault.Stopped) = IsAbandoned o × (said ≡ request.Abort)
 
 -- Why a following that answers so was stopped at once: it was asked to, a segment is missing, a
--- call failed of a log of which calls may fail (`unsure`), or memory was refused for bytes that the
--- log has given.
+-- call failed of a log whose calls may fail (`unsure`), or memory ran out for bytes that the log
+-- has returned.
 abbrev pub FollowStopsAtOnce : Option Moment → StopRequest → (unsure : Type 0) → Meal
     → Result (Unit {0}) FollowFault → Type 0
 FollowStopsAtOnce now said unsure fed (Ok u) = ⊥

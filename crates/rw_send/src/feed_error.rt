@@ -10,7 +10,7 @@ use std::alloc::AllocError;
 pub enum FeedError {
     /// The log has this fault.
     Damaged(TailFault),
-    /// Memory was refused, or a worker has gone.
+    /// Memory ran out, or a worker has gone.
     Failed,
     /// A segment cannot be read.
     Unreadable,

@@ -35,7 +35,7 @@ struct Followed<T> {
     answer: Result<(), FollowFault>,
 }
 
-/// How the reading of a log ended that was followed.
+/// Returns how the reading of a followed log ended, in the form of a log that is read once.
 fn shipped_by(ended: Result<FollowEnd, FollowError>) -> Result<(), FeedError>
     ensures { result ≡ shipped_by ended }
 {
@@ -63,7 +63,7 @@ fn told(answer: Result<(), ToolFault>) -> Result<(), FollowFault>
     }
 }
 
-/// How a following answers that ended so, where its shipper's stop is answered so.
+/// Returns the answer of a following that ended so, if the shipper's stop is answered so.
 fn answer_by(
     ended: Result<FollowEnd, FollowError>,
     answer: Result<(), ToolFault>,

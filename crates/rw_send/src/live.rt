@@ -27,12 +27,12 @@ use std::sync::Wait;
 use std::thread::Threads;
 use std::time::Clock;
 
-/// Why a log is followed no further, but for a stop request.
+/// Why following a log ends without a stop request.
 #[derive(Clone, Copy, Debug, PartialEq, Eq)]
 pub(crate) enum FollowError {
     /// The log cannot be followed.
     Segment(SegmentError),
-    /// The shipper takes no more.
+    /// The shipper has failed.
     Feed(FeedError),
 }
 
@@ -119,7 +119,7 @@ fn feed_next<R: Threads + Wait + Clock + Copy + Send + 'static, C: Connect + Dro
     Ok(next)
 }
 
-/// Asks each shard to send what waits for a full batch.
+/// Makes each shard send what waits for a full batch.
 fn flush<R: Wait, C: Connect + Drop>(rt: &R, shipper: &mut Shipper<C>) -> Result<(), FeedError>
     requires live { shipper.old.fault ≡ None }
     ensures kept { IsKept shipper.old shipper.new }
@@ -228,7 +228,7 @@ fn step<R: Threads + Wait + Clock + Copy + Send + 'static, C: Connect + Drop>(
     obey(rt, alloc, shipper, next, turn, buf)
 }
 
-/// Tells of a turn that was done.
+/// Counts a turn that was done.
 fn count_turn<C: Connect + Drop>(
     context: FeedContext<'_>,
     shipper: &Shipper<C>,

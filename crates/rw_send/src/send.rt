@@ -44,7 +44,7 @@ fn answer_to(outcome: &Outcome) -> Result<(), ToolFault>
     }
 }
 
-/// The fault for which a shipper is stopped at once.
+/// Returns the fault for which a shipper is stopped at once.
 fn hard_fault(shipped: Result<(), FeedError>) -> Option<ToolFault>
     ensures { result ≡ hard_fault shipped }
 {

@@ -31,7 +31,7 @@ pub fn zeros(alloc: Global) -> Result<Vec<u8>, AllocError>
 }
 
 /// Reads some bytes of a segment, through `buf`; none at its end. So memory is taken only for bytes
-/// that are there.
+/// that exist.
 fn read_piece<S: Source>(
     alloc: Global,
     segment: &mut S,
@@ -195,7 +195,7 @@ pub fn ship_all<
     ensures halted { IfErr result (IsHalted shipper.new) }
     ensures sure { AreSure (map S.is_sure segments.items) → result ≡ Err Unreadable → ⊥ }
 
-    // Memory for a piece is refused only if the log has more bytes.
+    // Memory for a piece runs out only if the log has more bytes.
     ensures refused { result ≡ Err FeedError.Failed → IsSome shipper.new.fault
         ⊎ HasMoreBytes (map S.remaining segments.items) shipper.new.log.pieces }
     ensures number { shipper.new.fault ≡ None → IsShardCount (length shipper.new.fleet.current) }
