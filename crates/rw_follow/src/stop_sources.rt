@@ -15,9 +15,9 @@ const LONGEST: usize = 64;
 /// How many milliseconds pass between two looks.
 const LOOK_MS: u64 = 200;
 
-/// Reads `input` to its end and then asks to finish, or up to the first line `hard` and then asks to
-/// end at once. An input that cannot be read counts as ended, and so it does if there is no memory
-/// for a line. At most 64 bytes of the input are kept.
+/// Reads `input` to its end and then asks to finish, or up to the first line `hard` and then asks
+/// to end at once. An input that cannot be read counts as ended, and so it does if there is no
+/// memory for a line. At most 64 bytes of the input are kept.
 pub fn watch_input<B: BufRead>(alloc: Global, input: &mut B, signal: &StopSignal) {
     let mut line = Vec::new(alloc);
     if line.reserve(LONGEST).is_err() {
@@ -43,9 +43,9 @@ pub fn watch_input<B: BufRead>(alloc: Global, input: &mut B, signal: &StopSignal
     signal.finish();
 }
 
-/// Looks five times a second for the file at `path`. Asks to finish once the file exists, and to end
-/// at once when its first line is `hard`. Returns then, or when another caller has asked to end at
-/// once.
+/// Looks five times a second for the file at `path`. Asks to finish once the file exists, and to
+/// end at once when its first line is `hard`. Returns then, or when another caller has asked to end
+/// at once.
 pub fn watch_file<R: Clock + Files>(rt: &R, path: &str, signal: &StopSignal) {
     for _ in 0..u64::MAX {
         if matches!(fs::exists(rt, path), Ok(true)) {

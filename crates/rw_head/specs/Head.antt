@@ -41,7 +41,8 @@ abbrev pub judged_body : State → Result WriteRequest WireFault → Judged
 judged_body h (Ok m) = apply h.limits h.store m
 judged_body h (Err e) = record { verdict = BadBody; store = h.store }
 
--- the answer to what was read of a body: while the head is busy, 429 Too Many Requests, whatever it is
+-- the answer to what was read of a body: while the head is busy, 429 Too Many Requests, whatever it
+-- is
 abbrev pub answer_to : State → Result WriteRequest WireFault → Answer
 answer_to h found =
     if nat_lt 0 h.busy then record { status = 429; head = record h { busy = h.busy - 1 } }

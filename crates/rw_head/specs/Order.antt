@@ -1,5 +1,5 @@
--- The order rule of a receiver of samples (Remote-Write 1.0, "Ordering"): a series takes a later sample, a repeat changes nothing, and
--- anything else is refused.
+-- The order rule of a receiver of samples (Remote-Write 1.0, "Ordering"): a series takes a later
+-- sample, a repeat changes nothing, and anything else is refused.
 use Rattle.std.specs.Prelude.{ℕ, ℤ, int_lt, Bool, true, false, ◌&&◌, ◌||◌, if◌then◌else◌, List, [], ◌∷◌, ◌++◌, map, Option, Some, None, ◌==◌}
 use Rattle.std.specs.Ordering.{int_eq}
 use Rattle.rw_write_request.specs.Message.{Sample}

@@ -1,4 +1,5 @@
--- The verdict on a message: it is taken whole, or refused for the first reason that is met (Remote-Write 1.0).
+-- The verdict on a message: it is taken whole, or refused for the first reason that is met
+-- (Remote-Write 1.0).
 use Rattle.std.specs.Prelude.{ℕ, ◌-◌, Bool, ◌||◌, if◌then◌else◌, nat_lt, is_some, List, [], ◌∷◌, length, Option, Some, None, Result, Ok, Err}
 use Rattle.rw_types.specs.Labels.{Labels, label_fault, text_len}
 use Rattle.rw_types.specs.declared.names.Names.{Names}

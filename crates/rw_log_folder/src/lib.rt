@@ -1,5 +1,5 @@
-//! The files of a log in a folder: which of them are read, in which order, and the files themselves,
-//! opened when they are first read.
+//! The files of a log in a folder: which of them are read, in which order, and the files
+//! themselves, opened when they are first read.
 //!
 //! A log is read from its first segment on, or from its newest checkpoint on and then the segments
 //! after it.

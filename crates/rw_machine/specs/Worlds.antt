@@ -43,7 +43,7 @@ pub record Reply : Type 0 where
 pub record World : Type 0 where
   pub pieces : List Piece  -- of the log, so far
   pub placed : ℕ  -- how many of its entries were placed
-  pub series : List Labels  -- the label sets that were kept, in the order in which they were first kept
+  pub series : List Labels  -- the kept label sets, in the order in which they came
   pub epoch : ℕ  -- how often the number of shards has changed
   pub shards : List Shard
   pub requests : List Request  -- all that were ever sent

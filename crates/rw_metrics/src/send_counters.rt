@@ -181,8 +181,8 @@ impl SendCounters {
         set(&self.waiting, waiting);
     }
 
-    /// Sets how many of the placed samples are resolved at the end of the work. No sample waits any
-    /// more.
+    /// Sets how many of the placed samples are resolved at the end of the work; the others count as
+    /// waiting.
     pub fn set_resolved(&self, resolved: u64) {
         set(&self.resolved, resolved);
         set(&self.waiting, read(&self.placed).saturating_sub(resolved));

@@ -13,8 +13,8 @@ pub fn accept_in_ticks(listener: &TcpListener) -> io::Result<()> {
 }
 
 /// Returns the next connection, if one comes within a tick. If an accept fails, as for want of
-/// descriptors, it is counted, and followed by a sleep of a tick; not so one that was interrupted, or
-/// whose client has gone.
+/// descriptors, it is counted, and followed by a sleep of a tick; not so one that was interrupted,
+/// or whose client has gone.
 pub fn next_connection<C: Clock>(
     clock: &C,
     listener: &TcpListener,

@@ -9,8 +9,8 @@ use std::sync::{Arc, Wait};
 use std::thread::{JoinHandle, Scope, Threads};
 use std::time::Clock;
 
-/// A connection that is served in a thread. It is one value, so that the flag of its end is read and
-/// the thread joined together.
+/// A connection that is served in a thread. It is one value, so that the flag of its end is read
+/// and the thread joined together.
 #[derive(Drop)]
 pub(crate) struct ActiveConnection<L: Naming> {
     thread: JoinHandle<Seat<L>>,
@@ -27,8 +27,8 @@ pub(crate) enum Connection<L: Naming> {
     Ended(Seat<L>),
 }
 
-/// Serves a connection in a thread of the scope, or in this one if no thread can be made. If there is
-/// no memory for it, it is closed.
+/// Serves a connection in a thread of the scope, or in this one if no thread can be made. If there
+/// is no memory for it, it is closed.
 pub(crate) fn start_connection<'s, E, L: Naming + Send + Sync + 's, R: Wait + Clock + Sync>(
     scope: &Scope<'s, E>,
     rt: &'s R,

@@ -79,8 +79,8 @@ fn join_each<L: Naming, R: Threads>(
 }
 
 /// Serves one connection from each seat, each in a thread of its own, and returns the seats. The
-/// listener is closed once the last one has come, or none can be served any more: whoever comes then
-/// is refused at once, and does not wait for those in work.
+/// listener is closed once the last one has come, or none can be served any more: whoever comes
+/// then is refused at once, and does not wait for those in work.
 fn serve_each<L: Naming + Send + Sync, R: Threads + Wait + Clock + Sync>(
     rt: &R,
     listener: TcpListener,

@@ -5,8 +5,8 @@ use rw_metrics::ReceiveCounters;
 use rw_recv_head::{Naming, Seat, SharedHead};
 use std::sync::Wait;
 
-/// A seat that is lent to answer the bodies of a connection's requests. Each answer may wait for the
-/// lock, and is counted.
+/// A seat that is lent to answer the bodies of a connection's requests. Each answer may wait for
+/// the lock, and is counted.
 #[derive(Drop)]
 pub(crate) struct CountingSeat<'a, R, L: Naming> {
     pub(crate) rt: &'a R,

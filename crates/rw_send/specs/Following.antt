@@ -126,8 +126,9 @@ left_undone = Err (fault.Tool tool.OutOfMemory)
 abbrev pub HasRead : Option Moment → StopRequest → Meal → Type 0
 HasRead now said fed = (said ≡ request.Finish) × Known now (HadAll fed)
 
--- How a following answers whose report has this outcome: all is well only where it was told to end, all that stood was fed and the outcome is complete; a
--- missing segment is one that the log says is missing; and it ends at once only where it was told to.
+-- How a following answers whose report has this outcome: all is well only where it was told to end,
+-- all that stood was fed and the outcome is complete; a missing segment is one that the log says is
+-- missing; and it ends at once only where it was told to.
 abbrev pub FollowAnswers : Option Moment → StopRequest → Meal → Outcome → Result (Unit {0}) FollowFault → Type 0
 FollowAnswers now said fed o (Ok u) = Answers (HasRead now said fed) ⊤ o (Ok u)
 FollowAnswers now said fed o (Err (fault.Tool f)) = Answers (HasRead now said fed) ⊤ o (Err f)

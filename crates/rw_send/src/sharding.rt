@@ -21,7 +21,7 @@ pub struct Sharding {
     pub shards: u32,
     pub fewest: u32,
     pub most: u32,
-    /// How many samples had been placed when the number was adjusted last by the clock.
+    /// How many samples had been placed when the clock last asked for an adjustment.
     pub placed: u64,
     /// How many had been resolved then.
     pub resolved: u64,
@@ -79,8 +79,8 @@ impl Sharding {
         }
     }
 
-    /// Returns as many shards as are wanted under what was placed and resolved since the last
-    /// adjustment by the clock, and what waits under this load.
+    /// Returns as many shards as are wanted under what was placed and resolved since the clock last
+    /// asked for an adjustment, and what waits under this load.
     fn lately(self, load: Load) -> Sharding
         ensures shards { result.shards
             ≡ wanted self.shards (load.placed - self.placed)
@@ -163,8 +163,8 @@ pub fn resharded<R: Threads + Wait + Clock + Copy + Send + 'static, C: Connect +
     Ok(next)
 }
 
-/// Changes the number of shards to what is wanted under what was placed and resolved since the last
-/// adjustment by the clock, if one is due and the number differs.
+/// Changes the number of shards to what is wanted under what was placed and resolved since the
+/// clock last asked for an adjustment, if one is due and the number differs.
 pub fn retuned<R: Threads + Wait + Clock + Copy + Send + 'static, C: Connect + Drop>(
     rt: &R,
     shipper: &mut Shipper<C>,

@@ -1,7 +1,7 @@
 //! The place of a sample in the sender.
 
-/// Identifies a sample that was put into the queue of a shard: by its shard, its number there, and
-/// its position in the log.
+/// A sample that was put into the queue of a shard: its shard, its number there, and its position
+/// in the log.
 #[derive(Clone, Copy, Debug, PartialEq, Eq)]
 pub struct Place {
     /// The epoch of its shard: how often the number of shards had changed before the sample was

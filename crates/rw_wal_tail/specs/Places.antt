@@ -26,7 +26,7 @@ opens (Some o) middle d = Some (Some (o ++ d))
 opens (Some o) last d = closes (record_entries (o ++ d))
 opens (Some o) _ d = None
 
--- first n bytes, and then those that `next` counts of the bytes after them, unless reading stops here
+-- first n bytes, and then those that `next` counts after them, unless reading stops here
 abbrev pub count_after : ℕ → ℕ → ℕ → List ℕ → (ℕ → Option (List ℕ) → List ℕ → ℕ) → Option (Option (List ℕ)) → ℕ
 count_after page left n text next None = 0
 count_after page left n text next (Some so_far) = n + next (left_after page left n) so_far (drop n text)

@@ -214,7 +214,7 @@ impl Input {
     }
 
     /// Marks the last segment as ended. If it had ended before, the segment between the two ends is
-    /// empty, and the ends need not be told apart.
+    /// empty, and the two ends need not be distinguished.
     pub(crate) fn end_segment(&mut self)
         ensures { self.new ≡ marked self.old }
     {

@@ -5,7 +5,7 @@ use rw_history::History;
 /// A piece of a log: bytes of the current segment, or its end.
 #[derive(Debug, Drop)]
 pub enum Piece {
-    /// The bytes that follow. There may be none.
+    /// The bytes that follow, possibly no bytes.
     Bytes(Vec<u8>),
     /// The current segment has ended.
     NextSegment,

@@ -133,8 +133,8 @@ pub fn report_settings_fault(rt: &HostRuntime, fault: Unset) -> ExitCode
     }
 }
 
-/// Prints the text of the command-line parser: help and version on standard output with status 0, and
-/// otherwise what is wrong with the arguments.
+/// Prints the text of the command-line parser: help and version on standard output with status 0,
+/// and otherwise what is wrong with the arguments.
 pub fn report_parse_error(rt: &HostRuntime, error: clap::Error) -> ExitCode {
     if error.kind() == ErrorKind::OutOfMemory {
         return report_result(rt, Err(ToolFault::OutOfMemory));

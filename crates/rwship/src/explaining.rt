@@ -66,8 +66,8 @@ fn print_input_fault(
     }
 }
 
-/// Ends as `report_result` does after a run over an input. If the input was held, prints what is wrong with
-/// it.
+/// Ends as `report_result` does after a run over an input. If the input was held, prints what is
+/// wrong with it.
 pub fn report_input_result(
     rt: &HostRuntime,
     input: &Input,

@@ -15,9 +15,9 @@ fn forward_abort(signal: &StopSignal, workers: &Option<StopFlag>) {
     }
 }
 
-/// Returns a signal that is set by the file or, if none is given, by standard input. If that asks to
-/// end at once, the flag of the workers is set after the signal. Nobody waits for the thread that
-/// sets it.
+/// Returns a signal that is set by the file or, if none is given, by standard input. If that asks
+/// to end at once, the flag of the workers is set after the signal. Nobody waits for the thread
+/// that sets it.
 pub fn stop_signal<R: Threads>(
     rt: &HostRuntime,
     threads: &R,

@@ -7,8 +7,8 @@ use rw_metrics::SendCounters;
 use std::alloc::Global;
 use std::time::Clock;
 
-/// Makes this request once it was asked `looks` times. What was fed is flushed at once, or never, and
-/// so is the number of shards asked for.
+/// Makes this request once it was asked `looks` times. What was fed is flushed at once, or never,
+/// and so is the number of shards asked for.
 #[derive(Drop)]
 pub(crate) struct Countdown {
     pub(crate) looks: u32,
@@ -60,8 +60,8 @@ impl Watch for Countdown {
     }
 }
 
-/// Asks to stop after `looks` looks: at once if the counters say then that one sample was placed and
-/// none waits, and otherwise to finish. Time passes as `timed` says.
+/// Asks to stop after `looks` looks: at once if the counters say then that one sample was placed
+/// and none waits, and otherwise to finish. Time passes as `timed` says.
 #[derive(Drop)]
 pub(crate) struct Onlooker<'a, K> {
     pub(crate) alloc: Global,

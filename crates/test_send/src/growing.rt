@@ -23,8 +23,8 @@ enum Happens<'a> {
 }
 
 /// What happens, after how many looks it is to stop, by which request, in pieces of how many bytes;
-/// how the following ends, the segments that were given whole, the beginning of the next one, and how
-/// often it was flushed.
+/// how the following ends, the segments that were given whole, the beginning of the next one, and
+/// how often it was flushed.
 type Row<'a> = (
     &'a [Happens<'a>],
     u32,

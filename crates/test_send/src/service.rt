@@ -1,4 +1,5 @@
-//! A receiver, which is stopped by a signal or ends after its connections, and its clients, in threads of one process.
+//! A receiver, which is stopped by a signal or ends after its connections, and its clients, in
+//! threads of one process.
 
 use crate::clients::{Clients, Door, read_by};
 use crate::counted::holds_as_printed;

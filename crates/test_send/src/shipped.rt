@@ -335,8 +335,8 @@ fn stop_twice<R: Clock>(rt: &R, signal: &StopSignal, workers: &StopFlag) {
     workers.set();
 }
 
-/// Follows a log while its receiver is always busy, until the signal or the flag of the workers ends
-/// that.
+/// Follows a log while its receiver is always busy, until the signal or the flag of the workers
+/// ends that.
 fn follow_in_vain<R: Threads + Wait + Clock + Copy + Send + 'static>(
     rt: &R,
     alloc: Global,

@@ -62,9 +62,9 @@ fn request_after_file<R: Clock + Files>(
     Some(signal.request())
 }
 
-/// Makes a file, which a watch has looked for then, and writes to it. Returns what was asked for after
-/// an empty file, after another line, and after the line `hard`; and asks to end at once, so that the
-/// watch ends.
+/// Makes a file, which a watch has looked for then, and writes to it. Returns what was asked for
+/// after an empty file, after another line, and after the line `hard`; and asks to end at once, so
+/// that the watch ends.
 fn write_later<R: Clock + Files>(
     rt: &R,
     path: &str,
