@@ -28,7 +28,7 @@ EndsFor cause s r =
     EndBy Orderly s.fleet r.workers.items
     ⊎ (EndBy Hard s.fleet r.workers.items × IsAbandoned r.outcome × (IsSome s.fault ⊎ cause))
 
--- work is abandoned only where a worker was follow, the shipper failed, or for this cause
+-- work is abandoned only if a worker was cut, the shipper failed, or for this cause
 abbrev pub IsCutFor : {T : Type 0} → (cause : Type 0) → Shipping T → Report T → Type 0
 IsCutFor cause s r =
     IsAbandoned r.outcome → ListsCut r.workers.items ⊎ (IsSome s.fault ⊎ cause)
@@ -117,3 +117,5 @@ hard_fault (Ok u) = None
 hard_fault (Err (error.Damaged f)) = None
 hard_fault (Err error.Failed) = Some fault.OutOfMemory
 hard_fault (Err error.Unreadable) = Some fault.Device
+hard_fault (Err (error.Missing n)) = Some fault.Device
+hard_fault (Err error.Aborted) = Some fault.Device

@@ -5,24 +5,24 @@ ghost use Rattle.rw_wal_format.specs.declared.tail_fault.TailFault.{TailFault};
 ghost use Rattle.rw_follow.specs.Growth.{Known};
 ghost use Rattle.rw_follow.specs.declared.signal.StopRequest.TheVariants as StopRequest;
 ghost use Rattle.rw_text.specs.declared.tool_fault.ToolFault.TheVariants.{OutOfMemory, Log, Line, SegmentFull, Device};
-ghost use Rattle.rw_send.specs.Following.{IsFollowPrinted, IsFollowPrintedPart, IsFollowed, IsUnread, answer_by, left_undone, shipped_by, told};
+ghost use Rattle.rw_send.specs.Following.{IsFollowPrinted, IsFollowPrintedPart, IsFollowed, IsUnread, answer_by, left_undone, told};
 ghost use Rattle.rw_send.specs.declared.follow_fault.FollowFault.TheVariants.{Tool, Missing, Stopped};
 
 use crate::counters::{FeedContext, count_report, update_counters};
 use crate::feed_error::FeedError;
 use crate::follow_fault::FollowFault;
-use crate::live::{FollowError, ship_live};
+use crate::live::ship_live;
 use crate::options::SendOptions;
 use crate::printing::print_report;
 use crate::send::{Sent, stopped};
 use crate::sharding::Sharding;
 use crate::shipping::zeros;
-use rw_follow::{FollowEnd, SegmentError, Segments, StopRequest, Watch};
+use rw_follow::{Segments, StopRequest, Watch};
 use rw_sender::{Connect, Report, Shipper};
 use rw_settings::Settings;
 use rw_shard_core::Config;
 use rw_text::ToolFault;
-use rw_types::{ReadFault, Sink};
+use rw_types::Sink;
 use std::alloc::{AllocError, Global};
 use std::sync::Wait;
 use std::thread::Threads;
@@ -33,24 +33,6 @@ use std::time::Clock;
 struct Followed<T> {
     report: Report<T>,
     answer: Result<(), FollowFault>,
-}
-
-/// How the reading of a log ended that was followed.
-fn shipped_by(ended: Result<FollowEnd, FollowError>) -> Result<(), FeedError>
-    ensures { result ≡ shipped_by ended }
-{
-    match ended {
-        Ok(FollowEnd::Finished) => Ok(()),
-        Ok(FollowEnd::Aborted) => Err(FeedError::Unreadable),
-        Err(FollowError::Segment(SegmentError::Missing(_))) => Err(FeedError::Unreadable),
-        Err(FollowError::Segment(SegmentError::Unreadable(ReadFault::OutOfMemory))) => Err(
-            FeedError::Failed,
-        ),
-        Err(FollowError::Segment(SegmentError::Unreadable(ReadFault::Failed))) => Err(
-            FeedError::Unreadable,
-        ),
-        Err(FollowError::Feed(error)) => Err(error),
-    }
 }
 
 /// An answer of `send`, as that of a log that is followed.
@@ -64,24 +46,20 @@ fn told(answer: Result<(), ToolFault>) -> Result<(), FollowFault>
 }
 
 /// How a following answers that ended so, where its shipper's stop is answered so.
-fn answer_by(
-    ended: Result<FollowEnd, FollowError>,
-    answer: Result<(), ToolFault>,
-) -> Result<(), FollowFault>
+fn answer_by(ended: Result<(), FeedError>, answer: Result<(), ToolFault>) -> Result<(), FollowFault>
     ensures { result ≡ answer_by ended answer }
 {
     match ended {
-        Ok(FollowEnd::Finished) => told(answer),
-        Ok(FollowEnd::Aborted) => Err(FollowFault::Stopped),
-        Err(FollowError::Segment(SegmentError::Missing(number))) => Err(FollowFault::Missing(
-            number,
-        )),
-        Err(FollowError::Segment(SegmentError::Unreadable(_))) => told(answer),
-        Err(FollowError::Feed(_)) => told(answer),
+        Err(FeedError::Missing(number)) => Err(FollowFault::Missing(number)),
+        Err(FeedError::Aborted) => Err(FollowFault::Stopped),
+        Ok(()) | Err(FeedError::Damaged(_) | FeedError::Failed | FeedError::Unreadable) => {
+            told(answer)
+        }
     }
 }
 
-/// The answer of a following that has ended. Where its work was follow short it may be a sign to end at once that has follow it: the sign is looked at once more.
+/// Returns the answer of a following that has ended. If its work was cut short, a request to end at
+/// once may have cut it: the stop signal is looked at once more.
 fn answer_signed<W: Watch>(
     watch: &mut W,
     answer: Result<(), FollowFault>,
@@ -138,7 +116,7 @@ fn ship_on<
         &mut buf,
     );
     update_counters(counters, &shipper);
-    let Sent { report, answer } = stopped(rt, shipper, shipped_by(ended));
+    let Sent { report, answer } = stopped(rt, shipper, ended);
     count_report(counters, &report);
     let answer = answer_signed(watch, answer_by(ended, answer));
     Ok(Followed { report, answer })

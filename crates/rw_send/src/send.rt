@@ -7,7 +7,7 @@ ghost use Rattle.rw_sender.specs.Reports.{IsAbandoned, ListsCut, kind_of};
 ghost use Rattle.rw_sender.specs.Shipping.{HasStopped};
 ghost use Rattle.rw_text.specs.declared.tool_fault.ToolFault.{ToolFault};
 ghost use Rattle.rw_text.specs.declared.tool_fault.ToolFault.TheVariants.{OutOfMemory, Log, Line, SegmentFull, Device};
-ghost use Rattle.rw_send.specs.FeedErrors.{IsHalted};
+ghost use Rattle.rw_send.specs.FeedErrors.{HasDamage};
 ghost use Rattle.rw_send.specs.Sending.{answer_to, hard_fault, Answers, IsPrinted, IsPrintedPart, IsSent};
 
 use crate::counters::{FeedContext, count_report, update_counters};
@@ -51,17 +51,19 @@ fn hard_fault(shipped: Result<(), FeedError>) -> Option<ToolFault>
     match shipped {
         Ok(()) | Err(FeedError::Damaged(_)) => None,
         Err(FeedError::Failed) => Some(ToolFault::OutOfMemory),
-        Err(FeedError::Unreadable) => Some(ToolFault::Device),
+        Err(FeedError::Unreadable | FeedError::Missing(_) | FeedError::Aborted) => {
+            Some(ToolFault::Device)
+        }
     }
 }
 
-/// Stops a shipper whose log was fed whole or to a halt.
+/// Stops a shipper whose log was fed, to its end or as far as it goes.
 pub(crate) fn stopped<R: Threads + Wait, C: Connect + Drop>(
     rt: &R,
     shipper: Shipper<C>,
     shipped: Result<(), FeedError>,
 ) -> Sent<C::T>
-    requires halted { IfErr shipped (IsHalted shipper) }
+    requires halted { IfErr shipped (HasDamage shipper) }
     requires live { OnOk shipped (shipper.fault ≡ None) }
     ensures stopped { HasStopped C.T.tells C.T.seen C.T.is_for shipper result.report }
     ensures ended { EndBy (kind_of (is_some (hard_fault shipped))) shipper.fleet
@@ -69,7 +71,7 @@ pub(crate) fn stopped<R: Threads + Wait, C: Connect + Drop>(
     ensures cut { hard_fault shipped ≡ None → IsAbandoned result.report.outcome
         → ListsCut result.report.workers.items }
     ensures answers { Answers (IsOk shipped)
-        (shipped ≡ Err FeedError.Unreadable) result.report.outcome result.answer }
+        (hard_fault shipped ≡ Some Device) result.report.outcome result.answer }
     ensures hard { (f : ToolFault) → hard_fault shipped ≡ Some f
         → IsAbandoned result.report.outcome }
     ensures failed { IfSome shipper.fault (λ _. IsAbandoned result.report.outcome) }
