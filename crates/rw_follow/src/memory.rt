@@ -16,13 +16,13 @@ use std::mem;
 pub enum Event {
     /// Nothing.
     Quiet,
-    /// The current segment grows, where it is the last one.
+    /// The current segment grows, if it is the last one.
     More(Vec<u8>),
     /// A segment comes, with its bytes.
     Next(Vec<u8>),
-    /// The current segment grows, where it is the last one, and then a segment comes.
+    /// The current segment grows, if it is the last one, and then a segment comes.
     Turn(Vec<u8>, Vec<u8>),
-    /// The segment of this number is missing behind the last one.
+    /// The segment of this number is missing after the last one.
     Gap(u64),
 }
 
@@ -69,7 +69,7 @@ impl Listed {
         }
     }
 
-    /// Lets the current segment grow, where it is the last one.
+    /// Lets the current segment grow, if it is the last one.
     fn grow(&mut self, bytes: &[u8]) -> Result<(), ReadFault>
         ensures { Later self.old [] self.new }
     {
@@ -92,7 +92,7 @@ impl Listed {
         Ok(())
     }
 
-    /// Lets one event happen. Where memory runs out some of it does not.
+    /// Lets one event happen. If memory runs out, some of it does not.
     fn play(&mut self) -> Result<(), ReadFault>
         ensures { Later self.old [] self.new }
     {
@@ -112,7 +112,7 @@ impl Listed {
         }
     }
 
-    /// Goes to the next segment, where nothing is left of the current one.
+    /// Goes to the next segment, if nothing is left of the current one.
     fn step(&mut self) -> Result<(), ReadFault>
         requires read { self.old.rest ≡ [] }
         requires followed { 0 < length self.old.after }

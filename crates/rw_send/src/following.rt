@@ -28,14 +28,14 @@ use std::sync::Wait;
 use std::thread::Threads;
 use std::time::Clock;
 
-/// What came of following.
+/// The report and the answer of a following.
 #[derive(Drop)]
 struct Followed<T> {
     report: Report<T>,
     answer: Result<(), FollowFault>,
 }
 
-/// An answer of `send`, as that of a log that is followed.
+/// Returns an answer of `send` as that of a log that is followed.
 fn told(answer: Result<(), ToolFault>) -> Result<(), FollowFault>
     ensures { result ≡ told answer }
 {
@@ -45,7 +45,7 @@ fn told(answer: Result<(), ToolFault>) -> Result<(), FollowFault>
     }
 }
 
-/// How a following answers that ended so, where its shipper's stop is answered so.
+/// Returns how a following answers that ended so, if its shipper's stop is answered so.
 fn answer_by(ended: Result<(), FeedError>, answer: Result<(), ToolFault>) -> Result<(), FollowFault>
     ensures { result ≡ answer_by ended answer }
 {
@@ -122,13 +122,17 @@ fn ship_on<
     Ok(Followed { report, answer })
 }
 
-/// Ships a log while it grows, until the watch says that it is to end, then stops and prints the report as the command `send` does. Of what was read the
-/// labels and last timestamps of series, the samples that wait to be answered for and the dropped ones are kept, and nothing else.
+/// Ships a log while it grows, until the watch asks to stop, then stops and prints the report as
+/// the command `send` does. Of what was read it keeps the labels and last timestamps of series, the
+/// samples that wait to be acknowledged, and the dropped ones, and nothing else.
 ///
-/// A segment is over once the next one is there and, read again after that was seen, it gives no more bytes. Between two of them the number of shards
-/// is changed to what is wanted under the load. Told to end, it reads what stands, and waits until the receiver has answered for all of it; told to end at
-/// once, it leaves what is not done. While it waits for room in a queue, or for the receiver, it sees that only where the stop flag of `line` is set too,
-/// behind the sign. The counters are told after each turn, and once the work has stopped. Where a segment is missing between two, or cannot be read, the work is stopped at once too.
+/// A segment is over once the next one exists and, read again after that was seen, it gives no more
+/// bytes. Between two of them the number of shards is changed to what is wanted under the load.
+/// Asked to finish, it reads what the log has, and waits until the receiver has acknowledged all of
+/// it; asked to end at once, it leaves what is not done. While it waits for room in a queue, or for
+/// the receiver, it sees that only if the stop flag of `options` is set too, after the stop signal.
+/// The counters are updated after each turn, and once the work has stopped. If a segment is missing
+/// between two, or cannot be read, the work is stopped at once too.
 pub fn run_follow<
     R: Threads + Wait + Clock + Copy + Send + 'static,
     S: Segments,

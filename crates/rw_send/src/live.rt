@@ -56,7 +56,7 @@ fn feed_bytes<R: Wait, C: Connect + Drop>(
     Ok(())
 }
 
-/// Tells that the next segment begins, with as many shards as are wanted under the load.
+/// Feeds word that the next segment begins, with as many shards as are wanted under the load.
 fn feed_next<R: Threads + Wait + Clock + Copy + Send + 'static, C: Connect + Drop>(
     rt: &R,
     shipper: &mut Shipper<C>,
@@ -156,7 +156,7 @@ fn obey<R: Threads + Wait + Clock + Copy + Send + 'static, C: Connect + Drop>(
     }
 }
 
-/// Sets the number of shards where that is due, and does what a turn of a follower asks for.
+/// Sets the number of shards if that is due, and does what a turn of a follower asks for.
 fn step<R: Threads + Wait + Clock + Copy + Send + 'static, C: Connect + Drop>(
     rt: &R,
     alloc: Global,
@@ -197,7 +197,7 @@ fn step<R: Threads + Wait + Clock + Copy + Send + 'static, C: Connect + Drop>(
     obey(rt, alloc, shipper, next, turn, buf)
 }
 
-/// Tells of a turn that was done.
+/// Counts a turn that was done.
 fn count_turn<C: Connect + Drop>(
     context: FeedContext<'_>,
     shipper: &Shipper<C>,
@@ -211,7 +211,7 @@ fn count_turn<C: Connect + Drop>(
     update_counters(context.counters, shipper);
 }
 
-/// Feeds a log as it grows, until the watch says that it is to end.
+/// Feeds a log as it grows, until the watch asks to stop.
 pub(crate) fn ship_live<
     R: Threads + Wait + Clock + Copy + Send + 'static,
     S: Segments,

@@ -120,15 +120,18 @@ fn ship<R: Threads + Wait + Clock + Copy + Send + 'static, S: Source + Drop, C: 
     Ok(sent)
 }
 
-/// Ships the segments of a log in their order, stops, and prints the report: `dropped POS REASON` by position, `filtered COUNT`,
-/// `abandoned POS` by position, and `report ..`, each line ended by LF. Of what was read the labels of series, the samples that wait to be
-/// answered for and the dropped ones are kept, and nothing else.
+/// Ships the segments of a log in their order, stops, and prints the report: `dropped POS REASON`
+/// by position, `filtered COUNT`, `abandoned POS` by position, and `report ..`, each line ended by
+/// LF. Of what was read it keeps the labels of series, the samples that wait to be acknowledged,
+/// and the dropped ones, and nothing else.
 ///
-/// A segment is fed as it is read, in pieces of at most 64 KiB. Between two of them the number of shards is changed to what is wanted under the
-/// load, for which the workers are given a moment to catch up.
-/// A log fault ends the reading, and what stands before it is still shipped. Where memory or a thread is refused, a worker has gone or a
-/// segment cannot be read, the work is stopped at once. Where it could not start, or the report could not be printed for want of memory,
-/// nothing is printed. The counters are told after each piece, and once the work has stopped. Waits until the receiver has answered for all that was read, or the work is stopped.
+/// A segment is fed as it is read, in pieces of at most 64 KiB. Between two of them the number of
+/// shards is changed to what is wanted under the load, for which the workers are given a moment to
+/// catch up. A log fault ends the reading, and what comes before it is still shipped. If there is
+/// no memory or no thread, a worker has gone, or a segment cannot be read, the work is stopped at
+/// once. If it could not start, or there is no memory to print the report, nothing is printed. The
+/// counters are updated after each piece, and once the work has stopped. Waits until the receiver
+/// has acknowledged all that was read, or the work is stopped.
 pub fn run_send<
     R: Threads + Wait + Clock + Copy + Send + 'static,
     S: Source + Drop,

@@ -53,7 +53,7 @@ impl Sharding {
         }
     }
 
-    /// As many shards as are wanted under this load.
+    /// Returns as many shards as are wanted under this load.
     fn under(self, load: Load) -> Sharding
         ensures shards { result.shards
             ≡ wanted self.shards load.placed load.resolved load.backlog self.fewest self.most }
@@ -79,7 +79,8 @@ impl Sharding {
         }
     }
 
-    /// As many shards as are wanted under what was placed and resolved since the clock asked last, and what waits under this load.
+    /// Returns as many shards as are wanted under what was placed and resolved since the clock asked
+    /// last, and what waits under this load.
     fn lately(self, load: Load) -> Sharding
         ensures shards { result.shards
             ≡ wanted self.shards (load.placed - self.placed)
@@ -107,12 +108,14 @@ impl Sharding {
     }
 }
 
-/// How often, and for how many milliseconds, the workers are waited for before the number of shards is asked for: 50 ms at most.
+/// How often, and for how many milliseconds, the workers are waited for before the number of shards
+/// is asked for: 50 ms at most.
 const MOMENTS: u32 = 10;
 
 const MOMENT_MS: u64 = 5;
 
-/// Waits a moment for the workers to resolve what was put, so that the load tells whether they keep up.
+/// Waits a moment for the workers to resolve what was put, so that the load shows whether they keep
+/// up.
 fn let_catch_up<R: Clock, C: Connect + Drop>(rt: &R, shipper: &Shipper<C>) {
     for _ in 0..MOMENTS {
         if shipper.load().backlog == 0 {
@@ -122,7 +125,8 @@ fn let_catch_up<R: Clock, C: Connect + Drop>(rt: &R, shipper: &Shipper<C>) {
     }
 }
 
-/// Changes the number of shards to what is wanted under the load, where that is another one and more is to come.
+/// Changes the number of shards to what is wanted under the load, if that is another one and more is
+/// to come.
 pub fn resharded<R: Threads + Wait + Clock + Copy + Send + 'static, C: Connect + Drop>(
     rt: &R,
     shipper: &mut Shipper<C>,
@@ -159,7 +163,8 @@ pub fn resharded<R: Threads + Wait + Clock + Copy + Send + 'static, C: Connect +
     Ok(next)
 }
 
-/// Changes the number of shards to what is wanted under what was placed and resolved since the clock asked last, where it asks and that is another one.
+/// Changes the number of shards to what is wanted under what was placed and resolved since the clock
+/// asked last, if it asks and that is another one.
 pub fn retuned<R: Threads + Wait + Clock + Copy + Send + 'static, C: Connect + Drop>(
     rt: &R,
     shipper: &mut Shipper<C>,
