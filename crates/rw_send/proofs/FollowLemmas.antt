@@ -31,7 +31,7 @@ use Rattle.rw_send.specs.declared.follow_fault.FollowFault.{FollowFault}
 use Rattle.rw_send.specs.declared.follow_fault.FollowFault.TheVariants as fault
 use Rattle.rw_send.specs.declared.feed_error.FeedError.{FeedError}
 use Rattle.rw_send.specs.declared.feed_error.FeedError.TheVariants as error
-use Rattle.rw_send.specs.Following.{FailsWith, FollowAnswers, FollowStopsAtOnce, HaltsAt, HaltsFor, HasGivenMore, HasRead, IsCut, IsFollowPrinted, IsFollowPrintedPart, IsFollowed, IsUnread, answer_by, left_undone, meal_after, meal_of, no_meal, told}
+use Rattle.rw_send.specs.Following.{FailsWith, FollowAnswers, FollowStopsAtOnce, HaltsAt, HaltsFor, HasGivenMore, HasRead, IsCut, IsFollowPrinted, IsFollowPrintedPart, IsFollowed, IsUnread, follow_result, left_undone, meal_after, meal_of, no_meal, told}
 use Rattle.rw_send.specs.ReportText.{IsTextOf, WritesPart}
 use Rattle.rw_send.specs.FeedErrors.{HasDamage, IsHalted, feed_error_of, segment_error_of}
 use Rattle.rw_send.specs.Sending.{Answers, StopsAtOnce, hard_fault}
@@ -130,7 +130,7 @@ on_err (Err y) h is = tt
 
 -- ---- how a following answers
 
-as_told : (now : Option Moment) (said : StopRequest) (fed : Meal) (o : Outcome) (answer : Result (Unit {0}) ToolFault) → Answers (HasRead now said fed) ⊤ o answer → FollowAnswers now said fed o (told answer)
+as_told : (now : Option Moment) (said : StopRequest) (fed : Meal) (o : Outcome) (answer : Result (Unit {0}) ToolFault) → Answers (HasRead now said fed) ⊤ o answer → FollowAnswers now said fed o (as_follow_result answer)
 as_told now said fed o (Ok u) h = h
 as_told now said fed o (Err f) h = h
 
@@ -138,12 +138,12 @@ not_ok : {P : Type 0} (h : FeedError) → IsOk (halts {X = Unit {0}} h) → P
 not_ok h ok = let no : ⊥ = cc in absurd no
 
 as_halted : (E : Type 0) (now : Option Moment) (said : StopRequest) (fed : Meal) (o : Outcome) (h : FeedError) (answer : Result (Unit {0}) ToolFault) → Answers (IsOk (halts {X = Unit {0}} h)) E o answer
-    → FollowAnswers now said fed o (told answer)
+    → FollowAnswers now said fed o (as_follow_result answer)
 as_halted E now said fed o h answer a = as_told now said fed o answer (answers_too o answer (not_ok h) (λ _. tt) a)
 
 pub follow_answers : {T : Type 0} (s : Shipping T) (now : Option Moment) (unsure : Type 0) (said : StopRequest) (fed : Meal) (o : Outcome) (ended : Result (Unit {0}) FeedError) (answer : Result (Unit {0}) ToolFault)
     → OnOk ended (Known now (HadAll fed)) → OnOk ended (said ≡ request.Finish) → IfErr ended (IsCut s now said unsure)
-    → Answers (IsOk ended) (hard_fault ended ≡ Some tool.Device) o answer → ((f : ToolFault) → hard_fault ended ≡ Some f → IsAbandoned o) → FollowAnswers now said fed o (answer_by ended answer)
+    → Answers (IsOk ended) (hard_fault ended ≡ Some tool.Device) o answer → ((f : ToolFault) → hard_fault ended ≡ Some f → IsAbandoned o) → FollowAnswers now said fed o (follow_result ended answer)
 follow_answers s now unsure said fed o (Ok u) answer whole signed c a hard = as_told now said fed o answer (answers_too o answer (λ _. (signed, whole)) (λ _. tt) a)
 follow_answers s now unsure said fed o (Err (error.Damaged f)) answer whole signed c a hard = as_halted _ now said fed o (error.Damaged f) answer a
 follow_answers s now unsure said fed o (Err error.Failed) answer whole signed c a hard = as_halted _ now said fed o error.Failed answer a
@@ -152,7 +152,7 @@ follow_answers s now unsure said fed o (Err (error.Missing n)) answer whole sign
 follow_answers s now unsure said fed o (Err error.Aborted) answer whole signed c a hard = (hard tool.Device refl, c)
 
 pub follow_so : {T : Type 0} (s : Shipping T) (now : Option Moment) (unsure : Type 0) (said : StopRequest) (fed : Meal) (o : Outcome) (ended : Result (Unit {0}) FeedError) (answer : Result (Unit {0}) ToolFault) (so : Result (Unit {0}) FollowFault)
-    → so ≡ answer_by ended answer → OnOk ended (Known now (HadAll fed)) → OnOk ended (said ≡ request.Finish) → IfErr ended (IsCut s now said unsure)
+    → so ≡ follow_result ended answer → OnOk ended (Known now (HadAll fed)) → OnOk ended (said ≡ request.Finish) → IfErr ended (IsCut s now said unsure)
     → Answers (IsOk ended) (hard_fault ended ≡ Some tool.Device) o answer → ((f : ToolFault) → hard_fault ended ≡ Some f → IsAbandoned o) → FollowAnswers now said fed o so
 follow_so s now unsure said fed o ended answer so f whole signed c a hard =
     subst (λ (r : Result (Unit {0}) FollowFault). FollowAnswers now said fed o r) (sym f) (follow_answers s now unsure said fed o ended answer whole signed c a hard)
@@ -277,14 +277,14 @@ cut_broken s now said unsure (Err e) (segment.Unreadable read.OutOfMemory) is mi
 cut_broken s now said unsure (Err e) (segment.Unreadable read.Failed) is missing fails = subst (IsCut s now said unsure) (sym is) (fails read.Failed refl)
 
 stops_so : (now : Option Moment) (said : StopRequest) (unsure : Type 0) (fed : Meal) (answer : Result (Unit {0}) ToolFault) (f : ToolFault) → answer ≡ Err f
-    → StopsAtOnce (HasGivenMore now fed ⊎ unsure) unsure (Err f) → FollowStopsAtOnce now said unsure fed (told answer)
+    → StopsAtOnce (HasGivenMore now fed ⊎ unsure) unsure (Err f) → FollowStopsAtOnce now said unsure fed (as_follow_result answer)
 stops_so now said unsure fed (Ok u) f e h = let no : ⊥ = cc in absurd no
 stops_so now said unsure fed (Err g) f e h = subst (λ (r : Result (Unit {0}) ToolFault). StopsAtOnce (HasGivenMore now fed ⊎ unsure) unsure r) (sym e) h
 
 -- the cause of a hard stop, by how the reading ended
 pub follow_cause : {T : Type 0} (s : Shipping T) (now : Option Moment) (said : StopRequest) (unsure : Type 0) (ended : Result (Unit {0}) FeedError) (answer : Result (Unit {0}) ToolFault)
     → IfErr ended (IsCut s now said unsure) → ((f : ToolFault) → hard_fault ended ≡ Some f → answer ≡ Err f)
-    → IsSome (hard_fault ended) → IsSome s.fault ⊎ FollowStopsAtOnce now said unsure (meal_of s.log.pieces) (answer_by ended answer)
+    → IsSome (hard_fault ended) → IsSome s.fault ⊎ FollowStopsAtOnce now said unsure (meal_of s.log.pieces) (follow_result ended answer)
 follow_cause s now said unsure (Ok u) answer c is hard = let no : ⊥ = cc in absurd no
 follow_cause s now said unsure (Err (error.Damaged f)) answer c is hard = let no : ⊥ = cc in absurd no
 follow_cause s now said unsure (Err error.Failed) answer (inl f) is hard = inl f
@@ -316,7 +316,7 @@ with_stops go (inr a) = inr (go a)
 
 -- so it is of the shipping that was stopped by it, and of the answer in the end
 pub follow_why : {T : Type 0} (s : Shipping T) (now : Option Moment) (old new : StopRequest) (unsure : Type 0) (ended : Result (Unit {0}) FeedError) (answer : Result (Unit {0}) ToolFault) (so result : Result (Unit {0}) FollowFault)
-    → so ≡ answer_by ended answer
+    → so ≡ follow_result ended answer
     → (result ≡ so) ⊎ ((so ≡ left_undone) × (result ≡ Err fault.Stopped) × (new ≡ request.Abort)) → ((so ≡ left_undone → ⊥) → new ≡ old)
     → IfErr ended (IsCut s now old unsure) → ((f : ToolFault) → hard_fault ended ≡ Some f → answer ≡ Err f)
     → HasCause (IsSome s.fault ⊎ FollowStopsAtOnce now new unsure (meal_of s.log.pieces) result) ended

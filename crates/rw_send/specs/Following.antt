@@ -104,19 +104,19 @@ IsCut s now said unsure error.Unreadable = unsure
 IsCut s now said unsure (error.Missing n) = Known now (HasGap n)
 IsCut s now said unsure error.Aborted = said ≡ request.Abort
 
-abbrev pub told : Result (Unit {0}) ToolFault → Result (Unit {0}) FollowFault
-told (Ok u) = Ok u
-told (Err f) = Err (fault.Tool f)
+abbrev pub as_follow_result : Result (Unit {0}) ToolFault → Result (Unit {0}) FollowFault
+as_follow_result (Ok u) = Ok u
+as_follow_result (Err f) = Err (fault.Tool f)
 
 -- how it is answered, if the shipper's stop is answered so
-abbrev pub answer_by : Result (Unit {0}) FeedError → Result (Unit {0}) ToolFault
+abbrev pub follow_result : Result (Unit {0}) FeedError → Result (Unit {0}) ToolFault
     → Result (Unit {0}) FollowFault
-answer_by (Ok u) answer = told answer
-answer_by (Err (error.Damaged f)) answer = told answer
-answer_by (Err error.Failed) answer = told answer
-answer_by (Err error.Unreadable) answer = told answer
-answer_by (Err (error.Missing n)) answer = Err (fault.Missing n)
-answer_by (Err error.Aborted) answer = Err fault.Stopped
+follow_result (Ok u) answer = as_follow_result answer
+follow_result (Err (error.Damaged f)) answer = as_follow_result answer
+follow_result (Err error.Failed) answer = as_follow_result answer
+follow_result (Err error.Unreadable) answer = as_follow_result answer
+follow_result (Err (error.Missing n)) answer = Err (fault.Missing n)
+follow_result (Err error.Aborted) answer = Err fault.Stopped
 
 -- the answer where work was left that nobody asked to leave
 abbrev pub left_undone : Result (Unit {0}) FollowFault

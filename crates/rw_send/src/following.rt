@@ -5,7 +5,7 @@ ghost use Rattle.rw_wal_format.specs.declared.tail_fault.TailFault.{TailFault};
 ghost use Rattle.rw_follow.specs.Growth.{Known};
 ghost use Rattle.rw_follow.specs.declared.signal.StopRequest.TheVariants as StopRequest;
 ghost use Rattle.rw_text.specs.declared.tool_fault.ToolFault.TheVariants.{OutOfMemory, Log, Line, SegmentFull, Device};
-ghost use Rattle.rw_send.specs.Following.{IsFollowPrinted, IsFollowPrintedPart, IsFollowed, IsUnread, answer_by, left_undone, told};
+ghost use Rattle.rw_send.specs.Following.{IsFollowPrinted, IsFollowPrintedPart, IsFollowed, IsUnread, follow_result, left_undone, as_follow_result};
 ghost use Rattle.rw_send.specs.declared.follow_fault.FollowFault.TheVariants.{Tool, Missing, Stopped};
 
 use crate::counters::{FeedContext, count_report, update_counters};
@@ -14,7 +14,7 @@ use crate::follow_fault::FollowFault;
 use crate::live::ship_live;
 use crate::options::SendOptions;
 use crate::printing::print_report;
-use crate::send::{Sent, stopped};
+use crate::send::{Sent, stop_shipper};
 use crate::sharding::Sharding;
 use crate::shipping::zeros;
 use rw_follow::{Segments, StopRequest, Watch};
@@ -36,8 +36,8 @@ struct Followed<T> {
 }
 
 /// Returns an answer of `send` as that of a log that is followed.
-fn told(answer: Result<(), ToolFault>) -> Result<(), FollowFault>
-    ensures { result ≡ told answer }
+fn as_follow_result(answer: Result<(), ToolFault>) -> Result<(), FollowFault>
+    ensures { result ≡ as_follow_result answer }
 {
     match answer {
         Ok(()) => Ok(()),
@@ -46,24 +46,24 @@ fn told(answer: Result<(), ToolFault>) -> Result<(), FollowFault>
 }
 
 /// Returns how a following answers that ended so, if its shipper's stop is answered so.
-fn answer_by(ended: Result<(), FeedError>, answer: Result<(), ToolFault>) -> Result<(), FollowFault>
-    ensures { result ≡ answer_by ended answer }
+fn follow_result(
+    ended: Result<(), FeedError>,
+    answer: Result<(), ToolFault>,
+) -> Result<(), FollowFault>
+    ensures { result ≡ follow_result ended answer }
 {
     match ended {
         Err(FeedError::Missing(number)) => Err(FollowFault::Missing(number)),
         Err(FeedError::Aborted) => Err(FollowFault::Stopped),
         Ok(()) | Err(FeedError::Damaged(_) | FeedError::Failed | FeedError::Unreadable) => {
-            told(answer)
+            as_follow_result(answer)
         }
     }
 }
 
 /// Returns the answer of a following that has ended. If its work was cut short, a request to end at
 /// once may have cut it: the stop signal is looked at once more.
-fn answer_signed<W: Watch>(
-    watch: &mut W,
-    answer: Result<(), FollowFault>,
-) -> Result<(), FollowFault>
+fn or_stopped<W: Watch>(watch: &mut W, answer: Result<(), FollowFault>) -> Result<(), FollowFault>
     ensures answer { (result ≡ answer) ⊎ ((answer ≡ left_undone) × (result ≡ Err Stopped)
         × (W.said watch.new ≡ StopRequest.Abort)) }
     ensures watch { (answer ≡ left_undone → ⊥) → W.said watch.new ≡ W.said watch.old }
@@ -116,9 +116,9 @@ fn ship_on<
         &mut buf,
     );
     update_counters(counters, &shipper);
-    let Sent { report, answer } = stopped(rt, shipper, ended);
+    let Sent { report, answer } = stop_shipper(rt, shipper, ended);
     count_report(counters, &report);
-    let answer = answer_signed(watch, answer_by(ended, answer));
+    let answer = or_stopped(watch, follow_result(ended, answer));
     Ok(Followed { report, answer })
 }
 

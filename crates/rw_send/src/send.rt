@@ -58,7 +58,7 @@ fn hard_fault(shipped: Result<(), FeedError>) -> Option<ToolFault>
 }
 
 /// Stops a shipper whose log was fed, to its end or as far as it goes.
-pub(crate) fn stopped<R: Threads + Wait, C: Connect + Drop>(
+pub(crate) fn stop_shipper<R: Threads + Wait, C: Connect + Drop>(
     rt: &R,
     shipper: Shipper<C>,
     shipped: Result<(), FeedError>,
@@ -115,7 +115,7 @@ fn ship<R: Threads + Wait + Clock + Copy + Send + 'static, S: Source + Drop, C: 
     let context = FeedContext { alloc, counters };
     let shipped = ship_all(rt, context, &mut shipper, sharding, segments, &mut buf);
     update_counters(counters, &shipper);
-    let sent = stopped(rt, shipper, shipped);
+    let sent = stop_shipper(rt, shipper, shipped);
     count_report(counters, &sent.report);
     Ok(sent)
 }

@@ -6,22 +6,22 @@ use Rattle.rw_send.proofs.EpochLemmas.{none_ended}
 use Rattle.rw_send.specs.Following.{FollowStopsAtOnce, meal_of}
 use Rattle.rw_send.proofs.following.ship_on.Goals as goal
 
-pub stopped-report-requires-clause-halted : goal.stopped-report-requires-clause-halted
-stopped-report-requires-clause-halted g c κs within =
+pub stop_shipper-report-requires-clause-halted : goal.stop_shipper-report-requires-clause-halted
+stop_shipper-report-requires-clause-halted g c κs within =
     damaged_by c.ship_live-ended.new.shipper _ _ _ c.ship_live-ended.result c.ship_live-ended.ensures.cut
 
 pub returns : goal.returns
 returns g c =
     let live = c.ship_live-ended.ensures in
-    let stopped = c.stopped-report.ensures in
+    let stopped = c.stop_shipper-report.ensures in
     let shipper = c.ship_live-ended.new.shipper in
-    let report = c.stopped-report.result.report in
-    let signed = c.answer_signed-answer in
+    let report = c.stop_shipper-report.result.report in
+    let signed = c.or_stopped-answer in
     let unsure = g.S.Segments.is_sure c.args.segments.now ≡ true → ⊥ in
     let now = g.S.Segments.now c.ship_live-ended.new.segments in
     let said = g.W.Watch.said signed.new.watch in
     let cause = FollowStopsAtOnce now said unsure (meal_of shipper.log.pieces) signed.result in
-    let why = follow_why shipper now _ said unsure c.ship_live-ended.result _ c.answer_by.result signed.result c.answer_by.ensures signed.ensures.answer signed.ensures.watch
+    let why = follow_why shipper now _ said unsure c.ship_live-ended.result _ c.follow_result.result signed.result c.follow_result.ensures signed.ensures.answer signed.ensures.watch
     live.cut stopped.answer in
     record {
       pieces = c.ship_live-ended.new.shipper.log.pieces;
@@ -44,6 +44,6 @@ returns g c =
         capacity = c.of-sharding.ensures.capacity;
         batch = c.of-sharding.ensures.batch;
       };
-      answers = signed_answers _ _ _ _ _ c.answer_by.result c.answer_signed-answer.result c.answer_signed-answer.ensures.answer c.answer_signed-answer.ensures.watch
-          (follow_so c.ship_live-ended.new.shipper _ _ _ _ _ c.ship_live-ended.result _ _ c.answer_by.ensures live.whole live.signed live.cut stopped.answers stopped.hard);
+      answers = signed_answers _ _ _ _ _ c.follow_result.result c.or_stopped-answer.result c.or_stopped-answer.ensures.answer c.or_stopped-answer.ensures.watch
+          (follow_so c.ship_live-ended.new.shipper _ _ _ _ _ c.ship_live-ended.result _ _ c.follow_result.ensures live.whole live.signed live.cut stopped.answers stopped.hard);
     }
