@@ -10,7 +10,7 @@ mod stop_sources;
 mod timed;
 mod watch;
 
-pub use follower::{FollowEnd, Follower, SegmentError, Turn};
+pub use follower::{Follower, SegmentError, Turn};
 pub use memory::{Event, Listed};
 pub use segments::{Ahead, Segments};
 pub use signal::{StopRequest, StopSignal};

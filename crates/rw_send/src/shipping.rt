@@ -23,7 +23,7 @@ use std::time::Clock;
 /// The most bytes of a piece.
 pub const PIECE_BYTES: usize = 65_536;
 
-/// Returns a buffer for a piece.
+/// Returns room for a piece.
 pub fn zeros(alloc: Global) -> Result<Vec<u8>, AllocError>
     ensures { IfOk result (λ v. vec_len v ≡ PIECE_BYTES) }
 {
@@ -61,7 +61,7 @@ fn read_piece<S: Source>(
     Ok(piece)
 }
 
-/// Feeds the next bytes of a segment. `false` means its end.
+/// Feeds the next bytes of a segment. Returns false at its end.
 fn ship_piece<R: Wait, S: Source, C: Connect + Drop>(
     rt: &R,
     context: FeedContext<'_>,
@@ -138,7 +138,7 @@ fn ship_segment<R: Wait, S: Source + Drop, C: Connect + Drop>(
     unreachable!()
 }
 
-/// Begins the next segment, if it is not the first one.
+/// Feeds word that the next segment begins, unless it is the first one.
 pub fn begin_segment<R: Wait, C: Connect + Drop>(
     rt: &R,
     shipper: &mut Shipper<C>,
