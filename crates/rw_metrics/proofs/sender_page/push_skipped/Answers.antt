@@ -1,0 +1,10 @@
+use Rattle.std.proofs.Common.{append_assoc, refl}
+use Rattle.rw_metrics.proofs.sender_page.push_skipped.Goals as goal
+
+pub returns : goal.returns
+returns c =
+    rw (
+      c.in_ok-push_other.ensures,
+      c.in_ok-push_lost.ensures,
+      c.in_ok-push_counters.ensures,
+    ) (simp append_assoc refl)
