@@ -1,17 +1,17 @@
 -- How a following goes on.
 use Rattle.std.specs.Prelude.{ℕ, ◌≤◌, List, take, ⊤, Option}
 use Rattle.rw_follow.specs.Growth.{IsGivenAt, Known, Meal, Moment, with_next, with_piece}
-use Rattle.rw_follow.specs.declared.follower.Stop.{Stop}
-use Rattle.rw_follow.specs.declared.follower.Stop.TheVariants as stop
+use Rattle.rw_follow.specs.declared.follower.FollowEnd.{FollowEnd}
+use Rattle.rw_follow.specs.declared.follower.FollowEnd.TheVariants as end
 use Rattle.rw_follow.specs.declared.follower.Turn.{Turn}
 use Rattle.rw_follow.specs.declared.follower.Turn.TheVariants as turn
-use Rattle.rw_follow.specs.declared.watch.Wish.{Wish}
-use Rattle.rw_follow.specs.declared.watch.Wish.TheVariants as wish
+use Rattle.rw_follow.specs.declared.signal.StopRequest.{StopRequest}
+use Rattle.rw_follow.specs.declared.signal.StopRequest.TheVariants as request
 
--- the wish that stops it so
-abbrev pub wish_of : Stop → Wish
-wish_of stop.Orderly = wish.End
-wish_of stop.Hard = wish.Hard
+-- the request that ends it so
+abbrev pub request_of : FollowEnd → StopRequest
+request_of end.Finished = request.Finish
+request_of end.Aborted = request.Abort
 
 -- what was given with a turn more, which has this buffer
 abbrev pub given_by : Turn → List ℕ → Meal → Meal
@@ -21,7 +21,7 @@ given_by turn.Flush buf meal = meal
 given_by turn.Nothing buf meal = meal
 given_by (turn.Stopped s) buf meal = meal
 
--- its bytes stand in a buffer of this length
+-- its bytes are in a buffer of this length
 abbrev pub IsWithin : Turn → ℕ → Type 0
 IsWithin (turn.Piece n) len = n ≤ len
 IsWithin turn.Over len = ⊤

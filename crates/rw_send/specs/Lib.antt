@@ -3,6 +3,6 @@ pub mod Following
 pub mod Opening
 pub mod ReportText
 pub mod Sending
-pub mod Halting
+pub mod FeedErrors
 pub mod Segments
 pub mod Steps

@@ -15,8 +15,8 @@ use Rattle.rw_sender.specs.Shipping.{Shipping, PlacesAll, HasStopped}
 use Rattle.rw_sender.specs.declared.report.Report.{Report}
 use Rattle.rw_text.specs.declared.tool_fault.ToolFault.{ToolFault}
 use Rattle.rw_text.specs.declared.tool_fault.ToolFault.TheVariants as fault
-use Rattle.rw_send.specs.declared.halt.Halt.{Halt}
-use Rattle.rw_send.specs.declared.halt.Halt.TheVariants as halt
+use Rattle.rw_send.specs.declared.feed_error.FeedError.{FeedError}
+use Rattle.rw_send.specs.declared.feed_error.FeedError.TheVariants as error
 use Rattle.rw_send.specs.ReportText.{IsTextOf, WritesPart}
 use Rattle.rw_send.specs.Segments.{AreShort, AreSure, HasMoreBytes, IsBeginningOf, IsLogOf}
 use Rattle.rw_send.specs.Steps.{AreShipped, AreShippedPart, HasLastEpoch, HasStarted}
@@ -28,7 +28,7 @@ EndsFor cause s r =
     EndBy Orderly s.fleet r.workers.items
     ⊎ (EndBy Hard s.fleet r.workers.items × IsAbandoned r.outcome × (IsSome s.fault ⊎ cause))
 
--- work is abandoned only where a worker was cut, the shipper failed, or for this cause
+-- work is abandoned only where a worker was follow, the shipper failed, or for this cause
 abbrev pub IsCutFor : {T : Type 0} → (cause : Type 0) → Shipping T → Report T → Type 0
 IsCutFor cause s r =
     IsAbandoned r.outcome → ListsCut r.workers.items ⊎ (IsSome s.fault ⊎ cause)
@@ -112,8 +112,8 @@ pub record IsPrintedPart {T : Type 0} (tells : T → Type 0) (seen : T → List 
   pub part : WritesPart report before after
 
 -- for this fault the work is stopped at once; a damaged log is shipped as far as it goes
-abbrev pub hard_fault : Result (Unit {0}) Halt → Option ToolFault
+abbrev pub hard_fault : Result (Unit {0}) FeedError → Option ToolFault
 hard_fault (Ok u) = None
-hard_fault (Err (halt.Damaged f)) = None
-hard_fault (Err halt.Failed) = Some fault.OutOfMemory
-hard_fault (Err halt.Unreadable) = Some fault.Device
+hard_fault (Err (error.Damaged f)) = None
+hard_fault (Err error.Failed) = Some fault.OutOfMemory
+hard_fault (Err error.Unreadable) = Some fault.Device

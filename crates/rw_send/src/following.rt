@@ -3,21 +3,21 @@
 ghost use Rattle.std.specs.Prelude.{◌≡◌, ◌⊎◌, ℕ, Ok, Err, true, false, IfOk, OnOk};
 ghost use Rattle.rw_wal_format.specs.declared.tail_fault.TailFault.{TailFault};
 ghost use Rattle.rw_follow.specs.Growth.{Known};
-ghost use Rattle.rw_follow.specs.declared.watch.Wish.TheVariants as Wish;
+ghost use Rattle.rw_follow.specs.declared.signal.StopRequest.TheVariants as StopRequest;
 ghost use Rattle.rw_text.specs.declared.tool_fault.ToolFault.TheVariants.{OutOfMemory, Log, Line, SegmentFull, Device};
 ghost use Rattle.rw_send.specs.Following.{IsFollowPrinted, IsFollowPrintedPart, IsFollowed, IsUnread, answer_by, left_undone, shipped_by, told};
 ghost use Rattle.rw_send.specs.declared.follow_fault.FollowFault.TheVariants.{Tool, Missing, Stopped};
 
-use crate::feed_counters::{Means, tell};
+use crate::counters::{FeedContext, count_report, update_counters};
 use crate::follow_fault::FollowFault;
-use crate::halt::Halt;
-use crate::live::{Cut, ship_live};
+use crate::feed_error::FeedError;
+use crate::live::{FollowError, ship_live};
 use crate::printing::print_report;
 use crate::send::{Sent, stopped};
 use crate::sharding::Sharding;
 use crate::shipping::zeros;
-use crate::telling::{Counted, tell_report};
-use rw_follow::{Broken, Segments, Stop, Watch, Wish};
+use crate::options::SendOptions;
+use rw_follow::{FollowEnd, SegmentError, Segments, StopRequest, Watch};
 use rw_sender::{Connect, Report, Shipper};
 use rw_settings::Settings;
 use rw_shard_core::Config;
@@ -36,16 +36,16 @@ struct Followed<T> {
 }
 
 /// How the reading of a log ended that was followed.
-fn shipped_by(ended: Result<Stop, Cut>) -> Result<(), Halt>
+fn shipped_by(ended: Result<FollowEnd, FollowError>) -> Result<(), FeedError>
     ensures { result ≡ shipped_by ended }
 {
     match ended {
-        Ok(Stop::Orderly) => Ok(()),
-        Ok(Stop::Hard) => Err(Halt::Unreadable),
-        Err(Cut::Broken(Broken::Missing(_))) => Err(Halt::Unreadable),
-        Err(Cut::Broken(Broken::Unreadable(ReadFault::OutOfMemory))) => Err(Halt::Failed),
-        Err(Cut::Broken(Broken::Unreadable(ReadFault::Failed))) => Err(Halt::Unreadable),
-        Err(Cut::Halted(halt)) => Err(halt),
+        Ok(FollowEnd::Finished) => Ok(()),
+        Ok(FollowEnd::Aborted) => Err(FeedError::Unreadable),
+        Err(FollowError::Segment(SegmentError::Missing(_))) => Err(FeedError::Unreadable),
+        Err(FollowError::Segment(SegmentError::Unreadable(ReadFault::OutOfMemory))) => Err(FeedError::Failed),
+        Err(FollowError::Segment(SegmentError::Unreadable(ReadFault::Failed))) => Err(FeedError::Unreadable),
+        Err(FollowError::Feed(error)) => Err(error),
     }
 }
 
@@ -60,31 +60,31 @@ fn told(answer: Result<(), ToolFault>) -> Result<(), FollowFault>
 }
 
 /// How a following answers that ended so, where its shipper's stop is answered so.
-fn answer_by(ended: Result<Stop, Cut>, answer: Result<(), ToolFault>) -> Result<(), FollowFault>
+fn answer_by(ended: Result<FollowEnd, FollowError>, answer: Result<(), ToolFault>) -> Result<(), FollowFault>
     ensures { result ≡ answer_by ended answer }
 {
     match ended {
-        Ok(Stop::Orderly) => told(answer),
-        Ok(Stop::Hard) => Err(FollowFault::Stopped),
-        Err(Cut::Broken(Broken::Missing(number))) => Err(FollowFault::Missing(number)),
-        Err(Cut::Broken(Broken::Unreadable(_))) => told(answer),
-        Err(Cut::Halted(_)) => told(answer),
+        Ok(FollowEnd::Finished) => told(answer),
+        Ok(FollowEnd::Aborted) => Err(FollowFault::Stopped),
+        Err(FollowError::Segment(SegmentError::Missing(number))) => Err(FollowFault::Missing(number)),
+        Err(FollowError::Segment(SegmentError::Unreadable(_))) => told(answer),
+        Err(FollowError::Feed(_)) => told(answer),
     }
 }
 
-/// The answer of a following that has ended. Where its work was cut short it may be a sign to end at once that has cut it: the sign is looked at once more.
+/// The answer of a following that has ended. Where its work was follow short it may be a sign to end at once that has follow it: the sign is looked at once more.
 fn answer_signed<W: Watch>(
     watch: &mut W,
     answer: Result<(), FollowFault>,
 ) -> Result<(), FollowFault>
     ensures answer { (result ≡ answer) ⊎ ((answer ≡ left_undone) × (result ≡ Err Stopped)
-        × (W.said watch.new ≡ Wish.Hard)) }
+        × (W.said watch.new ≡ StopRequest.Abort)) }
     ensures watch { (answer ≡ left_undone → ⊥) → W.said watch.new ≡ W.said watch.old }
 {
     let Err(FollowFault::Tool(ToolFault::OutOfMemory)) = answer else {
         return answer;
     };
-    if watch.wish() == Wish::Hard {
+    if watch.stop_request() == StopRequest::Abort {
         return Err(FollowFault::Stopped);
     }
     answer
@@ -101,28 +101,28 @@ fn ship_on<
     alloc: Global,
     config: Config,
     segments: &mut S,
-    line: Counted<'_, C>,
+    options: SendOptions<'_, C>,
     watch: &mut W,
 ) -> Result<Followed<C::T>, AllocError>
     requires unread { Known (S.now segments.old) IsUnread }
     ensures { IfOk result
-        (λ f. IsFollowed C.T.tells C.T.seen C.T.is_for config line.entry.max_batch_bytes
+        (λ f. IsFollowed C.T.tells C.T.seen C.T.is_for config options.entry.max_batch_bytes
         (S.is_sure segments.old) (S.now segments.new) (W.said watch.new) f.report f.answer) }
 {
     let sharding = Sharding::of(&config);
     let mut buf = zeros(alloc)?;
-    let Counted {
+    let SendOptions {
         connect,
         counters,
         max_batch_bytes,
         stop,
-    } = line;
+    } = options;
     let mut shipper = Shipper::start_within(rt, alloc, config, connect, max_batch_bytes, stop)?;
-    let means = Means { alloc, counters };
-    let ended = ship_live(rt, means, &mut shipper, sharding, segments, watch, &mut buf);
-    tell(counters, &shipper);
+    let context = FeedContext { alloc, counters };
+    let ended = ship_live(rt, context, &mut shipper, sharding, segments, watch, &mut buf);
+    update_counters(counters, &shipper);
     let Sent { report, answer } = stopped(rt, shipper, shipped_by(ended));
-    tell_report(counters, &report);
+    count_report(counters, &report);
     let answer = answer_signed(watch, answer_by(ended, answer));
     Ok(Followed { report, answer })
 }
@@ -145,54 +145,54 @@ pub fn run_follow<
     alloc: Global,
     settings: Settings,
     segments: &mut S,
-    line: Counted<'_, C>,
+    options: SendOptions<'_, C>,
     watch: &mut W,
     writer: &mut K,
 ) -> Result<(), FollowFault>
     requires unread { Known (S.now segments.old) IsUnread }
     ensures complete { OnOk result
-        (IsFollowPrinted C.T.tells C.T.seen C.T.is_for settings.config line.entry.max_batch_bytes
+        (IsFollowPrinted C.T.tells C.T.seen C.T.is_for settings.config options.entry.max_batch_bytes
         (S.is_sure segments.old) (S.now segments.new) (W.said watch.new)
         (K.contents writer.old) (K.contents writer.new)
         (Ok tt)) }
     ensures sound { OnOk result
         (K.has_failed writer.old ≡ false → K.has_failed writer.new ≡ false) }
     ensures damaged { (f : TailFault) → result ≡ Err (Tool (Log f))
-        → IsFollowPrinted C.T.tells C.T.seen C.T.is_for settings.config line.entry.max_batch_bytes
+        → IsFollowPrinted C.T.tells C.T.seen C.T.is_for settings.config options.entry.max_batch_bytes
         (S.is_sure segments.old) (S.now segments.new) (W.said watch.new)
         (K.contents writer.old) (K.contents writer.new)
         (Err (Tool (Log f))) }
     ensures missing { (n : ℕ) → result ≡ Err (Missing n)
-        → IsFollowPrinted C.T.tells C.T.seen C.T.is_for settings.config line.entry.max_batch_bytes
+        → IsFollowPrinted C.T.tells C.T.seen C.T.is_for settings.config options.entry.max_batch_bytes
         (S.is_sure segments.old) (S.now segments.new) (W.said watch.new)
         (K.contents writer.old) (K.contents writer.new)
         (Err (Missing n)) }
     ensures stopped { result ≡ Err Stopped
-        → IsFollowPrinted C.T.tells C.T.seen C.T.is_for settings.config line.entry.max_batch_bytes
+        → IsFollowPrinted C.T.tells C.T.seen C.T.is_for settings.config options.entry.max_batch_bytes
         (S.is_sure segments.old) (S.now segments.new) (W.said watch.new)
         (K.contents writer.old) (K.contents writer.new)
         (Err Stopped) }
     ensures memory { result ≡ Err (Tool OutOfMemory) → (writer.new ≡ writer.old)
-        ⊎ IsFollowPrinted C.T.tells C.T.seen C.T.is_for settings.config line.entry.max_batch_bytes
+        ⊎ IsFollowPrinted C.T.tells C.T.seen C.T.is_for settings.config options.entry.max_batch_bytes
         (S.is_sure segments.old) (S.now segments.new) (W.said watch.new)
         (K.contents writer.old) (K.contents writer.new)
         (Err (Tool OutOfMemory)) }
 
     // A segment cannot be read, or the writer holds a beginning of the report.
     ensures device { result ≡ Err (Tool Device)
-        → IsFollowPrinted C.T.tells C.T.seen C.T.is_for settings.config line.entry.max_batch_bytes
+        → IsFollowPrinted C.T.tells C.T.seen C.T.is_for settings.config options.entry.max_batch_bytes
         (S.is_sure segments.old) (S.now segments.new) (W.said watch.new)
         (K.contents writer.old) (K.contents writer.new)
         (Err (Tool Device))
         ⊎ ((K.has_failed writer.new ≡ true)
-        × IsFollowPrintedPart C.T.tells C.T.seen C.T.is_for settings.config line.entry.max_batch_bytes
+        × IsFollowPrintedPart C.T.tells C.T.seen C.T.is_for settings.config options.entry.max_batch_bytes
         (S.is_sure segments.old) (S.now segments.new) (W.said watch.new)
         (K.contents writer.old) (K.contents writer.new)) }
     ensures no_line { (n : ℕ) → result ≡ Err (Tool (Line n)) → ⊥ }
     ensures no_full { result ≡ Err (Tool SegmentFull) → ⊥ }
 {
     let Settings { config, limits: _ } = settings;
-    let Followed { report, answer } = ship_on(rt, alloc, config, segments, line, watch)?;
+    let Followed { report, answer } = ship_on(rt, alloc, config, segments, options, watch)?;
     print_report(alloc, report, writer)?;
     answer
 }

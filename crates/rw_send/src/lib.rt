@@ -4,31 +4,31 @@
 
 mod checkpoint;
 mod connect;
-mod feed_counters;
+mod counters;
+mod feed_error;
 mod files;
 mod folder;
 mod follow_fault;
 mod following;
-mod halt;
 mod live;
 mod opened;
+mod options;
 mod printing;
 mod send;
 mod sharding;
 mod shipping;
-mod telling;
 
 pub use checkpoint::{LogFiles, has_checkpoint, log_files};
 pub use connect::TcpConnect;
-pub use feed_counters::Means;
+pub use counters::FeedContext;
+pub use feed_error::FeedError;
 pub use files::{SegmentFile, segment_files};
 pub use folder::Folder;
 pub use follow_fault::FollowFault;
 pub use following::run_follow;
-pub use halt::Halt;
 pub use opened::{Open, Opened};
+pub use options::SendOptions;
 pub use rw_worker::StopFlag;
 pub use send::run_send;
 pub use sharding::{Sharding, resharded, retuned};
 pub use shipping::ship_all;
-pub use telling::Counted;

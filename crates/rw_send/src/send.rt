@@ -7,15 +7,15 @@ ghost use Rattle.rw_sender.specs.Reports.{IsAbandoned, ListsCut, kind_of};
 ghost use Rattle.rw_sender.specs.Shipping.{HasStopped};
 ghost use Rattle.rw_text.specs.declared.tool_fault.ToolFault.{ToolFault};
 ghost use Rattle.rw_text.specs.declared.tool_fault.ToolFault.TheVariants.{OutOfMemory, Log, Line, SegmentFull, Device};
-ghost use Rattle.rw_send.specs.Halting.{IsHalted};
+ghost use Rattle.rw_send.specs.FeedErrors.{IsHalted};
 ghost use Rattle.rw_send.specs.Sending.{answer_to, hard_fault, Answers, IsPrinted, IsPrintedPart, IsSent};
 
-use crate::feed_counters::{Means, tell};
-use crate::halt::Halt;
+use crate::counters::{FeedContext, count_report, update_counters};
+use crate::feed_error::FeedError;
 use crate::printing::print_report;
 use crate::sharding::Sharding;
 use crate::shipping::{ship_all, zeros};
-use crate::telling::{Counted, tell_report};
+use crate::options::SendOptions;
 use rw_sender::{Connect, Outcome, Report, Shipper};
 use rw_settings::Settings;
 use rw_shard_core::Config;
@@ -45,13 +45,13 @@ fn answer_to(outcome: &Outcome) -> Result<(), ToolFault>
 }
 
 /// The fault for which a shipper is stopped at once.
-fn hard_fault(shipped: Result<(), Halt>) -> Option<ToolFault>
+fn hard_fault(shipped: Result<(), FeedError>) -> Option<ToolFault>
     ensures { result ≡ hard_fault shipped }
 {
     match shipped {
-        Ok(()) | Err(Halt::Damaged(_)) => None,
-        Err(Halt::Failed) => Some(ToolFault::OutOfMemory),
-        Err(Halt::Unreadable) => Some(ToolFault::Device),
+        Ok(()) | Err(FeedError::Damaged(_)) => None,
+        Err(FeedError::Failed) => Some(ToolFault::OutOfMemory),
+        Err(FeedError::Unreadable) => Some(ToolFault::Device),
     }
 }
 
@@ -59,7 +59,7 @@ fn hard_fault(shipped: Result<(), Halt>) -> Option<ToolFault>
 pub(crate) fn stopped<R: Threads + Wait, C: Connect + Drop>(
     rt: &R,
     shipper: Shipper<C>,
-    shipped: Result<(), Halt>,
+    shipped: Result<(), FeedError>,
 ) -> Sent<C::T>
     requires halted { IfErr shipped (IsHalted shipper) }
     requires live { OnOk shipped (shipper.fault ≡ None) }
@@ -69,7 +69,7 @@ pub(crate) fn stopped<R: Threads + Wait, C: Connect + Drop>(
     ensures cut { hard_fault shipped ≡ None → IsAbandoned result.report.outcome
         → ListsCut result.report.workers.items }
     ensures answers { Answers (IsOk shipped)
-        (shipped ≡ Err Halt.Unreadable) result.report.outcome result.answer }
+        (shipped ≡ Err FeedError.Unreadable) result.report.outcome result.answer }
     ensures hard { (f : ToolFault) → hard_fault shipped ≡ Some f
         → IsAbandoned result.report.outcome }
     ensures failed { IfSome shipper.fault (λ _. IsAbandoned result.report.outcome) }
@@ -95,26 +95,26 @@ fn ship<R: Threads + Wait + Clock + Copy + Send + 'static, S: Source + Drop, C: 
     alloc: Global,
     config: Config,
     segments: Vec<S>,
-    line: Counted<'_, C>,
+    options: SendOptions<'_, C>,
 ) -> Result<Sent<C::T>, AllocError>
     ensures { IfOk result
-        (λ s. IsSent C.T.tells C.T.seen C.T.is_for config line.entry.max_batch_bytes
+        (λ s. IsSent C.T.tells C.T.seen C.T.is_for config options.entry.max_batch_bytes
         (map S.remaining segments.items) (map S.is_sure segments.items) s.report s.answer) }
 {
     let sharding = Sharding::of(&config);
     let mut buf = zeros(alloc)?;
-    let Counted {
+    let SendOptions {
         connect,
         counters,
         max_batch_bytes,
         stop,
-    } = line;
+    } = options;
     let mut shipper = Shipper::start_within(rt, alloc, config, connect, max_batch_bytes, stop)?;
-    let means = Means { alloc, counters };
-    let shipped = ship_all(rt, means, &mut shipper, sharding, segments, &mut buf);
-    tell(counters, &shipper);
+    let context = FeedContext { alloc, counters };
+    let shipped = ship_all(rt, context, &mut shipper, sharding, segments, &mut buf);
+    update_counters(counters, &shipper);
     let sent = stopped(rt, shipper, shipped);
-    tell_report(counters, &sent.report);
+    count_report(counters, &sent.report);
     Ok(sent)
 }
 
@@ -137,38 +137,38 @@ pub fn run_send<
     alloc: Global,
     settings: Settings,
     segments: Vec<S>,
-    line: Counted<'_, C>,
+    options: SendOptions<'_, C>,
     writer: &mut W,
 ) -> Result<(), ToolFault>
     ensures complete { OnOk result
-        (IsPrinted C.T.tells C.T.seen C.T.is_for settings.config line.entry.max_batch_bytes
+        (IsPrinted C.T.tells C.T.seen C.T.is_for settings.config options.entry.max_batch_bytes
         (map S.remaining segments.items) (map S.is_sure segments.items) (W.contents writer.old)
         (W.contents writer.new) (Ok tt)) }
     ensures sound { OnOk result
         (W.has_failed writer.old ≡ false → W.has_failed writer.new ≡ false) }
     ensures damaged { (f : TailFault) → result ≡ Err (Log f)
-        → IsPrinted C.T.tells C.T.seen C.T.is_for settings.config line.entry.max_batch_bytes
+        → IsPrinted C.T.tells C.T.seen C.T.is_for settings.config options.entry.max_batch_bytes
         (map S.remaining segments.items) (map S.is_sure segments.items) (W.contents writer.old)
         (W.contents writer.new) (Err (Log f)) }
     ensures memory { result ≡ Err OutOfMemory → (writer.new ≡ writer.old)
-        ⊎ IsPrinted C.T.tells C.T.seen C.T.is_for settings.config line.entry.max_batch_bytes
+        ⊎ IsPrinted C.T.tells C.T.seen C.T.is_for settings.config options.entry.max_batch_bytes
         (map S.remaining segments.items) (map S.is_sure segments.items) (W.contents writer.old)
         (W.contents writer.new) (Err OutOfMemory) }
 
     // A segment cannot be read, or the writer holds a beginning of the report.
     ensures device { result ≡ Err Device
-        → IsPrinted C.T.tells C.T.seen C.T.is_for settings.config line.entry.max_batch_bytes
+        → IsPrinted C.T.tells C.T.seen C.T.is_for settings.config options.entry.max_batch_bytes
         (map S.remaining segments.items) (map S.is_sure segments.items) (W.contents writer.old)
         (W.contents writer.new) (Err Device)
         ⊎ ((W.has_failed writer.new ≡ true)
-        × IsPrintedPart C.T.tells C.T.seen C.T.is_for settings.config line.entry.max_batch_bytes
+        × IsPrintedPart C.T.tells C.T.seen C.T.is_for settings.config options.entry.max_batch_bytes
         (map S.remaining segments.items) (map S.is_sure segments.items) (W.contents writer.old)
         (W.contents writer.new)) }
     ensures no_line { (n : ℕ) → result ≡ Err (Line n) → ⊥ }
     ensures no_full { result ≡ Err SegmentFull → ⊥ }
 {
     let Settings { config, limits: _ } = settings;
-    let Sent { report, answer } = ship(rt, alloc, config, segments, line)?;
+    let Sent { report, answer } = ship(rt, alloc, config, segments, options)?;
     print_report(alloc, report, writer)?;
     answer
 }

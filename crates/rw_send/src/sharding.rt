@@ -7,7 +7,7 @@ ghost use Rattle.rw_fleet.specs.Loads.{IsLoad};
 ghost use Rattle.rw_fleet.specs.declared.load.Load.{Load};
 ghost use Rattle.rw_send.specs.Steps.{HasPutAll, IsSet, wanted_since};
 
-use crate::halt::Halt;
+use crate::feed_error::FeedError;
 use rw_reshard::want;
 use rw_sender::{Connect, Load, Shipper};
 use rw_shard_core::Config;
@@ -128,7 +128,7 @@ pub fn resharded<R: Threads + Wait + Clock + Copy + Send + 'static, C: Connect +
     shipper: &mut Shipper<C>,
     sharding: Sharding,
     is_more: bool,
-) -> Result<Sharding, Halt>
+) -> Result<Sharding, FeedError>
     requires { length shipper.old.fleet.current ≡ sharding.shards }
     ensures put { shipper.old.fault ≡ None → HasPutAll shipper.old }
     ensures set { OnOk result
@@ -143,7 +143,7 @@ pub fn resharded<R: Threads + Wait + Clock + Copy + Send + 'static, C: Connect +
         ⊎ HasCompared shipper.old.fleet shipper.new.fleet }
     ensures config { shipper.new.fleet.config ≡ shipper.old.fleet.config }
     ensures sound { shipper.old.fault ≡ None → OnOk result (shipper.new.fault ≡ None) }
-    ensures err { OnErr result (result ≡ Err Halt.Failed) }
+    ensures err { OnErr result (result ≡ Err FeedError.Failed) }
     ensures failed { OnErr result (IsSome shipper.new.fault) }
 {
     if is_more && sharding.fewest < sharding.most {
@@ -154,7 +154,7 @@ pub fn resharded<R: Threads + Wait + Clock + Copy + Send + 'static, C: Connect +
         return Ok(sharding);
     }
     if shipper.reshard(rt, next.shards).is_err() {
-        return Err(Halt::Failed);
+        return Err(FeedError::Failed);
     }
     Ok(next)
 }
@@ -165,7 +165,7 @@ pub fn retuned<R: Threads + Wait + Clock + Copy + Send + 'static, C: Connect + D
     shipper: &mut Shipper<C>,
     sharding: Sharding,
     is_due: bool,
-) -> Result<Sharding, Halt>
+) -> Result<Sharding, FeedError>
     requires { length shipper.old.fleet.current ≡ sharding.shards }
     // The next question is of what comes after the load that decided.
     ensures asked { is_due ≡ true → IfOk result (λ s. (load : Load)
@@ -182,7 +182,7 @@ pub fn retuned<R: Threads + Wait + Clock + Copy + Send + 'static, C: Connect + D
     ensures compared { (shipper.new.fleet ≡ shipper.old.fleet)
         ⊎ HasCompared shipper.old.fleet shipper.new.fleet }
     ensures sound { shipper.old.fault ≡ None → OnOk result (shipper.new.fault ≡ None) }
-    ensures err { OnErr result (result ≡ Err Halt.Failed) }
+    ensures err { OnErr result (result ≡ Err FeedError.Failed) }
     ensures failed { OnErr result (IsSome shipper.new.fault) }
     ensures placed { OnErr result (PlacesAll shipper.old.log shipper.old.fleet) }
 {
@@ -197,7 +197,7 @@ pub fn retuned<R: Threads + Wait + Clock + Copy + Send + 'static, C: Connect + D
         return Ok(next);
     }
     if shipper.reshard(rt, next.shards).is_err() {
-        return Err(Halt::Failed);
+        return Err(FeedError::Failed);
     }
     Ok(next)
 }

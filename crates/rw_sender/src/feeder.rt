@@ -40,6 +40,8 @@ pub struct Feeder {
     part: Ledger,
     /// How many entries were placed.
     count: u64,
+    /// The latest timestamp of the samples that were put, or the earliest that there can be.
+    newest: i64,
     read: History<Entry>,
 }
 
@@ -70,6 +72,7 @@ impl Feeder {
             router: Router::new(alloc, choice),
             part: Ledger::new(alloc),
             count: 0,
+            newest: i64::MIN,
             read: History::new(),
         }
     }
@@ -124,6 +127,7 @@ impl Feeder {
         ensures { HasPlaced self.old self.new }
     {
         self.router.sent(series, t);
+        self.newest = self.newest.max(t);
         self.count = self.tail.entries_read();
     }
 
@@ -154,6 +158,12 @@ impl Feeder {
         ensures { result ≡ length self.now.placed }
     {
         self.count
+    }
+
+    /// Returns the latest timestamp of the samples that `sent` was told of, in milliseconds. It is best
+    /// effort: no clause says what it is.
+    pub fn newest(&self) -> i64 {
+        self.newest
     }
 
     /// The samples that were dropped so far. This takes no memory, and its time does not grow.

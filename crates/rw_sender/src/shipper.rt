@@ -360,6 +360,12 @@ impl<C: Connect + Drop> Shipper<C> {
         self.feeder.count()
     }
 
+    /// Returns the latest timestamp of the samples that were put into a queue, in milliseconds. It is
+    /// best effort: no clause says what it is.
+    pub fn newest(&self) -> i64 {
+        self.feeder.newest()
+    }
+
     /// The samples that were dropped so far without being put into a queue, as the report will name them. Those of a batch that the receiver has
     /// refused are not among them: their workers name them, and the report has them.
     pub fn dropped(&self) -> &Ledger

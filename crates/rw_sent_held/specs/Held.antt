@@ -22,7 +22,7 @@ use Rattle.rw_simulation.specs.Arrivals.{Arrival, IsOneReceiver}
 use Rattle.rw_simulation.specs.Received.{AreExchangesOf, IsHeld}
 use Rattle.rw_simulation.specs.StoppedRuns.{NamesAll}
 use Rattle.rw_follow.specs.Growth.{Moment}
-use Rattle.rw_follow.specs.declared.watch.Wish.{Wish}
+use Rattle.rw_follow.specs.declared.signal.StopRequest.{StopRequest}
 use Rattle.rw_text.specs.declared.tool_fault.ToolFault.{ToolFault}
 use Rattle.rw_send.specs.declared.follow_fault.FollowFault.{FollowFault}
 use Rattle.rw_send.specs.Segments.{AreSure, HasMoreBytes}
@@ -92,7 +92,7 @@ SentIsHeld tells seen is_for c limit lefts sures r answer =
     sent.report
 
 abbrev pub FollowedIsHeld : {T : Type 0} → (T → Type 0) → (T → List Exchange)
-    → (ℕ → ℕ → T → Type 0) → ConfigFields → Option ℕ → Bool → Option Moment → Wish → Report T
+    → (ℕ → ℕ → T → Type 0) → ConfigFields → Option ℕ → Bool → Option Moment → StopRequest → Report T
     → Result (Unit {0}) FollowFault → Type 0
 FollowedIsHeld tells seen is_for c limit is_sure now said r answer =
     (sent : IsFollowed tells seen is_for c limit is_sure now said r answer)

@@ -3,7 +3,7 @@
 
 ghost use Rattle.std.specs.Prelude.{ℕ, Bool, List, Option, Result};
 ghost use Rattle.rw_follow.specs.Growth.{Moment};
-ghost use Rattle.rw_follow.specs.declared.watch.Wish.{Wish};
+ghost use Rattle.rw_follow.specs.declared.signal.StopRequest.{StopRequest};
 ghost use Rattle.rw_shard_core.specs.declared.config.ConfigFields.{ConfigFields};
 ghost use Rattle.rw_sender.specs.declared.report.Report.{Report};
 ghost use Rattle.rw_text.specs.declared.tool_fault.ToolFault.{ToolFault};
@@ -25,7 +25,7 @@ pub fn one_receiver_holds_what_was_sent<T: Transport>()
         (sures : List Bool) (r : Report T) (answer : Result (Unit {0}) ToolFault)
         → SentIsHeld T.tells T.seen T.is_for c limit lefts sures r answer }
     ensures followed { (c : ConfigFields) (limit : Option ℕ) (is_sure : Bool) (now : Option Moment)
-        (said : Wish) (r : Report T) (answer : Result (Unit {0}) FollowFault)
+        (said : StopRequest) (r : Report T) (answer : Result (Unit {0}) FollowFault)
         → FollowedIsHeld T.tells T.seen T.is_for c limit is_sure now said r answer }
 {
     one_receiver_holds_the_samples::<T>();

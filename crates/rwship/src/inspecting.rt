@@ -1,14 +1,14 @@
 //! The command `inspect`, and what other commands print of a log that they could not read.
 
-use crate::ending::{followed, point_to_explain, tell_device};
+use crate::ending::{point_to_explain, print_device_error, report_follow_fault};
 use crate::input::Reader;
-use rw_text::ToolFault;
 use rw_inspect::{Damage, Named, Report, find_entries, inspect, json_of, plan_segments, table_of};
 use rw_metrics::SendCounters;
 use rw_send::{
     FollowFault, LogFiles, Opened, SegmentFile, has_checkpoint, log_files, segment_files,
 };
 use rw_settings::Settings;
+use rw_text::ToolFault;
 use rw_types::{Std, write_all};
 use rw_words::LogDir;
 use std::alloc::{AllocError, Global};
@@ -154,7 +154,7 @@ pub fn print_found(
 }
 
 /// Prints what a table says of a fault, at its end.
-fn tell_table_end(rt: &HostRuntime, table: &str) {
+fn print_table_end(rt: &HostRuntime, table: &str) {
     let mut has_begun = false;
     for line in table.lines() {
         has_begun = has_begun || line.starts_with("fault: ");
@@ -165,27 +165,27 @@ fn tell_table_end(rt: &HostRuntime, table: &str) {
 }
 
 /// Prints the fault of a log with this report.
-pub fn tell_report(rt: &HostRuntime, report: &Report) -> Result<(), AllocError> {
+pub fn print_damage_report(rt: &HostRuntime, report: &Report) -> Result<(), AllocError> {
     let table = table_of(rt.alloc(), report)?;
     if let Ok(table) = str::from_utf8(&table) {
-        tell_table_end(rt, table);
+        print_table_end(rt, table);
     }
     Ok(())
 }
 
 /// Prints the fault of the log in a folder, which is read once more for that.
-fn tell_damage(rt: &HostRuntime, dir: LogDir<'_>) {
+fn print_damage(rt: &HostRuntime, dir: LogDir<'_>) {
     if let Ok(report) = inspect_folder(rt, dir) {
-        let _ = tell_report(rt, &report);
+        let _ = print_damage_report(rt, &report);
     }
 }
 
 /// Prints which segment cannot be opened, the first one.
-fn tell_first_closed(rt: &HostRuntime, dir: LogDir<'_>) -> Result<(), AllocError> {
+fn print_first_closed(rt: &HostRuntime, dir: LogDir<'_>) -> Result<(), AllocError> {
     for segment in files_of(rt, dir, None)?.files {
         let path = Path::new(dir.path).join(rt.alloc(), segment.place().name())?;
         if let Err(error) = fs::open(rt, path.as_path()) {
-            tell_device(rt, "read", path.as_path().as_str(), &error);
+            print_device_error(rt, "read", path.as_path().as_str(), &error);
             return Ok(());
         }
     }
@@ -193,20 +193,20 @@ fn tell_first_closed(rt: &HostRuntime, dir: LogDir<'_>) -> Result<(), AllocError
 }
 
 /// Prints what cannot be read of a folder, which is tried once more for that.
-fn tell_unreadable(rt: &HostRuntime, dir: LogDir<'_>) {
+fn print_unreadable(rt: &HostRuntime, dir: LogDir<'_>) {
     match fs::read_dir(rt, dir.path) {
         Ok(_) => {
-            let _ = tell_first_closed(rt, dir);
+            let _ = print_first_closed(rt, dir);
         }
-        Err(error) => tell_device(rt, "read", dir.path, &error),
+        Err(error) => print_device_error(rt, "read", dir.path, &error),
     }
 }
 
 /// Prints what is wrong with the log in a folder that could not be shipped for this fault.
-fn tell_log(rt: &HostRuntime, dir: LogDir<'_>, fault: ToolFault) {
+fn print_log_fault(rt: &HostRuntime, dir: LogDir<'_>, fault: ToolFault) {
     match fault {
-        ToolFault::Log(_) => tell_damage(rt, dir),
-        ToolFault::Device => tell_unreadable(rt, dir),
+        ToolFault::Log(_) => print_damage(rt, dir),
+        ToolFault::Device => print_unreadable(rt, dir),
         _ => {}
     }
 }
@@ -219,9 +219,9 @@ pub fn log_fault(
     fault: FollowFault,
     is_explained: bool,
 ) -> ExitCode {
-    let status = followed(rt, fault);
+    let status = report_follow_fault(rt, fault);
     match fault {
-        FollowFault::Tool(fault) if is_explained => tell_log(rt, dir, fault),
+        FollowFault::Tool(fault) if is_explained => print_log_fault(rt, dir, fault),
         FollowFault::Tool(ToolFault::Log(_) | ToolFault::Device) => point_to_explain(rt),
         _ => {}
     }

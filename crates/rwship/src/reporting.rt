@@ -1,16 +1,15 @@
 //! What is told of the work while it goes on.
 
-use crate::ending::tell_device;
-use rw_text::ToolFault;
+use crate::ending::print_device_error;
 use rw_metrics::{Counters, Screen, serve_metrics, show_progress, write_end};
-use rw_text::Address;
+use rw_text::{Address, ToolFault};
 use rw_words::Reporting;
 use std::io::{Error, IsTerminal};
 use std::net::TcpListener;
 use std::thread::Threads;
 
 /// Says that an address cannot be listened at, and why.
-pub fn tell_unheard(rt: &HostRuntime, listen: Address<'_>, error: &Error) {
+pub fn print_listen_error(rt: &HostRuntime, listen: Address<'_>, error: &Error) {
     let Address { host, port } = listen;
     let _ = eprintln!(rt; "  cannot listen on {host}:{port}: {error}");
 }

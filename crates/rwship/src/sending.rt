@@ -1,17 +1,21 @@
 //! The command `send`.
 
-use crate::ending::{dropped, empty, ended, point_to_explain, tell_device, unset};
+use crate::ending::{
+    empty_status, point_to_explain, print_device_error, report_dropped, report_result,
+    report_settings_fault,
+};
 use crate::inspecting::{files_of, log_fault, note_checkpoint, passes_checkpoint_over};
 use crate::reporting::{begin_reporting, end_reporting, is_watched};
 use crate::settings::settings_in;
-use crate::sign::{Told, sign_of};
-use rw_text::ToolFault;
+use crate::stopping::stop_signal;
 use rw_follow::Timed;
 use rw_metrics::{Counters, SendCounters, show_stalls};
-use rw_send::{Counted, Folder, FollowFault, LogFiles, StopFlag, TcpConnect, run_follow, run_send};
+use rw_send::{
+    Folder, FollowFault, LogFiles, SendOptions, StopFlag, TcpConnect, run_follow, run_send,
+};
 use rw_settings::Settings;
 use rw_tcp::look_up;
-use rw_text::Address;
+use rw_text::{Address, ToolFault};
 use rw_types::{Bounded, Std};
 use rw_words::{Following, LogDir, Reading, Sending, SettingsFile};
 use std::alloc::{AllocError, Global};
@@ -27,7 +31,7 @@ enum Log {
     /// The files that the folder has.
     Whole(LogFiles<HostRuntime>),
     /// The folder while it grows, and what says when that ends.
-    Growing(Folder<HostRuntime>, Timed<HostRuntime, Told>),
+    Growing(Folder<HostRuntime>, Timed<HostRuntime>),
 }
 
 /// All that shipping needs besides settings. It is made before they are given away, since each way
@@ -45,13 +49,13 @@ fn watch_of<R: Threads>(
     threads: &R,
     following: &Following<'_>,
     stop: &StopFlag,
-) -> Result<Timed<HostRuntime, Told>, AllocError> {
+) -> Result<Timed<HostRuntime>, AllocError> {
     let workers = stop.share()?;
-    let sign = Told::new(sign_of(rt, threads, following.stop_file, Some(workers))?);
+    let signal = stop_signal(rt, threads, following.stop_file, Some(workers))?;
     let poll = Duration::from_millis(following.poll_ms.get());
     let patience = Duration::from_millis(following.flush_ms.get());
     let reshard = Duration::from_millis(following.reshard_ms.get());
-    Ok(Timed::new(*rt, sign, poll, patience, reshard))
+    Ok(Timed::new(*rt, signal, poll, patience, reshard))
 }
 
 /// Returns a folder that is read while it grows.
@@ -174,12 +178,12 @@ fn ship_log<R: Threads + Wait + Clock + Copy + Send + 'static>(
     threads: &R,
     settings: Settings,
     log: Log,
-    line: Counted<'_, TcpConnect<HostRuntime>>,
+    options: SendOptions<'_, TcpConnect<HostRuntime>>,
 ) -> Result<(), FollowFault> {
     let mut output = Std::new(rt.stdout());
     match log {
         Log::Whole(LogFiles { files, missing }) => {
-            match run_send(threads, rt.alloc(), settings, files, line, &mut output) {
+            match run_send(threads, rt.alloc(), settings, files, options, &mut output) {
                 Ok(()) => Ok(()),
                 Err(fault) => Err(whole_fault(missing, fault)),
             }
@@ -189,7 +193,7 @@ fn ship_log<R: Threads + Wait + Clock + Copy + Send + 'static>(
             rt.alloc(),
             settings,
             &mut folder,
-            line,
+            options,
             &mut watch,
             &mut output,
         ),
@@ -223,13 +227,13 @@ fn ship<R: Threads + Wait + Clock + Copy + Send + 'static>(
         stop,
         counters,
     } = shipment;
-    let line = Counted {
+    let options = SendOptions {
         connect,
         counters: &counters,
         max_batch_bytes: sending.max_batch_bytes,
         stop,
     };
-    let outcome = ship_log(rt, threads, settings, log, line);
+    let outcome = ship_log(rt, threads, settings, log, options);
     let count = counters.dropped();
     if is_explained {
         note_lost_series(rt, sending, &counters);
@@ -243,13 +247,18 @@ fn ship<R: Threads + Wait + Clock + Copy + Send + 'static>(
 
 /// Reports that a receiver cannot be looked up and, if that is asked for, why. Returns the exit
 /// status.
-fn not_found(rt: &HostRuntime, name: &str, error: &Error, is_explained: bool) -> ExitCode {
+fn report_lookup_error(
+    rt: &HostRuntime,
+    name: &str,
+    error: &Error,
+    is_explained: bool,
+) -> ExitCode {
     if error.kind() == ErrorKind::OutOfMemory {
-        return ended(rt, Err(ToolFault::OutOfMemory));
+        return report_result(rt, Err(ToolFault::OutOfMemory));
     }
-    let status = ended(rt, Err(ToolFault::Device));
+    let status = report_result(rt, Err(ToolFault::Device));
     if is_explained {
-        tell_device(rt, "look up", name, error);
+        print_device_error(rt, "look up", name, error);
     } else {
         point_to_explain(rt);
     }
@@ -265,7 +274,7 @@ fn report_outcome(
     is_explained: bool,
 ) -> ExitCode {
     match outcome {
-        Ok(count) if count > 0 && sending.fails_on_drop => dropped(rt, count),
+        Ok(count) if count > 0 && sending.fails_on_drop => report_dropped(rt, count),
         Ok(_) => ExitCode::SUCCESS,
         Err(fault) => log_fault(rt, sending.dir, fault, is_explained),
     }
@@ -289,7 +298,7 @@ fn start<R: Threads>(
                 Err(report_outcome(rt, sending, outcome, is_explained))
             }
         },
-        Err(error) => Err(not_found(rt, to.name(), &error, is_explained)),
+        Err(error) => Err(report_lookup_error(rt, to.name(), &error, is_explained)),
     }
 }
 
@@ -331,7 +340,7 @@ fn send_by<R: Threads + Wait + Clock + Copy + Send + 'static>(
                 note_empty(rt, sending, is_explained);
             }
             match ship(rt, threads, settings, sending, shipment, is_explained) {
-                Ok(_) if has_nothing && sending.fails_on_empty => empty(),
+                Ok(_) if has_nothing && sending.fails_on_empty => empty_status(),
                 outcome => report_outcome(rt, sending, outcome, is_explained),
             }
         }
@@ -348,6 +357,6 @@ pub fn send<R: Threads + Wait + Clock + Copy + Send + 'static>(
 ) -> ExitCode {
     match settings_in(rt, file) {
         Ok(settings) => send_by(rt, threads, settings, sending, file.is_explained),
-        Err(fault) => unset(rt, fault),
+        Err(fault) => report_settings_fault(rt, fault),
     }
 }

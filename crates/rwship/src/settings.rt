@@ -4,9 +4,10 @@ ghost use Rattle.std.specs.Prelude.{◌≡◌, [], None, Ok, string_bytes, IfOk,
 ghost use Rattle.rw_settings.specs.Settings as toml;
 ghost use Rattle.rw_settings.specs.SettingsText.{settings_text};
 
+use rw_settings::{
+    Settings, SettingsFault, SettingsNote, explain_settings, print_settings, read_settings,
+};
 use rw_text::ToolFault;
-use rw_settings::{Settings, SettingsFault, SettingsNote, explain_settings, read_settings};
-use rw_settings::print_settings;
 use rw_words::SettingsFile;
 use std::io::ErrorKind;
 use std::{fs, io};
@@ -75,7 +76,7 @@ pub fn settings_in(rt: &HostRuntime, file: SettingsFile<'_>) -> Result<Settings,
 }
 
 /// The settings that are asked for, as a text that gives each key.
-pub fn printed_settings(rt: &HostRuntime, file: SettingsFile<'_>) -> Result<String, Unset>
+pub fn settings_text(rt: &HostRuntime, file: SettingsFile<'_>) -> Result<String, Unset>
     ensures { file.entry.path ≡ None
         → IfOk result (λ t. IsOkAnd (toml.settings_in []) (λ s. string_bytes t ≡ settings_text s)) }
 {

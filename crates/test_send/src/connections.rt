@@ -1,11 +1,11 @@
 //! A sender and a receiver in one process, over the loopback interface.
 
-use rw_text::ToolFault;
 use rw_metrics::{ReceiveCounters, SendCounters};
 use rw_receive::{Service, run_receive};
 use rw_settings::{Settings, read_settings};
 use rw_shard_core::{Target, request_bytes};
 use rw_tcp::{Sleep, TcpTransport, look_up};
+use rw_text::ToolFault;
 use rw_types::{Bounded, Room};
 use rw_worker::{Lost, Pause, Reply, Transport};
 use std::alloc::{AllocError, Global};

@@ -7,9 +7,9 @@ use crate::receivers::Receivers;
 use crate::rows::none_is_wrong;
 use crate::shipped::settings_of;
 use http::StatusCode;
-use rw_text::ToolFault;
 use rw_metrics::SendCounters;
-use rw_send::{Counted, Opened, SegmentFile, StopFlag, run_send, segment_files};
+use rw_send::{Opened, SegmentFile, SendOptions, StopFlag, run_send, segment_files};
+use rw_text::ToolFault;
 use rw_types::{Room, Source, read_to_end};
 use std::alloc::{AllocError, Global};
 use std::fs::File;
@@ -165,13 +165,13 @@ fn send_listed<R: Threads + Wait + Clock + Copy + Send + 'static>(
     let settings = settings_of(alloc, b"")?;
     let segments = segment_files(rt, dir.as_str(), None)?;
     have_changed(rt, dir, changes);
-    let line = Counted {
+    let options = SendOptions {
         connect: ready(threads),
         counters: &counters,
         max_batch_bytes: None,
         stop,
     };
-    Ok(run_send(threads, alloc, settings, segments, line, printed))
+    Ok(run_send(threads, alloc, settings, segments, options, printed))
 }
 
 /// What happens to a folder of two segments once they are listed, the answer, and what is printed.

@@ -5,10 +5,10 @@ use crate::folder::{new_folder, ready, write_name};
 use crate::kept::{Kept, follow_into};
 use crate::shipped::settings_of;
 use Change::{Dir, Goes, Grows, Nothing};
-use rw_text::ToolFault;
-use rw_follow::{Broken, Sign, Timed, Wish};
+use rw_follow::{SegmentError, StopRequest, Watch};
 use rw_metrics::SendCounters;
-use rw_send::{Counted, Folder, FollowFault, StopFlag, run_follow};
+use rw_send::{Folder, FollowFault, SendOptions, StopFlag, run_follow};
+use rw_text::ToolFault;
 use rw_types::Room;
 use std::alloc::{AllocError, Global};
 use std::fs;
@@ -19,7 +19,7 @@ use std::rt::Files;
 use std::sync::{Arc, Wait};
 use std::test::Fail;
 use std::thread::Threads;
-use std::time::{Clock, Duration};
+use std::time::Clock;
 
 /// What happens to a folder.
 #[derive(Clone, Copy)]
@@ -65,27 +65,57 @@ pub(crate) fn has_changed<R: Files<File = File> + AllocGlobal>(
     }
 }
 
-/// Lets a change happen at each look, and says to end behind the last one, or where one cannot be.
+/// Makes a change at each look, and asks to finish after the last one, or to end at once if one
+/// cannot be made.
 #[derive(Drop)]
 struct Writer<R> {
     rt: R,
     dir: PathBuf,
     changes: &'static [Change],
     at: usize,
+    said: StopRequest,
 }
 
-impl<R: Files<File = File> + AllocGlobal> Sign for Writer<R> {
-    fn wish(&mut self) -> Wish {
+impl<R: Files<File = File> + AllocGlobal> Writer<R> {
+    /// Makes the next change, and returns what is asked for then.
+    fn next(&mut self) -> StopRequest {
         if self.at >= self.changes.len() {
-            return Wish::End;
+            return StopRequest::Finish;
         }
         let change = self.changes[self.at];
         self.at += 1;
         if has_changed(&self.rt, self.dir.as_path(), change) {
-            Wish::Work
+            StopRequest::Continue
         } else {
-            Wish::Hard
+            StopRequest::Abort
         }
+    }
+}
+
+impl<R: Files<File = File> + AllocGlobal> Watch for Writer<R> {
+    ghost use Rattle.std.specs.Prelude.{false};
+
+    ghost said = { λ w. w.said };
+
+    ghost due = { λ _. false };
+
+    ghost counts = { λ _. ⊥ };
+
+    ghost sleeps = { λ _. 0 };
+
+    fn stop_request(&mut self) -> StopRequest {
+        self.said = self.next();
+        self.said
+    }
+
+    fn sleep(&mut self) {}
+
+    fn is_flush_due(&mut self) -> bool {
+        false
+    }
+
+    fn is_reshard_due(&mut self) -> bool {
+        false
     }
 }
 
@@ -115,18 +145,17 @@ fn followed<W: Wait>(
     let mut buf = [0u8; 3];
     let counters = Arc::new(alloc, SendCounters::new(alloc)?)?;
     let mut folder = Folder::new(*rt, String::from_str(alloc, dir.as_str())?, counters);
-    let writer = Writer {
+    let mut writer = Writer {
         rt: *rt,
         dir,
         changes,
         at: 0,
+        said: StopRequest::Continue,
     };
-    let moment = Duration::from_millis(1);
-    let mut watch = Timed::new(*rt, writer, moment, moment, moment);
     let mut kept = Kept::new(alloc);
-    let end = match follow_into(waits, &mut kept, &mut folder, &mut watch, &mut buf)? {
+    let end = match follow_into(waits, &mut kept, &mut folder, &mut writer, &mut buf)? {
         Ok(_) => None,
-        Err(Broken::Missing(number)) => Some(number),
+        Err(SegmentError::Missing(number)) => Some(number),
         Err(_) => Some(u64::MAX),
     };
     text_of(alloc, &kept, end)
@@ -190,13 +219,13 @@ fn follow_sending<R: Threads + Wait + Clock + Copy + Send + 'static>(
     let mut folder = Folder::new(*rt, dir, opened);
     let mut watch = Countdown {
         looks: 5,
-        wish: Wish::End,
+        request: StopRequest::Finish,
         flushes: false,
         reshards: false,
-        said: Wish::Work,
-        naps: 0,
+        said: StopRequest::Continue,
+        sleeps: 0,
     };
-    let line = Counted {
+    let options = SendOptions {
         connect: ready(threads),
         counters: &counters,
         max_batch_bytes: None,
@@ -207,7 +236,7 @@ fn follow_sending<R: Threads + Wait + Clock + Copy + Send + 'static>(
         alloc,
         settings,
         &mut folder,
-        line,
+        options,
         &mut watch,
         printed,
     ))

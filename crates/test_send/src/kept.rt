@@ -2,7 +2,7 @@
 
 ghost use Rattle.std.specs.Prelude.{◌<◌, length};
 
-use rw_follow::{Broken, Follower, Segments, Stop, Turn, Watch};
+use rw_follow::{FollowEnd, Follower, SegmentError, Segments, Turn, Watch};
 use std::alloc::{AllocError, Global};
 use std::mem;
 use std::sync::Wait;
@@ -55,7 +55,7 @@ pub(crate) fn follow_into<R: Wait, S: Segments, W: Watch>(
     segments: &mut S,
     watch: &mut W,
     buf: &mut [u8],
-) -> Result<Result<Stop, Broken>, AllocError>
+) -> Result<Result<FollowEnd, SegmentError>, AllocError>
     requires { 0 < length buf.old }
 {
     let mut follower = Follower::new();

@@ -1,5 +1,5 @@
 //! Tests of the commands `send` and `receive` and of what they stand on: requests over TCP, a log that is followed while it grows, the receiver as a service, its
-//! sign to stop and its counters; over memory, over a folder and over the loopback interface.
+//! stop signal and its counters; over memory, over a folder and over the loopback interface.
 #![tactic(auto)]
 
 #[cfg(test)]

@@ -4,9 +4,9 @@ use crate::counted::holds_as_printed;
 use crate::logs::{BEHIND, FALLS, NAMES, UP, segment};
 use rw_metrics::{ReceiveCounters, SendCounters};
 use rw_receive::{Service, run_receive};
-use rw_send::{Counted, StopFlag, TcpConnect, run_send};
-use rw_settings::read_settings;
+use rw_send::{SendOptions, StopFlag, TcpConnect, run_send};
 use rw_sender::Connect;
+use rw_settings::read_settings;
 use rw_tcp::look_up;
 use rw_types::{Bounded, Room};
 use std::alloc::Global;
@@ -126,14 +126,14 @@ fn sends<R: Threads + Wait + Clock + Copy + Send + 'static, C: Connect + Drop>(
     let Ok(stop) = StopFlag::new(alloc) else {
         return false;
     };
-    let line = Counted {
+    let options = SendOptions {
         connect,
         counters: &counters,
         max_batch_bytes: None,
         stop,
     };
     match read_settings(alloc, row.0) {
-        Ok(settings) => run_send(rt, alloc, settings, segments, line, printed).is_ok(),
+        Ok(settings) => run_send(rt, alloc, settings, segments, options, printed).is_ok(),
         Err(_) => false,
     }
 }

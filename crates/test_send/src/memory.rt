@@ -6,10 +6,10 @@ use crate::receivers::Receivers;
 use crate::rows::none_is_wrong;
 use Part::{Changed, Cut, Fails, Many, Whole};
 use http::StatusCode;
-use rw_text::ToolFault;
 use rw_metrics::SendCounters;
-use rw_send::{Counted, StopFlag, run_send};
+use rw_send::{SendOptions, StopFlag, run_send};
 use rw_settings::read_settings;
+use rw_text::ToolFault;
 use rw_types::Room;
 use rw_wal_format::TailFault;
 use std::alloc::{AllocError, Global};
@@ -135,14 +135,14 @@ fn shipped<R: Threads + Wait + Clock + Copy + Send + 'static>(
 ) -> Result<Result<(), ToolFault>, AllocError> {
     let mut readers = Vec::new(alloc);
     put_readers(alloc, &mut readers, row.1)?;
-    let line = Counted {
+    let options = SendOptions {
         connect: receivers_of(rt, row.2)?,
         counters,
         max_batch_bytes: None,
         stop: StopFlag::new(alloc)?,
     };
     match read_settings(alloc, row.0) {
-        Ok(settings) => Ok(run_send(rt, alloc, settings, readers, line, printed)),
+        Ok(settings) => Ok(run_send(rt, alloc, settings, readers, options, printed)),
         Err(_) => Err(AllocError),
     }
 }

@@ -1,11 +1,11 @@
-//! A receiver, which is stopped by a sign or ends behind its connections, and its clients, in threads of one process.
+//! A receiver, which is stopped by a signal or ends after its connections, and its clients, in threads of one process.
 
 use crate::clients::{Clients, Door, read_by};
 use crate::counted::holds_as_printed;
+use rw_follow::StopSignal;
 use rw_metrics::ReceiveCounters;
 use rw_receive::{Service, run_receive, run_receive_until};
 use rw_settings::{Settings, read_settings};
-use rw_stop::Sign;
 use rw_types::{Bounded, Room};
 use std::alloc::Global;
 use std::net::{Net, TcpListener, TcpStream};
@@ -77,12 +77,12 @@ fn does_with<R: Net<Stream = TcpStream, Listener = TcpListener> + Threads + Wait
         return Ok(false);
     };
     let listener = TcpListener::bind(rt, "127.0.0.1:0")?;
-    let sign = Sign::new();
+    let signal = StopSignal::new();
     let door = Door {
         net: rt,
         alloc,
         address: listener.local_addr()?,
-        sign: &sign,
+        signal: &signal,
     };
     let counters = ReceiveCounters::new(alloc)?;
     let (clients, has_sign) = (row.clients, row.has_sign);
@@ -93,7 +93,7 @@ fn does_with<R: Net<Stream = TcpStream, Listener = TcpListener> + Threads + Wait
         || {
             if has_sign {
                 let service = service_of(most, idle_ms, &counters);
-                run_receive_until(rt, alloc, settings, service, &sign, listener, printed)
+                run_receive_until(rt, alloc, settings, service, &signal, listener, printed)
             } else {
                 let service = service_of(most, idle_ms, &counters);
                 run_receive(rt, alloc, settings, service, listener, printed)

@@ -1,19 +1,24 @@
-//! What the engines of the program take: folders, connections, counters, settings, stop signs.
+//! What the engines of the program take: folders, connections, counters, settings, stop signals.
 
 use rw_tool::{
     Folder, Open, Opened, ReceiveCounters, SegmentFile, Segments, SendCounters, SettingsFault,
-    Sign, TcpConnect, ToolFault, Watch, read_settings, run_log_dir, segment_files,
+    StopSignal, TcpConnect, ToolFault, Watch, read_settings, run_log_dir, segment_files,
 };
 use rw_types::Source;
 use std::alloc::{AllocGlobal, Global};
 use std::fs::File;
 use std::rt::Files;
 
-/// The calls of settings, faults and stop signs.
+/// The calls of settings, faults and stop signals.
 pub fn of_settings() {
     let _ = (read_settings, SettingsFault::number);
     let _ = ToolFault::exit_status;
-    let _ = (Sign::new, Sign::wish, Sign::end, Sign::hard);
+    let _ = (
+        StopSignal::new,
+        StopSignal::request,
+        StopSignal::finish,
+        StopSignal::abort,
+    );
 }
 
 /// The engine that writes a folder.
@@ -39,7 +44,12 @@ pub fn of_folders<R: Files<File = File> + AllocGlobal + Copy>() {
 /// The calls of what the engines are given.
 pub fn of_given<O: Open, S: Segments, W: Watch, N>() {
     let _ = (O::open, Opened::<O>::place, S::advance);
-    let _ = (W::wish, W::nap, W::is_flush_due, W::is_reshard_due);
+    let _ = (
+        W::stop_request,
+        W::sleep,
+        W::is_flush_due,
+        W::is_reshard_due,
+    );
     let _ = TcpConnect::<N>::new;
 }
 

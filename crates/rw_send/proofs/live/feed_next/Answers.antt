@@ -3,7 +3,7 @@ use Rattle.rw_sender.specs.Feeders.{Sorting}
 use Rattle.rw_send.proofs.FollowLemmas.{begin_fails, err_so, fed_next, part_next, set_fails}
 use Rattle.rw_send.specs.Following.{FailsWith}
 use Rattle.rw_send.proofs.EpochLemmas.{last_compared, last_stays, next_resolved, still_resolved}
-use Rattle.rw_send.proofs.HaltLemmas.{count_so, live_no_more}
+use Rattle.rw_send.proofs.FeedErrorLemmas.{count_so, live_no_more}
 use Rattle.rw_send.proofs.live.feed_next.Goals as goal
 use Rattle.rw_types.proofs.AnswerLemmas.{OnErr-always}
 

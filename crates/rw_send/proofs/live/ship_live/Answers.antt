@@ -2,7 +2,7 @@ use Rattle.std.proofs.Common.{◌≡◌, true, Ok, Err, ap, ◌∙◌}
 use Rattle.rw_send.specs.Following.{IsCut}
 use Rattle.rw_send.proofs.FollowLemmas.{begins_turn, cut_broken, cut_halted, cut_live, cut_short, cut_signed, halts_for}
 use Rattle.rw_send.proofs.EpochLemmas.{last_same}
-use Rattle.rw_send.proofs.HaltLemmas.{count_so}
+use Rattle.rw_send.proofs.FeedErrorLemmas.{count_so}
 use Rattle.rw_send.proofs.live.ship_live.Goals as goal
 
 pub returns-in_err-sharding : goal.returns-in_err-sharding

@@ -1,22 +1,22 @@
-//! A request for places, which the connections of a service share.
+//! A request for seats, which the connections of a service share.
 
 use std::sync::atomic::{AtomicU64, Ordering};
 
 /// How many connections a request asks to end: some more than one, since a client seldom waits alone.
 const MOST_ENDS: u64 = 8;
 
-/// A request for places, which is made while a client waits for one. A few connections meet it, by
+/// A request for seats, which is made while a client waits for one. A few connections meet it, by
 /// ending: those that see first that they are silent or behind their rate.
 #[derive(Drop)]
-pub struct PlaceRequest {
+pub struct SeatRequest {
     /// How many more connections it asks to end.
     ends: AtomicU64,
 }
 
-impl PlaceRequest {
+impl SeatRequest {
     /// Returns a request that nobody has made.
-    pub fn new() -> PlaceRequest {
-        PlaceRequest {
+    pub fn new() -> SeatRequest {
+        SeatRequest {
             ends: AtomicU64::new(0),
         }
     }

@@ -1,6 +1,6 @@
 //! A connection that is served in a thread, or that has ended.
 
-use crate::serving::{Post, served};
+use crate::serving::{ServerContext, serve_connection};
 use rw_recv_head::{Naming, Seat, SharedHead};
 use std::alloc::Global;
 use std::net::TcpStream;
@@ -9,9 +9,10 @@ use std::sync::{Arc, Wait};
 use std::thread::{JoinHandle, Scope, Threads};
 use std::time::Clock;
 
-/// A connection that is served in a thread. Only as one value can the sign of its end be read and the thread be joined.
+/// A connection that is served in a thread. It is one value, so that the flag of its end is read and
+/// the thread joined together.
 #[derive(Drop)]
-pub(crate) struct Busy<L: Naming> {
+pub(crate) struct ActiveConnection<L: Naming> {
     thread: JoinHandle<Seat<L>>,
     /// Whether it has ended, but for the thread's last steps.
     has_ended: Arc<AtomicBool, Global>,
@@ -21,48 +22,49 @@ pub(crate) struct Busy<L: Naming> {
 #[derive(Drop)]
 pub(crate) enum Connection<L: Naming> {
     /// It is served in a thread.
-    Busy(Busy<L>),
+    Active(ActiveConnection<L>),
     /// It has ended, and gave its seat back.
     Ended(Seat<L>),
 }
 
-/// Serves a connection in a thread of the scope, or here, where no thread can be made. One for which memory is refused is closed.
-pub(crate) fn begin<'s, E, L: Naming + Send + Sync + 's, R: Wait + Clock + Sync>(
+/// Serves a connection in a thread of the scope, or in this one if no thread can be made. If there is
+/// no memory for it, it is closed.
+pub(crate) fn start_connection<'s, E, L: Naming + Send + Sync + 's, R: Wait + Clock + Sync>(
     scope: &Scope<'s, E>,
     rt: &'s R,
-    post: &'s Post<'s>,
+    context: &'s ServerContext<'s>,
     shared: &'s SharedHead<L>,
     stream: TcpStream,
     seat: Seat<L>,
 ) -> Connection<L> {
-    let Ok(has_ended) = Arc::new(post.alloc, AtomicBool::new(false)) else {
+    let Ok(has_ended) = Arc::new(context.alloc, AtomicBool::new(false)) else {
         return Connection::Ended(seat);
     };
     let Ok(theirs) = Arc::try_clone(&has_ended) else {
         return Connection::Ended(seat);
     };
     let work = move || {
-        let seat = served(rt, post, shared, stream, seat);
+        let seat = serve_connection(rt, context, shared, stream, seat);
         theirs.store(true, Ordering::SeqCst);
         seat
     };
     match scope.spawn(work) {
-        Ok(thread) => Connection::Busy(Busy { thread, has_ended }),
+        Ok(thread) => Connection::Active(ActiveConnection { thread, has_ended }),
         Err(refused) => Connection::Ended((refused.value)()),
     }
 }
 
-impl<L: Naming> Busy<L> {
-    /// What became of it by now. Nobody is waited for.
+impl<L: Naming> ActiveConnection<L> {
+    /// Returns what became of it by now, without waiting.
     pub(crate) fn try_end<R: Threads>(self, rt: &R) -> Connection<L> {
         if self.has_ended.load(Ordering::SeqCst) {
             Connection::Ended(self.wait(rt))
         } else {
-            Connection::Busy(self)
+            Connection::Active(self)
         }
     }
 
-    /// Waits for its end. It gives its seat back.
+    /// Waits for its end, and returns its seat.
     pub(crate) fn wait<R: Threads>(self, rt: &R) -> Seat<L> {
         self.thread.join(rt)
     }

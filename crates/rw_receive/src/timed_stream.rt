@@ -1,18 +1,18 @@
-//! A connection that may be silent for so long, whose requests have a deadline, and that ends once
-//! a stop is wished.
+//! A connection that may be silent for a limited time, whose requests have a deadline, and that
+//! ends once a stop is requested.
 
 ghost use Rattle.std.specs.Prelude.{◌+◌, ◌*◌, ◌<◌, ◌≤◌};
 
 use crate::pace::{GRACE_MS, Pace};
-use crate::serving::Post;
-use rw_stop::Wish;
+use crate::serving::ServerContext;
+use rw_follow::StopRequest;
 use rw_types::Bounded;
 use std::cell::Cell;
 use std::io::{self, ErrorKind, Read, Write};
 use std::net::TcpStream;
 use std::time::{Clock, Duration};
 
-/// For how many milliseconds a read or a write waits before the sign is looked at.
+/// For how many milliseconds a read or a write waits before the stop signal is looked at.
 pub(crate) const TICK_MS: u64 = 200;
 
 /// A wait that is made in so many ticks.
@@ -68,15 +68,15 @@ impl<C: Clock + Copy> Stage<C> {
 
 /// A connection as its reader and its writer. A read or a write from which no byte comes for the
 /// time of the patience fails with `TimedOut`, and so does each of them once the request or the
-/// reply has had its time (`Pace`). Once an end is wished, so does a read outside a request, and
-/// once an end at once is wished each of them. While another client waits for a place, so does a
+/// reply has had its time (`Pace`). Once a stop is requested, so does a read outside a request, and
+/// once an end at once is requested each of them. While another client waits for a place, so does a
 /// read or a write of a few connections that are silent or behind their rates. A request begins
 /// with a byte that is read, and ends with the bytes that are written. Nothing is claimed of the
 /// bytes.
 #[derive(Clone, Copy, Drop)]
-pub(crate) struct Patient<'s, C> {
+pub(crate) struct TimedStream<'s, C> {
     stream: &'s TcpStream,
-    post: &'s Post<'s>,
+    context: &'s ServerContext<'s>,
     stage: &'s Cell<Stage<C>>,
     clock: C,
     patience: Patience,
@@ -90,21 +90,21 @@ fn is_passing(error: &io::Error) -> bool {
     )
 }
 
-impl<'s, C: Clock + Copy> Patient<'s, C> {
+impl<'s, C: Clock + Copy> TimedStream<'s, C> {
     /// A connection outside a request.
     pub(crate) fn new(
         stream: &'s TcpStream,
-        post: &'s Post<'s>,
+        context: &'s ServerContext<'s>,
         stage: &'s Cell<Stage<C>>,
         clock: C,
-    ) -> io::Result<Patient<'s, C>> {
-        let patience = Patience::of(post.idle_ms);
+    ) -> io::Result<TimedStream<'s, C>> {
+        let patience = Patience::of(context.idle_ms);
         let tick = Some(Duration::from_millis(patience.tick_ms));
         stream.set_read_timeout(tick)?;
         stream.set_write_timeout(tick)?;
-        Ok(Patient {
+        Ok(TimedStream {
             stream,
-            post,
+            context,
             stage,
             clock,
             patience,
@@ -118,10 +118,10 @@ impl<'s, C: Clock + Copy> Patient<'s, C> {
 
     /// Whether nothing more is waited for.
     fn is_over(&self) -> bool {
-        match self.post.sign.wish() {
-            Wish::Work => false,
-            Wish::End => !self.stage.get().is_inside,
-            Wish::Hard => true,
+        match self.context.signal.request() {
+            StopRequest::Continue => false,
+            StopRequest::Finish => !self.stage.get().is_inside,
+            StopRequest::Abort => true,
         }
     }
 
@@ -129,10 +129,10 @@ impl<'s, C: Clock + Copy> Patient<'s, C> {
     /// waits for a place.
     fn is_late(&self) -> bool {
         let pace = self.stage.get().pace;
-        if !pace.is_within(self.post.request_ms.get()) {
+        if !pace.is_within(self.context.request_ms.get()) {
             return true;
         }
-        !pace.is_within(GRACE_MS) && self.post.place_request.meet()
+        !pace.is_within(GRACE_MS) && self.context.seat_request.meet()
     }
 
     /// Whether a read is to be given up that has waited for these ticks.
@@ -140,7 +140,7 @@ impl<'s, C: Clock + Copy> Patient<'s, C> {
         if self.stage.get().is_inside {
             return self.is_late();
         }
-        ticks.saturating_mul(self.patience.tick_ms) >= GRACE_MS && self.post.place_request.meet()
+        ticks.saturating_mul(self.patience.tick_ms) >= GRACE_MS && self.context.seat_request.meet()
     }
 
     /// Gives up: nothing more is read and written.
@@ -173,7 +173,7 @@ impl<'s, C: Clock + Copy> Patient<'s, C> {
     }
 }
 
-impl<C: Clock + Copy> Read for Patient<'_, C> {
+impl<C: Clock + Copy> Read for TimedStream<'_, C> {
     fn read(&mut self, buf: &mut [u8]) -> io::Result<usize> {
         let mut stream = self.stream;
         for ticks in 0..self.patience.ticks {
@@ -196,12 +196,12 @@ impl<C: Clock + Copy> Read for Patient<'_, C> {
     }
 }
 
-impl<C: Clock + Copy> Write for Patient<'_, C> {
+impl<C: Clock + Copy> Write for TimedStream<'_, C> {
     fn write(&mut self, buf: &[u8]) -> io::Result<usize> {
         let mut stream = self.stream;
         self.begin_reply();
         for _ in 0..self.patience.ticks {
-            if self.post.sign.wish() == Wish::Hard {
+            if self.context.signal.request() == StopRequest::Abort {
                 break;
             }
             if self.is_late() {

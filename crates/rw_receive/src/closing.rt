@@ -1,4 +1,4 @@
-//! How a connection is ended.
+//! How a connection is closed.
 
 use rw_socket::{Deadline, Timely};
 use std::io::Read;
@@ -14,11 +14,12 @@ const CHUNK: usize = 16_384;
 /// How many reads are made of what nobody wants: 64 MiB.
 const MOST_READS: u32 = 4_096;
 
-/// Ends the writing side of a connection, and reads what still comes until the client ends its own, for a second at most.
+/// Ends the writing side of a connection, and reads what still comes until the client ends its own,
+/// for a second at most.
 ///
-/// A connection that is closed while bytes stand unread is reset, and then a client that is still writing its body never sees the reply
-/// (RFC 9112, section 9.6).
-pub(crate) fn part<C: Clock>(clock: &C, stream: &TcpStream) {
+/// A connection that is closed while bytes are unread is reset, and then a client that is still
+/// writing its body never sees the reply (RFC 9112, section 9.6).
+pub(crate) fn close_gracefully<C: Clock>(clock: &C, stream: &TcpStream) {
     if stream.shutdown(Shutdown::Write).is_err() {
         return;
     }

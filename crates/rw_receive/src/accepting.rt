@@ -1,19 +1,20 @@
-//! How connections are accepted one at a time, with a look at the sign in between.
+//! Accepts connections one at a time, so that the stop signal is looked at in between.
 
-use crate::patient::TICK_MS;
+use crate::timed_stream::TICK_MS;
 use rw_metrics::ReceiveCounters;
 use rw_socket::{accept, limit_accepts};
 use std::net::{TcpListener, TcpStream};
 use std::time::{Clock, Duration};
 use std::{io, thread};
 
-/// Has each `accept` of the listener give up after a tick.
+/// Makes each `accept` of the listener give up after a tick.
 pub fn accept_in_ticks(listener: &TcpListener) -> io::Result<()> {
     limit_accepts(listener, Duration::from_millis(TICK_MS))
 }
 
-/// The next connection, where one comes within a tick. An accept that fails, as for want of descriptors, is counted, and naps for a
-/// tick; not so one that was interrupted, or whose client has gone.
+/// Returns the next connection, if one comes within a tick. If an accept fails, as for want of
+/// descriptors, it is counted, and followed by a sleep of a tick; not so one that was interrupted, or
+/// whose client has gone.
 pub fn next_connection<C: Clock>(
     clock: &C,
     listener: &TcpListener,

@@ -7,33 +7,33 @@ use Rattle.rw_sender.specs.Placement.{IsShardCount}
 use Rattle.rw_sender.specs.Shipping.{FailsBy, Feeds, Shipping}
 use Rattle.rw_sender.specs.declared.shipper.FeedFault.{FeedFault}
 use Rattle.rw_sender.specs.declared.shipper.FeedFault.TheVariants as feed
-use Rattle.rw_send.specs.Halting.{halt_of}
-use Rattle.rw_send.specs.declared.halt.Halt.{Halt}
-use Rattle.rw_send.specs.declared.halt.Halt.TheVariants as halt
+use Rattle.rw_send.specs.FeedErrors.{feed_error_of}
+use Rattle.rw_send.specs.declared.feed_error.FeedError.{FeedError}
+use Rattle.rw_send.specs.declared.feed_error.FeedError.TheVariants as error
 
-halt_in : {X : Type 0} → Result X Halt → Halt
-halt_in (Ok x) = halt.Failed
+halt_in : {X : Type 0} → Result X FeedError → FeedError
+halt_in (Ok x) = error.Failed
 halt_in (Err h) = h
 
-abbrev pub halts : {X : Type 0} → Halt → Result X Halt
+abbrev pub halts : {X : Type 0} → FeedError → Result X FeedError
 halts h = Err h
 
-pub failed_of : {X : Type 0} (r : Result X Halt) (h : Halt) → IsErrAnd r (λ y. y ≡ h) → r ≡ halts halt.Failed → h ≡ halt.Failed
+pub failed_of : {X : Type 0} (r : Result X FeedError) (h : FeedError) → IsErrAnd r (λ y. y ≡ h) → r ≡ halts error.Failed → h ≡ error.Failed
 unfolding halt_in
 failed_of (Ok x) h is e = absurd is
 failed_of (Err y) h is e = sym is ∙ ap halt_in e
 
 -- a call's failure is that of the call that it returns the error of
-pub same_halt : {X Y : Type 0} (r : Result Y Halt) (h : Halt) → IsErrAnd r (λ y. y ≡ h) → r ≡ halts halt.Failed → halts {X = X} h ≡ halts {X = X} halt.Failed
+pub same_halt : {X Y : Type 0} (r : Result Y FeedError) (h : FeedError) → IsErrAnd r (λ y. y ≡ h) → r ≡ halts error.Failed → halts {X = X} h ≡ halts {X = X} error.Failed
 same_halt {X} r h is e = ap (halts {X = X}) (failed_of r h is e)
 
-failed_feed : {T : Type 0} (s : Shipping T) (e : FeedFault) → Feeds s (Err e) → halt_of e ≡ halt.Failed → IsSome s.fault
+failed_feed : {T : Type 0} (s : Shipping T) (e : FeedFault) → Feeds s (Err e) → feed_error_of e ≡ error.Failed → IsSome s.fault
 failed_feed s feed.OutOfMemory h is = subst IsSome (sym h) refl
 failed_feed s (feed.Damaged f) h is = let no : ⊥ = cc in absurd no
 failed_feed s feed.Gone h is = subst IsSome (sym h) refl
 
-pub feed_failed : {T X : Type 0} (s : Shipping T) (e : FeedFault) (r : Result X Halt) → IsErrAnd r (λ h. h ≡ halt_of e) → Feeds s (Err e) → r ≡ halts halt.Failed → IsSome s.fault
-feed_failed s e r is f same = failed_feed s e f (failed_of r (halt_of e) is same)
+pub feed_failed : {T X : Type 0} (s : Shipping T) (e : FeedFault) (r : Result X FeedError) → IsErrAnd r (λ h. h ≡ feed_error_of e) → Feeds s (Err e) → r ≡ halts error.Failed → IsSome s.fault
+feed_failed s e r is f same = failed_feed s e f (failed_of r (feed_error_of e) is same)
 
 pub fails_so : (found : Option Fault) (e : FeedFault) → FailsBy found e → IsSome found
 fails_so None e h = absurd h

@@ -5,9 +5,10 @@ use rw_metrics::ReceiveCounters;
 use rw_recv_head::{Naming, Seat, SharedHead};
 use std::sync::Wait;
 
-/// A seat that is lent to answer the bodies of a connection's requests. Each answer may wait for the lock, and is counted.
+/// A seat that is lent to answer the bodies of a connection's requests. Each answer may wait for the
+/// lock, and is counted.
 #[derive(Drop)]
-pub(crate) struct Counting<'a, R, L: Naming> {
+pub(crate) struct CountingSeat<'a, R, L: Naming> {
     pub(crate) rt: &'a R,
     pub(crate) shared: &'a SharedHead<L>,
     /// A seat of that shared head.
@@ -15,7 +16,7 @@ pub(crate) struct Counting<'a, R, L: Naming> {
     pub(crate) counters: &'a ReceiveCounters,
 }
 
-impl<R: Wait, L: Naming> Answer for Counting<'_, R, L> {
+impl<R: Wait, L: Naming> Answer for CountingSeat<'_, R, L> {
     ghost use Rattle.std.specs.Prelude.{◌≡◌};
     ghost use Rattle.rw_recv_head.specs.Seats.{HasAsked};
 

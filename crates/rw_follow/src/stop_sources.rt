@@ -1,8 +1,8 @@
-//! What sets a sign to stop: an input, or a file.
+//! What sets a stop signal: an input, or a file.
 
 ghost use Rattle.std.specs.Prelude.{◌≡◌, ◌↔◌, ◌∷◌, [], IsTrue};
 
-use crate::sign::{Sign, Wish};
+use crate::signal::{StopRequest, StopSignal};
 use std::alloc::Global;
 use std::fs::{self, Files};
 use std::io::{BufRead, ErrorKind, Read};
@@ -15,12 +15,13 @@ const LONGEST: usize = 64;
 /// How many milliseconds pass between two looks.
 const LOOK_MS: u64 = 200;
 
-/// Reads `input` to its end, and then asks for an end in order, or to the first line `hard`, and asks for an end at once. An input that cannot be
-/// read counts as ended, and so it does where there is no memory for a line. At most 64 bytes of the input are kept.
-pub fn watch_input<B: BufRead>(alloc: Global, input: &mut B, sign: &Sign) {
+/// Reads `input` to its end and then asks to finish, or up to the first line `hard` and then asks to
+/// end at once. An input that cannot be read counts as ended, and so it does if there is no memory
+/// for a line. At most 64 bytes of the input are kept.
+pub fn watch_input<B: BufRead>(alloc: Global, input: &mut B, signal: &StopSignal) {
     let mut line = Vec::new(alloc);
     if line.reserve(LONGEST).is_err() {
-        sign.end();
+        signal.finish();
         return;
     }
     for _ in 0..u64::MAX {
@@ -34,32 +35,33 @@ pub fn watch_input<B: BufRead>(alloc: Global, input: &mut B, sign: &Sign) {
             continue;
         }
         if is_hard(&line) {
-            sign.hard();
+            signal.abort();
             return;
         }
         line.clear();
     }
-    sign.end();
+    signal.finish();
 }
 
-/// Looks five times a second for the file at `path`. It asks for an end in order once the file is there, and for an end at once when its first line
-/// is `hard`. Returns then, or where another has asked for an end at once.
-pub fn watch_file<R: Clock + Files>(rt: &R, path: &str, sign: &Sign) {
+/// Looks five times a second for the file at `path`. Asks to finish once the file exists, and to end
+/// at once when its first line is `hard`. Returns then, or when another caller has asked to end at
+/// once.
+pub fn watch_file<R: Clock + Files>(rt: &R, path: &str, signal: &StopSignal) {
     for _ in 0..u64::MAX {
         if matches!(fs::exists(rt, path), Ok(true)) {
-            sign.end();
+            signal.finish();
             if begins_hard(rt, path) {
-                sign.hard();
+                signal.abort();
             }
         }
-        if sign.wish() == Wish::Hard {
+        if signal.request() == StopRequest::Abort {
             return;
         }
         thread::sleep(rt, Duration::from_millis(LOOK_MS));
     }
 }
 
-/// Whether the first line of a file is `hard`. One that cannot be read has no such line.
+/// Returns whether the first line of a file is `hard`. A file that cannot be read has no such line.
 fn begins_hard<R: Files>(rt: &R, path: &str) -> bool {
     let Ok(mut file) = fs::open(rt, path) else {
         return false;
@@ -68,7 +70,7 @@ fn begins_hard<R: Files>(rt: &R, path: &str) -> bool {
     file.read_exact(&mut line).is_ok() && line == *b"hard\n"
 }
 
-/// The next byte; `None` at the end of the input, and where it cannot be read.
+/// Returns the next byte; `None` at the end of the input, or if it cannot be read.
 fn next_byte<B: BufRead>(input: &mut B) -> Option<u8> {
     let mut byte = [0u8; 1];
     for _ in 0..u64::MAX {
@@ -85,7 +87,7 @@ fn next_byte<B: BufRead>(input: &mut B) -> Option<u8> {
     None
 }
 
-/// Whether a line asks for an end at once.
+/// Returns whether a line asks to end at once.
 pub(crate) fn is_hard(line: &[u8]) -> bool
     ensures { IsTrue result ↔ (line.now ≡ 104 ∷ 97 ∷ 114 ∷ 100 ∷ []) }
 {

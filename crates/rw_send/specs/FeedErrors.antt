@@ -1,0 +1,20 @@
+-- Why the reading of a log ends early.
+use Rattle.std.specs.Prelude.{◌≡◌, None, Some, ⊤}
+use Rattle.rw_sender.specs.Feeders.{HasRead}
+use Rattle.rw_sender.specs.Shipping.{Shipping}
+use Rattle.rw_sender.specs.declared.shipper.FeedFault.{FeedFault}
+use Rattle.rw_sender.specs.declared.shipper.FeedFault.TheVariants as feed
+use Rattle.rw_send.specs.declared.feed_error.FeedError.{FeedError}
+use Rattle.rw_send.specs.declared.feed_error.FeedError.TheVariants as error
+
+-- why reading ends
+abbrev pub feed_error_of : FeedFault → FeedError
+feed_error_of feed.OutOfMemory = error.Failed
+feed_error_of (feed.Damaged f) = error.Damaged f
+feed_error_of feed.Gone = error.Failed
+
+-- the log has the fault for which reading ends, and the shipper goes on
+abbrev pub IsHalted : {T : Type 0} → Shipping T → FeedError → Type 0
+IsHalted s (error.Damaged f) = HasRead s.log.pieces s.log.placed (Some f) × (s.fault ≡ None)
+IsHalted s error.Failed = ⊤
+IsHalted s error.Unreadable = ⊤
