@@ -88,6 +88,8 @@ pub struct Sending<'a> {
     pub fails_on_drop: bool,
     /// Whether a folder without a segment is a fault.
     pub fails_on_empty: bool,
+    /// Whether a record that is skipped and may hold samples is a fault.
+    pub fails_on_skip: bool,
     /// How many bytes the body of a batch may take; none for no limit.
     pub max_batch_bytes: Option<u64>,
 }
