@@ -11,6 +11,9 @@ const SAMPLE: u64 = 18;
 /// The tag of the timestamp in a sample.
 const TIMESTAMP: u64 = 16;
 
+/// The latest timestamp that there can be. What is above it is the spelling of one before 1970.
+const LATEST_MS: u64 = i64::MAX as u64;
+
 /// A field of a Protobuf message.
 #[derive(Clone, Copy)]
 struct Field<'a> {
@@ -85,7 +88,11 @@ fn timestamp_of(sample: &[u8]) -> u64 {
             return 0;
         };
         if field.tag == TIMESTAMP {
-            return (field.number as i64).max(0) as u64;
+            return if field.number > LATEST_MS {
+                0
+            } else {
+                field.number
+            };
         }
         rest = after;
     }
