@@ -16,7 +16,7 @@ reading_page n =
     ++ gauge (codes "rwship_send_segment_bytes_read") (codes "Bytes of that segment that were read.") n.segment_bytes
 
 -- how far behind the sender is
-abbrev pub newest_page : SendNumbers → List ℕ
+unfoldable pub newest_page : SendNumbers → List ℕ
 newest_page n =
     gauge (codes "rwship_send_newest_segment") (codes "Number of the newest segment in the folder; 0 where it is not known.") n.newest_segment
     ++ gauge (codes "rwship_send_highest_timestamp_in_seconds") (codes "Highest timestamp of the samples that were put into a queue, in seconds since 1970; 0 where there is none.") n.newest_read
@@ -31,7 +31,7 @@ samples_page n =
     ++ gauge (codes "rwship_send_samples_in_flight") (codes "Samples that were put into a queue and have no answer yet.") n.in_flight
 
 -- how far those that were put into a queue have come
-abbrev pub queue_page : SendNumbers → List ℕ
+unfoldable pub queue_page : SendNumbers → List ℕ
 queue_page n =
     counter (codes "rwship_send_samples_placed_total") (codes "Samples that were put into a queue.") n.placed
     ++ counter (codes "rwship_send_samples_resolved_total") (codes "Samples that the receiver has acknowledged or refused permanently.") n.resolved
@@ -65,7 +65,7 @@ other_page s = let name : List ℕ = codes "rwship_send_records_skipped_total" i
     ++ labelled name (codes "type") (codes "metadata") s.metadata
 
 -- the records that were skipped, by type
-abbrev pub skipped_page : Skipped → List ℕ
+unfoldable pub skipped_page : Skipped → List ℕ
 skipped_page s =
     counters (codes "rwship_send_records_skipped_total") (codes "Records of the log that were skipped, by type.")
     ++ lost_page s

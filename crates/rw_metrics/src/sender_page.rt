@@ -51,6 +51,7 @@ fn push_reading(out: &mut Vec<u8>, n: &SendNumbers) -> Result<(), AllocError>
 }
 
 /// Adds how far behind the sender is.
+#[tactic(auto, unfolding(crate::specs::SendPage::newest_page))]
 fn push_newest(out: &mut Vec<u8>, n: &SendNumbers) -> Result<(), AllocError>
     ensures { OnOk result (out.new.items ≡ out.old.items ++ newest_page n.now) }
 {
@@ -108,6 +109,7 @@ fn push_samples(out: &mut Vec<u8>, n: &SendNumbers) -> Result<(), AllocError>
 }
 
 /// Adds how far the samples that were put into a queue have come.
+#[tactic(auto, unfolding(crate::specs::SendPage::queue_page))]
 fn push_queue(out: &mut Vec<u8>, n: &SendNumbers) -> Result<(), AllocError>
     ensures { OnOk result (out.new.items ≡ out.old.items ++ queue_page n.now) }
 {
@@ -187,6 +189,7 @@ fn push_other(out: &mut Vec<u8>, s: &Skipped) -> Result<(), AllocError>
 }
 
 /// Adds the records that were skipped, by type.
+#[tactic(auto, unfolding(crate::specs::SendPage::skipped_page))]
 fn push_skipped(out: &mut Vec<u8>, s: &Skipped) -> Result<(), AllocError>
     ensures { OnOk result (out.new.items ≡ out.old.items ++ skipped_page s.now) }
 {

@@ -1,7 +1,9 @@
 use Rattle.std.proofs.Common.{append_assoc, refl}
+use Rattle.rw_metrics.specs.SendPage.{skipped_page}
 use Rattle.rw_metrics.proofs.sender_page.push_skipped.Goals as goal
 
 pub returns : goal.returns
+unfolding skipped_page
 returns c =
     rw (
       c.in_ok-push_other.ensures,
