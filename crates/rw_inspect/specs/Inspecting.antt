@@ -6,7 +6,7 @@ use Rattle.rw_wal_format.specs.Pieces.{Piece, bytes, next_segment, entries, faul
 use Rattle.rw_wal_format.specs.declared.tail_fault.TailFault.{TailFault}
 use Rattle.rw_wal_tail.specs.Fed.{Fed}
 use Rattle.rw_inspect.specs.Counting.{Counted, counts_of}
-use Rattle.rw_inspect.specs.Reading.{HasTakenAll}
+use Rattle.rw_wal_tail.specs.Taking.{HasTakenAll}
 use Rattle.rw_inspect.specs.Sums.{sums_of}
 use Rattle.rw_inspect.specs.Troubles.{not_rising, troubles_of}
 use Rattle.rw_inspect.specs.declared.segments.Named.{Named}
@@ -52,7 +52,7 @@ pub record IsRow (done : List (List ℕ)) (text : List ℕ) (row : Segment) : Ty
   pub more : List Entry
   pub adds : entries (log_of (done ++ text ∷ [])) ≡ entries (log_of done) ++ more
   pub sums_are : row.sums ≡ sums_of more
-  pub passed : skipped (log_of done) + row.passed ≡ skipped (log_of (done ++ text ∷ []))
+  pub passed : length (skipped (log_of done)) + row.passed ≡ length (skipped (log_of (done ++ text ∷ [])))
 
 -- one row for each segment, in order
 abbrev pub AreRows : List (List ℕ) → List (List ℕ) → List Segment → Type 0
@@ -81,7 +81,7 @@ pub record ReadsSegment (is_first : Bool) (left : Option (List ℕ)) (t new : Fe
   pub more : List Entry
   pub adds : after.entries ≡ before.entries ++ more
   pub sums_are : found.0.sums ≡ sums_of more
-  pub passed : t.skipped + found.0.passed ≡ new.skipped
+  pub passed : length t.skipped + found.0.passed ≡ length new.skipped
 
 -- the fault of a damage
 abbrev pub fault_in : Option Damage → Option TailFault

@@ -1,9 +1,10 @@
 //! A segment, read to its end.
 
-ghost use Rattle.std.specs.Prelude.{◌≡◌, ◌<◌, ◌+◌, ℕ, [], length, true, Err, Ok, Some, None, IfOk, OnOk};
+ghost use Rattle.std.specs.Prelude.{◌≡◌, ◌<◌, ◌+◌, ℕ, List, [], length, true, Err, Ok, Some, None, IfOk, OnOk};
 ghost use Rattle.std.specs.Io.KnownBytes.{Consumes, IsAtEnd};
 ghost use Rattle.rw_types.specs.declared.transfer.ReadFault.TheVariants.{Failed};
-ghost use Rattle.rw_sender.specs.Feeders.{HasTaken};
+ghost use Rattle.rw_types.specs.declared.entry.Entry.{Entry};
+ghost use Rattle.rw_wal_tail.specs.Taking.{HasTaken};
 ghost use Rattle.rw_inspect.specs.Reading.{ComesNext, FeedsMore, ReadsText, TakesAll};
 
 use crate::taker::Taker;
@@ -21,7 +22,9 @@ pub(crate) enum Next {
 
 /// What comes next.
 fn next_of(tail: &mut Tail) -> Result<Next, AllocError>
-    ensures { IfOk result (ComesNext tail.old tail.new) }
+    ensures comes { (taken : List Entry) → HasTaken tail.old taken
+        → IfOk result (ComesNext taken tail.new) }
+    ensures pieces { tail.new.pieces ≡ tail.old.pieces }
 {
     match tail.next_entry() {
         Ok(Some(entry)) => Ok(Next::Entry(entry)),

@@ -3,7 +3,8 @@
 ghost use Rattle.std.specs.Prelude.{◌≡◌, ◌<◌, [], ℕ, List, length, map, true, Err, None, IfOk, OnOk, ◌++◌, ◌∷◌, vec_len};
 ghost use Rattle.rw_types.specs.declared.transfer.ReadFault.TheVariants.{Failed};
 ghost use Rattle.rw_inspect.specs.Inspecting.{AllSure, IsInspected, IsReportOfFirst, ReadsFirst, ReadsInto, ReadsSegment, Reports, begun, fault_in, source_of};
-ghost use Rattle.rw_inspect.specs.Reading.{HasTakenAll};
+ghost use Rattle.rw_types.specs.declared.entry.Entry.{Entry};
+ghost use Rattle.rw_wal_tail.specs.Taking.{HasTaken, HasTakenAll};
 
 use crate::counter::Counter;
 use crate::reading::read_text;
@@ -39,6 +40,7 @@ fn zeros(alloc: Global, len: usize) -> Result<Vec<u8>, AllocError>
 /// The next segment begins.
 fn begin_segment<T: Taker>(is_first: bool, tail: &mut Tail, taker: &mut T)
     ensures fed { tail.new ≡ record tail.old { pieces = begun is_first tail.old.pieces } }
+    ensures taken { (taken : List Entry) → HasTaken tail.old taken → HasTaken tail.new taken }
     ensures here { T.counted taker.new ≡ record (T.counted taker.old) { here = [] } }
     ensures task { T.task taker.new ≡ T.task taker.old }
 {

@@ -1,5 +1,5 @@
 -- A log: segments one after the other (wal.md). No record crosses segments.
-use Rattle.std.specs.Prelude.{◌≡◌, ℕ, ◌+◌, List, [], ◌∷◌, ◌++◌, length, flat_map, sum_by}
+use Rattle.std.specs.Prelude.{◌≡◌, ℕ, List, [], ◌∷◌, ◌++◌, length, flat_map}
 use Rattle.rw_types.specs.declared.entry.Entry.{Entry}
 use Rattle.rw_wal_format.specs.Segments.{Stop, between, inside, at_fault, Reading}
 use Rattle.rw_wal_format.specs.Pieces.{Piece, bytes, next_segment, page_size}
@@ -49,7 +49,7 @@ pub record IsLog (page : ℕ) (texts : List (List ℕ)) (reading : Reading) (pla
   pub own : Reading
   pub is_segment : IsSegment page text own place.offset
   pub entries : reading.entries ≡ flat_map (λ r. r.entries) readings ++ own.entries
-  pub skipped : reading.skipped ≡ sum_by (λ r. r.skipped) readings + own.skipped
+  pub skipped : reading.skipped ≡ flat_map (λ r. r.skipped) readings ++ own.skipped
   pub stops : LogStops later own.stop reading.stop
 
 -- the entries of a log, before its end or its first fault

@@ -1,8 +1,8 @@
 -- One segment of a log (wal.md, "Segment encoding"): pages of fragments, their records, and where
 -- reading stops.
-use Rattle.std.specs.Prelude.{◌≡◌, ◌⊎◌, ℕ, ◌+◌, ◌<◌, List, ◌++◌, length, replicate, count_by, flat_map, Option, Some, None}
+use Rattle.std.specs.Prelude.{◌≡◌, ◌⊎◌, ℕ, ◌+◌, ◌<◌, List, ◌++◌, length, replicate, flat_map, Option, Some, None}
 use Rattle.rw_wal_format.specs.Segments.{nothing, begun, wrong, Stop, between, inside, at_fault, Reading}
-use Rattle.rw_wal_format.specs.Records.{is_skipped}
+use Rattle.rw_wal_format.specs.Skipped.{skips_of}
 use Rattle.rw_wal_format.specs.Laws.{entries_of_records}
 use Rattle.rw_log_layout.specs.Items.{Fragment, IsFragment, StartsWithFragment, IsItem}
 use Rattle.rw_log_layout.specs.Fragments.{InTurn, IsRecord, MayBeOpen, FragmentFault}
@@ -59,5 +59,5 @@ pub record IsSegment (page : ℕ) (text : List ℕ) (reading : Reading) (offset 
   pub so_far : Option (List ℕ)
   pub is_front : IsFront page front left records so_far
   pub entries : entries_of_records records ≡ Some reading.entries
-  pub skipped : count_by is_skipped records ≡ reading.skipped
+  pub skipped : flat_map skips_of records ≡ reading.skipped
   pub stops : StopsFor left so_far rest reading.stop

@@ -2,6 +2,7 @@
 use Rattle.std.specs.Prelude.{ℕ, ◌+◌, List, [], ◌∷◌, ◌++◌, Option, Some, None}
 use Rattle.rw_types.specs.declared.entry.Entry.{Entry}
 use Rattle.rw_wal_format.specs.Segments.{Reading, Stop, between, inside, at_fault, segment}
+use Rattle.rw_wal_format.specs.declared.skipped_type.SkippedType.{SkippedType}
 use Rattle.rw_wal_format.specs.declared.tail_fault.TailFault.{TailFault}
 use Rattle.rw_wal_format.specs.declared.tail_fault.TailFault.TheVariants.{TornSegment}
 
@@ -13,7 +14,7 @@ pub data Piece : Type 0 where
 -- A segment that stops so, and then the next ones: a fault ends the reading, and so does a record that is not whole,
 -- since no record crosses segments (wal.md).
 abbrev pub then_after : Stop → Reading → Reading → Reading
-then_after between r next = record { entries = r.entries ++ next.entries; skipped = r.skipped + next.skipped; stop = next.stop }
+then_after between r next = record { entries = r.entries ++ next.entries; skipped = r.skipped ++ next.skipped; stop = next.stop }
 then_after inside r next = record { entries = r.entries; skipped = r.skipped; stop = at_fault TornSegment }
 then_after (at_fault f) r next = r
 
@@ -44,8 +45,8 @@ page_size = 32768
 abbrev pub entries : List Piece → List Entry
 entries pieces = (reading page_size pieces).entries
 
--- how many records before the first fault were passed over
-abbrev pub skipped : List Piece → ℕ
+-- the types of the records before the first fault that were passed over
+abbrev pub skipped : List Piece → List SkippedType
 skipped pieces = (reading page_size pieces).skipped
 
 -- the first fault, if there is one

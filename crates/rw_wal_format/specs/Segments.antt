@@ -5,7 +5,9 @@ use Rattle.std.specs.Prelude.{ℕ, zero, suc, ◌+◌, ◌-◌, List, [], ◌∷
 use Rattle.std.specs.List.{list_all}
 use Rattle.byteorder.specs.Endian.{big_number}
 use Rattle.rw_codes.specs.Crc.{crc32c_of}
-use Rattle.rw_wal_format.specs.Records.{record_entries, is_skipped}
+use Rattle.rw_wal_format.specs.Records.{record_entries}
+use Rattle.rw_wal_format.specs.Skipped.{skips_of}
+use Rattle.rw_wal_format.specs.declared.skipped_type.SkippedType.{SkippedType}
 use Rattle.rw_types.specs.declared.entry.Entry.{Entry}
 use Rattle.rw_wal_format.specs.declared.tail_fault.TailFault.{TailFault}
 use Rattle.rw_wal_format.specs.declared.tail_fault.TailFault.TheVariants.{BadType, BadLength, BadCrc, Compressed, NonzeroPadding, Sequence, BadRecord}
@@ -92,20 +94,20 @@ abbrev pub layout_of : ℕ → ℕ → ℕ → List ℕ → Layout
 layout_of page zero left bytes = record { fragments = []; stop = between }
 layout_of page (suc k) left bytes = from_item page left bytes (λ l rest. layout_of page k l rest) (item_at left bytes)
 
--- the entries of whole records before the first fault, how many records were passed over, and where it stops
+-- the entries of whole records before the first fault, the types of those that were passed over, and where it stops
 pub record Reading : Type 0 where
   pub entries : List Entry
-  pub skipped : ℕ
+  pub skipped : List SkippedType
   pub stop : Stop
 
 -- a reading that stops before any record
 abbrev pub stopped : Stop → Reading
-stopped s = record { entries = []; skipped = 0; stop = s }
+stopped s = record { entries = []; skipped = []; stop = s }
 
 -- first what a whole record holds, where it is of its type's form, and then the rest
 abbrev pub with_entries : List ℕ → Option (List Entry) → Reading → Reading
 with_entries bytes None r = stopped (at_fault BadRecord)
-with_entries bytes (Some es) r = record { entries = es ++ r.entries; skipped = (if is_skipped bytes then 1 else 0) + r.skipped; stop = r.stop }
+with_entries bytes (Some es) r = record { entries = es ++ r.entries; skipped = skips_of bytes ++ r.skipped; stop = r.stop }
 
 -- first a whole record, and then the rest
 abbrev pub with_record : List ℕ → Reading → Reading

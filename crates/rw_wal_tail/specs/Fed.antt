@@ -3,6 +3,7 @@ use Rattle.std.specs.Prelude.{◌≡◌, ℕ, ◌+◌, ◌<◌, ◌^◌, List, [
 use Rattle.rw_types.specs.declared.entry.Entry.{Entry}
 use Rattle.rw_wal_format.specs.Pieces as pieces
 use Rattle.rw_wal_format.specs.Pieces.{page_size, reading, entries, skipped, fault}
+use Rattle.rw_wal_format.specs.declared.skipped_type.SkippedType.{SkippedType}
 use Rattle.rw_wal_format.specs.declared.tail_fault.TailFault.{TailFault}
 use Rattle.rw_wal_format.specs.declared.tail_fault.TailFault.TheVariants.{OutOfMemory}
 use Rattle.rw_wal_tail.specs.declared.piece.Piece.{Piece}
@@ -15,12 +16,12 @@ use Rattle.rw_wal_tail.specs.Places.{stop_after}
 use Rattle.rw_wal_tail.specs.Placed.{ends_after}
 use Rattle.rw_wal_tail.specs.Steps.{IsReader, still_read, still_place, Counts, IsKept}
 
--- the pieces that were fed, the number of entries that were given, and the number of records that were passed over
+-- the pieces that were fed, the number of entries that were given, and the types of the records that were passed over
 pub record Fed : Type 0 where
   pub pieces : List pieces.Piece
   pub given : ℕ
   -- when `next_entry` last found no entry
-  pub skipped : ℕ
+  pub skipped : List SkippedType
   -- the fault that `next_entry` has answered, if it has
   pub fault : Option TailFault
 
@@ -68,7 +69,7 @@ told_of told.NextSegment = pieces.next_segment
 -- whatever comes later, the reading is what was given and then what the reader still reads
 pub record Follows (ps : List pieces.Piece) (given : List Entry) (r : Reader) : Type 0 where
   pub reader : IsReader r
-  pub reads : (later : List pieces.Piece) → reading page_size (ps ++ later) ≡ after given 0 (still_read r later)
+  pub reads : (later : List pieces.Piece) → reading page_size (ps ++ later) ≡ after given [] (still_read r later)
   pub counts : Counts (ends_after 0 ps) r
   pub stops : (later : List pieces.Piece) → stop_after page_size 0 [] (ps ++ later) ≡ still_place r (ends_after 0 ps) later
 

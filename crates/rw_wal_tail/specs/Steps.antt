@@ -1,7 +1,9 @@
 -- What a step of a reader may do.
-use Rattle.std.specs.Prelude.{◌≡◌, ℕ, ◌+◌, ◌<◌, ◌≤◌, ◌^◌, List, [], ◌∷◌, length, drop, take, Option, Some, None, Bool, true, false, ◌⊎◌, vec_capacity}
+use Rattle.std.specs.Prelude.{◌≡◌, ℕ, ◌+◌, ◌<◌, ◌≤◌, ◌^◌, List, [], ◌∷◌, ◌++◌, length, drop, take, Option, Some, None, Bool, true, false, ◌⊎◌, vec_capacity}
 use Rattle.rw_types.specs.declared.entry.Entry.{Entry}
 use Rattle.rw_wal_format.specs.Records.{record_entries}
+use Rattle.rw_wal_format.specs.Skipped.{skips_of}
+use Rattle.rw_wal_format.specs.declared.skipped_type.SkippedType.{SkippedType}
 use Rattle.rw_wal_format.specs.Segments as grammar
 use Rattle.rw_wal_format.specs.Segments.{full, first, middle, last, nothing, begun, fragment, item_at, Reading}
 use Rattle.rw_wal_format.specs.Pieces.{Piece, page_size}
@@ -14,7 +16,7 @@ use Rattle.rw_wal_tail.specs.Found.{KnownZeros}
 use Rattle.rw_wal_tail.specs.declared.place.FaultPlace.{FaultPlace}
 use Rattle.rw_wal_tail.specs.Held.{waiting, held_weight, has_ended, can_count, unfed, unread}
 use Rattle.rw_wal_tail.specs.Placed.{place_from, ends_with}
-use Rattle.rw_wal_tail.specs.Still.{still, skip_of, open_data}
+use Rattle.rw_wal_tail.specs.Still.{still, open_data}
 
 abbrev pub waiting_of : Reader → List Piece
 waiting_of r = waiting r.input.later r.input.ended
@@ -38,7 +40,7 @@ IsOfLog _ = Unit {0}
 
 pub record IsReader (r : Reader) : Type 0 where
   pub page : 0 < r.left
-  pub count : r.passed < 2 ^ 60
+  pub count : length r.passed < 2 ^ 60
   pub fault : IsOfLog r.fault
   pub zeros : KnownZeros r.left r.zeros r.input.rest
 
@@ -112,8 +114,8 @@ pub record FoundAt (kind : grammar.Kind) (n : ℕ) (r : Reader) : Type 0 where
   pub in_order : r.is_open ≡ goes_on kind
 
 -- a whole record is read into the queue, or is not of its form
-abbrev pub IsRead : List ℕ → ℕ → List Entry → ℕ → Bool → Type 0
-IsRead d passed ready passed' true = (record_entries d ≡ Some ready) × (passed' ≡ passed + skip_of d)
+abbrev pub IsRead : List ℕ → List SkippedType → List Entry → List SkippedType → Bool → Type 0
+IsRead d passed ready passed' true = (record_entries d ≡ Some ready) × (passed' ≡ passed ++ skips_of d)
 IsRead d passed ready passed' false = (record_entries d ≡ None) × (ready ≡ []) × (passed' ≡ passed)
 
 abbrev pub is_failed_by : TailFault → Reader → Reader
@@ -125,7 +127,7 @@ pub record IsUnfed (r : Reader) : Type 0 where
   pub left : r.left ≡ page_size
   pub is_open : r.is_open ≡ false
   pub ready : r.ready.items ≡ []
-  pub passed : r.passed ≡ 0
+  pub passed : r.passed ≡ []
   pub fault : r.fault ≡ None
 
 -- what a reader came to: an entry is ready, or what has come ends, or there is a fault
@@ -137,7 +139,7 @@ Ran (Failed f) r = (r.fault ≡ Some f) × (r.ready.items ≡ [])
 -- There is room for the data of a record in fragments, whatever is not read, and n bounds all counts.
 pub record IsKept (n : ℕ) (r : Reader) : Type 0 where
   pub room : length r.begun.items + unread r.input ≤ vec_capacity r.begun
-  pub passed : r.passed + unread r.input ≤ n
+  pub passed : length r.passed + unread r.input ≤ n
   pub offset : r.input.offset + length r.input.rest ≤ n
   pub ends : r.input.ends ≤ n
 

@@ -14,9 +14,10 @@ mod place;
 mod read;
 mod reader;
 mod record;
+mod skips;
 mod tail;
 
 pub use piece::Piece;
 pub use place::FaultPlace;
-pub use rw_wal_format::TailFault;
+pub use rw_wal_format::{SkippedType, TailFault};
 pub use tail::{Tail, is_out_of_memory};

@@ -16,8 +16,9 @@ use crate::input::{COUNT_END, Input, copy_of};
 use crate::item::{Found, item};
 use crate::place::FaultPlace;
 use crate::record::read_record;
+use crate::skips::Skips;
 use rw_types::Entry;
-use rw_wal_format::{FragmentType, HEADER_BYTES, PAGE_BYTES, TailFault};
+use rw_wal_format::{FragmentType, HEADER_BYTES, PAGE_BYTES, SkippedType, TailFault};
 use std::alloc::{AllocError, Global};
 use std::collections::VecDeque;
 
@@ -35,8 +36,8 @@ pub(crate) struct Reader {
     pub(crate) begun: Vec<u8>,
     pub(crate) is_open: bool,
     pub(crate) ready: VecDeque<Entry>,
-    /// How many records were passed over.
-    pub(crate) passed: u64,
+    /// The records that were passed over.
+    pub(crate) passed: Skips,
     pub(crate) fault: Option<TailFault>,
 }
 
@@ -71,23 +72,23 @@ fn read_whole(
     alloc: Global,
     bytes: &[u8],
     ready: &mut VecDeque<Entry>,
-    passed: &mut u64,
+    passed: &mut Skips,
 ) -> Result<bool, AllocError>
-    requires { passed.old < 2 ^ 60 }
+    requires { length passed.old < 2 ^ 60 }
     ensures ok { IfOk result (λ b. IsRead bytes.now passed.old ready.new.items passed.new b) }
     ensures err { OnErr result ((ready.new.items ≡ []) × (passed.new ≡ passed.old)) }
-    ensures count { passed.new < 2 ^ 60 }
-    ensures certain { OnErr result (HasEntries bytes.now ⊎ (2 ^ 60 ≤ passed.old + 1)) }
+    ensures count { length passed.new < 2 ^ 60 }
+    ensures certain { OnErr result (HasEntries bytes.now ⊎ (2 ^ 60 ≤ length passed.old + 1)) }
 {
     ready.clear();
     if !is_record(bytes) {
         return Ok(false);
     }
     if is_skipped(bytes) {
-        if *passed + 1 == COUNT_END {
+        if passed.len() + 1 == COUNT_END {
             return Err(AllocError);
         }
-        *passed += 1;
+        passed.push(SkippedType::of(bytes));
         return Ok(true);
     }
     if bytes.len() == 1 {
@@ -137,7 +138,7 @@ impl Reader {
             begun: Vec::new(alloc),
             is_open: false,
             ready: VecDeque::new(alloc),
-            passed: 0,
+            passed: Skips::new(),
             fault: None,
         }
     }
@@ -420,7 +421,7 @@ impl Reader {
             begun: copy_with_room(self.alloc, &self.begun, unread)?,
             is_open: self.is_open,
             ready: copy_ready(self.alloc, &self.ready)?,
-            passed: self.passed,
+            passed: self.passed.again(),
             fault: self.fault,
         })
     }

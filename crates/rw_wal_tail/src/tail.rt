@@ -1,20 +1,24 @@
 //! Follows a log that grows.
 
-ghost use Rattle.std.specs.Prelude.{◌≡◌, ◌⊎◌, ◌≤◌, ◌<◌, ◌^◌, [], ◌∷◌, ◌++◌, length, Err, Some, None, IfOk, OnOk, OnErr};
+ghost use Rattle.std.specs.Prelude.{◌≡◌, ◌⊎◌, ◌≤◌, ◌<◌, ◌^◌, List, [], ◌∷◌, ◌++◌, length, Err, Some, None, IfOk, OnOk, OnErr};
+ghost use Rattle.rw_types.specs.declared.entry.Entry.{Entry};
 ghost use Rattle.rw_wal_format.specs.Laws.{Extends};
 ghost use Rattle.rw_wal_format.specs.Pieces.{bytes, next_segment, entries, fault, page_size, reading};
+ghost use Rattle.rw_wal_format.specs.Skipped.{count_of};
 ghost use Rattle.rw_wal_format.specs.declared.tail_fault.TailFault.{TailFault};
 ghost use Rattle.rw_wal_format.specs.declared.tail_fault.TailFault.TheVariants.{OutOfMemory};
 ghost use Rattle.rw_wal_tail.specs.Fed.{next_of, answered, size_of, piece_of, is_out_of_memory, CutsDoNotMatter};
 ghost use Rattle.rw_wal_tail.specs.Places.{told_place};
+ghost use Rattle.rw_wal_tail.specs.Taking.{HasTaken, TakesNext};
 
 use crate::input::COUNT_END;
 use crate::piece::{Piece, Told};
 use crate::place::FaultPlace;
 use crate::reader::{Reader, Step};
+use crate::skips::Skips;
 use rw_history::History;
 use rw_types::Entry;
-use rw_wal_format::TailFault;
+use rw_wal_format::{SkippedType, TailFault};
 use std::alloc::{AllocError, Global};
 use std::marker::Model;
 
@@ -38,7 +42,7 @@ pub struct Tail {
     pieces: History<Told>,
     given: History<Entry>,
     count: u64,
-    skipped: u64,
+    skipped: Skips,
     /// The fault that was reported, if one was.
     told: Option<TailFault>,
 }
@@ -64,14 +68,15 @@ impl Model for Tail {
 impl Tail {
     /// A reader at the start of a segment, which was fed nothing. This takes no memory.
     pub fn new(alloc: Global) -> Tail
-        ensures { result ≡ record { pieces = []; given = 0; skipped = 0; fault = None } }
+        ensures new { result ≡ record { pieces = []; given = 0; skipped = []; fault = None } }
+        ensures taken { HasTaken result [] }
     {
         Tail {
             reader: Reader::new(alloc),
             pieces: History::new(),
             given: History::new(),
             count: 0,
-            skipped: 0,
+            skipped: Skips::new(),
             told: None,
         }
     }
@@ -85,6 +90,8 @@ impl Tail {
             (Extends (reading page_size self.old.pieces) (reading page_size self.new.pieces)) }
         ensures cut_anywhere { OnOk result
             (CutsDoNotMatter self.old.pieces self.new.pieces piece.now) }
+        ensures taken { OnOk result
+            ((taken : List Entry) → HasTaken self.old taken → HasTaken self.new taken) }
     {
         self.reader.feed(piece)?;
         self.pieces.push(&Told::Bytes(History::of(piece)));
@@ -97,6 +104,7 @@ impl Tail {
             ≡ record self.old { pieces = self.old.pieces ++ next_segment ∷ [] } }
         ensures goes_on { Extends (reading page_size self.old.pieces)
             (reading page_size self.new.pieces) }
+        ensures taken { (taken : List Entry) → HasTaken self.old taken → HasTaken self.new taken }
     {
         self.reader.next_segment();
         self.pieces.push(&Told::NextSegment);
@@ -109,6 +117,8 @@ impl Tail {
         ensures err { OnErr result (self.new ≡ self.old) }
         ensures goes_on { OnOk result
             (Extends (reading page_size self.old.pieces) (reading page_size self.new.pieces)) }
+        ensures taken { OnOk result
+            ((taken : List Entry) → HasTaken self.old taken → HasTaken self.new taken) }
     {
         match piece {
             Piece::Bytes(bytes) => self.feed(bytes),
@@ -127,6 +137,9 @@ impl Tail {
             ⊎ (result ≡ next_of self.old.pieces self.old.given) }
         ensures after { self.new ≡ answered self.old result }
         ensures stays { (f : TailFault) → self.old.fault ≡ Some f → result ≡ Err f }
+        ensures takes { (taken : List Entry) → HasTaken self.old taken
+            → TakesNext taken result self.new }
+        ensures pieces { self.new.pieces ≡ self.old.pieces }
 
         // Memory is refused only if an entry comes next, or if a count has come to its end: neither a
         // fault nor the end of the log waits for memory.
@@ -135,17 +148,17 @@ impl Tail {
             ⊎ (2 ^ 60 ≤ size_of self.old.pieces) }
     {
         if let Some(fault) = self.told {
-            self.skipped = self.reader.passed;
+            self.skipped = self.reader.passed.again();
             return Err(fault);
         }
         match self.reader.run() {
             Err(AllocError) => Err(TailFault::OutOfMemory),
             Ok(Step::Waits) => {
-                self.skipped = self.reader.passed;
+                self.skipped = self.reader.passed.again();
                 Ok(None)
             }
             Ok(Step::Failed(fault)) => {
-                self.skipped = self.reader.passed;
+                self.skipped = self.reader.passed.again();
                 self.told = Some(fault);
                 Err(fault)
             }
@@ -172,9 +185,16 @@ impl Tail {
 
     /// How many records were passed over, since they are empty or of another type, up to where `next_entry` last found no entry.
     pub fn skipped(&self) -> u64
-        ensures { result ≡ self.now.skipped }
+        ensures { result ≡ length self.now.skipped }
     {
-        self.skipped
+        self.skipped.len()
+    }
+
+    /// How many of these records are of a type. The numbers of all types add up to `skipped`.
+    pub fn skipped_of(&self, kind: SkippedType) -> u64
+        ensures { result ≡ count_of kind self.now.skipped }
+    {
+        self.skipped.count_of(kind)
     }
 
     /// Where the fault is that `next_entry` has reported; `None` before it has reported one. This takes no memory.
@@ -198,7 +218,7 @@ impl Tail {
             pieces: self.pieces.again(),
             given: self.given.again(),
             count: self.count,
-            skipped: self.skipped,
+            skipped: self.skipped.again(),
             told: self.told,
         })
     }

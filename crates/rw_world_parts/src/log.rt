@@ -4,7 +4,7 @@ ghost use Rattle.std.specs.Prelude.{◌≡◌, ◌<◌, ◌+◌, ◌^◌, ◌++�
 ghost use Rattle.rw_wal_format.specs.Laws.{Extends};
 ghost use Rattle.rw_wal_format.specs.Pieces.{entries, fault, reading, page_size};
 ghost use Rattle.rw_wal_tail.specs.Fed.{piece_of};
-ghost use Rattle.rw_world_parts.specs.Reading.{Drains, HasRead};
+ghost use Rattle.rw_wal_tail.specs.Taking.{HasTaken, HasTakenAll};
 ghost use Rattle.rw_world_parts.specs.Positions.{ahead_of};
 
 use rw_types::Entry;
@@ -25,13 +25,13 @@ pub struct Log {
 impl Model for Log {
     ghost use Rattle.std.specs.Prelude.{List};
     ghost use Rattle.rw_wal_format.specs.Pieces.{Piece};
-    ghost use Rattle.rw_world_parts.specs.Reading.{HasRead};
+    ghost use Rattle.rw_wal_tail.specs.Taking.{HasTakenAll};
 
     ghost Value = { List Piece };
 
     ghost view = { λ l. l.tail.pieces };
 
-    ghost invariant = { λ l. HasRead l.tail l.entries.items l.fault };
+    ghost invariant = { λ l. HasTakenAll l.tail l.entries.items l.fault };
 }
 
 /// What stands at a position of a log.
@@ -57,8 +57,8 @@ fn ahead_of(entry: &Entry) -> Ahead
 
 /// Takes all entries that there are, behind those that were taken, and answers the fault after them.
 fn drain(tail: &mut Tail, entries: &mut Vec<Entry>) -> Result<Option<TailFault>, AllocError>
-    requires { Drains tail.old entries.old.items }
-    ensures ok { IfOk result (λ f. HasRead tail.new entries.new.items f) }
+    requires { HasTaken tail.old entries.old.items }
+    ensures ok { IfOk result (λ f. HasTakenAll tail.new entries.new.items f) }
     ensures pieces { tail.new.pieces ≡ tail.old.pieces }
     ensures begins { take (length entries.old.items) entries.new.items ≡ entries.old.items }
 {

@@ -5,7 +5,7 @@ use crate::rows::{holds, none_is_wrong};
 use End::{All, Place};
 use Piece::{Bytes, Next, Up};
 use rw_types::{Entry, Room, Word};
-use rw_wal_tail::{FaultPlace, Tail, TailFault};
+use rw_wal_tail::{FaultPlace, SkippedType, Tail, TailFault};
 use rw_wal_write::{SegmentWriter, sample_record};
 use std::alloc::{AllocError, Global};
 
@@ -580,4 +580,69 @@ fn places_of_faults_past_a_page(rt: HostRuntime) {
     holds(&rt, is_place_past_page(rt.alloc(), 1, &damaged, 32_797));
     let end = [4, 0, 1, 0, 0, 0, 0, 2];
     holds(&rt, is_place_past_page(rt.alloc(), 2, &end, 32_768));
+}
+
+/// Puts a record of each type up to 12, an empty one, and two more of histograms.
+fn put_skipped(text: &mut Vec<u8>) -> Result<(), AllocError> {
+    for kind in 0..=12u8 {
+        put_fragment(text, 1, &[kind])?;
+    }
+    put_fragment(text, 1, &[])?;
+    put_fragment(text, 1, &[7, 1, 2])?;
+    put_fragment(text, 1, &[7, 9])
+}
+
+/// How many records a reader has passed over of each type.
+fn counts(tail: &Tail) -> [u64; 9] {
+    [
+        tail.skipped_of(SkippedType::Unknown),
+        tail.skipped_of(SkippedType::Tombstones),
+        tail.skipped_of(SkippedType::Exemplars),
+        tail.skipped_of(SkippedType::MmapMarkers),
+        tail.skipped_of(SkippedType::Metadata),
+        tail.skipped_of(SkippedType::Histograms),
+        tail.skipped_of(SkippedType::FloatHistograms),
+        tail.skipped_of(SkippedType::CustomHistograms),
+        tail.skipped_of(SkippedType::CustomFloatHistograms),
+    ]
+}
+
+/// Whether a reader counts these records by type, once it has read to their end, and so does its copy.
+fn are_counted_by_type(alloc: Global) -> bool {
+    let mut text = Vec::new(alloc);
+    if put_skipped(&mut text).is_err() {
+        return false;
+    }
+    let mut tail = Tail::new(alloc);
+    if !is_fed(&mut tail, &text) || counts(&tail) != [0; 9] {
+        return false;
+    }
+    let mut seen = NOTHING;
+    seen.read(&mut tail);
+    let Ok(copy) = tail.copy() else {
+        return false;
+    };
+    let wanted = [4, 1, 1, 1, 1, 3, 1, 1, 1];
+    seen == NOTHING && tail.skipped() == 14 && counts(&tail) == wanted && counts(&copy) == wanted
+}
+
+#[test]
+fn records_that_are_passed_over_are_counted_by_type(rt: HostRuntime) {
+    holds(&rt, are_counted_by_type(rt.alloc()));
+}
+
+/// The first byte whose type has another number than the byte, or 0 if it is not from 3 to 10.
+fn wrong_number() -> Option<usize> {
+    for byte in 0..=255u8 {
+        let wanted = if byte >= 3 && byte <= 10 { byte } else { 0 };
+        if SkippedType::from_byte(byte).number() != wanted {
+            return Some(byte as usize);
+        }
+    }
+    None
+}
+
+#[test]
+fn types_of_records_have_their_bytes(rt: HostRuntime) {
+    none_is_wrong(&rt, wrong_number());
 }
