@@ -14,7 +14,7 @@ use rw_ledger::{Ledger, Reason};
 use rw_relabel::Choice;
 use rw_series_cache::{Routed, RoutedSample, Router};
 use rw_types::Entry;
-use rw_wal_tail::{Piece, Tail, TailFault, is_out_of_memory};
+use rw_wal_tail::{Piece, SkippedType, Tail, TailFault, is_out_of_memory};
 use std::alloc::{AllocError, Global};
 use std::marker::Model;
 
@@ -158,6 +158,11 @@ impl Feeder {
         ensures { result ≡ length self.now.placed }
     {
         self.count
+    }
+
+    /// Returns how many records of a type the log reader has skipped.
+    pub fn skipped_of(&self, kind: SkippedType) -> u64 {
+        self.tail.skipped_of(kind)
     }
 
     /// Returns the latest timestamp of the samples that `sent` was told of, in milliseconds. It is best

@@ -25,7 +25,7 @@ use rw_ledger::Ledger;
 use rw_relabel::{Choice, Rules};
 use rw_shard_core::{Config, ConfigFields, Outcome};
 use rw_shard_queue::Kind;
-use rw_wal_tail::{Piece, TailFault};
+use rw_wal_tail::{Piece, SkippedType, TailFault};
 use rw_worker::StopFlag;
 use std::alloc::{AllocError, Global};
 use std::error::Error;
@@ -358,6 +358,11 @@ impl<C: Connect + Drop> Shipper<C> {
         ensures { result ≡ length self.now.log.placed }
     {
         self.feeder.count()
+    }
+
+    /// Returns how many records of a type were skipped, up to the end of the last piece.
+    pub fn skipped_of(&self, kind: SkippedType) -> u64 {
+        self.feeder.skipped_of(kind)
     }
 
     /// Returns the latest timestamp of the samples that were put into a queue, in milliseconds. It is
