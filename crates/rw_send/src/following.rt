@@ -9,14 +9,14 @@ ghost use Rattle.rw_send.specs.Following.{IsFollowPrinted, IsFollowPrintedPart, 
 ghost use Rattle.rw_send.specs.declared.follow_fault.FollowFault.TheVariants.{Tool, Missing, Stopped};
 
 use crate::counters::{FeedContext, count_report, update_counters};
-use crate::follow_fault::FollowFault;
 use crate::feed_error::FeedError;
+use crate::follow_fault::FollowFault;
 use crate::live::{FollowError, ship_live};
+use crate::options::SendOptions;
 use crate::printing::print_report;
 use crate::send::{Sent, stopped};
 use crate::sharding::Sharding;
 use crate::shipping::zeros;
-use crate::options::SendOptions;
 use rw_follow::{FollowEnd, SegmentError, Segments, StopRequest, Watch};
 use rw_sender::{Connect, Report, Shipper};
 use rw_settings::Settings;
@@ -43,8 +43,12 @@ fn shipped_by(ended: Result<FollowEnd, FollowError>) -> Result<(), FeedError>
         Ok(FollowEnd::Finished) => Ok(()),
         Ok(FollowEnd::Aborted) => Err(FeedError::Unreadable),
         Err(FollowError::Segment(SegmentError::Missing(_))) => Err(FeedError::Unreadable),
-        Err(FollowError::Segment(SegmentError::Unreadable(ReadFault::OutOfMemory))) => Err(FeedError::Failed),
-        Err(FollowError::Segment(SegmentError::Unreadable(ReadFault::Failed))) => Err(FeedError::Unreadable),
+        Err(FollowError::Segment(SegmentError::Unreadable(ReadFault::OutOfMemory))) => Err(
+            FeedError::Failed,
+        ),
+        Err(FollowError::Segment(SegmentError::Unreadable(ReadFault::Failed))) => Err(
+            FeedError::Unreadable,
+        ),
         Err(FollowError::Feed(error)) => Err(error),
     }
 }
@@ -60,13 +64,18 @@ fn told(answer: Result<(), ToolFault>) -> Result<(), FollowFault>
 }
 
 /// How a following answers that ended so, where its shipper's stop is answered so.
-fn answer_by(ended: Result<FollowEnd, FollowError>, answer: Result<(), ToolFault>) -> Result<(), FollowFault>
+fn answer_by(
+    ended: Result<FollowEnd, FollowError>,
+    answer: Result<(), ToolFault>,
+) -> Result<(), FollowFault>
     ensures { result ≡ answer_by ended answer }
 {
     match ended {
         Ok(FollowEnd::Finished) => told(answer),
         Ok(FollowEnd::Aborted) => Err(FollowFault::Stopped),
-        Err(FollowError::Segment(SegmentError::Missing(number))) => Err(FollowFault::Missing(number)),
+        Err(FollowError::Segment(SegmentError::Missing(number))) => Err(FollowFault::Missing(
+            number,
+        )),
         Err(FollowError::Segment(SegmentError::Unreadable(_))) => told(answer),
         Err(FollowError::Feed(_)) => told(answer),
     }
@@ -119,7 +128,15 @@ fn ship_on<
     } = options;
     let mut shipper = Shipper::start_within(rt, alloc, config, connect, max_batch_bytes, stop)?;
     let context = FeedContext { alloc, counters };
-    let ended = ship_live(rt, context, &mut shipper, sharding, segments, watch, &mut buf);
+    let ended = ship_live(
+        rt,
+        context,
+        &mut shipper,
+        sharding,
+        segments,
+        watch,
+        &mut buf,
+    );
     update_counters(counters, &shipper);
     let Sent { report, answer } = stopped(rt, shipper, shipped_by(ended));
     count_report(counters, &report);

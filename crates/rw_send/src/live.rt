@@ -229,7 +229,12 @@ fn step<R: Threads + Wait + Clock + Copy + Send + 'static, C: Connect + Drop>(
 }
 
 /// Tells of a turn that was done.
-fn count_turn<C: Connect + Drop>(context: FeedContext<'_>, shipper: &Shipper<C>, shards: u32, turn: Turn) {
+fn count_turn<C: Connect + Drop>(
+    context: FeedContext<'_>,
+    shipper: &Shipper<C>,
+    shards: u32,
+    turn: Turn,
+) {
     if let Turn::Piece(count) = turn {
         context.counters.read_bytes(count);
     }

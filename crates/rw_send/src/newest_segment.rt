@@ -31,10 +31,7 @@ fn watch<R: Files + AllocGlobal + Clock + Copy>(rt: &R, dir: &str, counters: &Se
 
 /// Keeps the counters informed of the newest segment in a folder, also while the reading waits for
 /// room in a queue, in a thread that nobody joins: it ends with the process.
-pub fn watch_newest_segment<
-    T: Threads,
-    R: Files + AllocGlobal + Clock + Copy + Send + 'static,
->(
+pub fn watch_newest_segment<T: Threads, R: Files + AllocGlobal + Clock + Copy + Send + 'static>(
     threads: &T,
     rt: R,
     dir: String,

@@ -12,10 +12,10 @@ ghost use Rattle.rw_send.specs.Sending.{answer_to, hard_fault, Answers, IsPrinte
 
 use crate::counters::{FeedContext, count_report, update_counters};
 use crate::feed_error::FeedError;
+use crate::options::SendOptions;
 use crate::printing::print_report;
 use crate::sharding::Sharding;
 use crate::shipping::{ship_all, zeros};
-use crate::options::SendOptions;
 use rw_sender::{Connect, Outcome, Report, Shipper};
 use rw_settings::Settings;
 use rw_shard_core::Config;

@@ -32,7 +32,11 @@ pub fn zeros(alloc: Global) -> Result<Vec<u8>, AllocError>
 
 /// Reads some bytes of a segment, through `buf`; none at its end. So memory is taken only for bytes
 /// that are there.
-fn read_piece<S: Source>(alloc: Global, segment: &mut S, buf: &mut [u8]) -> Result<Vec<u8>, FeedError>
+fn read_piece<S: Source>(
+    alloc: Global,
+    segment: &mut S,
+    buf: &mut [u8],
+) -> Result<Vec<u8>, FeedError>
     requires buffer { 0 < length buf.old }
     requires small { length buf.old ≤ PIECE_BYTES }
     ensures room { length buf.new ≡ length buf.old }

@@ -141,7 +141,8 @@ const EARLY_SAMPLE: &[u8] = b"POST / HTTP/1.1\r\n\r\n\x0a\x16\
     \x12\x14\x09\0\0\0\0\0\0\0\0\x10\xff\xff\xff\xff\xff\xff\xff\xff\xff\x01";
 
 /// The progress of the sender, in one line.
-const LINE: &str = "entries 1234 read 1233 acknowledged 3 dropped 5 filtered 30 in_flight 1195 lag 58 \
+const LINE: &str =
+    "entries 1234 read 1233 acknowledged 3 dropped 5 filtered 30 in_flight 1195 lag 58 \
     shards 4 attempts 9 failed 8 last status_503 segment 7 bytes 456 newest 9 percent 55";
 
 /// What it has skipped, in one line.
@@ -231,9 +232,11 @@ fn has_lines(alloc: Global) -> Result<bool, AllocError> {
     let numbers = counted(alloc)?;
     let line = send_line(alloc, &numbers)?;
     let skipped = skipped_line(alloc, &numbers.skipped)?;
-    Ok(adds_up(&numbers)
-        && line.as_slice() == LINE.as_bytes()
-        && skipped.as_slice() == SKIPPED_LINE.as_bytes())
+    Ok(
+        adds_up(&numbers)
+            && line.as_slice() == LINE.as_bytes()
+            && skipped.as_slice() == SKIPPED_LINE.as_bytes(),
+    )
 }
 
 #[test]
@@ -282,12 +285,14 @@ fn adds_up_at_the_end(alloc: Global) -> Result<bool, AllocError> {
     counters.drop_sample(Reason::Status(400));
     counters.set_resolved(4);
     let after = counters.numbers(alloc)?;
-    Ok(adds_up(&before)
-        && (before.read, before.in_flight) == (4, 0)
-        && adds_up(&after)
-        && (after.read, after.in_flight) == (5, 1)
-        && (after.acknowledged, after.drops.all) == (2, 2)
-        && counters.dropped() == 2)
+    Ok(
+        adds_up(&before)
+            && (before.read, before.in_flight) == (4, 0)
+            && adds_up(&after)
+            && (after.read, after.in_flight) == (5, 1)
+            && (after.acknowledged, after.drops.all) == (2, 2)
+            && counters.dropped() == 2,
+    )
 }
 
 #[test]
