@@ -28,7 +28,7 @@ EndsFor cause s r =
     EndBy Orderly s.fleet r.workers.items
     ⊎ (EndBy Hard s.fleet r.workers.items × IsAbandoned r.outcome × (IsSome s.fault ⊎ cause))
 
--- work is abandoned only where a worker was follow, the shipper failed, or for this cause
+-- work is abandoned only if a worker was cut, the shipper failed, or for this cause
 abbrev pub IsCutFor : {T : Type 0} → (cause : Type 0) → Shipping T → Report T → Type 0
 IsCutFor cause s r =
     IsAbandoned r.outcome → ListsCut r.workers.items ⊎ (IsSome s.fault ⊎ cause)

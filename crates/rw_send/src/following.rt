@@ -81,7 +81,8 @@ fn answer_by(
     }
 }
 
-/// The answer of a following that has ended. Where its work was follow short it may be a sign to end at once that has follow it: the sign is looked at once more.
+/// Returns the answer of a following that has ended. If its work was cut short, a request to end at
+/// once may have cut it: the stop signal is looked at once more.
 fn answer_signed<W: Watch>(
     watch: &mut W,
     answer: Result<(), FollowFault>,

@@ -61,9 +61,9 @@ pub(crate) fn follow_into<R: Wait, S: Segments, W: Watch>(
     let mut follower = Follower::new();
     for _ in rt.forever() {
         match follower.turn(segments, watch, buf) {
-            Ok(Turn::Stopped(stop)) => return Ok(Ok(stop)),
+            Ok(Turn::Stopped(end)) => return Ok(Ok(end)),
             Ok(turn) => kept.take(turn, buf)?,
-            Err(broken) => return Ok(Err(broken)),
+            Err(error) => return Ok(Err(error)),
         }
     }
     unreachable!()
