@@ -346,7 +346,11 @@ pub fn find_entries<S: Source + Drop>(
     ensures sure { AllSure (map (source_of S.is_sure) segments.items) → result ≡ Err Failed → ⊥ }
 {
     let mut finder = Finder::new(alloc, positions);
-    let LogRead { segments, damage } = read_into(alloc, segments, &mut finder)?;
+    let LogRead {
+        segments,
+        damage,
+        skipped: _,
+    } = read_into(alloc, segments, &mut finder)?;
     let (text, missing) = finder.lines(&segments)?;
     Ok(Found {
         text,

@@ -62,6 +62,7 @@ fn plan_of_all<S: Source + Drop>(
     let LogRead {
         segments: _,
         damage,
+        skipped: _,
     } = read_into(alloc, segments, &mut planning)?;
     let Planning { planner, here: _ } = planning;
     Ok((planner.into_text()?, damage))

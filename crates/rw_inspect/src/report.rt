@@ -1,6 +1,7 @@
 //! What was found in a log.
 
 use crate::counts::Counts;
+use crate::skipped::SkippedRecords;
 use crate::sums::Sums;
 use rw_wal_tail::{FaultPlace, TailFault};
 
@@ -30,4 +31,6 @@ pub struct Report {
     /// The positions of the first ten samples that are not later than the last one of their series.
     pub first_not_rising: Vec<u64>,
     pub damage: Option<Damage>,
+    /// The records that were passed over, by type. No clause says what these are.
+    pub skipped: Vec<SkippedRecords>,
 }

@@ -9,6 +9,7 @@ ghost use Rattle.rw_wal_tail.specs.Taking.{HasTaken, HasTakenAll};
 use crate::counter::Counter;
 use crate::reading::read_text;
 use crate::report::{Damage, Report, Segment};
+use crate::skipped::{SkippedRecords, skipped_records};
 use crate::taker::Taker;
 use rw_types::{ReadFault, Source};
 use rw_wal_tail::{Tail, TailFault};
@@ -24,11 +25,13 @@ pub struct Named<S> {
     pub source: S,
 }
 
-/// How far a log was read: a row for each segment, and its damage, if it has one.
+/// How far a log was read: a row for each segment, its damage, if it has one, and the records that
+/// were passed over, by type.
 #[derive(Debug, Drop)]
 pub struct LogRead {
     pub segments: Vec<Segment>,
     pub damage: Option<Damage>,
+    pub skipped: Vec<SkippedRecords>,
 }
 
 fn zeros(alloc: Global, len: usize) -> Result<Vec<u8>, AllocError>
@@ -146,9 +149,11 @@ pub fn read_into<S: Source + Drop, T: Taker>(
     let mut tail = Tail::new(alloc);
     let mut rows = Vec::new(alloc);
     let fault = read_all(alloc, segments, &mut tail, taker, &mut rows)?;
+    let skipped = skipped_records(alloc, &tail)?;
     Ok(LogRead {
         segments: rows,
         damage: damage_of(&tail, fault),
+        skipped,
     })
 }
 
@@ -156,7 +161,11 @@ pub fn read_into<S: Source + Drop, T: Taker>(
 fn report_of(alloc: Global, counts: &Counter, read: LogRead) -> Result<Report, AllocError>
     ensures { IfOk result (Reports counts.now.entries read.segments.items read.damage) }
 {
-    let LogRead { segments, damage } = read;
+    let LogRead {
+        segments,
+        damage,
+        skipped,
+    } = read;
     let mut first_not_rising = Vec::new(alloc);
     first_not_rising.extend_from_slice(counts.first_not_rising())?;
     Ok(Report {
@@ -164,6 +173,7 @@ fn report_of(alloc: Global, counts: &Counter, read: LogRead) -> Result<Report, A
         counts: counts.counts(),
         first_not_rising,
         damage,
+        skipped,
     })
 }
 

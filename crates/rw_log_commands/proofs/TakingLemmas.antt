@@ -15,7 +15,7 @@ use Rattle.rw_wal_tail.specs.Fed.{Fed}
 use Rattle.rw_wal_tail.specs.Taking.{HasTaken, HasTakenAll, TakesNext}
 use Rattle.rw_text.specs.declared.tool_fault.ToolFault.{ToolFault}
 use Rattle.rw_text.specs.declared.tool_fault.ToolFault.TheVariants.{OutOfMemory, Log, Line, SegmentFull, Device}
-use Rattle.rw_text.specs.Faults.{fault_of_log}
+use Rattle.rw_text.specs.ToolFaults.{fault_of_log}
 use Rattle.rw_log_commands.specs.Taking.{IsFaultOf, FeedsMore, ReadsSegment, StopsReading}
 
 -- the pieces, whatever comes after them, are read as this text is

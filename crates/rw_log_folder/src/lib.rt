@@ -9,6 +9,7 @@ mod checkpoint;
 mod files;
 mod folder;
 mod listing;
+mod newest_segment;
 mod opened;
 mod order;
 
@@ -16,5 +17,6 @@ pub use checkpoint::{LogFiles, has_checkpoint, log_files};
 pub use files::{SegmentFile, segment_files};
 pub use folder::Folder;
 pub use listing::{Checkpoint, Listing, Name, Place};
+pub use newest_segment::watch_newest_segment;
 pub use opened::{Open, Opened};
 pub use order::{OrderFault, log_order};

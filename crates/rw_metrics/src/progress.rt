@@ -97,14 +97,18 @@ fn write_last<W: Write>(
 ) -> Result<(), AllocError> {
     let ending = line_end(screen, true);
     write_line(writer, counters.line(alloc)?, ending)?;
-    match counters.drops(alloc)? {
-        Some(line) => write_line(writer, line, ending),
-        None => Ok(()),
+    if let Some(line) = counters.drops(alloc)? {
+        write_line(writer, line, ending)?;
     }
+    if let Some(line) = counters.skips(alloc)? {
+        write_line(writer, line, ending)?;
+    }
+    Ok(())
 }
 
-/// Writes the final values of the counters, and for a sender how many samples were dropped, by
-/// reason: each in its own line. If memory runs out, the rest is not written.
+/// Writes what was counted in the end, and of a sender how many samples were dropped, by reason, and
+/// which records of the log were skipped, if any: each in a line of its own. If out of memory, what
+/// follows is not written.
 pub fn write_end<W: Write>(writer: &mut W, screen: Screen, alloc: Global, counters: &Counters) {
     let _ = write_last(writer, screen, alloc, counters);
 }

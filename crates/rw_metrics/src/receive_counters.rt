@@ -15,6 +15,8 @@ pub struct ReceiveCounters {
     statuses: Codes,
     samples: AtomicU64,
     label_sets: AtomicU64,
+    max_samples: AtomicU64,
+    max_label_sets: AtomicU64,
 }
 
 fn read(counter: &AtomicU64) -> u64 {
@@ -36,6 +38,8 @@ impl ReceiveCounters {
             statuses,
             samples: AtomicU64::new(0),
             label_sets: AtomicU64::new(0),
+            max_samples: AtomicU64::new(0),
+            max_label_sets: AtomicU64::new(0),
         })
     }
 
@@ -65,7 +69,13 @@ impl ReceiveCounters {
         self.label_sets.fetch_max(count as u64, Ordering::Relaxed);
     }
 
-    /// Returns the values of the counters.
+    /// Takes how many samples may be held, and of how many label sets; 0 if there is no limit.
+    pub fn set_limits(&self, max_samples: u64, max_label_sets: u64) {
+        self.max_samples.store(max_samples, Ordering::Relaxed);
+        self.max_label_sets.store(max_label_sets, Ordering::Relaxed);
+    }
+
+    /// What was counted.
     pub fn numbers(&self, alloc: Global) -> Result<ReceiveNumbers, AllocError> {
         let statuses = self.statuses.read(alloc)?;
         let ended = read(&self.ended);
@@ -77,6 +87,8 @@ impl ReceiveCounters {
             statuses,
             samples: read(&self.samples),
             label_sets: read(&self.label_sets),
+            max_samples: read(&self.max_samples),
+            max_label_sets: read(&self.max_label_sets),
         })
     }
 }

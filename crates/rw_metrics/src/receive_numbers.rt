@@ -15,4 +15,8 @@ pub struct ReceiveNumbers {
     pub samples: u64,
     /// Label sets of which samples are held.
     pub label_sets: u64,
+    /// How many samples may be held; 0 if there is no limit.
+    pub max_samples: u64,
+    /// How many label sets they may be of; 0 if there is no limit.
+    pub max_label_sets: u64,
 }

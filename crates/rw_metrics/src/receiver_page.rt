@@ -63,6 +63,18 @@ fn push_held(out: &mut Vec<u8>, n: &ReceiveNumbers) -> Result<(), AllocError>
         "Label sets of which samples are held.",
         n.label_sets,
     )?;
+    push_gauge(
+        out,
+        "rwship_receive_max_samples",
+        "How many samples may be held; 0 if there is no limit.",
+        n.max_samples,
+    )?;
+    push_gauge(
+        out,
+        "rwship_receive_max_label_sets",
+        "Of how many label sets samples may be held; 0 if there is no limit.",
+        n.max_label_sets,
+    )?;
     Ok(())
 }
 

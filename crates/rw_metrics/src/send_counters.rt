@@ -1,30 +1,39 @@
 //! Counters of a sender.
 
+use crate::body::cargo_of;
 use crate::cause::{Cause, cause_of, number_of};
 use crate::codes::Codes;
-use crate::send_numbers::{Drops, Failures, SendNumbers};
+use crate::send_numbers::{Drops, Failures, SendNumbers, Skipped};
+use crate::skipped_counters::SkippedCounters;
 use rw_ledger::Reason;
 use std::alloc::{AllocError, Global};
 use std::sync::atomic::{AtomicU64, Ordering};
 
-/// How many samples were dropped, by reason.
+/// How many samples were dropped, by reason. Those of refused batches are counted twice, by whoever
+/// hears the receiver and by the report at the end; the larger count is shown.
 #[derive(Drop)]
 struct DropCounters {
-    all: AtomicU64,
     no_series: AtomicU64,
     bad_labels: AtomicU64,
     not_rising: AtomicU64,
-    refused: Codes,
+    heard: Codes,
+    heard_in_all: AtomicU64,
+    listed: Codes,
+    listed_in_all: AtomicU64,
 }
 
 impl DropCounters {
     fn new(alloc: Global) -> Result<DropCounters, AllocError> {
+        let heard = Codes::new(alloc)?;
+        let listed = Codes::new(alloc)?;
         Ok(DropCounters {
-            all: AtomicU64::new(0),
             no_series: AtomicU64::new(0),
             bad_labels: AtomicU64::new(0),
             not_rising: AtomicU64::new(0),
-            refused: Codes::new(alloc)?,
+            heard,
+            heard_in_all: AtomicU64::new(0),
+            listed,
+            listed_in_all: AtomicU64::new(0),
         })
     }
 
@@ -35,13 +44,18 @@ impl DropCounters {
             .saturating_add(read(&self.not_rising))
     }
 
+    /// Returns how many of them were in refused batches.
+    fn refused(&self) -> u64 {
+        read(&self.heard_in_all).max(read(&self.listed_in_all))
+    }
+
     fn numbers(&self, alloc: Global) -> Result<Drops, AllocError> {
         Ok(Drops {
-            all: read(&self.all),
+            all: self.unsent().saturating_add(self.refused()),
             no_series: read(&self.no_series),
             bad_labels: read(&self.bad_labels),
             not_rising: read(&self.not_rising),
-            refused: self.refused.read(alloc)?,
+            refused: self.heard.read_with(&self.listed, alloc)?,
         })
     }
 }
@@ -93,20 +107,24 @@ impl FailureCounters {
     }
 }
 
-/// What a sender does, counted by its threads and read by others. The counters are best effort: no
-/// clause says anything about them, and no promise depends on them.
+/// What a sender does, counted by its threads and read by others. It is best effort: no contract
+/// says what the counters hold, and no promise depends on them.
 #[derive(Drop)]
 pub struct SendCounters {
     entries: AtomicU64,
     bytes: AtomicU64,
     folder_bytes: AtomicU64,
     segment: AtomicU64,
+    newest_segment: AtomicU64,
     segment_bytes: AtomicU64,
     placed: AtomicU64,
-    resolved: AtomicU64,
+    acknowledged: AtomicU64,
     waiting: AtomicU64,
     filtered: AtomicU64,
+    newest_read_ms: AtomicU64,
+    newest_acknowledged_ms: AtomicU64,
     drops: DropCounters,
+    skipped: SkippedCounters,
     shards: AtomicU64,
     attempts: AtomicU64,
     failures: FailureCounters,
@@ -134,12 +152,16 @@ impl SendCounters {
             bytes: AtomicU64::new(0),
             folder_bytes: AtomicU64::new(0),
             segment: AtomicU64::new(0),
+            newest_segment: AtomicU64::new(0),
             segment_bytes: AtomicU64::new(0),
             placed: AtomicU64::new(0),
-            resolved: AtomicU64::new(0),
+            acknowledged: AtomicU64::new(0),
             waiting: AtomicU64::new(0),
             filtered: AtomicU64::new(0),
+            newest_read_ms: AtomicU64::new(0),
+            newest_acknowledged_ms: AtomicU64::new(0),
             drops,
+            skipped: SkippedCounters::new(),
             shards: AtomicU64::new(0),
             attempts: AtomicU64::new(0),
             failures,
@@ -173,18 +195,33 @@ impl SendCounters {
         set(&self.shards, shards as u64);
     }
 
-    /// Sets how many samples were placed, how many of them are resolved, and how many wait. The
-    /// number of resolved ones never becomes smaller.
-    pub fn set_load(&self, placed: u64, resolved: u64, waiting: u64) {
+    /// Sets how many samples were put into queues, and how many of them have no answer and do not only
+    /// wait for a batch to be full.
+    pub fn set_load(&self, placed: u64, waiting: u64) {
         set(&self.placed, placed);
-        self.resolved.fetch_max(resolved, Ordering::Relaxed);
         set(&self.waiting, waiting);
     }
 
-    /// Sets how many of the placed samples are resolved at the end of the work; the others count as
-    /// waiting.
+    /// Takes the latest timestamp of the samples that were put into a queue, in milliseconds.
+    pub fn set_newest(&self, newest_ms: i64) {
+        set(&self.newest_read_ms, newest_ms.max(0) as u64);
+    }
+
+    /// Takes the number of the newest segment in the folder.
+    pub fn set_newest_segment(&self, number: u64) {
+        set(&self.newest_segment, number);
+    }
+
+    /// Takes how many records were skipped so far, by what they hold.
+    pub fn set_skipped(&self, skipped: &Skipped) {
+        self.skipped.set(skipped);
+    }
+
+    /// Takes how many samples are resolved once the work has ended, and those of refused batches were
+    /// counted.
     pub fn set_resolved(&self, resolved: u64) {
-        set(&self.resolved, resolved);
+        let refused = read(&self.drops.listed_in_all);
+        set(&self.acknowledged, resolved.saturating_sub(refused));
         set(&self.waiting, read(&self.placed).saturating_sub(resolved));
     }
 
@@ -193,14 +230,16 @@ impl SendCounters {
         set(&self.filtered, filtered);
     }
 
-    /// Counts one dropped sample.
+    /// Counts a dropped sample, as the report lists it.
     pub fn drop_sample(&self, reason: Reason) {
-        add(&self.drops.all, 1);
         match reason {
             Reason::NoSeries => add(&self.drops.no_series, 1),
             Reason::BadLabels(_) => add(&self.drops.bad_labels, 1),
             Reason::NotRising => add(&self.drops.not_rising, 1),
-            Reason::Status(status) => self.drops.refused.count(status),
+            Reason::Status(status) => {
+                add(&self.drops.listed_in_all, 1);
+                self.drops.listed.count(status);
+            }
         }
     }
 
@@ -217,7 +256,12 @@ impl SendCounters {
 
     /// Returns how many samples were dropped.
     pub fn dropped(&self) -> u64 {
-        read(&self.drops.all)
+        self.drops.unsent().saturating_add(self.drops.refused())
+    }
+
+    /// Returns how many records were skipped, by what they hold.
+    pub fn skipped(&self) -> Skipped {
+        self.skipped.read()
     }
 
     /// Counts an attempt that begins.
@@ -230,7 +274,25 @@ impl SendCounters {
         set(&self.failures.in_a_row, 0);
     }
 
-    /// Counts an attempt that has failed.
+    /// Counts an attempt that succeeded, and the samples of its request, which are acknowledged.
+    pub fn acknowledge(&self, request: &[u8]) {
+        let cargo = cargo_of(request);
+        add(&self.acknowledged, cargo.samples);
+        self.newest_acknowledged_ms
+            .fetch_max(cargo.newest_ms, Ordering::Relaxed);
+        self.succeed();
+    }
+
+    /// Counts an attempt that was refused permanently with this status, and the samples of its
+    /// request, which are dropped.
+    pub fn refuse(&self, status: u16, request: &[u8]) {
+        let cargo = cargo_of(request);
+        self.drops.heard.add(status, cargo.samples);
+        add(&self.drops.heard_in_all, cargo.samples);
+        self.fail(Cause::Status(status));
+    }
+
+    /// An attempt has failed.
     pub fn fail(&self, cause: Cause) {
         let failures = &self.failures;
         add(&failures.all, 1);
@@ -247,21 +309,36 @@ impl SendCounters {
         }
     }
 
-    /// Returns the values of the counters.
+    /// Returns what was counted. Samples are read, acknowledged, dropped, filtered and in flight so that
+    /// the first number is the sum of the others, though they are not read at one moment.
     pub fn numbers(&self, alloc: Global) -> Result<SendNumbers, AllocError> {
         let drops = self.drops.numbers(alloc)?;
         let failures = self.failures.numbers(alloc)?;
+        let acknowledged = read(&self.acknowledged);
+        let resolved = acknowledged.saturating_add(drops.refused_in_all());
+        let placed = read(&self.placed).max(resolved);
+        let in_flight = placed.saturating_sub(resolved);
+        let filtered = read(&self.filtered);
+        let sent = acknowledged.saturating_add(in_flight);
+        let unsent = drops.all.saturating_add(filtered);
         Ok(SendNumbers {
             entries: read(&self.entries),
             bytes: read(&self.bytes),
             folder_bytes: read(&self.folder_bytes),
             segment: read(&self.segment),
+            newest_segment: read(&self.newest_segment),
             segment_bytes: read(&self.segment_bytes),
-            placed: read(&self.placed),
-            resolved: read(&self.resolved),
+            read: sent.saturating_add(unsent),
+            placed,
+            acknowledged,
+            in_flight,
+            resolved,
             waiting: read(&self.waiting),
-            filtered: read(&self.filtered),
+            filtered,
+            newest_read: read(&self.newest_read_ms) / 1_000,
+            newest_acknowledged: read(&self.newest_acknowledged_ms) / 1_000,
             drops,
+            skipped: self.skipped.read(),
             shards: read(&self.shards),
             attempts: read(&self.attempts),
             failures,

@@ -17,6 +17,16 @@ pub struct Drops {
     pub refused: Vec<(u16, u64)>,
 }
 
+impl Drops {
+    /// Returns how many of them were in refused batches.
+    pub(crate) fn refused_in_all(&self) -> u64 {
+        self.all
+            .saturating_sub(self.no_series)
+            .saturating_sub(self.bad_labels)
+            .saturating_sub(self.not_rising)
+    }
+}
+
 /// How many attempts failed, by cause.
 #[derive(Drop)]
 pub struct Failures {
@@ -35,7 +45,51 @@ pub struct Failures {
     pub last: Option<Cause>,
 }
 
-/// The values of a sender's counters when they were read, one after the other.
+/// How many records of the log were skipped, since they hold neither series nor samples that are
+/// read, by what they hold.
+#[derive(Clone, Copy, Debug, PartialEq, Eq)]
+pub struct Skipped {
+    /// Ranges of time that were deleted from series.
+    pub tombstones: u64,
+    pub exemplars: u64,
+    /// Markers of chunks that were mapped to memory.
+    pub mmap_markers: u64,
+    /// The type, unit and help of metrics.
+    pub metadata: u64,
+    /// Samples of native histograms with integer counts.
+    pub histograms: u64,
+    /// Samples of native histograms with float counts.
+    pub float_histograms: u64,
+    /// Samples of native histograms with integer counts and custom buckets.
+    pub custom_histograms: u64,
+    /// Samples of native histograms with float counts and custom buckets.
+    pub custom_float_histograms: u64,
+    /// Nothing, or what has no name here.
+    pub unknown: u64,
+}
+
+impl Skipped {
+    /// Returns how many records may hold samples, which are lost: those of histograms, and those of
+    /// which it is not known what they hold.
+    pub fn lost(&self) -> u64 {
+        self.histograms
+            .saturating_add(self.float_histograms)
+            .saturating_add(self.custom_histograms)
+            .saturating_add(self.custom_float_histograms)
+            .saturating_add(self.unknown)
+    }
+
+    /// Returns how many records were skipped.
+    pub fn all(&self) -> u64 {
+        self.lost()
+            .saturating_add(self.tombstones)
+            .saturating_add(self.exemplars)
+            .saturating_add(self.mmap_markers)
+            .saturating_add(self.metadata)
+    }
+}
+
+/// What the counters of a sender were when they were read, one after the other.
 #[derive(Drop)]
 pub struct SendNumbers {
     /// Entries of the log that were read.
@@ -46,17 +100,31 @@ pub struct SendNumbers {
     pub folder_bytes: u64,
     /// The number of the segment that is read.
     pub segment: u64,
-    /// Bytes of it that were read.
+    /// The number of the newest segment in the folder, as it was last looked at; 0 if it was not.
+    pub newest_segment: u64,
+    /// Bytes of the segment that is read that were read.
     pub segment_bytes: u64,
+    /// Samples that were read: those that are acknowledged, dropped, filtered and in flight.
+    pub read: u64,
     /// Samples that were put into a queue.
     pub placed: u64,
-    /// Of them, those that were acknowledged, or only wait for a batch to be full.
+    /// Samples that the receiver has acknowledged.
+    pub acknowledged: u64,
+    /// Samples that were put into a queue and have no answer yet.
+    pub in_flight: u64,
+    /// Those that the receiver has acknowledged or refused permanently.
     pub resolved: u64,
-    /// Of them, those that wait to be acknowledged.
+    /// Samples in flight that do not only wait for a batch to be full.
     pub waiting: u64,
     /// Samples that the rules have filtered.
     pub filtered: u64,
+    /// The latest timestamp of the samples that were put into a queue, in seconds since 1970; 0 if
+    /// there is none after that.
+    pub newest_read: u64,
+    /// The latest timestamp of the acknowledged samples, likewise.
+    pub newest_acknowledged: u64,
     pub drops: Drops,
+    pub skipped: Skipped,
     /// Shards at work.
     pub shards: u64,
     /// Attempts to send a batch.

@@ -5,8 +5,9 @@ ghost use Rattle.rw_wal_format.specs.Pieces.{entries};
 ghost use Rattle.rw_sender.specs.Shipping.{PlacesAll};
 
 use rw_ledger::{Ledger, Reason};
-use rw_metrics::SendCounters;
+use rw_metrics::{SendCounters, Skipped};
 use rw_sender::{Connect, Report, Shipper};
+use rw_wal_tail::SkippedType;
 use std::alloc::Global;
 
 /// What a log is fed with, besides its shipper.
@@ -16,8 +17,23 @@ pub struct FeedContext<'a> {
     pub counters: &'a SendCounters,
 }
 
-/// Counts how far a shipper has come, and what it has dropped and filtered of the log so far. By
-/// its contract the shards have what was placed.
+/// Returns how many records of the log a shipper has skipped, by type.
+fn skipped_by<C: Connect + Drop>(shipper: &Shipper<C>) -> Skipped {
+    Skipped {
+        tombstones: shipper.skipped_of(SkippedType::Tombstones),
+        exemplars: shipper.skipped_of(SkippedType::Exemplars),
+        mmap_markers: shipper.skipped_of(SkippedType::MmapMarkers),
+        metadata: shipper.skipped_of(SkippedType::Metadata),
+        histograms: shipper.skipped_of(SkippedType::Histograms),
+        float_histograms: shipper.skipped_of(SkippedType::FloatHistograms),
+        custom_histograms: shipper.skipped_of(SkippedType::CustomHistograms),
+        custom_float_histograms: shipper.skipped_of(SkippedType::CustomFloatHistograms),
+        unknown: shipper.skipped_of(SkippedType::Unknown),
+    }
+}
+
+/// Counts how far a shipper has come, and what it has dropped and filtered of the log so far. By its
+/// contract the shards have what was placed.
 pub fn update_counters<C: Connect + Drop>(counters: &SendCounters, shipper: &Shipper<C>)
     ensures placed { PlacesAll shipper.now.log shipper.now.fleet }
     ensures read { shipper.now.fault ≡ None
@@ -25,7 +41,9 @@ pub fn update_counters<C: Connect + Drop>(counters: &SendCounters, shipper: &Shi
 {
     let load = shipper.load();
     counters.set_entries(shipper.entries_read());
-    counters.set_load(load.placed, load.resolved, load.backlog);
+    counters.set_load(load.placed, load.backlog);
+    counters.set_newest(shipper.newest());
+    counters.set_skipped(&skipped_by(shipper));
     counters.set_filtered(shipper.filtered());
     counters.drop_unsent(shipper.dropped().iter().as_slice());
 }

@@ -14,7 +14,7 @@ use rw_ledger::{Ledger, Reason};
 use rw_relabel::Choice;
 use rw_series_cache::{Routed, RoutedSample, Router};
 use rw_types::Entry;
-use rw_wal_tail::{Piece, Tail, TailFault, is_out_of_memory};
+use rw_wal_tail::{Piece, SkippedType, Tail, TailFault, is_out_of_memory};
 use std::alloc::{AllocError, Global};
 use std::marker::Model;
 
@@ -41,6 +41,8 @@ pub struct Feeder {
     part: Ledger,
     /// How many entries were placed.
     count: u64,
+    /// The latest timestamp of the samples that were put, or the earliest that there can be.
+    newest: i64,
     read: History<Entry>,
 }
 
@@ -71,6 +73,7 @@ impl Feeder {
             router: Router::new(alloc, choice),
             part: Ledger::new(alloc),
             count: 0,
+            newest: i64::MIN,
             read: History::new(),
         }
     }
@@ -126,6 +129,7 @@ impl Feeder {
         ensures { HasPlaced self.old self.new }
     {
         self.router.sent(series, t);
+        self.newest = self.newest.max(t);
         self.count = self.tail.entries_read();
     }
 
@@ -158,7 +162,18 @@ impl Feeder {
         self.count
     }
 
-    /// Returns the samples that were dropped so far. This takes no memory, and constant time.
+    /// Returns how many records of a type the log reader has skipped.
+    pub fn skipped_of(&self, kind: SkippedType) -> u64 {
+        self.tail.skipped_of(kind)
+    }
+
+    /// Returns the latest timestamp of the samples that `sent` was told of, in milliseconds. It is best
+    /// effort: no clause says what it is.
+    pub fn newest(&self) -> i64 {
+        self.newest
+    }
+
+    /// The samples that were dropped so far. This takes no memory, and its time does not grow.
     pub fn dropped(&self) -> &Ledger
         ensures { result.now.names ≡ named (dropped self.now.choice self.now.placed) }
     {

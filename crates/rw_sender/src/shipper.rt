@@ -25,7 +25,7 @@ use rw_ledger::Ledger;
 use rw_relabel::{Choice, Rules};
 use rw_shard_core::{Config, ConfigFields, Outcome};
 use rw_shard_queue::Kind;
-use rw_wal_tail::{Piece, TailFault};
+use rw_wal_tail::{Piece, SkippedType, TailFault};
 use rw_worker::StopFlag;
 use std::alloc::{AllocError, Global};
 use std::error::Error;
@@ -367,9 +367,19 @@ impl<C: Connect + Drop> Shipper<C> {
         self.feeder.count()
     }
 
-    /// Returns the samples that were dropped so far without being put into a queue, as the report
-    /// will list them. Those of a batch that the receiver has refused are not among them: their
-    /// workers name them, and the report has them.
+    /// Returns how many records of a type were skipped, up to the end of the last piece.
+    pub fn skipped_of(&self, kind: SkippedType) -> u64 {
+        self.feeder.skipped_of(kind)
+    }
+
+    /// Returns the latest timestamp of the samples that were put into a queue, in milliseconds. It is
+    /// best effort: no clause says what it is.
+    pub fn newest(&self) -> i64 {
+        self.feeder.newest()
+    }
+
+    /// The samples that were dropped so far without being put into a queue, as the report will name them. Those of a batch that the receiver has
+    /// refused are not among them: their workers name them, and the report has them.
     pub fn dropped(&self) -> &Ledger
         ensures { result.now.names ≡ named (dropped self.now.log.choice self.now.log.placed) }
     {

@@ -8,6 +8,7 @@ ghost use Rattle.rw_retry.specs.declared.judgement.Judgement.TheVariants as judg
 ghost use Rattle.rw_tcp.specs.Hearing.{Hears};
 
 use crate::reply::{Heard, NoReply, hear_answer};
+use http::StatusCode;
 use rw_history::History;
 use rw_metrics::{Cause, SendCounters};
 use rw_retry::{Judgement, judge};
@@ -112,7 +113,7 @@ impl<N: Net<Stream = TcpStream> + Clock + Copy> TcpTransport<N> {
         let deadline = Deadline::new(self.net, self.timeout);
         let stream = self.connect(&deadline);
         let answer = exchange_through(self.alloc, stream, deadline, request);
-        counted(&self.counters, &deadline, answer)
+        counted(&self.counters, &deadline, request, answer)
     }
 }
 
@@ -172,11 +173,21 @@ fn exchange_through<C: Clock + Copy>(
     )
 }
 
-/// Returns the reply that was heard. Counts the attempt: one that has no answer, or a status that
-/// does not take the batch, has failed.
+/// Counts an attempt to send a request that was answered with this status: the samples of the request
+/// if they are acknowledged or refused, and else a failure.
+fn count_status(counters: &SendCounters, request: &[u8], status: StatusCode) {
+    match judge(status) {
+        Judgement::Done => counters.acknowledge(request),
+        Judgement::Refused => counters.refuse(status.as_u16(), request),
+        Judgement::Again => counters.fail(Cause::Status(status.as_u16())),
+    }
+}
+
+/// Returns the reply that was heard, and counts the attempt with its samples.
 fn counted<C: Clock>(
     counters: &SendCounters,
     deadline: &Deadline<C>,
+    request: &[u8],
     answer: Result<Heard, Cause>,
 ) -> Result<Reply, Lost>
     ensures { IfOk result (λ reply. answer ≡ Ok reply.status) }
@@ -184,11 +195,7 @@ fn counted<C: Clock>(
     match answer {
         Ok(heard) => {
             let reply = heard.into_reply();
-            if judge(reply.status) == Judgement::Done {
-                counters.succeed();
-            } else {
-                counters.fail(Cause::Status(reply.status.as_u16()));
-            }
+            count_status(counters, request, reply.status);
             Ok(reply)
         }
         Err(cause) => {

@@ -292,6 +292,12 @@ static SEND: Words = Words {
             help: "End with status 1 if DIR has no segment",
         },
         Opt {
+            name: "fail-on-skip",
+            takes: Takes::Nothing,
+            bonds: &[],
+            help: "End with status 1 if records were skipped that may hold samples, as of histograms",
+        },
+        Opt {
             name: "max-batch-bytes",
             takes: Takes::Number(1, 1_099_511_627_776),
             bonds: &[],

@@ -21,6 +21,9 @@ const BAD_ARGUMENTS: u8 = 2;
 /// The exit status for dropped samples, if they are a fault.
 const DROPPED: u8 = 1;
 
+/// The exit status for skipped records that may hold samples, if they are a fault.
+const SKIPPED: u8 = 1;
+
 /// The exit status for a folder without a segment, if that is a fault.
 const EMPTY: u8 = 1;
 
@@ -67,6 +70,14 @@ pub fn report_dropped(rt: &HostRuntime, count: u64) -> ExitCode
 {
     let _ = eprintln!(rt; "rwship: samples dropped: {count}");
     ExitCode::from(DROPPED)
+}
+
+/// Reports how many records were skipped that may hold samples, if that is a fault.
+pub fn report_skipped(rt: &HostRuntime, count: u64) -> ExitCode
+    ensures { process.exit_status result ≡ 1 }
+{
+    let _ = eprintln!(rt; "rwship: records skipped that may hold samples: {count}");
+    ExitCode::from(SKIPPED)
 }
 
 /// Returns the exit status for a folder without a segment, if that is a fault.

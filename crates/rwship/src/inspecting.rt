@@ -2,7 +2,9 @@
 
 use crate::ending::{point_to_explain, print_device_error, report_follow_fault};
 use crate::input::Reader;
-use rw_inspect::{Damage, Named, Report, find_entries, inspect, json_of, plan_segments, table_of};
+use rw_inspect::{
+    Damage, Named, Report, SkippedRecords, find_entries, inspect, json_of, plan_segments, table_of,
+};
 use rw_log_folder::{LogFiles, Opened, SegmentFile, has_checkpoint, log_files, segment_files};
 use rw_metrics::SendCounters;
 use rw_send::FollowFault;
@@ -95,6 +97,22 @@ fn print_text(rt: &HostRuntime, text: &[u8]) -> Result<(), ToolFault> {
     Ok(write_all(&mut Std::new(rt.stdout()), text)?)
 }
 
+/// Prints the records that were passed over, a line for each type.
+fn print_skipped(rt: &HostRuntime, report: &Report, json: bool) -> Result<(), ToolFault> {
+    for SkippedRecords { kind, count } in &report.skipped {
+        let name = kind.name();
+        let line = if json {
+            format!(in rt.alloc();
+                "{{\"type\":\"skipped\",\"records\":\"{name}\",\"count\":{count}}}\n"
+            )?
+        } else {
+            format!(in rt.alloc(); "skipped {name} {count}\n")?
+        };
+        print_text(rt, line.as_bytes())?;
+    }
+    Ok(())
+}
+
 /// Prints a report, and returns the fault of its log.
 fn print_report(rt: &HostRuntime, report: &Report, json: bool) -> Result<(), ToolFault> {
     let text = if json {
@@ -103,6 +121,7 @@ fn print_report(rt: &HostRuntime, report: &Report, json: bool) -> Result<(), Too
         table_of(rt.alloc(), report)?
     };
     print_text(rt, &text)?;
+    print_skipped(rt, report, json)?;
     fault_of(report.damage)
 }
 

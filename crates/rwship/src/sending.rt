@@ -2,14 +2,14 @@
 
 use crate::ending::{
     empty_status, point_to_explain, print_device_error, report_dropped, report_result,
-    report_settings_fault,
+    report_settings_fault, report_skipped,
 };
 use crate::inspecting::{files_of, log_fault, note_checkpoint, passes_checkpoint_over};
 use crate::reporting::{begin_reporting, end_reporting, is_watched};
 use crate::settings::settings_in;
 use crate::stopping::stop_signal;
 use rw_follow::Timed;
-use rw_log_folder::{Folder, Folder, LogFiles, LogFiles};
+use rw_log_folder::{Folder, LogFiles, watch_newest_segment};
 use rw_metrics::{Counters, SendCounters, show_stalls};
 use rw_send::{FollowFault, SendOptions, StopFlag, TcpConnect, run_follow, run_send};
 use rw_settings::Settings;
@@ -133,6 +133,22 @@ fn report_stalls<R: Threads>(
     show_stalls(threads, *rt, rt.stderr(), rt.alloc(), receiver, theirs)
 }
 
+/// Looks for the newest segment of the folder from here on, if somebody may read its number.
+fn watch_folder<R: Threads>(
+    rt: &HostRuntime,
+    threads: &R,
+    sending: &Sending<'_>,
+    counters: &Arc<SendCounters, Global>,
+) -> Result<(), AllocError> {
+    let reporting = &sending.reporting;
+    if !reporting.has_progress && reporting.metrics.is_none() {
+        return Ok(());
+    }
+    let path = String::from_str(rt.alloc(), sending.dir.path)?;
+    let theirs = Arc::try_clone(counters)?;
+    watch_newest_segment(threads, *rt, path, theirs)
+}
+
 /// Returns new counters, which are reported from here on as far as that is asked for.
 fn reported_counters<R: Threads>(
     rt: &HostRuntime,
@@ -143,6 +159,7 @@ fn reported_counters<R: Threads>(
     let shown = Counters::Send(Arc::try_clone(&counters)?);
     begin_reporting(rt, threads, &sending.reporting, &shown)?;
     report_stalls(rt, threads, sending, &counters)?;
+    watch_folder(rt, threads, sending, &counters)?;
     Ok(counters)
 }
 
@@ -212,7 +229,29 @@ fn note_lost_series(rt: &HostRuntime, sending: &Sending<'_>, counters: &SendCoun
     }
 }
 
-/// Ships what was prepared, and ends the reporting. Returns how many samples were dropped.
+/// Reports that records were skipped that may hold samples, if some were.
+fn note_skipped(rt: &HostRuntime, count: u64) {
+    if count > 0 {
+        let _ = eprintln!(rt;
+            "  records skipped that may hold samples: {count}; --progress and --metrics count them by type"
+        );
+    }
+}
+
+/// Explains which samples are missing for want of a series, or since they are not read.
+fn explain_missing(rt: &HostRuntime, sending: &Sending<'_>, counters: &SendCounters) {
+    note_lost_series(rt, sending, counters);
+    note_skipped(rt, counters.skipped().lost());
+}
+
+/// How many samples and records a run did not ship.
+#[derive(Clone, Copy)]
+struct Unshipped {
+    dropped_samples: u64,
+    skipped_records: u64,
+}
+
+/// Ships what was prepared, and ends the reporting. Returns what was not shipped.
 fn ship<R: Threads + Wait + Clock + Copy + Send + 'static>(
     rt: &HostRuntime,
     threads: &R,
@@ -220,7 +259,7 @@ fn ship<R: Threads + Wait + Clock + Copy + Send + 'static>(
     sending: &Sending<'_>,
     shipment: Shipment,
     is_explained: bool,
-) -> Result<u64, FollowFault> {
+) -> Result<Unshipped, FollowFault> {
     let Shipment {
         log,
         connect,
@@ -234,13 +273,16 @@ fn ship<R: Threads + Wait + Clock + Copy + Send + 'static>(
         stop,
     };
     let outcome = ship_log(rt, threads, settings, log, options);
-    let count = counters.dropped();
+    let unshipped = Unshipped {
+        dropped_samples: counters.dropped(),
+        skipped_records: counters.skipped().lost(),
+    };
     if is_explained {
-        note_lost_series(rt, sending, &counters);
+        explain_missing(rt, sending, &counters);
     }
     end_reporting(rt, &sending.reporting, &Counters::Send(counters));
     match outcome {
-        Ok(()) => Ok(count),
+        Ok(()) => Ok(unshipped),
         Err(fault) => Err(fault),
     }
 }
@@ -265,17 +307,27 @@ fn report_lookup_error(
     status
 }
 
+/// Reports what a run did not ship, if that is a fault. Returns the exit status.
+fn report_unshipped(rt: &HostRuntime, sending: &Sending<'_>, unshipped: Unshipped) -> ExitCode {
+    if unshipped.dropped_samples > 0 && sending.fails_on_drop {
+        report_dropped(rt, unshipped.dropped_samples)
+    } else if unshipped.skipped_records > 0 && sending.fails_on_skip {
+        report_skipped(rt, unshipped.skipped_records)
+    } else {
+        ExitCode::SUCCESS
+    }
+}
+
 /// Reports how shipping ended and, if that is asked for, what is wrong with the folder. Returns the
 /// exit status.
 fn report_outcome(
     rt: &HostRuntime,
     sending: &Sending<'_>,
-    outcome: Result<u64, FollowFault>,
+    outcome: Result<Unshipped, FollowFault>,
     is_explained: bool,
 ) -> ExitCode {
     match outcome {
-        Ok(count) if count > 0 && sending.fails_on_drop => report_dropped(rt, count),
-        Ok(_) => ExitCode::SUCCESS,
+        Ok(unshipped) => report_unshipped(rt, sending, unshipped),
         Err(fault) => log_fault(rt, sending.dir, fault, is_explained),
     }
 }

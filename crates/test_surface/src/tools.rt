@@ -60,6 +60,7 @@ pub fn of_receive_counters() {
     let _ = ReceiveCounters::end_connection;
     let _ = ReceiveCounters::refuse_connection;
     let _ = (ReceiveCounters::answer, ReceiveCounters::hold_label_sets);
+    let _ = ReceiveCounters::set_limits;
 }
 
 /// The counters of a sender: what was read and placed.
@@ -68,7 +69,9 @@ pub fn of_send_counters() {
     let _ = (SendCounters::begin_segment, SendCounters::read_bytes);
     let _ = (SendCounters::set_folder_bytes, SendCounters::set_entries);
     let _ = (SendCounters::set_shards, SendCounters::set_load);
-    let _ = SendCounters::set_filtered;
+    let _ = (SendCounters::set_filtered, SendCounters::set_newest);
+    let _ = (SendCounters::set_newest_segment, SendCounters::set_skipped);
+    let _ = SendCounters::skipped;
 }
 
 /// The counters of a sender: what became of the samples.
@@ -76,5 +79,6 @@ pub fn of_resolved_counters() {
     let _ = (SendCounters::set_resolved, SendCounters::attempt);
     let _ = (SendCounters::drop_sample, SendCounters::drop_unsent);
     let _ = (SendCounters::dropped, SendCounters::fail);
+    let _ = (SendCounters::acknowledge, SendCounters::refuse);
     let _ = SendCounters::succeed;
 }
