@@ -1,6 +1,7 @@
 pub mod Added
 pub mod Blocks
 pub mod Bodies
+pub mod Capacity
 pub mod Finds
 pub mod Growth
 pub mod Head

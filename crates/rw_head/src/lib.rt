@@ -2,9 +2,11 @@
 #![tactic(auto)]
 
 mod added;
+mod admitting;
 mod block;
 mod blocks;
 mod body;
+mod capacity;
 mod head;
 mod label_bounds;
 mod label_sets;
@@ -21,6 +23,7 @@ mod verdict;
 
 pub use added::{AddedSeries, AllAdded};
 pub use block::Block;
+pub use capacity::{Admission, Capacity};
 pub use head::Head;
 pub use label_sets::LabelSets;
 pub use laws::{stores_are_lists, stores_hold_no_empty_list};

@@ -5,12 +5,14 @@ ghost use Rattle.rw_types.specs.Beginnings.{Begins};
 ghost use Rattle.rw_types.specs.Labels.{Labels};
 ghost use Rattle.rw_head.specs.Added.{AddsUp};
 ghost use Rattle.rw_head.specs.Blocks.{KeepsBlocks};
+ghost use Rattle.rw_head.specs.Capacity.{exceeds};
 ghost use Rattle.rw_head.specs.Growth.{EachRises};
 ghost use Rattle.rw_head.specs.Head.{answer, SpellsMessage, IsStatus};
 ghost use Rattle.rw_head.specs.Store.{list_of, total};
 
 use crate::added::AllAdded;
 use crate::body::stage_body;
+use crate::capacity::Capacity;
 use crate::head::{Head, status_of};
 use crate::label_bounds::LabelBounds;
 use crate::table::Table;
@@ -26,9 +28,11 @@ pub struct StagedHead {
     table: Table,
     labels: LabelSet,
     bounds: LabelBounds,
+    places: usize,
 }
 
 impl Model for StagedHead {
+    ghost use Rattle.std.specs.Prelude.{◌≡◌, length};
     ghost use Rattle.std.specs.Coded.{codes};
     ghost use Rattle.std.specs.FinMap as map;
     ghost use Rattle.rw_head.specs.Staged.{Staging, IsStaging};
@@ -43,7 +47,10 @@ impl Model for StagedHead {
       added = h.table.added;
     } };
 
-    ghost invariant = { λ h. IsStaging h.bounds h.table.kept h.table.staged };
+    ghost use Rattle.rw_head.specs.Store.{label_sets};
+
+    ghost invariant = { λ h. IsStaging h.bounds h.table.kept h.table.staged
+        × (h.places ≡ length (label_sets h.table.kept)) };
 }
 
 impl Head {
@@ -80,12 +87,14 @@ impl Head {
             };
             return Err((head, 429));
         }
+        let places = table.places();
         match stage_body(&mut table, &mut labels, &bounds, body) {
             Ok(()) => Ok(StagedHead {
                 alloc,
                 table,
                 labels,
                 bounds,
+                places,
             }),
             Err(verdict) => {
                 table.abort();
@@ -112,6 +121,14 @@ impl StagedHead {
         self.table.added()
     }
 
+    /// Whether the message takes the samples or the label sets of the head above the capacity, as
+    /// `Head::admit` judges it. This takes no memory, and its time does not grow.
+    pub fn exceeds(&self, capacity: &Capacity) -> bool
+        ensures { result ≡ exceeds capacity.now self.now.before.store self.now.after.store }
+    {
+        self.table.exceeds(capacity, self.places)
+    }
+
     /// Returns the head with the message. This takes no memory.
     pub fn commit(self) -> Head
         ensures head { result ≡ self.after }
@@ -126,6 +143,7 @@ impl StagedHead {
             mut table,
             labels,
             bounds,
+            ..
         } = self;
         table.commit();
         Head {
@@ -146,6 +164,7 @@ impl StagedHead {
             table,
             labels,
             bounds,
+            ..
         } = self;
         let mut kept = table;
         kept.abort();

@@ -14,10 +14,12 @@ ghost use Rattle.rw_write_request.specs.Read.{read_series};
 ghost use Rattle.rw_head.specs.Growth.{HoldsNoneRefused};
 ghost use Rattle.rw_head.specs.Blocks.{sealed_of, open_of};
 ghost use Rattle.rw_head.specs.Added.{AddsUp};
+ghost use Rattle.rw_head.specs.Capacity.{exceeds, is_above, unlimited};
 ghost use Rattle.rw_head.specs.Lists.{no_lists, more_count, note_of, Settled, IsAdded, IsStagedAt, ListGives, StoreGives};
 
 use crate::added::AllAdded;
 use crate::block::Block;
+use crate::capacity::Capacity;
 use crate::label_bounds::LabelBounds;
 use crate::name::Name;
 use crate::places::{Found, Places, put};
@@ -235,6 +237,14 @@ fn was_known(outcome: Result<(), Verdict>) -> Result<bool, Verdict>
     }
 }
 
+/// Whether a count grew and is above its limit.
+fn is_above(limit: u64, before: u64, after: u64) -> bool
+    ensures above { result ≡ is_above limit before after }
+    ensures limited { IsTrue result → limit ≢ 2 ^ 64 - 1 }
+{
+    before < after && limit < after
+}
+
 impl Table {
     /// No samples. This takes no memory.
     pub(crate) fn new(alloc: Global) -> Table
@@ -343,6 +353,20 @@ impl Table {
         ensures { self.new ≡ self.old }
     {
         self.places.learn(bytes);
+    }
+
+    /// Whether what is staged would take the samples or the label sets above the capacity, if so
+    /// many label sets have a place without it.
+    pub(crate) fn exceeds(&self, capacity: &Capacity, places: usize) -> bool
+        requires { places ≡ length (label_sets self.now.kept) }
+        ensures exceeds { result ≡ exceeds capacity.now self.now.kept self.now.staged }
+        ensures limited { IsTrue result → capacity.now ≢ unlimited }
+    {
+        is_above(
+            capacity.max_samples,
+            self.count,
+            self.count + self.staged_count,
+        ) || is_above(capacity.max_series, places as u64, self.places() as u64)
     }
 
     /// Keeps what is staged, and returns how many samples that is. This takes no memory.

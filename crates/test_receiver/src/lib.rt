@@ -8,6 +8,8 @@ mod bodies;
 #[cfg(test)]
 mod broken;
 #[cfg(test)]
+mod capacity;
+#[cfg(test)]
 mod connections;
 #[cfg(test)]
 mod devices;

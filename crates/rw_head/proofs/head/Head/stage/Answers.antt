@@ -1,8 +1,8 @@
-use Rattle.std.proofs.Common.{◌≤◌, refl, subst, sym}
+use Rattle.std.proofs.Common.{◌≤◌, length, refl, subst, sym, ap, ◌∙◌}
 use Rattle.rw_types.specs.Beginnings.{Begins}
 use Rattle.rw_types.specs.Labels.{Labels}
 use Rattle.rw_head.specs.Growth.{EachRises, HoldsNoneRefused}
-use Rattle.rw_head.specs.Store.{Store, list_of, total, HasNoEmptyList}
+use Rattle.rw_head.specs.Store.{Store, list_of, total, label_sets, HasNoEmptyList}
 use Rattle.rw_head.specs.Head.{State, answer}
 use Rattle.rw_write_request.specs.Read.{read}
 use Rattle.rw_head.proofs.GrowthLemmas.{kept_grown, answer_begins}
@@ -13,17 +13,19 @@ invariant_of-result c =
     let m = c.in-Ok.ensures.staged in
     let staged = c.stage_body.new.table.staged in
     let g = kept_grown c.self.inside.bounds m.0 c.self.inside.table c.stage_body.new.table.staged c.stage_body.new.table.staged c.self.invariant.0 m.2 refl in
-    let same = sym c.in-Ok.ensures.kept in
-    record {
-      rises = subst EachRises same c.self.invariant.0.rises;
-      filled = subst HasNoEmptyList same c.self.invariant.0.filled;
-      within = subst (HoldsNoneRefused c.self.inside.bounds) same c.self.invariant.1;
-      rises_after = g.rises;
-      filled_after = g.filled;
-      within_after = c.in-Ok.ensures.within;
-      more = subst (λ (s : Store). total s ≤ total c.stage_body.new.table.staged) same g.more;
-      begins = subst (λ (s : Store). (l : Labels) → Begins (list_of s l) (list_of c.stage_body.new.table.staged l)) same g.begins;
-    }
+    let same = sym c.in-Ok.ensures.kept in (
+      record {
+        rises = subst EachRises same c.self.invariant.0.rises;
+        filled = subst HasNoEmptyList same c.self.invariant.0.filled;
+        within = subst (HoldsNoneRefused c.self.inside.bounds) same c.self.invariant.1;
+        rises_after = g.rises;
+        filled_after = g.filled;
+        within_after = c.in-Ok.ensures.within;
+        more = subst (λ (s : Store). total s ≤ total c.stage_body.new.table.staged) same g.more;
+        begins = subst (λ (s : Store). (l : Labels) → Begins (list_of s l) (list_of c.stage_body.new.table.staged l)) same g.begins;
+      },
+      c.places-places.ensures ∙ ap (λ (s : Store). length (label_sets s)) (c.self.invariant.0.settled ∙ same),
+    )
 
 pub returns-then-busy-gt0-clause-begins : goal.returns-then-busy-gt0-clause-begins
 returns-then-busy-gt0-clause-begins c = λ l.
